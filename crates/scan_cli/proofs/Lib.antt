@@ -1,0 +1,9 @@
+pub mod Pieces
+pub mod Polls
+pub mod Writes
+pub mod Lists
+pub mod Forms
+pub mod Accepted
+pub mod Walks
+pub mod Serving
+pub mod Complete

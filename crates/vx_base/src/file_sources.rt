@@ -1,0 +1,175 @@
+//! A source of segments over a file of the system. It answers every read at the first poll.
+
+ghost use Rattle.std.specs.Prelude.{◌≡◌, ◌↔◌, ◌⊎◌, ℕ, ◌+◌, ◌-◌, ◌^◌, [], Some, None, IsNone, IsSome, IsTrue, IfOk, OnErr, IsErrOf, length};
+ghost use Rattle.vx_base.specs.Sources.{RequestGives, PollGives, Cleared, location_of};
+ghost use Rattle.vx_base.specs.Faults.{FailsWhere, CountsFaults};
+
+use crate::in_flight::InFlight;
+use crate::locations::SegmentLocation;
+use crate::outside::{SegmentSource, SourceError};
+use std::alloc::{AllocError, Global};
+use std::fs::File;
+use std::io::{ErrorKind, Read, Seek, SeekFrom};
+use std::rt::Files;
+use std::{fs, io};
+
+/// A file of the system as a source. Where there is no file to read, every request answers `Failed`.
+#[derive(Drop)]
+pub struct FileSource {
+    alloc: Global,
+    file: Option<File>,
+    in_flight: InFlight,
+    faults: u64,
+    idle: u64,
+}
+
+impl FileSource {
+    ghost use Rattle.vx_base.specs.FileSources.{file_state, IsOpen, tickets_given};
+
+    /// Opens the file of a path for reading. With no path, and where the file cannot be opened, the
+    /// source has no file. The error is for want of memory alone.
+    pub fn new<R: Files<File = File>>(
+        rt: &R,
+        alloc: Global,
+        path: Option<&str>,
+    ) -> Result<FileSource, AllocError>
+        ensures state { IfOk result (λ source. file_state source ≡ record { file = None; asked = None; in_flight = []; faults = 0; idle = 0 }) }
+        ensures tickets { IfOk result (λ source. tickets_given source ≡ 0) }
+        ensures no_path { IsNone path.entry → IfOk result (λ source. ¬ IsOpen source) }
+    {
+        let file = match path {
+            Some(path) => opened(fs::open(rt, path))?,
+            None => None,
+        };
+        Ok(FileSource {
+            alloc,
+            file,
+            in_flight: InFlight::new(alloc),
+            faults: 0,
+            idle: 0,
+        })
+    }
+
+    /// Whether there is a file that it reads.
+    pub fn is_open(&self) -> bool
+        ensures { IsTrue result ↔ IsOpen self.now }
+    {
+        self.file.is_some()
+    }
+
+    /// How many requests and polls failed, up to `u64::MAX`.
+    pub fn faults(&self) -> u64
+        ensures { result ≡ (file_state self.now).faults }
+    {
+        self.faults
+    }
+
+    /// How many polls found a read that goes on. This source ends every read at its first poll, so
+    /// there are none.
+    pub fn idle(&self) -> u64
+        ensures { result ≡ (file_state self.now).idle }
+    {
+        self.idle
+    }
+}
+
+impl SegmentSource for FileSource {
+    ghost use Rattle.vx_base.specs.FileSources.{file_state, IsOpen, tickets_given};
+
+    ghost state = { file_state };
+
+    /// Starts a read. `Failed` says that there is no file, or that no ticket is left.
+    fn request(&mut self, _id: u32, at: SegmentLocation) -> Result<u64, SourceError>
+        ensures gives { RequestGives result at (file_state self.old) (file_state self.new) }
+        ensures fails { FailsWhere result ((¬ IsOpen self.old) ⊎ (tickets_given self.old ≡ 2 ^ 64 - 1)) }
+        ensures ticket { IfOk result (λ ticket. ticket ≡ tickets_given self.old) }
+        ensures counted { IfOk result (λ _. tickets_given self.new ≡ tickets_given self.old + 1) }
+        ensures not_counted { OnErr result (tickets_given self.new ≡ tickets_given self.old) }
+        ensures faults { CountsFaults result (file_state self.old).faults (file_state self.new).faults }
+        ensures open { IsOpen self.new ↔ IsOpen self.old }
+    {
+        if self.file.is_none() || self.in_flight.is_used_up() {
+            self.faults = self.faults.saturating_add(1);
+            return Err(SourceError::Failed);
+        }
+        self.in_flight.start(at)
+    }
+
+    /// Ends a read. `Failed` says that its range does not lie inside the file, or that the file
+    /// could not be read.
+    fn poll(&mut self, ticket: u64) -> Result<Option<Vec<u8>>, SourceError>
+        requires { IsSome (location_of ticket (file_state self.old).in_flight) }
+        ensures gives { PollGives result ticket (file_state self.old) (file_state self.new) }
+        ensures ends { IfOk result (λ bytes. IsSome bytes) }
+        ensures faults { CountsFaults result (file_state self.old).faults (file_state self.new).faults }
+        ensures tickets { tickets_given self.new ≡ tickets_given self.old }
+        ensures open { IsOpen self.new ↔ IsOpen self.old }
+        ensures no_file { ¬ IsOpen self.old → IsErrOf result SourceError.Failed }
+    {
+        let at = self.in_flight.location(ticket).unwrap();
+        let bytes = match &mut self.file {
+            Some(file) => segment_of(file, self.alloc, at),
+            None => Err(SourceError::Failed),
+        };
+        match bytes {
+            Ok(bytes) => {
+                self.in_flight.end(ticket);
+                Ok(Some(bytes))
+            }
+            Err(SourceError::Failed) => {
+                self.in_flight.end(ticket);
+                self.faults = self.faults.saturating_add(1);
+                Err(SourceError::Failed)
+            }
+            Err(SourceError::Memory) => Err(SourceError::Memory),
+        }
+    }
+
+    /// Forgets the reads in flight. Counts and the next ticket stay.
+    fn clear(&mut self)
+        ensures cleared { Cleared (file_state self.old) (file_state self.new) }
+        ensures tickets { tickets_given self.new ≡ tickets_given self.old }
+        ensures open { IsOpen self.new ↔ IsOpen self.old }
+    {
+        self.in_flight.clear();
+    }
+}
+
+/// The file that was opened, if it was. The error is for want of memory alone.
+fn opened(file: io::Result<File>) -> Result<Option<File>, AllocError>
+    ensures kept { IfOk file (λ file. result ≡ Ok (Some file)) }
+    ensures none { OnErr file (IfOk result (λ file. file ≡ None)) }
+{
+    match file {
+        Ok(file) => Ok(Some(file)),
+        Err(error) if error.kind() == ErrorKind::OutOfMemory => Err(AllocError),
+        Err(_) => Ok(None),
+    }
+}
+
+/// The bytes of a location. Where it does not lie inside the file, no memory is taken for it.
+fn segment_of(file: &mut File, alloc: Global, at: SegmentLocation) -> Result<Vec<u8>, SourceError>
+    ensures { IfOk result (λ bytes. length bytes.items ≡ at.length) }
+{
+    if !lies_inside(file, at) || file.seek(SeekFrom::Start(at.offset)).is_err() {
+        return Err(SourceError::Failed);
+    }
+    let Ok(mut bytes) = Vec::from_elem(alloc, 0u8, at.length as usize) else {
+        return Err(SourceError::Memory);
+    };
+    if file.read_exact(bytes.as_mut_slice()).is_err() {
+        return Err(SourceError::Failed);
+    }
+    Ok(bytes)
+}
+
+/// Whether a location lies inside the file, as far as the file's size can be found.
+fn lies_inside(file: &mut File, at: SegmentLocation) -> bool {
+    let Ok(size) = file.seek(SeekFrom::End(0)) else {
+        return false;
+    };
+    match at.offset.checked_add(u64::from(at.length)) {
+        Some(end) => end <= size,
+        None => false,
+    }
+}

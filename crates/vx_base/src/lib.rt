@@ -1,0 +1,44 @@
+//! What every crate of the scan stands on: dtypes, values and columns, the reading of a segment, and the
+//! outside world as three traits with their sources and sinks.
+//!
+//! - Dtypes and their parts: [`DType`], [`IntKind`], [`Nullability`], [`Fields`], [`Field`], [`Element`],
+//!   [`Text`].
+//! - Values and columns: [`Value`], [`Values`], [`fits`], [`Column`], [`ColumnError`].
+//! - Segments: [`decode`] with [`DecodeError`], and the laws of the codec, [`one_spelling`] and
+//!   [`decoded_is_spelled`].
+//! - Where a segment lies: [`SegmentLocation`], and the range that it asks for, [`AskedRange`].
+//! - Sources of segments: the trait [`SegmentSource`] with [`SourceError`]; [`MemorySource`],
+//!   [`FileSource`].
+//! - Streams that are read: the trait [`Source`] with [`StreamError`]; [`BytesSource`], [`ReadSource`].
+//! - Streams that are written: the trait [`Sink`]; [`BytesSink`], [`WriteSink`].
+#![tactic(auto)]
+
+mod adapters;
+mod columns;
+mod decoding;
+mod dtypes;
+mod file_sources;
+mod in_flight;
+mod locations;
+mod memory_sources;
+mod memory_streams;
+mod outside;
+mod texts;
+mod values;
+
+pub use adapters::{ReadSource, WriteSink};
+pub use columns::{Column, ColumnError};
+pub use decoding::{DecodeError, decode, decoded_is_spelled, one_spelling};
+pub use dtypes::{DType, Element, Field, Fields, IntKind, Nullability};
+pub use file_sources::FileSource;
+pub use locations::{AskedRange, SegmentLocation};
+pub use memory_sources::MemorySource;
+pub use memory_streams::{BytesSink, BytesSource};
+pub use outside::{SegmentSource, Sink, Source, SourceError, StreamError};
+pub use texts::Text;
+pub use values::{Value, Values, fits};
+
+#[cfg(test)]
+mod column_tests;
+#[cfg(test)]
+mod outside_tests;

@@ -1,0 +1,98 @@
+//! A checked layout tree.
+
+ghost use Rattle.std.specs.Prelude.{◌≡◌, ◌<◌, ◌^◌, length, map, IfOk, OnOk, IfErr, IsSomeAnd, Some, option_and_then, slice_get};
+ghost use Rattle.vx_base.specs.Views.{data_type};
+ghost use Rattle.vx_layout.specs.Nodes.{node_data};
+ghost use Rattle.vx_layout.specs.Shape.{IsGoodTree, RefusedBy};
+
+use crate::errors::LayoutError;
+use crate::nodes::LayoutNode;
+use crate::shape;
+use std::alloc::Global;
+use std::marker::Model;
+use vx_base::DType;
+
+/// A layout tree: nodes that keep the rules of the shape (docs/FORMATS.md). Node 0 is the root.
+#[derive(Debug, Drop)]
+pub struct LayoutTree {
+    nodes: Vec<LayoutNode>,
+}
+
+impl Model for LayoutTree {
+    ghost use Rattle.std.specs.Prelude.{List, map};
+    ghost use Rattle.vx_layout.specs.Nodes.{Node};
+    ghost use Rattle.vx_layout.specs.NodeCodes.{coded_nodes};
+
+    ghost Value = { List Node };
+
+    ghost coded = { coded_nodes };
+
+    ghost use Rattle.std.specs.Prelude.{◌<◌, ◌^◌, length};
+    ghost use Rattle.vx_layout.specs.Nodes.{node_data};
+    ghost use Rattle.vx_layout.specs.Shape.{IsGoodTree};
+
+    ghost view = { λ a. map node_data a.nodes.items };
+
+    ghost invariant = { λ a. IsGoodTree (map node_data a.nodes.items) × (length a.nodes.items < 2 ^ 30) };
+}
+
+impl LayoutTree {
+    /// The tree of these nodes, where they keep every rule of the shape. Rules are tried in their order,
+    /// each over the nodes in ascending number; the first fault is the answer.
+    pub fn try_new(alloc: Global, nodes: Vec<LayoutNode>) -> Result<LayoutTree, LayoutError>
+        requires { length nodes.items < 2 ^ 30 }
+        ensures made { IfOk result (λ tree. tree ≡ map node_data nodes.items) }
+        ensures good { OnOk result (IsGoodTree (map node_data nodes.items)) }
+        ensures refused { IfErr result (RefusedBy (map node_data nodes.items)) }
+    {
+        shape::check(alloc, &nodes)?;
+        Ok(LayoutTree { nodes })
+    }
+
+    /// The number of the root, which is 0.
+    pub fn root(&self) -> u32
+        ensures { result ≡ 0 }
+    {
+        0
+    }
+
+    /// How many nodes there are, at least one.
+    pub fn len(&self) -> u32
+        ensures count { result ≡ length self.now }
+        ensures good { IsGoodTree self.now }
+    {
+        self.nodes.len() as u32
+    }
+
+    /// The dtype of the root.
+    pub fn dtype(&self) -> &DType
+        ensures { IsSomeAnd (slice_get self.now 0) (λ root. data_type result.now ≡ root.dtype) }
+    {
+        &self.nodes[0].dtype
+    }
+
+    /// The rows of the root.
+    pub fn row_count(&self) -> u64
+        ensures rows { IsSomeAnd (slice_get self.now 0) (λ root. result ≡ root.rows) }
+        ensures good { IsGoodTree self.now }
+    {
+        self.nodes[0].row_count
+    }
+
+    /// A node of the tree.
+    pub fn node(&self, node: u32) -> &LayoutNode
+        requires { node < length self.now }
+        ensures at { slice_get self.now node ≡ Some (node_data result.now) }
+        ensures good { IsGoodTree self.now }
+    {
+        &self.nodes[node as usize]
+    }
+
+    /// The number of the child at a place, and `None` exactly where the node has no such place.
+    pub fn child(&self, node: u32, place: usize) -> Option<u32>
+        requires { node < length self.now }
+        ensures { result ≡ option_and_then (λ node. slice_get node.children place) (slice_get self.now node) }
+    {
+        self.nodes[node as usize].children.get(place).copied()
+    }
+}
