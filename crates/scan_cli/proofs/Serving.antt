@@ -46,6 +46,11 @@ fault_serves status bytes request_old request_new source_old source_new sink is 
   front = λ e. absurd (is.not_write e);
   at_most = λ e. absurd (is.not_memory e);
   nothing = λ a. λ b. λ c. refl;
+  written_whole = λ e. absurd (is.not_done e);
+  read_whole = λ answered. reads.faults;
+  not_begun = λ none. absurd (elim none [ inl e ↦ is.not_yet e | inr e ↦ is.not_request e ]);
+  ended = λ done. absurd (elim done [ inl e ↦ is.not_done e | inr e ↦ is.not_write e ]);
+  out_of_memory = λ e. absurd (is.not_memory e);
   asks = of_told (λ b. AsksOnly (IsReachedRange b) source_old source_new) bytes request_old.rest request_new.rest reads.whole asks;
   torn = λ e. of_told (λ b. IfSome source_old.file (IsTornIn b)) bytes request_old.rest request_new.rest reads.whole (torn e);
   read_failed = failed;
@@ -57,9 +62,9 @@ fault_serves status bytes request_old request_new source_old source_new sink is 
 }
 
 not_yet_serves : (bytes : List ℕ) (request_old request_new : ReadState) (source_old source_new : SourceState) (sink : WriteState)
-    → ReadsAll bytes request_old request_new → ReadsPieces request_old request_new → AsksOnly (IsReachedRange bytes) source_old source_new → IsNoRequest bytes
+    → ReadsAll bytes request_old request_new → ReadsPieces request_old request_new → AsksOnly (IsReachedRange bytes) source_old source_new → IsNoRequest bytes → source_new ≡ source_old
     → Serves 3 request_old request_new source_old source_new sink sink
-not_yet_serves bytes request_old request_new source_old source_new sink reads pieces asks none = record {
+not_yet_serves bytes request_old request_new source_old source_new sink reads pieces asks none same = record {
   known = inr (inl refl);
   whole = λ answered. at_end bytes request_old.rest request_new.rest reads.whole;
   refused = λ e. of_told IsRefused bytes request_old.rest request_new.rest reads.whole (inr none);
@@ -68,6 +73,11 @@ not_yet_serves bytes request_old request_new source_old source_new sink reads pi
   front = λ e. absurd (omega (arith, e));
   at_most = λ e. absurd (omega (arith, e));
   nothing = λ a. λ b. λ c. refl;
+  written_whole = λ e. absurd (omega (arith, e));
+  read_whole = λ answered. reads.faults;
+  not_begun = λ none. same;
+  ended = λ done. absurd (elim done [ inl e ↦ omega (arith, e) | inr e ↦ omega (arith, e) ]);
+  out_of_memory = λ e. absurd (omega (arith, e));
   asks = of_told (λ b. AsksOnly (IsReachedRange b) source_old source_new) bytes request_old.rest request_new.rest reads.whole asks;
   torn = λ e. absurd (omega (arith, e));
   read_failed = λ e. absurd (omega (arith, e));
@@ -79,9 +89,9 @@ not_yet_serves bytes request_old request_new source_old source_new sink reads pi
 }
 
 memory_serves : (bytes : List ℕ) (request_old request_new : ReadState) (source_old source_new : SourceState) (sink : WriteState)
-    → ReadsAll bytes request_old request_new → ReadsPieces request_old request_new → AsksOnly (IsReachedRange bytes) source_old source_new
+    → ReadsAll bytes request_old request_new → ReadsPieces request_old request_new → AsksOnly (IsReachedRange bytes) source_old source_new → (source_new.in_flight ≡ source_old.in_flight) ⊎ (source_new.in_flight ≡ [])
     → Serves 70 request_old request_new source_old source_new sink sink
-memory_serves bytes request_old request_new source_old source_new sink reads pieces asks = record {
+memory_serves bytes request_old request_new source_old source_new sink reads pieces asks left = record {
   known = inr (inr (inr (inr (inr (inr (inr refl))))));
   whole = λ answered. at_end bytes request_old.rest request_new.rest reads.whole;
   refused = λ e. absurd (omega (arith, e));
@@ -90,6 +100,11 @@ memory_serves bytes request_old request_new source_old source_new sink reads pie
   front = λ e. absurd (omega (arith, e));
   at_most = λ e. inl refl;
   nothing = λ a. λ b. λ c. refl;
+  written_whole = λ e. absurd (omega (arith, e));
+  read_whole = λ answered. reads.faults;
+  not_begun = λ none. absurd (elim none [ inl e ↦ omega (arith, e) | inr e ↦ omega (arith, e) ]);
+  ended = λ done. absurd (elim done [ inl e ↦ omega (arith, e) | inr e ↦ omega (arith, e) ]);
+  out_of_memory = λ e. left;
   asks = of_told (λ b. AsksOnly (IsReachedRange b) source_old source_new) bytes request_old.rest request_new.rest reads.whole asks;
   torn = λ e. absurd (omega (arith, e));
   read_failed = λ e. absurd (omega (arith, e));
@@ -104,7 +119,7 @@ memory_serves bytes request_old request_new source_old source_new sink reads pie
 pub refusal_serves : (refusal : Refusal) (bytes : List ℕ) (request_old request_new : ReadState) (source_old source_new : SourceState) (sink : WriteState)
     → ReadsAll bytes request_old request_new → ReadsPieces request_old request_new → AsksOnly (IsReachedRange bytes) source_old source_new → AnswerGives (Err refusal) bytes source_old source_new
     → Serves (refusal_status refusal) request_old request_new source_old source_new sink sink
-refusal_serves NotYet bytes request_old request_new source_old source_new sink reads pieces asks gives = not_yet_serves bytes request_old request_new source_old source_new sink reads pieces asks gives
+refusal_serves NotYet bytes request_old request_new source_old source_new sink reads pieces asks gives = not_yet_serves bytes request_old request_new source_old source_new sink reads pieces asks gives.0 gives.1
 refusal_serves (Fault BadSegment) bytes request_old request_new source_old source_new sink reads pieces asks gives =
     fault_serves 17 bytes request_old request_new source_old source_new sink (record { known = inr (inr (inl refl)); answered = inr (inl refl); not_done = λ e. omega (arith, e); not_yet = λ e. omega (arith, e); not_write = λ e. omega (arith, e); not_request = λ e. omega (arith, e); not_memory = λ e. omega (arith, e) })
     reads pieces asks gives.0 (λ e. gives.1) (λ e. absurd (omega (arith, e))) (λ e. absurd (omega (arith, e))) gives.2
@@ -114,4 +129,4 @@ refusal_serves (Fault ReadFault) bytes request_old request_new source_old source
 refusal_serves (Fault Stalled) bytes request_old request_new source_old source_new sink reads pieces asks gives =
     fault_serves 21 bytes request_old request_new source_old source_new sink (record { known = inr (inr (inr (inr (inl refl)))); answered = inr (inr (inr (inl refl))); not_done = λ e. omega (arith, e); not_yet = λ e. omega (arith, e); not_write = λ e. omega (arith, e); not_request = λ e. omega (arith, e); not_memory = λ e. omega (arith, e) })
     reads pieces asks gives.0 (λ e. absurd (omega (arith, e))) (λ e. absurd (omega (arith, e))) (λ e. gives.1) gives.2
-refusal_serves (Fault Memory) bytes request_old request_new source_old source_new sink reads pieces asks gives = memory_serves bytes request_old request_new source_old source_new sink reads pieces asks
+refusal_serves (Fault Memory) bytes request_old request_new source_old source_new sink reads pieces asks gives = memory_serves bytes request_old request_new source_old source_new sink reads pieces asks gives

@@ -106,6 +106,7 @@ RowsSoFar locations nodes children index (Some file) before after = (values : Li
 
 pub record WalksSoFar (locations : List SegmentLocation) (nodes : List Node) (number : ℕ) (children : List ℕ) (index : ℕ) (old new : SourceState) (before after : List ℕ) : Type 0 where
   pub asks : AsksOnly (IsRangeIn locations (subtree nodes number)) old new
+  pub ended : new.in_flight ≡ old.in_flight
   pub rows : RowsSoFar locations nodes children index old.file before after
 
 rows_none : (locations : List SegmentLocation) (nodes : List Node) (children : List ℕ) (file : Option (List ℕ)) (before : List ℕ) → RowsSoFar locations nodes children 0 file before before
@@ -113,7 +114,7 @@ rows_none locations nodes children None before = tt
 rows_none locations nodes children (Some file) before = ([], continue_none (leaves_of file locations) (subtree nodes) children all, sym (append-nil before))
 
 pub walks_none : (locations : List SegmentLocation) (nodes : List Node) (number : ℕ) (children : List ℕ) (state : SourceState) (before : List ℕ) → WalksSoFar locations nodes number children 0 state state before before
-walks_none locations nodes number children state before = record { asks = asks_nothing (IsRangeIn locations (subtree nodes number)) state; rows = rows_none locations nodes children state.file before }
+walks_none locations nodes number children state before = record { asks = asks_nothing (IsRangeIn locations (subtree nodes number)) state; ended = refl; rows = rows_none locations nodes children state.file before }
 
 rows_more : (locations : List SegmentLocation) (nodes : List Node) (children : List ℕ) (index child : ℕ) (file mid_file : Option (List ℕ)) (before mid after : List ℕ) → mid_file ≡ file → slice_get children index ≡ Some child
     → RowsSoFar locations nodes children index file before mid → GainsLines locations (subtree nodes child) mid_file mid after → RowsSoFar locations nodes children (index + 1) file before after
@@ -137,10 +138,11 @@ asks_chunk locations nodes good number node children index child old mid new is 
 -- one more chunk
 pub walks_more : (locations : List SegmentLocation) (nodes : List Node) → IsGoodTree nodes → (number : ℕ) (node : Node) (children : List ℕ) (index child : ℕ) (old mid new : SourceState) (before between after : List ℕ)
     → slice_get nodes number ≡ Some node → node.kind ≡ Chunked → children ≡ node.children → slice_get children index ≡ Some child
-    → WalksSoFar locations nodes number children index old mid before between → AsksOnly (IsRangeIn locations (subtree nodes child)) mid new → GainsLines locations (subtree nodes child) mid.file between after
+    → WalksSoFar locations nodes number children index old mid before between → AsksOnly (IsRangeIn locations (subtree nodes child)) mid new → new.in_flight ≡ mid.in_flight → GainsLines locations (subtree nodes child) mid.file between after
     → WalksSoFar locations nodes number children (index + 1) old new before after
-walks_more locations nodes good number node children index child old mid new before between after is chunked same here so_far asks gains = record {
+walks_more locations nodes good number node children index child old mid new before between after is chunked same here so_far asks ended gains = record {
   asks = asks_chunk locations nodes good number node children index child old mid new is chunked same here so_far.asks asks;
+  ended = ended ∙ so_far.ended;
   rows = rows_more locations nodes children index child old.file mid.file before between after so_far.asks.file here so_far.rows gains;
 }
 

@@ -1,6 +1,6 @@
 -- What a request asks of a file: which segments its rows reach, and their values.
 use Rattle.std.specs.List.{AllByRecursion}
-use Rattle.std.specs.Prelude.{◌≡◌, ℕ, ◌<◌, List, [], length, Some, IfSome, Result, Ok, Err, String, string_bytes}
+use Rattle.std.specs.Prelude.{◌≡◌, ℕ, ◌<◌, ◌⊎◌, List, [], length, Some, IfSome, Result, Ok, Err, String, string_bytes}
 use Rattle.std.specs.declared.alloc.Global.{Global}
 use Rattle.vx_base.specs.declared.locations.AskedRange.{AskedRange}
 use Rattle.vx_base.specs.Data.{Datum}
@@ -58,12 +58,12 @@ IsNoRequest bytes = (asked : Asked) → IsAccepted bytes asked → ⊥
 -- ---- what answering gives
 
 abbrev pub AnswerGives : Result (List ℕ) Refusal → List ℕ → SourceState → SourceState → Type 0
-AnswerGives (Ok text) bytes old new = (asked : Asked) × IsAccepted bytes asked × GainsLines asked.locations (root_of asked) old.file [] text
-AnswerGives (Err NotYet) bytes old new = IsNoRequest bytes
+AnswerGives (Ok text) bytes old new = ((asked : Asked) × IsAccepted bytes asked × GainsLines asked.locations (root_of asked) old.file [] text) × (new.in_flight ≡ old.in_flight)
+AnswerGives (Err NotYet) bytes old new = IsNoRequest bytes × (new ≡ old)
 AnswerGives (Err (Fault BadSegment)) bytes old new = IsRequest bytes × IfSome old.file (IsTornIn bytes) × (new.in_flight ≡ [])
 AnswerGives (Err (Fault ReadFault)) bytes old new = IsRequest bytes × Rose old.faults new.faults × (new.in_flight ≡ [])
 AnswerGives (Err (Fault Stalled)) bytes old new = IsRequest bytes × RoseBy idle_limit old.idle new.idle × (new.in_flight ≡ [])
-AnswerGives (Err (Fault Memory)) bytes old new = Unit {0}
+AnswerGives (Err (Fault Memory)) bytes old new = (new.in_flight ≡ old.in_flight) ⊎ (new.in_flight ≡ [])
 
 -- the bytes of the text of an answer
 abbrev pub text_of : Result (String Global) Refusal → Result (List ℕ) Refusal

@@ -8,3 +8,4 @@ pub mod Form
 pub mod Walk
 pub mod Answer
 pub mod Run
+pub mod Statuses

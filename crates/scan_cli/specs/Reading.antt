@@ -10,12 +10,21 @@ use Rattle.scan_cli.specs.declared.requests.ReadingError.TheVariants.{TooLarge, 
 abbrev pub most_bytes : ℕ
 most_bytes = 16777216
 
--- At most 16777217 pieces were read, and each but an empty last one gave at least one byte.
+-- a piece of a request has at most so many bytes
+abbrev pub most_piece : ℕ
+most_piece = 65536
+
+-- the size of a piece that isn't empty
+abbrev pub IsFull : ℕ → Type 0
+IsFull size = (0 < size) × (size ≤ most_piece)
+
+-- At most 16777217 pieces were read, of at most 65536 bytes each, and each but an empty last one gave at
+-- least one byte.
 pub record ReadsPieces (old new : ReadState) : Type 0 where
   pub full : List ℕ
   pub last : List ℕ
   pub pieces : new.pieces ≡ (old.pieces ++ full) ++ last
-  pub each : All (λ size. 0 < size) full
+  pub each : All IsFull full
   pub end : (last ≡ []) ⊎ (last ≡ 0 ∷ [])
   pub count : length full + length last ≤ most_bytes + 1
 

@@ -67,7 +67,7 @@ dtype_form d = as_str d >>= λ name. if bytes_eq name (codes "i64") then Some (i
 
 -- what a node of a kind has besides: the segment of a flat node, the children of a chunked one
 abbrev pub kind_form : Data → List ℕ → Option (LayoutKind × List ℕ)
-kind_form d kind = if bytes_eq kind (codes "flat") then (get (codes "segment") d >>= whole_form (2 ^ 32) >>= λ segment. Some (Flat segment, [])) else (if bytes_eq kind (codes "chunked") then (get (codes "children") d >>= list_form (whole_form (2 ^ 32)) >>= λ children. Some (Chunked, children)) else None)
+kind_form d kind = if bytes_eq kind (codes "flat") then (get (codes "segment") d >>= whole_form (2 ^ 32) >>= λ segment. Some (Flat segment, [])) else (if bytes_eq kind (codes "chunked") then (get (codes "children") d >>= as_array >>= each_form (whole_form (2 ^ 32)) >>= λ children. Some (Chunked, children)) else None)
 
 -- a node: exactly kind, dtype, rows, and the member of its kind
 unfoldable pub node_form : Data → Option Node

@@ -97,7 +97,10 @@ pub record Serves (status : ℕ) (request_old request_new : ReadState) (source_o
   pub answer : status ≡ DONE → WritesAnswer request_old source_old sink_old sink_new
   pub front : status ≡ WRITE_FAULT → WritesFrontOfAnswer request_old source_old sink_old sink_new
   pub at_most : status ≡ OUT_OF_MEMORY → WritesAtMostAnswer request_old source_old sink_old sink_new
-  pub nothing : (status ≡ DONE → ⊥) → (status ≡ WRITE_FAULT → ⊥) → (status ≡ OUT_OF_MEMORY → ⊥) → sink_new.written ≡ sink_old.written
+  pub nothing : (status ≡ DONE → ⊥) → (status ≡ WRITE_FAULT → ⊥) → (status ≡ OUT_OF_MEMORY → ⊥) → sink_new ≡ sink_old
+  -- no fault of a stream is passed over
+  pub written_whole : status ≡ DONE → sink_new.faults ≡ sink_old.faults
+  pub read_whole : IsAnswered status → request_new.faults ≡ request_old.faults
   -- only what a row reaches was asked for, whatever the status
   pub asks : AsksReached request_old source_old source_new
   -- each other status has its cause
@@ -106,7 +109,11 @@ pub record Serves (status : ℕ) (request_old request_new : ReadState) (source_o
   pub gave_up : status ≡ STALLED → RoseBy idle_limit source_old.idle source_new.idle
   pub write_failed : status ≡ WRITE_FAULT → Rose sink_old.faults sink_new.faults
   pub request_failed : status ≡ REQUEST_FAULT → Rose request_old.faults request_new.faults
-  -- a scan that failed leaves nothing in flight
+  -- where no scan was begun the source is as it was; a scan that failed leaves nothing in flight, and one
+  -- that didn't what it found
+  pub not_begun : (status ≡ NOT_YET) ⊎ (status ≡ REQUEST_FAULT) → source_new ≡ source_old
+  pub ended : (status ≡ DONE) ⊎ (status ≡ WRITE_FAULT) → source_new.in_flight ≡ source_old.in_flight
+  pub out_of_memory : status ≡ OUT_OF_MEMORY → (source_new.in_flight ≡ source_old.in_flight) ⊎ (source_new.in_flight ≡ [])
   pub cleared : (status ≡ BAD_SEGMENT) ⊎ ((status ≡ READ_FAULT) ⊎ (status ≡ STALLED)) → source_new.in_flight ≡ []
 
 -- ---- completeness

@@ -218,7 +218,7 @@ fn kind_of(
     if name != "chunked" {
         return Ok(None);
     }
-    let Some(items) = value.get("children").and_then(few_items_of) else {
+    let Some(items) = value.get("children").and_then(Value::as_array) else {
         return Ok(None);
     };
     let Some(children) = numbers_in(alloc, items)? else {

@@ -20,6 +20,7 @@ use std::fs::File;
 use std::io::{self, ErrorKind};
 use std::process::ExitCode;
 use vx_base::{FileSource, ReadSource, WriteSink};
+use words::are_at_fault;
 
 fn main(rt: HostRuntime) -> ExitCode {
     let status = match words_of(&rt) {
@@ -54,25 +55,28 @@ fn words_of(rt: &HostRuntime) -> Result<Vec<String>, u8> {
     Ok(words)
 }
 
-/// Runs the words on the files that they name and on standard output.
+/// Runs the words on the files that they name and on standard output. Words at fault name none.
 fn scan(rt: &HostRuntime, words: &[String]) -> Result<u8, AllocError> {
-    let segments = FileSource::new(rt, rt.alloc(), name_at(words, 1))?;
-    let mut sources = Vec::new(rt.alloc());
-    sources.push(segments)?;
-    let request = match name_at(words, 2) {
-        Some(name) => File::open(rt, name).ok(),
-        None => None,
+    let (segments, request) = match words {
+        [_, segments, request] if !are_at_fault(words) => (Some(segments), Some(request)),
+        _ => (None, None),
     };
-    let mut request = ReadSource::new(rt.alloc(), request);
+    let mut sources = Vec::new(rt.alloc());
+    sources.push(FileSource::new(rt, rt.alloc(), segments.map(String::as_str))?)?;
+    let mut request = ReadSource::new(rt.alloc(), opened(rt, request)?);
     let mut out = WriteSink::new(io::writer(rt));
     Ok(run(rt, words, &mut request, &mut sources, &mut out))
 }
 
-/// The name that stands at a place of the words, if there is one.
-fn name_at(words: &[String], place: usize) -> Option<&str> {
-    match words.get(place) {
-        Some(word) => Some(word.as_str()),
-        None => None,
+/// The file of a name, where there is one that opens. The error is for want of memory alone.
+fn opened(rt: &HostRuntime, name: Option<&String>) -> Result<Option<File>, AllocError> {
+    let Some(name) = name else {
+        return Ok(None);
+    };
+    match File::open(rt, name.as_str()) {
+        Ok(file) => Ok(Some(file)),
+        Err(error) if error.kind() == ErrorKind::OutOfMemory => Err(AllocError),
+        Err(_) => Ok(None),
     }
 }
 

@@ -1,5 +1,8 @@
 //! The statuses that a run ends with, and their texts (docs/ANSWERS.md).
 
+ghost use Rattle.std.specs.Prelude.{◌≡◌};
+ghost use Rattle.scan_cli.specs.Statuses.{text_of_status};
+
 /// The rows were written.
 pub const DONE: u8 = 0;
 /// The words or the request ask for what the program doesn't do.
@@ -18,7 +21,9 @@ pub const REQUEST_FAULT: u8 = 23;
 pub const OUT_OF_MEMORY: u8 = 70;
 
 /// The text of a status, as it is printed.
-pub fn status_text(status: u8) -> &'static str {
+pub fn status_text(status: u8) -> &'static str
+    ensures { result.now ≡ text_of_status status }
+{
     match status {
         DONE => "ok",
         NOT_YET => "not yet",

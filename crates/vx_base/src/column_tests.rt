@@ -197,3 +197,29 @@ fn joins_columns(rt: HostRuntime) -> Result<(), Fail> {
     }
     Ok(())
 }
+
+/// Whether a copy of the value is the same.
+fn is_copied(alloc: Global, value: &Value) -> Result<bool, Fail> {
+    let copied = value.copy(alloc)?;
+    Ok(copied.same(value))
+}
+
+#[test]
+fn copies_are_the_same(rt: HostRuntime) -> Result<(), Fail> {
+    let alloc = rt.alloc();
+    assert!(rt; is_copied(alloc, &Value::Null)?);
+    assert!(rt; is_copied(alloc, &Value::Bool(true))?);
+    assert!(rt; is_copied(alloc, &Value::Int(-2))?);
+    let whole = row(alloc, 7)?;
+    assert!(rt; is_copied(alloc, &whole)?);
+    assert!(rt; !whole.same(&row(alloc, 8)?));
+    let mut items = Vec::new(alloc);
+    items.push(whole)?;
+    let values = Values::from_vec(items);
+    let copied = values.copy(alloc)?;
+    assert!(rt; copied.same(&values));
+    let name = text(alloc, "hé")?;
+    let copied = name.copy(alloc)?;
+    assert_eq!(rt; copied.as_str(), "hé");
+    Ok(())
+}

@@ -1,6 +1,6 @@
 //! A source of segments over a file of the system. It answers every read at the first poll.
 
-ghost use Rattle.std.specs.Prelude.{◌≡◌, ◌↔◌, ◌⊎◌, ℕ, ◌+◌, ◌-◌, ◌^◌, [], Some, None, IsNone, IsSome, IsTrue, IfOk, OnErr, IsErrOf, length};
+ghost use Rattle.std.specs.Prelude.{◌≡◌, ◌↔◌, ◌⊎◌, ℕ, ◌+◌, ◌-◌, ◌^◌, ◌≤◌, [], Some, None, IsNone, IsSome, IsTrue, IfOk, OnOk, OnErr, IsErrOf, length};
 ghost use Rattle.vx_base.specs.Sources.{RequestGives, PollGives, Cleared, location_of};
 ghost use Rattle.vx_base.specs.Faults.{FailsWhere, CountsFaults};
 
@@ -9,15 +9,23 @@ use crate::locations::SegmentLocation;
 use crate::outside::{SegmentSource, SourceError};
 use std::alloc::{AllocError, Global};
 use std::fs::File;
-use std::io::{ErrorKind, Read, Seek, SeekFrom};
+use std::io::{ErrorKind, Seek, SeekFrom};
+use std::os::unix::fs::FileExt;
 use std::rt::Files;
 use std::{fs, io};
+
+/// A file that was opened for reading, and its size then. A later growth is not seen.
+#[derive(Drop)]
+struct OpenFile {
+    file: File,
+    size: u64,
+}
 
 /// A file of the system as a source. Where there is no file to read, every request answers `Failed`.
 #[derive(Drop)]
 pub struct FileSource {
     alloc: Global,
-    file: Option<File>,
+    file: Option<OpenFile>,
     in_flight: InFlight,
     faults: u64,
     idle: u64,
@@ -107,7 +115,7 @@ impl SegmentSource for FileSource {
         ensures no_file { ¬ IsOpen self.old → IsErrOf result SourceError.Failed }
     {
         let at = self.in_flight.location(ticket).unwrap();
-        let bytes = match &mut self.file {
+        let bytes = match &self.file {
             Some(file) => segment_of(file, self.alloc, at),
             None => Err(SourceError::Failed),
         };
@@ -136,38 +144,44 @@ impl SegmentSource for FileSource {
 }
 
 /// The file that was opened, if it was. The error is for want of memory alone.
-fn opened(file: io::Result<File>) -> Result<Option<File>, AllocError>
-    ensures kept { IfOk file (λ file. result ≡ Ok (Some file)) }
+fn opened(file: io::Result<File>) -> Result<Option<OpenFile>, AllocError>
+    ensures kept { OnOk file (IfOk result (λ file. IsSome file)) }
     ensures none { OnErr file (IfOk result (λ file. file ≡ None)) }
 {
     match file {
-        Ok(file) => Ok(Some(file)),
+        Ok(mut file) => {
+            let size = file.seek(SeekFrom::End(0)).unwrap_or(0);
+            Ok(Some(OpenFile { file, size }))
+        }
         Err(error) if error.kind() == ErrorKind::OutOfMemory => Err(AllocError),
         Err(_) => Ok(None),
     }
 }
 
 /// The bytes of a location. Where it does not lie inside the file, no memory is taken for it.
-fn segment_of(file: &mut File, alloc: Global, at: SegmentLocation) -> Result<Vec<u8>, SourceError>
+fn segment_of(open: &OpenFile, alloc: Global, at: SegmentLocation) -> Result<Vec<u8>, SourceError>
     ensures { IfOk result (λ bytes. length bytes.items ≡ at.length) }
 {
-    if !lies_inside(file, at) || file.seek(SeekFrom::Start(at.offset)).is_err() {
+    if !lies_inside(open.size, at) {
         return Err(SourceError::Failed);
     }
     let Ok(mut bytes) = Vec::from_elem(alloc, 0u8, at.length as usize) else {
         return Err(SourceError::Memory);
     };
-    if file.read_exact(bytes.as_mut_slice()).is_err() {
+    if open
+        .file
+        .read_exact_at(bytes.as_mut_slice(), at.offset)
+        .is_err()
+    {
         return Err(SourceError::Failed);
     }
     Ok(bytes)
 }
 
-/// Whether a location lies inside the file, as far as the file's size can be found.
-fn lies_inside(file: &mut File, at: SegmentLocation) -> bool {
-    let Ok(size) = file.seek(SeekFrom::End(0)) else {
-        return false;
-    };
+/// Whether a location lies inside a file of so many bytes.
+fn lies_inside(size: u64, at: SegmentLocation) -> bool
+    ensures { IsTrue result ↔ (at.offset + at.length ≤ size) }
+{
     match at.offset.checked_add(u64::from(at.length)) {
         Some(end) => end <= size,
         None => false,

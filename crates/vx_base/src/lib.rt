@@ -4,8 +4,8 @@
 //! - Dtypes and their parts: [`DType`], [`IntKind`], [`Nullability`], [`Fields`], [`Field`], [`Element`],
 //!   [`Text`].
 //! - Values and columns: [`Value`], [`Values`], [`fits`], [`Column`], [`ColumnError`].
-//! - Segments: [`decode`] with [`DecodeError`], and the laws of the codec, [`one_spelling`] and
-//!   [`decoded_is_spelled`].
+//! - Segments: [`decode`] with [`DecodeError`], and the laws of the codec, [`one_spelling`],
+//!   [`decoded_is_spelled`] and [`segments_by_hand`].
 //! - Where a segment lies: [`SegmentLocation`], and the range that it asks for, [`AskedRange`].
 //! - Sources of segments: the trait [`SegmentSource`] with [`SourceError`]; [`MemorySource`],
 //!   [`FileSource`].
@@ -14,6 +14,7 @@
 #![tactic(auto)]
 
 mod adapters;
+mod by_hand;
 mod columns;
 mod decoding;
 mod dtypes;
@@ -27,6 +28,7 @@ mod texts;
 mod values;
 
 pub use adapters::{ReadSource, WriteSink};
+pub use by_hand::segments_by_hand;
 pub use columns::{Column, ColumnError};
 pub use decoding::{DecodeError, decode, decoded_is_spelled, one_spelling};
 pub use dtypes::{DType, Element, Field, Fields, IntKind, Nullability};

@@ -24,7 +24,7 @@ pub loop-child-preserved : goal.loop-child-preserved
 loop-child-preserved g t c =
     let children = c.deref-child-items.result.now in
     let index = c.loop-child.child-index in
-    walks_more c.args.locations.now c.args.tree.now c.node-node.ensures.good c.args.number (node_data c.node-node.result.now) children index (get_or children index 0) _ _ _ _ _ _ c.node-node.ensures.at c.in-Chunked.is c.deref-child-items.ensures.value (child_at children index c.loop-child-test.true) c.loop-child.invariant c.append_rows.ensures.asks c.in_ok-append_rows-in-Chunked.ensures.rows
+    walks_more c.args.locations.now c.args.tree.now c.node-node.ensures.good c.args.number (node_data c.node-node.result.now) children index (get_or children index 0) _ _ _ _ _ _ c.node-node.ensures.at c.in-Chunked.is c.deref-child-items.ensures.value (child_at children index c.loop-child-test.true) c.loop-child.invariant c.append_rows.ensures.asks c.in_ok-append_rows-in-Chunked.ensures.ended c.in_ok-append_rows-in-Chunked.ensures.rows
 
 pub returns-in-Flat-clause-asks : goal.returns-in-Flat-clause-asks
 returns-in-Flat-clause-asks g t c =
