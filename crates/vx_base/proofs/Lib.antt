@@ -1,7 +1,16 @@
 pub mod AllFit
+pub mod Bits
+pub mod Decoded
+pub mod Encoded
+pub mod BuiltRows
+pub mod ColumnRows
+pub mod FieldTexts
 pub mod Items
+pub mod KindNumbers
+pub mod Leaves
 pub mod Lists
+pub mod MaskRows
 pub mod Members
-pub mod Numbers
+pub mod Rows
 pub mod Spelled
 pub mod Tickets

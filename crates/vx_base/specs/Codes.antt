@@ -139,9 +139,12 @@ mutual
 abbrev pub coded_items : Coded Items
 coded_items = record { code = code_items; inj = items_same }
 
+abbrev pub coded_datum : Coded Datum
+coded_datum = record { code = code_datum; inj = datum_same }
+
 -- ---- columns
 abbrev coded_values : Coded (List Datum)
-coded_values = coded_list (record { code = code_datum; inj = datum_same })
+coded_values = coded_list coded_datum
 
 abbrev code_column : ColumnData → Gv
 code_column a = gcons (code_type a.dtype) (coded_values.code a.values)

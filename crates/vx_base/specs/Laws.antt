@@ -1,7 +1,10 @@
 -- What holds of spellings and of reading, whatever the bytes.
-use Rattle.std.specs.Prelude.{◌≡◌, ℕ, List, Some}
+use Rattle.std.specs.Prelude.{◌≡◌, ℕ, List, length, Some}
+use Rattle.std.specs.List.{AllByRecursion}
 use Rattle.vx_base.specs.Data.{DataType, Datum}
-use Rattle.vx_base.specs.Segment.{Spells}
+use Rattle.vx_base.specs.Fits.{Fits}
+use Rattle.vx_base.specs.Leaf.{IsLeaf}
+use Rattle.vx_base.specs.Segment.{Spells, IsShort, spelling}
 use Rattle.vx_base.specs.Reading.{decoded}
 
 -- the values of a dtype have one spelling at most
@@ -19,3 +22,14 @@ ReadsSpelled = (t : DataType) (rows : ℕ) (bytes : List ℕ) (values : List Dat
 -- what bytes spell is read from them
 abbrev pub SpelledIsRead : DataType → Type 0
 SpelledIsRead t = (rows : ℕ) (bytes : List ℕ) (values : List Datum) → Spells t rows bytes values → decoded t rows bytes ≡ Some values
+
+-- these two of each leaf dtype
+abbrev pub LeavesHaveOneMeaning : Type 0
+LeavesHaveOneMeaning = (t : DataType) → IsLeaf t → HasOneMeaning t
+
+abbrev pub SpelledLeavesAreRead : Type 0
+SpelledLeavesAreRead = (t : DataType) → IsLeaf t → SpelledIsRead t
+
+-- the values of a leaf dtype are read from their spelling
+abbrev pub EncodingIsUndone : Type 0
+EncodingIsUndone = (t : DataType) → IsLeaf t → (values : List Datum) (bytes : List ℕ) → AllByRecursion (Fits t) values → AllByRecursion IsShort values → spelling t values ≡ Some bytes → decoded t (length values) bytes ≡ Some values

@@ -1,5 +1,6 @@
 pub mod Adapters
 pub mod Codes
+pub mod ColumnCalls
 pub mod Columns
 pub mod Data
 pub mod Falls
@@ -8,13 +9,17 @@ pub mod FileSources
 pub mod Fits
 pub mod InFlight
 pub mod Laws
+pub mod Leaf
+pub mod Masks
 pub mod MemorySources
 pub mod MemoryStreams
+pub mod Parts
 pub mod Reading
 pub mod Segment
 pub mod Sizes
 pub mod Sources
 pub mod Streams
+pub mod TypeText
 pub mod ValueFalls
 pub mod ValueViews
 pub mod Views

@@ -1,24 +1,8 @@
-//! The happy paths and the edges that no clause speaks of.
-
-ghost use Rattle.std.specs.Prelude.{◌≡◌, IfOk};
-ghost use Rattle.vx_base.specs.declared.dtypes.IntKind.TheVariants.{I64};
-ghost use Rattle.vx_base.specs.declared.dtypes.Nullability.TheVariants.{NonNullable};
-ghost use Rattle.vx_base.specs.Data.{int_type};
-ghost use Rattle.vx_base.specs.Views.{data_type};
+//! The calls of dtypes, fields and values, on their happy paths and at their edges.
 
 use super::*;
 use std::alloc::Global;
 use std::test::*;
-
-const WORDS: [u8; 24] = [
-    1, 0, 0, 0, 0, 0, 0, 0, 2, 0, 0, 0, 0, 0, 0, 0, 0x2c, 1, 0, 0, 0, 0, 0, 0,
-];
-
-fn int64() -> DType
-    ensures { data_type result ≡ int_type I64 NonNullable }
-{
-    DType::Int(IntKind::I64, Nullability::NonNullable)
-}
 
 fn text(alloc: Global, characters: &str) -> Result<Text, Fail> {
     Ok(Text::from_string(String::from_str(alloc, characters)?))
@@ -55,47 +39,6 @@ fn row(alloc: Global, number: i128) -> Result<Value, Fail> {
 }
 
 #[test]
-fn decodes_numbers(rt: HostRuntime) -> Result<(), Fail> {
-    let column = decode(rt.alloc(), &int64(), 3, &WORDS)
-        .ok()
-        .ok_or("three rows")?;
-    assert_eq!(rt; column.len(), 3);
-    for (value, want) in column.values().iter().zip([1i128, 2, 300]) {
-        assert!(rt; value.same(&Value::Int(want)), "{want}");
-    }
-    let bytes = [0xfe, 0xff, 0xff, 0xff, 0xff, 0xff, 0xff, 0xff];
-    let column = decode(rt.alloc(), &int64(), 1, &bytes)
-        .ok()
-        .ok_or("one row")?;
-    for value in column.values() {
-        assert!(rt; value.same(&Value::Int(-2)));
-    }
-    let column = decode(rt.alloc(), &int64(), 0, &[]).ok().ok_or("no rows")?;
-    assert_eq!(rt; column.len(), 0);
-    assert!(rt; column.dtype().same(&int64()));
-    Ok(())
-}
-
-#[test]
-fn refuses_segments(rt: HostRuntime) {
-    for (rows, len) in [
-        (3u64, 7usize),
-        (1, 7),
-        (1, 9),
-        (0, 1),
-        (u64::MAX, 8),
-        (2, 24),
-        (3, 16),
-    ] {
-        let refused = matches!(
-            decode(rt.alloc(), &int64(), rows, &WORDS[..len]),
-            Err(DecodeError::BadSegment)
-        );
-        assert!(rt; refused, "{rows} rows of {len} bytes");
-    }
-}
-
-#[test]
 fn finds_fields(rt: HostRuntime) -> Result<(), Fail> {
     let dtype = pair(rt.alloc(), IntKind::U8)?;
     assert!(rt; dtype.is_nullable());
@@ -106,10 +49,21 @@ fn finds_fields(rt: HostRuntime) -> Result<(), Fail> {
         assert_eq!(rt; fields.find("c"), None);
         assert_eq!(rt; fields.find(""), None);
         assert!(rt; fields.get(3).is_none());
+        let first = fields.get(0).ok_or("a first field")?;
+        assert_eq!(rt; first.name.as_str(), "a");
+        assert!(rt;
+            first
+                .dtype
+                .same(&DType::Int(IntKind::U8, Nullability::NonNullable))
+        );
         let last = fields.get(2).ok_or("a third field")?;
         assert_eq!(rt; last.name.as_str(), "a");
         assert!(rt; last.dtype.same(&DType::Bool(Nullability::NonNullable)));
     }
+    let none = Fields::from_vec(Vec::new(rt.alloc()));
+    assert_eq!(rt; none.len(), 0);
+    assert_eq!(rt; none.find(""), None);
+    assert!(rt; none.get(0).is_none());
     Ok(())
 }
 
@@ -169,35 +123,6 @@ fn tells_the_first_unfit_value(rt: HostRuntime) -> Result<(), Fail> {
     Ok(())
 }
 
-/// The column that the bytes spell.
-fn column_of(alloc: Global, rows: u64, bytes: &[u8]) -> Result<Column, Fail>
-    ensures { IfOk result (λ column. column.dtype ≡ int_type I64 NonNullable) }
-{
-    match decode(alloc, &int64(), rows, bytes) {
-        Ok(column) => Ok(column),
-        Err(_) => Err("a segment")?,
-    }
-}
-
-#[test]
-fn joins_columns(rt: HostRuntime) -> Result<(), Fail> {
-    let alloc = rt.alloc();
-    let one = column_of(alloc, 3, &WORDS)?;
-    let two = Column::empty(alloc, int64())?;
-    let three = column_of(alloc, 1, &WORDS[16..])?;
-    let parts = vec![in alloc; one, two, three]?;
-    let all = Column::concat(alloc, int64(), parts)?;
-    assert_eq!(rt; all.len(), 4);
-    for (value, want) in all.values().iter().zip([1i128, 2, 300, 300]) {
-        assert!(rt; value.same(&Value::Int(want)), "{want}");
-    }
-    if 3 < all.len() {
-        let last = all.get(alloc, 3)?;
-        assert!(rt; last.same(&Value::Int(300)));
-    }
-    Ok(())
-}
-
 /// Whether a copy of the value is the same.
 fn is_copied(alloc: Global, value: &Value) -> Result<bool, Fail> {
     let copied = value.copy(alloc)?;
@@ -221,5 +146,84 @@ fn copies_are_the_same(rt: HostRuntime) -> Result<(), Fail> {
     let name = text(alloc, "hé")?;
     let copied = name.copy(alloc)?;
     assert_eq!(rt; copied.as_str(), "hé");
+    Ok(())
+}
+
+/// Whether the printed form of the dtype is this text.
+fn prints(alloc: Global, dtype: &DType, text: &str) -> Result<bool, Fail> {
+    Ok(dtype.text(alloc)?.as_slice() == text.as_bytes())
+}
+
+#[test]
+fn prints_dtypes(rt: HostRuntime) -> Result<(), Fail> {
+    let alloc = rt.alloc();
+    let first = Field {
+        name: Text::from_string(String::from_str(alloc, "a")?),
+        dtype: DType::Int(IntKind::I64, Nullability::NonNullable),
+    };
+    let second = Field {
+        name: Text::from_string(String::from_str(alloc, "b")?),
+        dtype: DType::Utf8(Nullability::Nullable),
+    };
+    let fields = Fields::from_vec(vec![in alloc; first, second]?);
+    let pair = DType::Struct(fields, Nullability::NonNullable);
+    assert!(rt; prints(alloc, &pair, "{a=i64, b=utf8?}")?);
+    let nullable = pair.as_nullable(alloc)?;
+    assert!(rt; prints(alloc, &nullable, "{a=i64, b=utf8?}?")?);
+    let list = DType::List(Element::of(alloc, nullable)?, Nullability::NonNullable);
+    assert!(rt; prints(alloc, &list, "list({a=i64, b=utf8?}?)")?);
+    let nothing = DType::Struct(Fields::from_vec(Vec::new(alloc)), Nullability::NonNullable);
+    assert!(rt; prints(alloc, &nothing, "{}")?);
+    let leaves = [
+        (DType::Bool(Nullability::NonNullable), "bool"),
+        (DType::Bool(Nullability::Nullable), "bool?"),
+        (DType::Int(IntKind::U8, Nullability::NonNullable), "u8"),
+        (DType::Int(IntKind::U16, Nullability::NonNullable), "u16"),
+        (DType::Int(IntKind::U32, Nullability::Nullable), "u32?"),
+        (DType::Int(IntKind::U64, Nullability::NonNullable), "u64"),
+        (DType::Int(IntKind::I8, Nullability::NonNullable), "i8"),
+        (DType::Int(IntKind::I16, Nullability::NonNullable), "i16"),
+        (DType::Int(IntKind::I32, Nullability::NonNullable), "i32"),
+        (DType::Utf8(Nullability::NonNullable), "utf8"),
+    ];
+    for (dtype, text) in leaves {
+        assert!(rt; prints(alloc, &dtype, text)?, "{text}");
+    }
+    Ok(())
+}
+
+#[test]
+fn dtypes_that_take_nulls(rt: HostRuntime) -> Result<(), Fail> {
+    let alloc = rt.alloc();
+    let bare = Nullability::NonNullable;
+    let nullable = Nullability::Nullable;
+    let cases = [
+        (DType::Bool(bare), DType::Bool(nullable), false),
+        (
+            DType::Int(IntKind::U8, bare),
+            DType::Int(IntKind::U8, nullable),
+            false,
+        ),
+        (
+            DType::Int(IntKind::I64, nullable),
+            DType::Int(IntKind::I64, nullable),
+            true,
+        ),
+        (DType::Utf8(bare), DType::Utf8(nullable), false),
+        (
+            DType::List(Element::of(alloc, DType::Utf8(bare))?, bare),
+            DType::List(Element::of(alloc, DType::Utf8(bare))?, nullable),
+            false,
+        ),
+        (pair(alloc, IntKind::U8)?, pair(alloc, IntKind::U8)?, true),
+    ];
+    for (dtype, wanted, is_nullable) in cases {
+        assert_eq!(rt; dtype.is_nullable(), is_nullable, "{dtype:?}");
+        assert!(rt; dtype.copy(alloc)?.same(&dtype), "{dtype:?}");
+        let given = dtype.as_nullable(alloc)?;
+        assert!(rt; given.same(&wanted), "{dtype:?}");
+        assert!(rt; given.is_nullable(), "{dtype:?}");
+        assert_eq!(rt; given.same(&dtype), is_nullable, "{dtype:?}");
+    }
     Ok(())
 }

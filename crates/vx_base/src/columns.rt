@@ -80,8 +80,8 @@ fn append_part(values: &mut Vec<Value>, part: Column) -> Result<(), AllocError>
 }
 
 impl Column {
-    /// The column of these values in this order, where the dtype takes each of them. It takes no
-    /// memory: `_alloc` is for representations other than a list.
+    /// The column of these values in this order, where the dtype takes each of them. `_alloc` is for
+    /// representations other than a list.
     pub fn try_of(_alloc: Global, dtype: DType, values: Vec<Value>) -> Result<Column, ColumnError>
         ensures dtype { IfOk result (λ column. column.dtype ≡ data_type dtype) }
         ensures values { IfOk result (λ column. column.values ≡ map datum values.items) }
@@ -94,8 +94,8 @@ impl Column {
         }
     }
 
-    /// The column of values that are known to fit. It takes no memory.
-    pub(crate) fn of_fitting(dtype: DType, values: Vec<Value>) -> Column
+    /// The column of values that are known to fit, in their order. It takes no memory.
+    pub fn of_fitting(dtype: DType, values: Vec<Value>) -> Column
         requires { AllByRecursion (Fits (data_type dtype)) (map datum values.items) }
         ensures dtype { result.dtype ≡ data_type dtype }
         ensures values { result.values ≡ map datum values.items }
@@ -112,7 +112,7 @@ impl Column {
         Ok(Column { dtype, values })
     }
 
-    /// The rows of the column.
+    /// How many rows there are.
     pub fn len(&self) -> u64
         ensures rows { result ≡ length self.now.values }
         ensures fit { AllByRecursion (Fits self.now.dtype) self.now.values }

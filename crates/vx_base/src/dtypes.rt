@@ -4,6 +4,7 @@
 ghost use Rattle.std.specs.Prelude.{◌≡◌, ◌≤◌, ◌↔◌, Some, IsTrue, IsNone, IfOk, IfSome, length, map, position, slice_get};
 ghost use Rattle.std.specs.Int.{byte_len};
 ghost use Rattle.std.specs.Str.{bytes_eq};
+ghost use Rattle.vx_base.specs.ColumnCalls.{made_nullable};
 ghost use Rattle.vx_base.specs.Fits.{least_of, greatest_of, nullability_of, takes_null};
 ghost use Rattle.vx_base.specs.Segment.{width_of};
 ghost use Rattle.vx_base.specs.Views.{data_type, members_of, field_data, fields_in};
@@ -284,6 +285,27 @@ impl DType {
             (DType::Struct(fields, a), DType::Struct(others, b)) => a == b && fields.same(others),
             (DType::List(one, a), DType::List(two, b)) => a == b && one.dtype().same(two.dtype()),
             _ => false,
+        }
+    }
+
+    /// The same dtype, which takes nulls, in memory of its own.
+    pub fn as_nullable(&self, alloc: Global) -> Result<DType, AllocError>
+        ensures { IfOk result (λ nullable. data_type nullable ≡ made_nullable (data_type self.now)) }
+    {
+        let nullable = Nullability::Nullable;
+        match self {
+            DType::Bool(_) => Ok(DType::Bool(nullable)),
+            DType::Int(kind, _) => Ok(DType::Int(*kind, nullable)),
+            DType::Utf8(_) => Ok(DType::Utf8(nullable)),
+            DType::Struct(fields, _) => {
+                let copied = fields.copy(alloc)?;
+                Ok(DType::Struct(copied, nullable))
+            }
+            DType::List(element, _) => {
+                let copied = element.dtype().copy(alloc)?;
+                let copied = Element::of(alloc, copied)?;
+                Ok(DType::List(copied, nullable))
+            }
         }
     }
 

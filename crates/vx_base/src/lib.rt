@@ -4,8 +4,9 @@
 //! - Dtypes and their parts: [`DType`], [`IntKind`], [`Nullability`], [`Fields`], [`Field`], [`Element`],
 //!   [`Text`].
 //! - Values and columns: [`Value`], [`Values`], [`fits`], [`Column`], [`ColumnError`].
-//! - Segments: [`decode`] with [`DecodeError`], and the laws of the codec, [`one_spelling`],
-//!   [`decoded_is_spelled`] and [`segments_by_hand`].
+//! - Which rows are chosen: [`Mask`], with its law, [`masks_choose_twice`].
+//! - Segments: [`encode`], [`decode`] with [`DecodeError`], and the laws of the codec, [`one_spelling`],
+//!   [`decoded_is_spelled`], [`decoding_undoes_encoding`] and [`segments_by_hand`].
 //! - Where a segment lies: [`SegmentLocation`], and the range that it asks for, [`AskedRange`].
 //! - Sources of segments: the trait [`SegmentSource`] with [`SourceError`]; [`MemorySource`],
 //!   [`FileSource`].
@@ -14,33 +15,53 @@
 #![tactic(auto)]
 
 mod adapters;
+mod built_columns;
 mod by_hand;
+mod column_calls;
 mod columns;
 mod decoding;
+mod dtype_texts;
 mod dtypes;
+mod encoding;
 mod file_sources;
 mod in_flight;
 mod locations;
+mod masks;
 mod memory_sources;
 mod memory_streams;
 mod outside;
+mod segment_laws;
+mod segment_parts;
 mod texts;
 mod values;
 
 pub use adapters::{ReadSource, WriteSink};
 pub use by_hand::segments_by_hand;
 pub use columns::{Column, ColumnError};
-pub use decoding::{DecodeError, decode, decoded_is_spelled, one_spelling};
+pub use decoding::{DecodeError, decode};
 pub use dtypes::{DType, Element, Field, Fields, IntKind, Nullability};
+pub use encoding::encode;
 pub use file_sources::FileSource;
 pub use locations::{AskedRange, SegmentLocation};
+pub use masks::{Mask, masks_choose_twice};
 pub use memory_sources::MemorySource;
 pub use memory_streams::{BytesSink, BytesSource};
 pub use outside::{SegmentSource, Sink, Source, SourceError, StreamError};
+pub use segment_laws::{decoded_is_spelled, decoding_undoes_encoding, one_spelling};
 pub use texts::Text;
 pub use values::{Value, Values, fits};
 
 #[cfg(test)]
+mod built_column_tests;
+#[cfg(test)]
+mod codec_tests;
+#[cfg(test)]
+mod column_call_tests;
+#[cfg(test)]
 mod column_tests;
+#[cfg(test)]
+mod mask_tests;
+#[cfg(test)]
+mod number_codec_tests;
 #[cfg(test)]
 mod outside_tests;

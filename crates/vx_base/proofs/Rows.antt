@@ -1,0 +1,77 @@
+-- The value of a row by its validity and its slot.
+use Rattle.std.proofs.Common.{◌≡◌, ℕ, pos, ◌+◌, ◌*◌, ◌/◌, ◌%◌, ◌^◌, ◌<◌, ◌≤◌, true, false, List, [], ◌++◌, length, get_or, refl, sym, ap, subst, ◌∙◌, arith}
+use Rattle.std.specs.Str.{IsUtf8}
+use Rattle.std.proofs.lemmas.List.{get_or_past, take_at}
+use Rattle.std.proofs.lemmas.Nat.{shr_split, mod_below, div_below, pow_pos}
+use Rattle.vx_base.specs.declared.dtypes.IntKind.{IntKind}
+use Rattle.vx_base.specs.declared.dtypes.Nullability.{Nullability}
+use Rattle.vx_base.specs.Data.{bool_type, int_type, utf8_type, Datum, null, truth, number, text, structure}
+use Rattle.vx_base.specs.Fits.{Fits}
+use Rattle.vx_base.specs.Parts.{IsPadded, AreBits}
+use Rattle.vx_base.specs.Segment.{is_value, truth_in, number_in, text_in, packed}
+use Rattle.vx_base.specs.Reading.{packed_len}
+use Rattle.vx_base.proofs.Bits.{packed_padded}
+use Rattle.vx_base.proofs.Leaves.{validity_len}
+use Rattle.std.proofs.lemmas.List.{length-map, length-append}
+use Rattle.std.proofs.Common.{map, take}
+
+-- ---- no value has this slot
+pub no_truth : (n : Nullability) (w : Datum) → Fits (bool_type n) w → is_value w ≡ false → truth_in w ≡ true → ⊥
+no_truth n null h e s = absurd cc
+no_truth n (truth b) h e s = absurd cc
+no_truth n (number z) h e s = h
+no_truth n (text bytes) h e s = h
+no_truth n (structure ws) h e s = h
+
+pub no_number : (kind : IntKind) (n : Nullability) (w : Datum) → Fits (int_type kind n) w → is_value w ≡ false → number_in w ≡ pos 0
+no_number kind n null h e = refl
+no_number kind n (number z) h e = absurd cc
+no_number kind n (truth b) h e = absurd h
+no_number kind n (text bytes) h e = absurd h
+no_number kind n (structure ws) h e = absurd h
+
+pub no_text : (n : Nullability) (w : Datum) → Fits (utf8_type n) w → is_value w ≡ false → text_in w ≡ []
+no_text n null h e = refl
+no_text n (text bytes) h e = absurd cc
+no_text n (truth b) h e = absurd h
+no_text n (number z) h e = absurd h
+no_text n (structure ws) h e = absurd h
+
+pub is_text : (n : Nullability) (w : Datum) → Fits (utf8_type n) w → is_value w ≡ true → IsUtf8 (text_in w)
+is_text n null h e = absurd cc
+is_text n (text bytes) h e = h
+is_text n (truth b) h e = absurd h
+is_text n (number z) h e = absurd h
+is_text n (structure ws) h e = absurd h
+
+-- ---- padding
+pub whole_padded : (rows : ℕ) (bytes : List ℕ) → length bytes ≡ packed_len rows → rows % 8 ≡ 0 → IsPadded rows bytes
+whole_padded rows bytes len e =
+    let past : get_or bytes (rows / 8) 0 ≡ 0 = get_or_past bytes (rows / 8) 0 (omega arith) in
+    omega (arith, past, pow_pos (rows % 8))
+
+pub small_from_shift : (b k : ℕ) → b / 2 ^ k ≡ 0 → b < 2 ^ k
+small_from_shift b k e =
+    let split : 0 * 2 ^ k + b % 2 ^ k ≡ b = subst (λ (q : ℕ). q * 2 ^ k + b % 2 ^ k ≡ b) e (shr_split b k) in
+    omega (arith, split, mod_below b (2 ^ k) (pow_pos k))
+
+pub shift_from_small : (b k : ℕ) → b < 2 ^ k → b / 2 ^ k ≡ 0
+shift_from_small b k h =
+    let low : b / 2 ^ k < 1 = div_below b (2 ^ k) 1 (pow_pos k) (omega arith) in
+    omega (arith, low)
+
+-- a validity has its bits
+pub packed_bits : (values : List Datum) → AreBits (length values) (packed (map is_value values))
+packed_bits values = (validity_len values, subst (λ (k : ℕ). IsPadded k (packed (map is_value values))) (length-map values is_value) (packed_padded (map is_value values)))
+
+pub bits_there : (values : List Datum) (rest bytes : List ℕ) (rows : ℕ) → length values ≡ rows → bytes ≡ packed (map is_value values) ++ rest → AreBits rows (take (packed_len rows) bytes)
+bits_there values rest bytes rows count e =
+    subst (λ (k : ℕ). AreBits k (take (packed_len k) bytes)) count (subst (λ (bs : List ℕ). AreBits (length values) bs) (sym (ap (take (packed_len (length values))) e ∙ take_at (packed (map is_value values)) rest (packed_len (length values)) (validity_len values))) (packed_bits values))
+
+pub bits_room : (values : List Datum) (rest bytes : List ℕ) (rows : ℕ) → length values ≡ rows → bytes ≡ packed (map is_value values) ++ rest → packed_len rows ≤ length bytes
+bits_room values rest bytes rows count e = omega (arith, ap length e, length-append (packed (map is_value values)) rest, validity_len values, ap packed_len count)
+
+pub bits_front : (values : List Datum) (rest bytes front : List ℕ) (rows n : ℕ) → length values ≡ rows → bytes ≡ packed (map is_value values) ++ rest → n ≡ packed_len rows → front ≡ take n bytes → AreBits rows front
+bits_front values rest bytes front rows n count e len is =
+    let same : front ≡ take (packed_len rows) bytes = is ∙ ap (λ (k : ℕ). take k bytes) len in
+    subst (λ (bs : List ℕ). AreBits rows bs) (sym same) (bits_there values rest bytes rows count e)

@@ -1,0 +1,9 @@
+use Rattle.std.proofs.Common.{◌≡◌, drop}
+use Rattle.vx_expr.specs.TermViews.{terms_of}
+use Rattle.vx_expr.specs.Types.{are_distinct, names_in}
+use Rattle.vx_expr.proofs.DistinctNames.{are_fresh, texts}
+use Rattle.vx_expr.proofs.typing.has_distinct_names.Given as goal
+
+-- the names left are fresh beside those in the set where all names are distinct
+abbrev pub invariant-loop-item : goal.invariant-loop-item
+invariant-loop-item l = are_distinct (names_in (terms_of l.items)) ≡ are_fresh (texts l.seen.keys) (names_in (terms_of (drop l.item-index l.items)))

@@ -1,0 +1,263 @@
+//! Expressions that are bound to the dtype of their root, and so have a dtype.
+
+ghost use Rattle.std.specs.Prelude.{◌≡◌, ◌↔◌, ℕ, Some, false, IfOk, IsTrue, option_map};
+ghost use Rattle.vx_base.specs.ColumnCalls.{IsBool};
+ghost use Rattle.vx_base.specs.Views.{data_type};
+ghost use Rattle.vx_expr.specs.Filters.{IsTruth};
+ghost use Rattle.vx_expr.specs.Bound.{IsBoundTo};
+ghost use Rattle.vx_expr.specs.Meaning.{is_strict};
+ghost use Rattle.vx_expr.specs.Mentions.{is_root, uses_root, uses_row_number, uses_bound, root_fields, first_ones};
+ghost use Rattle.vx_expr.specs.Refusals.{BindGives};
+ghost use Rattle.vx_expr.specs.Rewritten.{with_row_number, row_number_as_root, over_row_number};
+ghost use Rattle.vx_expr.specs.Terms.{root};
+ghost use Rattle.vx_expr.specs.TermText.{term_text};
+ghost use Rattle.vx_expr.specs.TermViews.{term};
+ghost use Rattle.vx_expr.specs.Types.{type_of};
+
+use crate::binding::BindError;
+use crate::expressions::Expr;
+use crate::mentions::Part;
+use crate::rewriting::Leaves;
+use crate::root_fields::fields_of_root;
+use crate::typing::row_idx_dtype;
+use std::alloc::{AllocError, Global};
+use std::marker::Model;
+use vx_base::{DType, Field, Fields, Nullability, Text};
+
+/// How deep an expression may nest to be bound.
+const DEEPEST: u64 = 64;
+
+/// An expression that is bound to the dtype of its root.
+#[derive(Debug, Drop)]
+pub struct BoundExpression {
+    expr: Expr,
+    root: DType,
+    dtype: DType,
+}
+
+impl Model for BoundExpression {
+    ghost use Rattle.std.specs.Prelude.{◌≡◌, Some};
+    ghost use Rattle.vx_base.specs.Views.{data_type};
+    ghost use Rattle.vx_expr.specs.Bound.{Bound, coded_bound};
+    ghost use Rattle.vx_expr.specs.TermViews.{term};
+    ghost use Rattle.vx_expr.specs.Types.{type_of};
+
+    ghost Value = { Bound };
+
+    ghost coded = { coded_bound };
+
+    ghost view = { λ a. record { term = term a.expr; root = data_type a.root; dtype = data_type a.dtype } };
+
+    ghost invariant = { λ a. type_of (data_type a.root) (term a.expr) ≡ Some (data_type a.dtype) };
+}
+
+/// Binds an expression to the dtype of its root: of the dtype that the forms of its parts give, from the
+/// leaves upwards. `TooDeep` is tested first; the expression is walked no deeper than 64 levels.
+pub fn bind(alloc: Global, expr: &Expr, dtype: &DType) -> Result<BoundExpression, BindError>
+    ensures { BindGives (data_type dtype.now) (term expr.now) result }
+{
+    if !expr.is_within(DEEPEST) {
+        return Err(BindError::TooDeep);
+    }
+    let mut next = 0;
+    let typed = match expr.typed(alloc, dtype, &mut next) {
+        Ok(typed) => typed,
+        Err(error) => return Err(error),
+    };
+    let bound = typed.into_dtype(alloc)?;
+    let root = dtype.copy(alloc)?;
+    let expr = expr.copy(alloc)?;
+    Ok(BoundExpression {
+        expr,
+        root,
+        dtype: bound,
+    })
+}
+
+/// A field of that name.
+fn field(alloc: Global, name: &str, dtype: DType) -> Result<Field, AllocError>
+    ensures name { IfOk result (λ field. field.name ≡ name.now) }
+    ensures dtype { IfOk result (λ field. data_type field.dtype ≡ data_type dtype) }
+{
+    let name = Text::from_string(String::from_str(alloc, name)?);
+    Ok(Field { name, dtype })
+}
+
+/// The struct of a row's number and its root value.
+fn with_row_idx(alloc: Global, root: &DType) -> Result<DType, AllocError>
+    ensures { IfOk result (λ dtype. data_type dtype ≡ with_row_number (data_type root.now)) }
+{
+    let row_idx = field(alloc, "row_idx", row_idx_dtype())?;
+    let child = field(alloc, "child", root.copy(alloc)?)?;
+    let fields = Fields::from_vec(vec![in alloc; row_idx, child]?);
+    Ok(DType::Struct(fields, Nullability::NonNullable))
+}
+
+impl BoundExpression {
+    /// The root value itself.
+    pub fn new_root(alloc: Global, dtype: DType) -> Result<BoundExpression, AllocError>
+        ensures term { IfOk result (λ bound. bound.term ≡ root) }
+        ensures root { IfOk result (λ bound. bound.root ≡ data_type dtype) }
+        ensures dtype { IfOk result (λ bound. bound.dtype ≡ data_type dtype) }
+    {
+        let root = dtype.copy(alloc)?;
+        Ok(BoundExpression {
+            expr: Expr::Root,
+            root,
+            dtype,
+        })
+    }
+
+    /// The binding of an expression that has a dtype of truth values over the root's dtype, in memory of
+    /// its own.
+    pub(crate) fn of_truth(
+        alloc: Global,
+        expr: &Expr,
+        root: &DType,
+    ) -> Result<BoundExpression, AllocError>
+        requires { IsTruth (data_type root.now) (term expr.now) }
+        ensures term { IfOk result (λ bound. bound.term ≡ term expr.now) }
+        ensures root { IfOk result (λ bound. bound.root ≡ data_type root.now) }
+        ensures truth { IfOk result (λ bound. IsBool bound.dtype) }
+    {
+        let mut next = 0;
+        let dtype = match expr.typed(alloc, root, &mut next) {
+            Ok(typed) => typed.into_dtype(alloc)?,
+            Err(BindError::Memory) => return Err(AllocError),
+            Err(_) => unreachable!(),
+        };
+        let root = root.copy(alloc)?;
+        let expr = expr.copy(alloc)?;
+        Ok(BoundExpression { expr, root, dtype })
+    }
+
+    /// The dtype of the expression. It takes no memory.
+    pub fn dtype(&self) -> &DType
+        ensures dtype { data_type result.now ≡ self.now.dtype }
+        // Every bound expression has the dtype that its form gives.
+        ensures bound { type_of self.now.root self.now.term ≡ Some self.now.dtype }
+    {
+        &self.dtype
+    }
+
+    /// The expression. It takes no memory.
+    pub fn expr(&self) -> &Expr
+        ensures { term result.now ≡ self.now.term }
+    {
+        &self.expr
+    }
+
+    /// The dtype of the root. It takes no memory.
+    pub(crate) fn root_dtype(&self) -> &DType
+        ensures { data_type result.now ≡ self.now.root }
+    {
+        &self.root
+    }
+
+    /// Whether the expression is the root value itself. It takes no memory.
+    pub fn is_root(&self) -> bool
+        ensures { result ≡ is_root self.now.term }
+    {
+        matches!(self.expr, Expr::Root)
+    }
+
+    /// Whether the expression takes root values of the dtype: any, where the root doesn't occur. It takes
+    /// no memory.
+    pub fn is_root_bound_to(&self, dtype: &DType) -> bool
+        ensures { IsTrue result ↔ IsBoundTo self.now (data_type dtype.now) }
+    {
+        !self.uses_root() || self.root.same(dtype)
+    }
+
+    /// Whether the root value occurs. It takes no memory.
+    pub fn uses_root(&self) -> bool
+        ensures { result ≡ uses_root self.now.term }
+    {
+        self.expr.mentions(Part::Root)
+    }
+
+    /// Whether the row's number occurs. It takes no memory.
+    pub fn uses_row_idx(&self) -> bool
+        ensures { result ≡ uses_row_number self.now.term }
+    {
+        self.expr.mentions(Part::RowIdx)
+    }
+
+    /// Whether the bound occurs. It takes no memory.
+    pub fn uses_bound(&self) -> bool
+        ensures { result ≡ uses_bound self.now.term }
+    {
+        self.expr.mentions(Part::Bound)
+    }
+
+    /// Whether the form alone shows that the expression is null or a fault on a null root. It takes no
+    /// memory.
+    pub fn is_strict(&self) -> bool
+        ensures { result ≡ is_strict self.now.term }
+    {
+        self.expr.is_strict()
+    }
+
+    /// The names of the fields that are got from the root, in the order in which they occur first. None
+    /// where the root occurs other than to get a field of it.
+    pub fn named_fields(&self, alloc: Global) -> Result<Option<Vec<Text>>, AllocError>
+        ensures { IfOk result (λ found. option_map (λ names. names.items) found ≡ option_map first_ones (root_fields self.now.term)) }
+    {
+        fields_of_root(alloc, &self.expr)
+    }
+
+    /// The same expression bound to another root dtype.
+    pub fn rebind(&self, alloc: Global, dtype: &DType) -> Result<BoundExpression, BindError>
+        ensures { BindGives (data_type dtype.now) self.now.term result }
+    {
+        bind(alloc, &self.expr, dtype)
+    }
+
+    /// The expression with the root in the place of the row's number, bound to non-nullable `u64`. Its
+    /// dtype stays.
+    #[tactic(auto, using(crate::proofs::RewrittenTypes::type_as_root))]
+    pub fn row_idx_as_root(&self, alloc: Global) -> Result<BoundExpression, AllocError>
+        requires { uses_root self.now.term ≡ false }
+        ensures { IfOk result (λ bound. bound ≡ row_number_as_root self.now) }
+    {
+        let expr = self.expr.rewritten(alloc, Leaves::RowIdxAsRoot)?;
+        let dtype = self.dtype.copy(alloc)?;
+        Ok(BoundExpression {
+            expr,
+            root: row_idx_dtype(),
+            dtype,
+        })
+    }
+
+    /// The expression with the field `row_idx` of the root in the place of the row's number and `child` in
+    /// that of the root, bound to the struct of these two. Its dtype stays; it may nest one level deeper
+    /// than `bind` allows.
+    #[tactic(auto, using(crate::proofs::RewrittenTypes::type_over_row))]
+    pub fn over_row_idx(&self, alloc: Global) -> Result<BoundExpression, AllocError>
+        ensures { IfOk result (λ bound. bound ≡ over_row_number self.now) }
+    {
+        let expr = self.expr.rewritten(alloc, Leaves::OverRowIdx)?;
+        let root = with_row_idx(alloc, &self.root)?;
+        let dtype = self.dtype.copy(alloc)?;
+        Ok(BoundExpression { expr, root, dtype })
+    }
+
+    /// The printed form of the expression.
+    pub fn text(&self, alloc: Global) -> Result<Vec<u8>, AllocError>
+        ensures { IfOk result (λ text. text.items ≡ term_text self.now.term) }
+    {
+        let mut out = Vec::new(alloc);
+        self.expr.write_text(alloc, &mut out)?;
+        Ok(out)
+    }
+
+    /// The same expression in memory of its own.
+    pub fn copy(&self, alloc: Global) -> Result<BoundExpression, AllocError>
+        ensures { IfOk result (λ copied. copied ≡ self.now) }
+    {
+        let expr = self.expr.copy(alloc)?;
+        let root = self.root.copy(alloc)?;
+        let dtype = self.dtype.copy(alloc)?;
+        Ok(BoundExpression { expr, root, dtype })
+    }
+}

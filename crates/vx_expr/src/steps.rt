@@ -1,0 +1,231 @@
+//! Steps: what is done with the values of the parts of an expression at a row.
+
+ghost use Rattle.std.specs.Prelude.{◌≡◌, IfOk, option_map, option_and_then, slice_get};
+ghost use Rattle.vx_expr.specs.Meaning.{if_inside, negated, and_of, or_of, comparison_of, bound_test_of};
+ghost use Rattle.vx_expr.specs.Rows.{no_bound};
+ghost use Rattle.vx_expr.specs.Steps.{cell_datum, seen_datum, one_step, two_step, joined_number, item_at, exact_inside};
+ghost use Rattle.vx_base.specs.Data.{number};
+ghost use Rattle.vx_base.specs.ValueViews.{datum, data_in};
+ghost use Rattle.vx_base.specs.declared.dtypes.IntKind.{IntKind};
+
+use crate::cells::{Cell, Seen};
+use crate::operators::{ArithOp, CompareOp};
+use std::alloc::{AllocError, Global};
+use std::cmp::Ordering;
+use vx_base::{IntKind, Value, Values};
+
+/// What is done with the value of one part.
+#[derive(Clone, Copy)]
+pub(crate) enum OneStep {
+    /// The item at that place of a struct.
+    Field(Option<usize>),
+    Not,
+    IsNull,
+    IsNotNull,
+    AtMostBound,
+}
+
+/// What is done with the values of two parts.
+#[derive(Clone, Copy)]
+pub(crate) enum TwoStep {
+    And,
+    Or,
+    Compare(CompareOp),
+    /// Two numbers of that kind, joined.
+    Arith(ArithOp, Option<IntKind>),
+}
+
+/// The value at a place. None where there is none.
+fn value_at(values: &Values, place: usize) -> Option<&Value>
+    ensures { option_map (λ value. datum value.now) result ≡ slice_get (data_in values.now) place }
+{
+    values.items().get(place)
+}
+
+/// The item at the place of a struct. None where there is none.
+fn item<'a>(
+    alloc: Global,
+    place: Option<usize>,
+    cell: Cell<'a>,
+) -> Result<Option<Cell<'a>>, AllocError>
+    ensures { IfOk result (λ made. option_map cell_datum made ≡ item_at place (cell_datum cell.entry)) }
+{
+    match (place, cell) {
+        (_, Cell::Null) => Ok(Some(Cell::Null)),
+        (_, Cell::Borrowed(Value::Null)) => Ok(Some(Cell::Null)),
+        (_, Cell::Owned(Value::Null)) => Ok(Some(Cell::Null)),
+        (Some(place), Cell::Borrowed(Value::Struct(values))) => match value_at(values, place) {
+            Some(value) => Ok(Some(Cell::of(value))),
+            None => Ok(None),
+        },
+        (Some(place), Cell::Owned(Value::Struct(values))) => match value_at(&values, place) {
+            Some(value) => Ok(Some(Cell::Owned(value.copy(alloc)?))),
+            None => Ok(None),
+        },
+        _ => Ok(None),
+    }
+}
+
+/// The opposite truth value. None where it is no truth value.
+fn opposite(seen: Seen<'_>) -> Option<Cell<'static>>
+    ensures { option_map cell_datum result ≡ negated (seen_datum seen.entry) }
+{
+    match seen {
+        Seen::Null => Some(Cell::Null),
+        Seen::Truth(truth) => Some(Cell::Truth(!truth)),
+        _ => None,
+    }
+}
+
+/// Whether a number is at most the bound, which is the greatest number of 64 bits.
+fn at_most_bound(seen: Seen<'_>) -> Option<Cell<'static>>
+    ensures { option_map cell_datum result ≡ bound_test_of no_bound (seen_datum seen.entry) }
+{
+    match seen {
+        Seen::Null => Some(Cell::Null),
+        Seen::Number(number) => Some(Cell::Truth(number <= i128::from(u64::MAX))),
+        _ => None,
+    }
+}
+
+/// The step with a value. None is a fault.
+pub(crate) fn one<'a>(
+    alloc: Global,
+    step: OneStep,
+    cell: Cell<'a>,
+) -> Result<Option<Cell<'a>>, AllocError>
+    ensures { IfOk result (λ made. option_map cell_datum made ≡ one_step step (cell_datum cell.entry)) }
+{
+    match step {
+        OneStep::Field(place) => item(alloc, place, cell),
+        OneStep::Not => Ok(opposite(cell.seen())),
+        OneStep::IsNull => Ok(Some(Cell::Truth(matches!(cell.seen(), Seen::Null)))),
+        OneStep::IsNotNull => Ok(Some(Cell::Truth(!matches!(cell.seen(), Seen::Null)))),
+        OneStep::AtMostBound => Ok(at_most_bound(cell.seen())),
+    }
+}
+
+/// Whether both are true: false where one is false, else null where one is null.
+fn both_true(left: Seen<'_>, right: Seen<'_>) -> Option<Cell<'static>>
+    ensures { option_map cell_datum result ≡ and_of (seen_datum left.entry) (seen_datum right.entry) }
+{
+    match (left, right) {
+        (Seen::Truth(left), Seen::Truth(right)) => Some(Cell::Truth(left && right)),
+        (Seen::Truth(false), Seen::Null) | (Seen::Null, Seen::Truth(false)) => {
+            Some(Cell::Truth(false))
+        }
+        (Seen::Truth(true), Seen::Null)
+        | (Seen::Null, Seen::Truth(true))
+        | (Seen::Null, Seen::Null) => Some(Cell::Null),
+        _ => None,
+    }
+}
+
+/// Whether one is true: true where one is true, else null where one is null.
+fn one_true(left: Seen<'_>, right: Seen<'_>) -> Option<Cell<'static>>
+    ensures { option_map cell_datum result ≡ or_of (seen_datum left.entry) (seen_datum right.entry) }
+{
+    match (left, right) {
+        (Seen::Truth(left), Seen::Truth(right)) => Some(Cell::Truth(left || right)),
+        (Seen::Truth(true), Seen::Null) | (Seen::Null, Seen::Truth(true)) => {
+            Some(Cell::Truth(true))
+        }
+        (Seen::Truth(false), Seen::Null)
+        | (Seen::Null, Seen::Truth(false))
+        | (Seen::Null, Seen::Null) => Some(Cell::Null),
+        _ => None,
+    }
+}
+
+impl CompareOp {
+    ghost use Rattle.vx_expr.specs.Meaning.{holds};
+
+    /// Whether the operator asks for this order.
+    fn holds(self, order: Ordering) -> bool
+        ensures { result ≡ holds self order }
+    {
+        match self {
+            CompareOp::Eq => order.is_eq(),
+            CompareOp::Ne => order.is_ne(),
+            CompareOp::Lt => order.is_lt(),
+            CompareOp::Le => order.is_le(),
+            CompareOp::Gt => order.is_gt(),
+            CompareOp::Ge => order.is_ge(),
+        }
+    }
+}
+
+/// How two values compare: null where one is null.
+fn compared(op: CompareOp, left: Seen<'_>, right: Seen<'_>) -> Option<Cell<'static>>
+    ensures { option_map cell_datum result ≡ comparison_of op (seen_datum left.entry) (seen_datum right.entry) }
+{
+    let order = match (left, right) {
+        (Seen::Null, _) | (_, Seen::Null) => return Some(Cell::Null),
+        (Seen::Truth(left), Seen::Truth(right)) => left.cmp(&right),
+        (Seen::Number(left), Seen::Number(right)) => left.cmp(&right),
+        (Seen::Text(left), Seen::Text(right)) => left.cmp(right),
+        _ => return None,
+    };
+    Some(Cell::Truth(op.holds(order)))
+}
+
+/// The exact result. None where there is none, or where it lies outside each kind.
+fn exact_number(op: ArithOp, left: i128, right: i128) -> Option<i128>
+    ensures { (kind : IntKind) → option_and_then (if_inside kind) result ≡ exact_inside op kind left right }
+{
+    match op {
+        ArithOp::Add => left.checked_add(right),
+        ArithOp::Sub => left.checked_sub(right),
+        ArithOp::Mul => left.checked_mul(right),
+        ArithOp::Div => left.checked_div(right),
+    }
+}
+
+/// The number where it lies inside the kind.
+fn if_inside(kind: IntKind, found: i128) -> Option<i128>
+    ensures { option_map number result ≡ if_inside kind found }
+{
+    if kind.least() <= found && found <= kind.greatest() {
+        Some(found)
+    } else {
+        None
+    }
+}
+
+/// The result inside the kind. None where there is none.
+fn exact_inside(op: ArithOp, kind: IntKind, left: i128, right: i128) -> Option<i128>
+    ensures { option_map number result ≡ exact_inside op kind left right }
+{
+    if_inside(kind, exact_number(op, left, right)?)
+}
+
+/// Two numbers joined: null where one is null.
+fn joined(
+    op: ArithOp,
+    kind: Option<IntKind>,
+    left: Seen<'_>,
+    right: Seen<'_>,
+) -> Option<Cell<'static>>
+    ensures { option_map cell_datum result ≡ joined_number op kind (seen_datum left.entry) (seen_datum right.entry) }
+{
+    match (left, right) {
+        (Seen::Null, _) | (_, Seen::Null) => Some(Cell::Null),
+        (Seen::Number(left), Seen::Number(right)) => {
+            Some(Cell::Number(exact_inside(op, kind?, left, right)?))
+        }
+        _ => None,
+    }
+}
+
+/// The step with two values. None is a fault.
+pub(crate) fn two(step: TwoStep, left: &Cell<'_>, right: &Cell<'_>) -> Option<Cell<'static>>
+    ensures { option_map cell_datum result ≡ two_step step (cell_datum left.now) (cell_datum right.now) }
+{
+    let (left, right) = (left.seen(), right.seen());
+    match step {
+        TwoStep::And => both_true(left, right),
+        TwoStep::Or => one_true(left, right),
+        TwoStep::Compare(op) => compared(op, left, right),
+        TwoStep::Arith(op, kind) => joined(op, kind, left, right),
+    }
+}

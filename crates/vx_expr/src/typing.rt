@@ -1,0 +1,401 @@
+//! Typing: the dtype of an expression over the dtype of its root, form by form.
+
+ghost use Rattle.std.specs.Prelude.{◌≡◌, ◌+◌, IfOk, IfErr, OnOk, option_map};
+ghost use Rattle.vx_base.specs.ColumnCalls.{nullable_where};
+ghost use Rattle.vx_base.specs.Views.{data_type};
+ghost use Rattle.vx_base.specs.ValueViews.{datum};
+ghost use Rattle.vx_expr.specs.Counts.{node_count, nodes_in};
+ghost use Rattle.vx_expr.specs.Refusals.{capped, first_part, behind};
+ghost use Rattle.vx_expr.specs.TermViews.{term, terms_of};
+ghost use Rattle.vx_expr.specs.Typing.{typed_data, pair_type, GivesOr, GivesType, GivesPair, GivesMembers, GivesField, GivesPack, GivesDerived};
+ghost use Rattle.vx_expr.specs.Types.{either_nullable, literal_type, type_in, are_distinct, negation_type, logic_type, comparison_type, arithmetic_type, bound_test_type, row_number_type, names_in};
+
+use crate::binding::BindError;
+use crate::expressions::{Expr, NamedExprs, Operand};
+use std::alloc::{AllocError, Global};
+use std::collections::BTreeSet;
+use vx_base::{DType, Field, Fields, IntKind, Nullability, Text, Value, fits};
+
+/// The dtype of an expression, borrowed where it stands in the root's dtype or in a literal.
+#[derive(Drop)]
+pub(crate) enum Typed<'a> {
+    Borrowed(&'a DType),
+    Owned(DType),
+}
+
+impl<'a> Typed<'a> {
+    /// The dtype. It takes no memory.
+    pub(crate) fn dtype(&self) -> &DType
+        ensures { data_type result.now ≡ typed_data self.now }
+    {
+        match self {
+            Typed::Borrowed(dtype) => dtype,
+            Typed::Owned(dtype) => dtype,
+        }
+    }
+
+    /// The dtype in memory of its own.
+    pub(crate) fn into_dtype(self, alloc: Global) -> Result<DType, AllocError>
+        ensures { IfOk result (λ dtype. data_type dtype ≡ typed_data self.entry) }
+    {
+        match self {
+            Typed::Borrowed(dtype) => dtype.copy(alloc),
+            Typed::Owned(dtype) => Ok(dtype),
+        }
+    }
+}
+
+/// Nullable where one of the two is.
+fn either(left: Nullability, right: Nullability) -> Nullability
+    ensures { result ≡ either_nullable left right }
+{
+    match left {
+        Nullability::NonNullable => right,
+        Nullability::Nullable => Nullability::Nullable,
+    }
+}
+
+/// The dtype of a literal: a leaf dtype that the value fits.
+fn literal_typed<'a>(value: &Value, dtype: &'a DType) -> Option<Typed<'a>>
+    ensures { option_map typed_data result ≡ literal_type (datum value.now) (data_type dtype.now) }
+{
+    match dtype {
+        DType::Struct(_, _) | DType::List(_, _) => None,
+        leaf => {
+            if fits(leaf, value) {
+                Some(Typed::Borrowed(leaf))
+            } else {
+                None
+            }
+        }
+    }
+}
+
+/// The dtype of row numbers: non-nullable `u64`.
+pub(crate) fn row_idx_dtype() -> DType
+    ensures { data_type result ≡ row_number_type }
+{
+    DType::Int(IntKind::U64, Nullability::NonNullable)
+}
+
+/// The dtype of the opposite of a truth value.
+fn negation_typed(dtype: &DType) -> Option<DType>
+    ensures { option_map data_type result ≡ negation_type (data_type dtype.now) }
+{
+    match dtype {
+        DType::Bool(nullability) => Some(DType::Bool(*nullability)),
+        _ => None,
+    }
+}
+
+/// The dtype of two truth values joined.
+fn logic_typed(left: &DType, right: &DType) -> Option<DType>
+    ensures { option_map data_type result ≡ logic_type (data_type left.now) (data_type right.now) }
+{
+    match (left, right) {
+        (DType::Bool(left), DType::Bool(right)) => Some(DType::Bool(either(*left, *right))),
+        _ => None,
+    }
+}
+
+/// The dtype of a comparison: of two truth values, two numbers of one kind, or two texts.
+fn comparison_typed(left: &DType, right: &DType) -> Option<DType>
+    ensures { option_map data_type result ≡ comparison_type (data_type left.now) (data_type right.now) }
+{
+    match (left, right) {
+        (DType::Bool(left), DType::Bool(right)) | (DType::Utf8(left), DType::Utf8(right)) => {
+            Some(DType::Bool(either(*left, *right)))
+        }
+        (DType::Int(kind, left), DType::Int(other, right)) if kind == other => {
+            Some(DType::Bool(either(*left, *right)))
+        }
+        _ => None,
+    }
+}
+
+/// The dtype of two numbers of one kind joined.
+fn arithmetic_typed(left: &DType, right: &DType) -> Option<DType>
+    ensures { option_map data_type result ≡ arithmetic_type (data_type left.now) (data_type right.now) }
+{
+    match (left, right) {
+        (DType::Int(kind, left), DType::Int(other, right)) if kind == other => {
+            Some(DType::Int(*kind, either(*left, *right)))
+        }
+        _ => None,
+    }
+}
+
+/// The dtype of the test whether a number is at most the bound.
+fn bound_test_typed(dtype: &DType) -> Option<DType>
+    ensures { option_map data_type result ≡ bound_test_type (data_type dtype.now) }
+{
+    match dtype {
+        DType::Int(IntKind::U64, nullability) => Some(DType::Bool(*nullability)),
+        _ => None,
+    }
+}
+
+/// The dtype of the field of that name, nullable also where the struct is. `place` is the number of the
+/// expression that gets it.
+fn field_typed<'a>(
+    alloc: Global,
+    operand: Typed<'a>,
+    name: &Text,
+    place: u64,
+) -> Result<Typed<'a>, BindError>
+    ensures { GivesField (typed_data operand.entry) name.now place result }
+{
+    match operand {
+        Typed::Borrowed(DType::Struct(fields, nullability)) => match field_named(fields, name) {
+            Some(field) => nullable_field(alloc, field, *nullability),
+            None => Err(BindError::NoField(name.copy(alloc)?)),
+        },
+        Typed::Owned(DType::Struct(fields, nullability)) => match field_named(&fields, name) {
+            Some(field) => owned_field(alloc, field, nullability),
+            None => Err(BindError::NoField(name.copy(alloc)?)),
+        },
+        _ => Err(BindError::TypeMismatch(place)),
+    }
+}
+
+/// The first field of that name.
+fn field_named<'a>(fields: &'a Fields, name: &Text) -> Option<&'a DType>
+    ensures { option_map (λ found. data_type found.now) result ≡ type_in fields.now name.now }
+{
+    let place = fields.find(name.as_str())?;
+    match fields.get(place) {
+        Some(field) => Some(&field.dtype),
+        None => None,
+    }
+}
+
+/// The dtype of a field of a struct that stays where it is.
+fn nullable_field<'a>(
+    alloc: Global,
+    dtype: &'a DType,
+    nullability: Nullability,
+) -> Result<Typed<'a>, BindError>
+    ensures ok { IfOk result (λ typed. typed_data typed ≡ nullable_where nullability (data_type dtype.now)) }
+    ensures err { IfErr result (λ error. error ≡ BindError.Memory) }
+{
+    match nullability {
+        Nullability::NonNullable => Ok(Typed::Borrowed(dtype)),
+        Nullability::Nullable => match dtype.as_nullable(alloc) {
+            Ok(dtype) => Ok(Typed::Owned(dtype)),
+            Err(_) => Err(BindError::Memory),
+        },
+    }
+}
+
+/// The dtype of a field of a struct that was made.
+fn owned_field<'a>(
+    alloc: Global,
+    dtype: &DType,
+    nullability: Nullability,
+) -> Result<Typed<'a>, BindError>
+    ensures ok { IfOk result (λ typed. typed_data typed ≡ nullable_where nullability (data_type dtype.now)) }
+    ensures err { IfErr result (λ error. error ≡ BindError.Memory) }
+{
+    let copied = match nullability {
+        Nullability::NonNullable => dtype.copy(alloc),
+        Nullability::Nullable => dtype.as_nullable(alloc),
+    };
+    match copied {
+        Ok(dtype) => Ok(Typed::Owned(dtype)),
+        Err(_) => Err(BindError::Memory),
+    }
+}
+
+/// Whether no name stands twice.
+fn has_distinct_names(alloc: Global, items: &[(Text, Expr)]) -> Result<bool, AllocError>
+    ensures { IfOk result (λ distinct. distinct ≡ are_distinct (names_in (terms_of items.now))) }
+{
+    let mut seen = BTreeSet::new(alloc);
+    for item in items {
+        if !seen.insert(item.0.as_str())? {
+            return Ok(false);
+        }
+    }
+    Ok(true)
+}
+
+/// The number of the next part, which stands still at the end of its type.
+fn count(next: &mut u64) -> u64
+    ensures place { result ≡ next.old }
+    ensures counted { next.new ≡ first_part next.old }
+{
+    let place = *next;
+    *next = place.saturating_add(1);
+    place
+}
+
+/// The dtype, or a mismatch at the place.
+fn given<'a>(dtype: Option<DType>, place: u64) -> Result<Typed<'a>, BindError>
+    ensures { GivesOr (option_map data_type dtype) place result }
+{
+    match dtype {
+        Some(dtype) => Ok(Typed::Owned(dtype)),
+        None => Err(BindError::TypeMismatch(place)),
+    }
+}
+
+/// The struct of these fields, where the names of the expressions are distinct.
+fn packed<'a>(
+    alloc: Global,
+    fields: Fields,
+    items: &[(Text, Expr)],
+    place: u64,
+) -> Result<Typed<'a>, BindError>
+    ensures { GivesPack (names_in (terms_of items.now)) fields place result }
+{
+    if has_distinct_names(alloc, items)? {
+        Ok(Typed::Owned(DType::Struct(fields, Nullability::NonNullable)))
+    } else {
+        Err(BindError::TypeMismatch(place))
+    }
+}
+
+impl NamedExprs {
+    /// The fields of the struct of the named expressions. `next` is the number of the first of them, and
+    /// then of what stands behind them.
+    #[cycle(typing)]
+    fn fields<'a>(
+        &'a self,
+        alloc: Global,
+        root: &'a DType,
+        next: &mut u64,
+    ) -> Result<Fields, BindError>
+        ensures given { GivesMembers (data_type root.now) self.now next.old result }
+        ensures counted { OnOk result (next.new ≡ capped (next.old + nodes_in self.now)) }
+    {
+        let items = self.items();
+        let mut fields = Vec::with_capacity(alloc, items.len())?;
+        for item in items {
+            let typed = match item.1.typed(alloc, root, next) {
+                Ok(typed) => typed,
+                Err(error) => return Err(error),
+            };
+            let dtype = typed.into_dtype(alloc)?;
+            let name = item.0.copy(alloc)?;
+            fields.push(Field { name, dtype })?;
+        }
+        // Reading the number shows the proof that it is a `u64`.
+        let _behind = *next;
+        Ok(Fields::from_vec(fields))
+    }
+}
+
+impl Operand {
+    /// The dtypes of this operand and of another one behind it.
+    #[cycle(typing)]
+    fn typed_pair<'a>(
+        &'a self,
+        alloc: Global,
+        right: &'a Operand,
+        root: &'a DType,
+        next: &mut u64,
+    ) -> Result<(Typed<'a>, Typed<'a>), BindError>
+        ensures given { GivesPair (data_type root.now) self.now right.now next.old result }
+        ensures counted { OnOk result (next.new ≡ capped (next.old + (node_count self.now + node_count right.now))) }
+    {
+        let left = match self.expr().typed(alloc, root, next) {
+            Ok(left) => left,
+            Err(error) => return Err(error),
+        };
+        let right = match right.expr().typed(alloc, root, next) {
+            Ok(right) => right,
+            Err(error) => return Err(error),
+        };
+        Ok((left, right))
+    }
+
+    /// The dtype of this operand.
+    #[cycle(typing)]
+    fn typed<'a>(
+        &'a self,
+        alloc: Global,
+        root: &'a DType,
+        next: &mut u64,
+    ) -> Result<Typed<'a>, BindError>
+        ensures given { GivesType (data_type root.now) self.now next.old result }
+        ensures counted { OnOk result (next.new ≡ behind next.old self.now) }
+    {
+        self.expr().typed(alloc, root, next)
+    }
+}
+
+impl Expr {
+    /// The dtype of the expression over the root's dtype. `next` is its number, and then of what stands
+    /// behind it.
+    #[cycle(typing)]
+    pub(crate) fn typed<'a>(
+        &'a self,
+        alloc: Global,
+        root: &'a DType,
+        next: &mut u64,
+    ) -> Result<Typed<'a>, BindError>
+        ensures given { GivesType (data_type root.now) (term self.now) next.old result }
+        ensures counted { OnOk result (next.new ≡ behind next.old (term self.now)) }
+    {
+        let place = count(next);
+        match self {
+            Expr::Root => Ok(Typed::Borrowed(root)),
+            Expr::RowIdx => Ok(Typed::Owned(row_idx_dtype())),
+            Expr::Lit(value, dtype) => match literal_typed(value, dtype) {
+                Some(typed) => Ok(typed),
+                None => Err(BindError::TypeMismatch(place)),
+            },
+            Expr::Pack(items) => match items.fields(alloc, root, next) {
+                Ok(fields) => packed(alloc, fields, items.items(), place),
+                Err(error) => Err(error),
+            },
+            Expr::And(left, right)
+            | Expr::Or(left, right)
+            | Expr::Compare(_, left, right)
+            | Expr::Arith(_, left, right) => match left.typed_pair(alloc, right, root, next) {
+                Ok((left, right)) => given(self.joined_typed(left.dtype(), right.dtype()), place),
+                Err(error) => Err(error),
+            },
+            Expr::GetField(_, operand)
+            | Expr::Not(operand)
+            | Expr::IsNull(operand)
+            | Expr::IsNotNull(operand)
+            | Expr::AtMostBound(operand) => match operand.typed(alloc, root, next) {
+                Ok(operand) => self.derived_typed(alloc, operand, place),
+                Err(error) => Err(error),
+            },
+        }
+    }
+
+    /// The dtype of this expression of two parts, by theirs.
+    fn joined_typed(&self, left: &DType, right: &DType) -> Option<DType>
+        ensures { option_map data_type result ≡ pair_type (term self.now) (data_type left.now) (data_type right.now) }
+    {
+        match self {
+            Expr::And(_, _) | Expr::Or(_, _) => logic_typed(left, right),
+            Expr::Compare(_, _, _) => comparison_typed(left, right),
+            Expr::Arith(_, _, _) => arithmetic_typed(left, right),
+            _ => None,
+        }
+    }
+
+    /// The dtype of this expression of one part, by that part's.
+    fn derived_typed<'a>(
+        &self,
+        alloc: Global,
+        operand: Typed<'a>,
+        place: u64,
+    ) -> Result<Typed<'a>, BindError>
+        ensures { GivesDerived (term self.now) (typed_data operand.entry) place result }
+    {
+        match self {
+            Expr::GetField(name, _) => field_typed(alloc, operand, name, place),
+            Expr::Not(_) => given(negation_typed(operand.dtype()), place),
+            Expr::IsNull(_) | Expr::IsNotNull(_) => {
+                Ok(Typed::Owned(DType::Bool(Nullability::NonNullable)))
+            }
+            Expr::AtMostBound(_) => given(bound_test_typed(operand.dtype()), place),
+            _ => Err(BindError::TypeMismatch(place)),
+        }
+    }
+}
