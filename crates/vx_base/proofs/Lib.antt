@@ -12,5 +12,6 @@ pub mod Lists
 pub mod MaskRows
 pub mod Members
 pub mod Rows
+pub mod ScriptTurns
 pub mod Spelled
 pub mod Tickets

@@ -15,6 +15,7 @@ pub mod MemorySources
 pub mod MemoryStreams
 pub mod Parts
 pub mod Reading
+pub mod ScriptSources
 pub mod Segment
 pub mod Sizes
 pub mod Sources

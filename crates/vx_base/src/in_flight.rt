@@ -7,13 +7,14 @@ ghost use Rattle.vx_base.specs.Faults.{FailsWhere};
 use crate::locations::SegmentLocation;
 use crate::outside::SourceError;
 use std::alloc::Global;
+use std::collections::BTreeMap;
 use std::marker::Model;
 
 /// The reads in flight, each a ticket and the location that it reads. Tickets are numbered from 0
 /// on, and none is ever given twice.
 #[derive(Drop)]
 pub(crate) struct InFlight {
-    reads: Vec<(u64, SegmentLocation)>,
+    reads: BTreeMap<u64, SegmentLocation>,
     next: u64,
 }
 
@@ -22,9 +23,9 @@ impl Model for InFlight {
 
     ghost Value = { Flights };
 
-    ghost view = { λ table. record { reads = table.reads.items; next = table.next } };
+    ghost view = { λ table. record { reads = table.reads.entries; next = table.next } };
 
-    ghost invariant = { λ table. AllGiven table.reads.items table.next };
+    ghost invariant = { λ table. AllGiven table.reads.entries table.next };
 }
 
 impl InFlight {
@@ -34,7 +35,7 @@ impl InFlight {
         ensures from_zero { result.next ≡ 0 }
     {
         InFlight {
-            reads: Vec::new(alloc),
+            reads: BTreeMap::new(alloc),
             next: 0,
         }
     }
@@ -61,7 +62,7 @@ impl InFlight {
         if ticket == u64::MAX {
             return Err(SourceError::Failed);
         }
-        if self.reads.push((ticket, at)).is_err() {
+        if self.reads.insert(ticket, at).is_err() {
             return Err(SourceError::Memory);
         }
         self.next = ticket + 1;
@@ -72,10 +73,7 @@ impl InFlight {
     pub(crate) fn location(&self, ticket: u64) -> Option<SegmentLocation>
         ensures { result ≡ location_of ticket self.now.reads }
     {
-        self.reads
-            .iter()
-            .find(|read| read.0 == ticket)
-            .map(|read| read.1)
+        self.reads.get(&ticket).copied()
     }
 
     /// Takes a ticket out of the table.
@@ -83,7 +81,9 @@ impl InFlight {
         ensures reads { self.new.reads ≡ without ticket self.old.reads }
         ensures next { self.new.next ≡ self.old.next }
     {
-        self.reads.retain(|read| read.0 != ticket);
+        // The contract of `len` says that the tickets ascend, so that no other read has this one.
+        let _in_flight = self.reads.len();
+        self.reads.remove(&ticket);
     }
 
     /// Takes every ticket out of the table.

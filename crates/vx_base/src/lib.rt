@@ -9,7 +9,7 @@
 //!   [`decoded_is_spelled`], [`decoding_undoes_encoding`] and [`segments_by_hand`].
 //! - Where a segment lies: [`SegmentLocation`], and the range that it asks for, [`AskedRange`].
 //! - Sources of segments: the trait [`SegmentSource`] with [`SourceError`]; [`MemorySource`],
-//!   [`FileSource`].
+//!   [`FileSource`], and [`ScriptSource`], which keeps to a [`Script`].
 //! - Streams that are read: the trait [`Source`] with [`StreamError`]; [`BytesSource`], [`ReadSource`].
 //! - Streams that are written: the trait [`Sink`]; [`BytesSink`], [`WriteSink`].
 #![tactic(auto)]
@@ -30,6 +30,7 @@ mod masks;
 mod memory_sources;
 mod memory_streams;
 mod outside;
+mod script_sources;
 mod segment_laws;
 mod segment_parts;
 mod texts;
@@ -47,6 +48,7 @@ pub use masks::{Mask, masks_choose_twice};
 pub use memory_sources::MemorySource;
 pub use memory_streams::{BytesSink, BytesSource};
 pub use outside::{SegmentSource, Sink, Source, SourceError, StreamError};
+pub use script_sources::{Script, ScriptSource};
 pub use segment_laws::{decoded_is_spelled, decoding_undoes_encoding, one_spelling};
 pub use texts::Text;
 pub use values::{Value, Values, fits};
@@ -65,3 +67,5 @@ mod mask_tests;
 mod number_codec_tests;
 #[cfg(test)]
 mod outside_tests;
+#[cfg(test)]
+mod script_source_tests;

@@ -10,7 +10,7 @@ pub struct SegmentLocation {
 }
 
 /// A range of the file that a source was asked for: `length` bytes from byte `offset` on.
-#[derive(Clone, Copy, Debug, PartialEq, Eq, Hash)]
+#[derive(Clone, Copy, Debug, PartialEq, Eq, PartialOrd, Ord, Hash)]
 pub struct AskedRange {
     pub offset: u64,
     pub length: u32,

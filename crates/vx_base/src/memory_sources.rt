@@ -1,8 +1,8 @@
 //! A source of segments over a file that lies in memory. It answers every read at the first poll.
 
-ghost use Rattle.std.specs.Prelude.{◌≡◌, ℕ, ◌+◌, ◌-◌, ◌^◌, [], Some, None, IsSome, IfSome, IfOk, OnErr, option_map, length};
+ghost use Rattle.std.specs.Prelude.{◌≡◌, ◌↔◌, ℕ, ◌+◌, ◌-◌, ◌^◌, [], Some, None, IsSome, IfSome, IfOk, OnErr, IsTrue, is_some, option_map, length};
 ghost use Rattle.std.specs.Option.{option_and_then};
-ghost use Rattle.vx_base.specs.Sources.{RequestGives, PollGives, Cleared, location_of, bytes_at};
+ghost use Rattle.vx_base.specs.Sources.{RequestGives, PollGives, Cleared, Rose, location_of, bytes_at};
 ghost use Rattle.vx_base.specs.Faults.{FailsWhere, CountsFaults};
 
 use crate::in_flight::InFlight;
@@ -22,7 +22,7 @@ pub struct MemorySource {
 }
 
 impl MemorySource {
-    ghost use Rattle.vx_base.specs.MemorySources.{memory_state, tickets_given};
+    ghost use Rattle.vx_base.specs.MemorySources.{memory_state, tickets_given, fault_counted, read_failed, idle_counted};
 
     /// The source of a file, of which nothing was asked. It takes no memory.
     pub fn new(alloc: Global, file: Vec<u8>) -> MemorySource
@@ -53,12 +53,57 @@ impl MemorySource {
         self.faults
     }
 
-    /// How many polls found a read that goes on. This source ends every read at its first poll, so
-    /// there are none.
+    /// How many polls found a read that goes on, up to `u64::MAX`. This source ends every read at its
+    /// first poll, so there are none where nothing else stands over it.
     pub fn idle(&self) -> u64
         ensures { result ≡ (memory_state self.now).idle }
     {
         self.idle
+    }
+
+    /// Whether a ticket is in flight.
+    pub(crate) fn is_in_flight(&self, ticket: u64) -> bool
+        ensures { result ≡ is_some (location_of ticket (memory_state self.now).in_flight) }
+    {
+        self.in_flight.location(ticket).is_some()
+    }
+
+    /// Whether the range of a read in flight lies inside the file.
+    pub(crate) fn is_inside(&self, ticket: u64) -> bool
+        requires { IsSome (location_of ticket (memory_state self.now).in_flight) }
+        ensures { IfSome (location_of ticket (memory_state self.now).in_flight)
+            (λ at. IfSome (memory_state self.now).file (λ file. IsTrue result ↔ IsSome (bytes_at file at))) }
+    {
+        let at = self.in_flight.location(ticket).unwrap();
+        bytes_of(self.file.as_slice(), at).is_some()
+    }
+
+    /// Counts a fault.
+    pub(crate) fn fail(&mut self)
+        ensures state { memory_state self.new ≡ fault_counted (memory_state self.old) }
+        ensures rises { Rose (memory_state self.old).faults (memory_state self.new).faults }
+        ensures tickets { tickets_given self.new ≡ tickets_given self.old }
+    {
+        self.faults = self.faults.saturating_add(1);
+    }
+
+    /// Ends a read, and counts a fault.
+    pub(crate) fn fail_poll(&mut self, ticket: u64)
+        ensures state { memory_state self.new ≡ read_failed ticket (memory_state self.old) }
+        ensures rises { Rose (memory_state self.old).faults (memory_state self.new).faults }
+        ensures tickets { tickets_given self.new ≡ tickets_given self.old }
+    {
+        self.in_flight.end(ticket);
+        self.faults = self.faults.saturating_add(1);
+    }
+
+    /// Counts a poll that found nothing.
+    pub(crate) fn wait(&mut self)
+        ensures state { memory_state self.new ≡ idle_counted (memory_state self.old) }
+        ensures rises { Rose (memory_state self.old).idle (memory_state self.new).idle }
+        ensures tickets { tickets_given self.new ≡ tickets_given self.old }
+    {
+        self.idle = self.idle.saturating_add(1);
     }
 }
 

@@ -1,0 +1,16 @@
+mod Anys
+mod AskShapes
+mod Driving
+mod DueFetches
+mod InFlightReads
+mod KnownRanges
+mod MoreFetches
+mod PolledFetches
+mod RangeTables
+mod Running
+mod SoundEnds
+mod SoundSteps
+mod Submitting
+mod TableSteps
+mod TakenReads
+mod TestedCommands

@@ -1,0 +1,49 @@
+-- A fetch that was polled.
+use Rattle.std.proofs.Common.{◌≡◌, ℕ, zero, suc, ◌<◌, List, [], ◌∷◌, Option, Some, None, length, refl, sym, ap, ◌∙◌, subst, arith}
+use Rattle.std.specs.Prelude.{option_map, slice_index_or, slice_get, remove, IfSome}
+use Rattle.vx_base.specs.declared.locations.SegmentLocation.{SegmentLocation}
+use Rattle.vx_base.specs.declared.locations.AskedRange.{AskedRange}
+use Rattle.vx_base.specs.Sources.{SourceState, Ended, IsSegment, bytes_at, location_of, range_of}
+use Rattle.vx_io.specs.declared.sessions.FetchInFlight.{FetchInFlight}
+use Rattle.vx_io.specs.declared.ranges.SegmentRanges.{SegmentRanges}
+use Rattle.vx_io.specs.Session.{Table, Waiting}
+use Rattle.vx_io.specs.Sound.{IsSound}
+use Rattle.vx_io.specs.Polls.{EndsHere, HasBytes}
+use Rattle.vx_io.proofs.SoundSteps.{IsFetchRead}
+
+-- the element at a place is got there
+pub got_at : (fetches : List FetchInFlight) (place : ℕ) (fetch : FetchInFlight) → place < length fetches → fetch ≡ slice_index_or fetches place fetch → slice_get fetches place ≡ Some fetch
+got_at [] place fetch within here = absurd (omega (arith, within))
+got_at (one ∷ fetches) zero fetch within here = ap Some (sym here)
+got_at (one ∷ fetches) (suc place) fetch within here = got_at fetches place fetch (omega (arith, within)) here
+
+pub fetch_sound : (ranges : SegmentRanges) (table : Table) (source : SourceState) (place : ℕ) (fetch : FetchInFlight) → IsSound ranges table source → place < length table.fetches → fetch ≡ slice_index_or table.fetches place fetch → IsFetchRead source fetch
+fetch_sound ranges table source place fetch sound within here = subst (IsFetchRead source) (sym here) (sound.fetches_in_flight place fetch within)
+
+pub ends_here : (ranges : SegmentRanges) (waiting : ℕ → Waiting) (fetches more : List FetchInFlight) (before after : SourceState) (place : ℕ) (fetch : FetchInFlight) → place < length fetches → fetch ≡ slice_index_or fetches place fetch → more ≡ remove fetches place → Ended fetch.ticket before after →
+    EndsHere place fetch.owner fetch.request ranges (record { waiting = waiting; fetches = fetches }) before (record { waiting = waiting; fetches = more }) after
+ends_here ranges waiting fetches more before after place fetch within here removed ended = record {
+  named = rw (got_at fetches place fetch within here) (refl, refl);
+  table = λ i. record { waiting = waiting; fetches = removed i };
+  idle = let same = ended.idle in omega (arith, same);
+  keeps = record { file = ended.file; asked = ended.asked };
+}
+
+segment_moved : (file : Option (List ℕ)) (one other : SegmentLocation) (bytes : List ℕ) → range_of one ≡ range_of other → IsSegment file one bytes → IsSegment file other bytes
+segment_moved file one other bytes same segment = record { length = segment.length ∙ ap (λ (range : AskedRange). range.length) same; told = moved file segment.told }
+  where
+    at_range : List ℕ → AskedRange → Option (List ℕ)
+    at_range told range = bytes_at told (record { offset = range.offset; length = range.length; alignment = 0 })
+
+    moved : (file : Option (List ℕ)) → IfSome file (λ told. bytes_at told one ≡ Some bytes) → IfSome file (λ told. bytes_at told other ≡ Some bytes)
+    moved None told = told
+    moved (Some bytes_of_file) told = sym (ap (at_range bytes_of_file) same) ∙ told
+
+found_bytes : (file : Option (List ℕ)) (found : Option SegmentLocation) (at : SegmentLocation) (bytes : List ℕ) → option_map (λ (one : SegmentLocation). range_of one) found ≡ Some (range_of at) → IfSome found (λ one. IsSegment file one bytes) → IsSegment file at bytes
+found_bytes file None at bytes is has = absurd cc
+found_bytes file (Some one) at bytes is has = let same : range_of one ≡ range_of at = cc in segment_moved file one at bytes same has
+
+pub has_bytes : (ranges : SegmentRanges) (table : Table) (source : SourceState) (place : ℕ) (fetch : FetchInFlight) (bytes : List ℕ) → IsSound ranges table source → place < length table.fetches → fetch ≡ slice_index_or table.fetches place fetch →
+    IfSome (location_of fetch.ticket source.in_flight) (λ at. IsSegment source.file at bytes) → HasBytes place table source bytes
+has_bytes ranges table source place fetch bytes sound within here has =
+    rw (got_at table.fetches place fetch within here) (found_bytes source.file (location_of fetch.ticket source.in_flight) fetch.at bytes (fetch_sound ranges table source place fetch sound within here) has)

@@ -1,0 +1,150 @@
+-- What a list of commands does to a session and its source: each fetch ends at most once, with its own bytes.
+use Rattle.std.specs.Prelude.{◌≡◌, ℕ, zero, suc, ◌⊎◌, ◌+◌, ◌-◌, ◌^◌, ◌<◌, ◌≤◌, ◌==◌, ◌&&◌, Bool, List, [], ◌∷◌, ◌++◌, length, take, drop, Option, Some, None, Result, Ok, Err}
+use Rattle.std.specs.List.{All, Any, count_by, flat_map}
+use Rattle.vx_base.specs.Sources.{SourceState, IsSegment}
+use Rattle.vx_base.specs.declared.locations.SegmentLocation.{SegmentLocation}
+use Rattle.vx_io.specs.declared.requests.IoIntent.{IoIntent}
+use Rattle.vx_io.specs.declared.requests.IoIntent.TheVariants.{Announce, Prefetch, Fetch}
+use Rattle.vx_io.specs.declared.requests.IoOwnerId.{IoOwnerId}
+use Rattle.vx_io.specs.declared.requests.IoRequestId.{IoRequestId}
+use Rattle.vx_io.specs.declared.requests.IoRequest.{IoRequest}
+use Rattle.vx_io.specs.declared.requests.Completion.{Completion}
+use Rattle.vx_io.specs.declared.requests.PollError.TheVariants as poll_errors
+use Rattle.vx_io.specs.declared.commands.IoCommand.{IoCommand}
+use Rattle.vx_io.specs.declared.commands.IoCommand.TheVariants.{Submit, Poll}
+use Rattle.vx_io.specs.declared.commands.Driven.{Driven}
+use Rattle.vx_io.specs.declared.commands.DriveError.{DriveError}
+use Rattle.vx_io.specs.declared.commands.DriveError.TheVariants as errors
+use Rattle.vx_io.specs.declared.sessions.FetchInFlight.{FetchInFlight}
+use Rattle.vx_io.specs.declared.ranges.SegmentRanges.{SegmentRanges}
+use Rattle.vx_io.specs.Session.{Table, location_of_target}
+use Rattle.vx_io.specs.Submits.{SubmitGives, Did, owned}
+use Rattle.vx_io.specs.Polls.{SessionPollGives, AllGoOn}
+
+-- ---- the fetches of a list of commands
+
+-- a fetch that was submitted: its owner and number, and what it reads
+pub record Wanted : Type 0 where
+  pub owner : IoOwnerId
+  pub request : IoRequestId
+  pub at : SegmentLocation
+
+abbrev pub wanted_by : IoIntent → IoOwnerId → IoRequest → List Wanted
+wanted_by Announce owner request = []
+wanted_by Prefetch owner request = []
+wanted_by Fetch owner request = record { owner = owner; request = request.request; at = location_of_target request.target } ∷ []
+
+abbrev pub wanted_of : IoCommand → List Wanted
+wanted_of (Submit owner batch) = flat_map (λ (request : IoRequest). wanted_by request.intent owner request) batch.items
+wanted_of Poll = []
+
+abbrev pub fetches_in : List IoCommand → List Wanted
+fetches_in commands = flat_map wanted_of commands
+
+-- the requests of a list of commands, each with its owner
+abbrev pub requests_of_command : IoCommand → List (IoOwnerId × IoRequest)
+requests_of_command (Submit owner batch) = owned owner batch.items
+requests_of_command Poll = []
+
+abbrev pub requests_of : List IoCommand → List (IoOwnerId × IoRequest)
+requests_of commands = flat_map requests_of_command commands
+
+-- ---- each at most once
+
+-- how often fetches of this owner and number stand among the wanted ones, those in flight, the completed ones
+abbrev pub is_pair : ℕ → ℕ → IoOwnerId → IoRequestId → Bool
+is_pair owner request one other = (one.0 == owner) && (other.0 == request)
+
+abbrev pub times_wanted : ℕ → ℕ → List Wanted → ℕ
+times_wanted owner request fetches = count_by (λ (fetch : Wanted). is_pair owner request fetch.owner fetch.request) fetches
+
+abbrev pub times_in_flight : ℕ → ℕ → List FetchInFlight → ℕ
+times_in_flight owner request fetches = count_by (λ (fetch : FetchInFlight). is_pair owner request fetch.owner fetch.request) fetches
+
+abbrev pub times_completed : ℕ → ℕ → List Completion → ℕ
+times_completed owner request completions = count_by (λ (one : Completion). is_pair owner request one.owner one.request) completions
+
+-- no two fetches share owner and number
+abbrev pub AreDistinct : List Wanted → Type 0
+AreDistinct fetches = (owner request : ℕ) → times_wanted owner request fetches ≤ 1
+
+-- ---- how many are due
+
+-- how many fetches end in a list of commands where each poll with a fetch in flight ends one, by how many are
+-- in flight before
+abbrev pub completions_due : ℕ → List IoCommand → ℕ
+completions_due in_flight [] = 0
+completions_due in_flight (Submit owner batch ∷ commands) = completions_due (in_flight + length (wanted_of (Submit owner batch))) commands
+completions_due zero (Poll ∷ commands) = completions_due zero commands
+completions_due (suc in_flight) (Poll ∷ commands) = completions_due in_flight commands + 1
+
+-- ---- the commands that succeeded
+
+-- the completion is that of a wanted fetch, and its bytes are those of the fetch's range
+abbrev pub IsCompletionOf : Option (List ℕ) → Completion → Wanted → Type 0
+IsCompletionOf file completion fetch =
+    (completion.owner ≡ fetch.owner) × (completion.request ≡ fetch.request) × IsSegment file fetch.at completion.bytes.items
+
+-- The commands were done.
+pub record DidCommands (ranges : SegmentRanges) (commands : List IoCommand) (completions : List Completion) (old : Table) (before : SourceState) (new : Table) (after : SourceState) : Type 0 where
+  -- the machine ran over their requests, and what the source gained are its asks
+  pub did : Did ranges (requests_of commands) (length completions) old before new after
+  -- each completion is that of a submitted fetch, with its bytes
+  pub named : All (λ completion. Any (IsCompletionOf before.file completion) (fetches_in commands)) completions
+  -- each submitted fetch is in flight or completed, and none is so twice
+  pub balance : (owner request : ℕ) →
+      times_completed owner request completions + times_in_flight owner request new.fetches ≡ times_wanted owner request (fetches_in commands)
+  -- each fetch in flight was submitted
+  pub submitted : All (λ (fetch : FetchInFlight). Any (λ (wanted : Wanted). (fetch.owner ≡ wanted.owner) × (fetch.request ≡ wanted.request) × (fetch.at ≡ wanted.at)) (fetches_in commands)) new.fetches
+  -- where no poll found nothing, each poll with a fetch in flight completed one
+  pub counted : after.idle ≡ before.idle → before.idle < 2 ^ 64 - 1 → length completions ≡ completions_due 0 commands
+  pub file : after.file ≡ before.file
+  pub faults : after.faults ≡ before.faults
+  pub idle : before.idle ≤ after.idle
+
+-- ---- the command that was refused
+
+abbrev pub Refused : SegmentRanges → IoCommand → DriveError → Table → SourceState → Table → SourceState → Type 0
+Refused ranges (Submit owner batch) (errors.Submit error) old before new after = SubmitGives ranges owner batch.items (Err error) old before new after
+Refused ranges (Submit owner batch) (errors.Poll error) old before new after = ⊥
+Refused ranges (Submit owner batch) errors.Memory old before new after = ⊥
+Refused ranges Poll (errors.Submit error) old before new after = ⊥
+Refused ranges Poll (errors.Poll (poll_errors.Source owner request)) old before new after = SessionPollGives ranges (Err (poll_errors.Source owner request)) old before new after
+Refused ranges Poll (errors.Poll poll_errors.NothingInFlight) old before new after = ⊥
+Refused ranges Poll (errors.Poll poll_errors.Memory) old before new after = ⊥
+Refused ranges Poll errors.Memory old before new after = AllGoOn 0 old before new after
+
+-- ---- one command
+
+-- a poll, and the completions before and behind it
+abbrev pub PollCommandGives : SegmentRanges → Result (Unit {0}) DriveError → List Completion → List Completion → Table → SourceState → Table → SourceState → Type 0
+PollCommandGives ranges (Ok done) completions more old before new after =
+    ((more ≡ completions) × SessionPollGives ranges (Ok None) old before new after)
+    ⊎ ((completion : Completion) × (more ≡ completions ++ completion ∷ []) × SessionPollGives ranges (Ok (Some completion)) old before new after)
+PollCommandGives ranges (Err error) completions more old before new after = (more ≡ completions) × Refused ranges Poll error old before new after
+
+abbrev pub CommandGives : SegmentRanges → IoCommand → Result (Unit {0}) DriveError → List Completion → List Completion → Table → SourceState → Table → SourceState → Type 0
+CommandGives ranges (Submit owner batch) (Ok done) completions more old before new after =
+    (more ≡ completions) × SubmitGives ranges owner batch.items (Ok done) old before new after
+CommandGives ranges (Submit owner batch) (Err error) completions more old before new after =
+    (more ≡ completions) × Refused ranges (Submit owner batch) error old before new after
+CommandGives ranges Poll result completions more old before new after = PollCommandGives ranges result completions more old before new after
+
+-- no command is left, or the next one was refused
+abbrev pub EndsWith : SegmentRanges → List IoCommand → Option DriveError → Table → SourceState → Table → SourceState → Type 0
+EndsWith ranges [] None old before new after = (new ≡ old) × (after ≡ before)
+EndsWith ranges (command ∷ commands) (Some error) old before new after = Refused ranges command error old before new after
+EndsWith ranges [] (Some error) old before new after = ⊥
+EndsWith ranges (command ∷ commands) None old before new after = ⊥
+
+-- ---- the whole list
+
+pub record Drives (ranges : SegmentRanges) (commands : List IoCommand) (driven : Driven) (old : Table) (before : SourceState) (new : Table) (after : SourceState) : Type 0 where
+  pub within : driven.done ≤ length commands
+  -- no fetch is completed twice
+  pub once : (owner request : ℕ) → times_completed owner request driven.completions.items ≤ 1
+  -- the table and the source behind the commands that succeeded
+  pub between : Table
+  pub source : SourceState
+  pub did : DidCommands ranges (take driven.done commands) driven.completions.items old before between source
+  pub ends : EndsWith ranges (drop driven.done commands) driven.error between source new after

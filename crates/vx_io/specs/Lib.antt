@@ -1,0 +1,9 @@
+pub mod Drive
+pub mod Polls
+pub mod Ranges
+pub mod Segments
+pub mod Session
+pub mod Sound
+pub mod Submits
+pub mod Tables
+pub mod Waits

@@ -1,0 +1,175 @@
+-- The session table as a machine over pure data: the reads that wait at each segment, the fetches in flight,
+-- and what one step does to them.
+use Rattle.std.specs.Prelude.{◌≡◌, ℕ, ◌+◌, ◌==◌, Bool, true, false, if◌then◌else◌, List, [], ◌∷◌, ◌++◌, remove, Option, Some, None}
+use Rattle.std.specs.BTreeMap.{BTreeMap, get}
+use Rattle.std.specs.Ordering.{nat_cmp}
+use Rattle.vx_base.specs.declared.locations.SegmentLocation.{SegmentLocation}
+use Rattle.vx_base.specs.declared.locations.AskedRange.{AskedRange}
+use Rattle.vx_io.specs.declared.requests.IoIntent.{IoIntent}
+use Rattle.vx_io.specs.declared.requests.IoIntent.TheVariants.{Announce, Prefetch, Fetch}
+use Rattle.vx_io.specs.declared.requests.IoTarget.{IoTarget}
+use Rattle.vx_io.specs.declared.requests.IoTarget.TheVariants.{Range}
+use Rattle.vx_io.specs.declared.requests.IoOwnerId.{IoOwnerId}
+use Rattle.vx_io.specs.declared.requests.IoRequest.{IoRequest}
+use Rattle.vx_io.specs.declared.waiting.WaitingReads.{WaitingReads}
+use Rattle.vx_io.specs.declared.sessions.FetchInFlight.{FetchInFlight}
+use Rattle.vx_io.specs.declared.ranges.SegmentRanges.{SegmentRanges}
+use Rattle.vx_io.specs.Segments.{segment_of}
+
+-- ---- what waits at one segment
+
+-- the tickets of the announced reads, oldest first, and of the prefetched read
+pub record Waiting : Type 0 where
+  pub announced : List ℕ
+  pub prefetched : Option ℕ
+
+abbrev pub nothing_waits : Waiting
+nothing_waits = record { announced = []; prefetched = None }
+
+abbrev pub waiting_reads : WaitingReads → Waiting
+waiting_reads reads = record { announced = reads.announced.items; prefetched = reads.prefetched }
+
+-- whether there is neither a prefetched nor an announced read
+abbrev pub has_none : Option ℕ → List ℕ → Bool
+has_none None [] = true
+has_none None (read ∷ announced) = false
+has_none (Some read) announced = false
+
+-- whether a request asks the source
+abbrev pub asks : IoIntent → Waiting → Bool
+asks Announce waiting = true
+asks Prefetch waiting = has_none waiting.prefetched waiting.announced
+asks Fetch waiting = has_none waiting.prefetched waiting.announced
+
+-- the read that a fetch takes: the prefetched one, else the oldest announced one, else the one just asked for
+abbrev pub next_read : Option ℕ → List ℕ → ℕ → ℕ
+next_read (Some read) announced new = read
+next_read None (read ∷ announced) new = read
+next_read None [] new = new
+
+-- what a fetch leaves
+abbrev pub left_by_fetch : Option ℕ → List ℕ → Waiting
+left_by_fetch (Some read) announced = record { announced = announced; prefetched = None }
+left_by_fetch None (read ∷ announced) = record { announced = announced; prefetched = None }
+left_by_fetch None [] = nothing_waits
+
+-- what a prefetch leaves: where a prefetched read waits, it does nothing
+abbrev pub left_by_prefetch : Option ℕ → List ℕ → ℕ → Waiting
+left_by_prefetch (Some read) announced new = record { announced = announced; prefetched = Some read }
+left_by_prefetch None (read ∷ announced) new = record { announced = announced; prefetched = Some read }
+left_by_prefetch None [] new = record { announced = []; prefetched = Some new }
+
+-- what a request leaves waiting, where an ask of it gives the read `new`
+abbrev pub waiting_after : IoIntent → Waiting → ℕ → Waiting
+waiting_after Announce waiting new = record { announced = waiting.announced ++ new ∷ []; prefetched = waiting.prefetched }
+waiting_after Prefetch waiting new = left_by_prefetch waiting.prefetched waiting.announced new
+waiting_after Fetch waiting new = left_by_fetch waiting.prefetched waiting.announced
+
+-- ---- the table
+
+-- what waits at each segment, and the fetches in flight in the order of their submission
+pub record Table : Type 0 where
+  pub waiting : ℕ → Waiting
+  pub fetches : List FetchInFlight
+
+abbrev pub empty_table : Table
+empty_table = record { waiting = λ segment. nothing_waits; fetches = [] }
+
+abbrev pub waiting_or_none : Option WaitingReads → Waiting
+waiting_or_none None = nothing_waits
+waiting_or_none (Some reads) = waiting_reads reads
+
+-- what waits at each segment by a map of it
+abbrev pub waits : BTreeMap ℕ WaitingReads → ℕ → Waiting
+waits waiting segment = waiting_or_none (get nat_cmp waiting segment)
+
+-- the table that a session's fields make
+abbrev pub table_in : BTreeMap ℕ WaitingReads → List FetchInFlight → Table
+table_in waiting fetches = record {
+  waiting = waits waiting;
+  fetches = fetches;
+}
+
+abbrev pub location_of_target : IoTarget → SegmentLocation
+location_of_target (Range offset len alignment) = record { offset = offset; length = len; alignment = alignment }
+
+abbrev pub range_of_target : IoTarget → AskedRange
+range_of_target (Range offset len alignment) = record { offset = offset; length = len }
+
+-- ---- the steps
+
+-- A request of an owner, with the ticket that an ask of it gives; or the end of the fetch at a place in line.
+pub data Step : Type 0 where
+  requested : IoOwnerId → IoRequest → ℕ → Step
+  ended : ℕ → Step
+
+abbrev pub put_at : (ℕ → Waiting) → ℕ → Waiting → ℕ → Waiting
+put_at waiting segment now other = if other == segment then now else waiting other
+
+-- only a fetch adds one to those in flight
+abbrev pub if_fetch : IoIntent → FetchInFlight → List FetchInFlight
+if_fetch Announce fetch = []
+if_fetch Prefetch fetch = []
+if_fetch Fetch fetch = fetch ∷ []
+
+-- the fetch that a request makes of what waits at its segment
+abbrev pub fetch_of : IoOwnerId → IoRequest → Waiting → ℕ → FetchInFlight
+fetch_of owner request waiting new =
+    record { owner = owner; request = request.request; at = location_of_target request.target; ticket = next_read waiting.prefetched waiting.announced new }
+
+-- a request at its segment; one whose range no segment has does nothing
+abbrev pub requested_at : Option ℕ → IoOwnerId → IoRequest → ℕ → Table → Table
+requested_at None owner request new table = table
+requested_at (Some segment) owner request new table = record {
+  waiting = put_at table.waiting segment (waiting_after request.intent (table.waiting segment) new);
+  fetches = table.fetches ++ if_fetch request.intent (fetch_of owner request (table.waiting segment) new);
+}
+
+abbrev pub table_after : SegmentRanges → Table → Step → Table
+table_after ranges table (requested owner request new) = requested_at (segment_of ranges (range_of_target request.target)) owner request new table
+table_after ranges table (ended place) = record { waiting = table.waiting; fetches = remove table.fetches place }
+
+-- the ranges that a step asks for: one or none
+abbrev pub asked_at : Option ℕ → IoRequest → Table → List AskedRange
+asked_at None request table = []
+asked_at (Some segment) request table = if asks request.intent (table.waiting segment) then range_of_target request.target ∷ [] else []
+
+abbrev pub asked_by : SegmentRanges → Table → Step → List AskedRange
+asked_by ranges table (requested owner request new) = asked_at (segment_of ranges (range_of_target request.target)) request table
+asked_by ranges table (ended place) = []
+
+-- ---- runs of steps
+
+abbrev pub session_after : SegmentRanges → Table → List Step → Table
+session_after ranges table [] = table
+session_after ranges table (step ∷ steps) = session_after ranges (table_after ranges table step) steps
+
+-- the asks of a run, in order
+abbrev pub asks_of : SegmentRanges → Table → List Step → List AskedRange
+asks_of ranges table [] = []
+asks_of ranges table (step ∷ steps) = asked_by ranges table step ++ asks_of ranges (table_after ranges table step) steps
+
+-- the requests of a run, each with its owner, and how many fetches ended in it
+abbrev pub requests_in : List Step → List (IoOwnerId × IoRequest)
+requests_in [] = []
+requests_in (requested owner request new ∷ steps) = (owner, request) ∷ requests_in steps
+requests_in (ended place ∷ steps) = requests_in steps
+
+abbrev pub ends_in : List Step → ℕ
+ends_in [] = 0
+ends_in (requested owner request new ∷ steps) = ends_in steps
+ends_in (ended place ∷ steps) = ends_in steps + 1
+
+-- Some run of the machine with these requests and so many ended fetches leads from one table to the other,
+-- with these asks.
+pub record Runs (ranges : SegmentRanges) (requests : List (IoOwnerId × IoRequest)) (ends : ℕ) (old new : Table) (asked : List AskedRange) : Type 0 where
+  pub steps : List Step
+  pub requests_done : requests_in steps ≡ requests
+  pub fetches_ended : ends_in steps ≡ ends
+  pub table : session_after ranges old steps ≡ new
+  pub asks : asks_of ranges old steps ≡ asked
+
+-- What is asked depends on the requests alone: two runs of one list of requests from one table ask for the
+-- same ranges, whatever tickets the source gives and whichever fetches end in between.
+abbrev pub RequestsTellAsks : Type 0
+RequestsTellAsks = (ranges : SegmentRanges) (table : Table) (one two : List Step) → requests_in one ≡ requests_in two → asks_of ranges table one ≡ asks_of ranges table two

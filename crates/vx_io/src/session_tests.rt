@@ -1,0 +1,380 @@
+//! What no clause says: that the calls succeed, how often a source is asked, and how fetches end that wait
+//! or fail.
+
+ghost use Rattle.std.specs.Prelude.{◌≡◌, OnOk, IfOk};
+ghost use Rattle.vx_io.specs.Drive.{fetches_in, AreDistinct};
+
+use crate::commands::{DriveError, Driven, IoCommand, drive};
+use crate::ranges::{SegmentRanges, segment_ranges};
+use crate::requests::{
+    Completion, IoIntent, IoOwnerId, IoRequest, IoRequestId, IoTarget, PollError, SubmitError,
+};
+use crate::sessions::SegmentIoSource;
+use std::alloc::{AllocError, Global};
+use std::test::Fail;
+use vx_base::{MemorySource, Script, ScriptSource, SegmentLocation, SegmentSource};
+
+const OWNER: IoOwnerId = IoOwnerId(7);
+
+/// Three ranges, and what the file has there.
+const RANGES: [(u64, u32); 3] = [(0, 2), (2, 2), (4, 2)];
+
+const BYTES: [[u8; 2]; 3] = [[10, 11], [12, 13], [14, 15]];
+
+fn file(alloc: Global) -> Result<Vec<u8>, AllocError> {
+    [10, 11, 12, 13, 14, 15, 16, 17].to_vec(alloc)
+}
+
+fn place((offset, length): (u64, u32)) -> SegmentLocation {
+    SegmentLocation {
+        offset,
+        length,
+        alignment: 1,
+    }
+}
+
+fn three_ranges(alloc: Global) -> Result<SegmentRanges, AllocError> {
+    segment_ranges(alloc, &RANGES.map(place))
+}
+
+fn request(intent: IoIntent, number: u32, range: (u64, u32)) -> IoRequest
+    ensures { result.request.0 ≡ number }
+{
+    let (offset, len) = range;
+    IoRequest {
+        intent,
+        request: IoRequestId(number),
+        target: IoTarget::Range {
+            offset,
+            len,
+            alignment: 1,
+        },
+    }
+}
+
+fn fetch(number: u32, range: (u64, u32)) -> IoRequest
+    ensures { result.request.0 ≡ number }
+{
+    request(IoIntent::Fetch, number, range)
+}
+
+fn scripted(
+    alloc: Global,
+    fail_requests: &[u64],
+    fail_polls: &[u64],
+    waits: &[u64],
+    order: &[u64],
+) -> Result<ScriptSource, AllocError> {
+    let script = Script {
+        fail_requests: fail_requests.to_vec(alloc)?,
+        fail_polls: fail_polls.to_vec(alloc)?,
+        waits: waits.to_vec(alloc)?,
+        order: order.to_vec(alloc)?,
+    };
+    Ok(ScriptSource::new(alloc, file(alloc)?, script))
+}
+
+/// Whether these are the owner, number and bytes of a completion.
+fn is_of(completion: &Completion, number: u32, bytes: &[u8]) -> bool {
+    completion.owner == OWNER
+        && completion.request == IoRequestId(number)
+        && completion.bytes.as_slice() == bytes
+}
+
+/// The completion of the next poll.
+fn polled<S: SegmentSource>(session: &mut SegmentIoSource<'_, S>) -> Result<Completion, Fail> {
+    Ok(session.poll()?.ok_or("no fetch ended")?)
+}
+
+/// A turn of a session: a batch of one request of this number, or a poll.
+#[derive(Clone, Copy)]
+enum Turn {
+    Submit(IoIntent, u32),
+    Poll,
+}
+
+/// How many requests the source got in the first turns of a session over one range, and what was completed.
+fn turned(
+    alloc: Global,
+    turns: &[(Turn, usize)],
+    count: usize,
+) -> Result<(usize, Vec<Completion>), Fail> {
+    let mut source = MemorySource::new(alloc, file(alloc)?);
+    let ranges = segment_ranges(alloc, &[place((0, 4))])?;
+    let mut session = SegmentIoSource::new(alloc, &mut source, &ranges);
+    let mut completions = Vec::new(alloc);
+    for (turn, _) in turns.iter().take(count) {
+        match *turn {
+            Turn::Submit(intent, number) => {
+                let batch = vec![in alloc; request(intent, number, (0, 4))]?;
+                session.submit(OWNER, batch)?;
+            }
+            Turn::Poll => completions.push(polled(&mut session)?)?,
+        }
+    }
+    drop(session);
+    Ok((source.asked().len(), completions))
+}
+
+#[test]
+fn fetches_take_the_reads_that_wait(rt: HostRuntime) -> Result<(), Fail> {
+    use IoIntent::{Announce, Fetch, Prefetch};
+    // Behind each turn stands how many requests the source got up to it.
+    let table: [(&[(Turn, usize)], &[u32]); 2] = [
+        (
+            &[
+                (Turn::Submit(Prefetch, 0), 1),
+                (Turn::Submit(Fetch, 1), 1),
+                (Turn::Poll, 1),
+                (Turn::Submit(Fetch, 2), 2),
+                (Turn::Poll, 2),
+            ],
+            &[1, 2],
+        ),
+        (
+            &[
+                (Turn::Submit(Announce, 0), 1),
+                (Turn::Submit(Announce, 1), 2),
+                (Turn::Submit(Fetch, 2), 2),
+                (Turn::Poll, 2),
+                (Turn::Submit(Fetch, 3), 2),
+                (Turn::Poll, 2),
+                (Turn::Submit(Fetch, 4), 3),
+                (Turn::Poll, 3),
+            ],
+            &[2, 3, 4],
+        ),
+    ];
+    for (turns, numbers) in table {
+        for (before, (_, wanted)) in turns.iter().enumerate() {
+            let (asked, _) = turned(rt.alloc(), turns, before + 1)?;
+            assert_eq!(rt; asked, *wanted, "behind {before}");
+        }
+        let (_, completions) = turned(rt.alloc(), turns, turns.len())?;
+        assert_eq!(rt; completions.len(), numbers.len());
+        for (completion, number) in completions.as_slice().iter().zip(numbers) {
+            assert!(rt; is_of(completion, *number, &[10, 11, 12, 13]), "{number}");
+        }
+    }
+    Ok(())
+}
+
+#[test]
+fn unknown_range_starts_nothing(rt: HostRuntime) -> Result<(), Fail> {
+    let alloc = rt.alloc();
+    let mut source = MemorySource::new(alloc, file(alloc)?);
+    let ranges = segment_ranges(alloc, &[place((0, 2))])?;
+    let mut session = SegmentIoSource::new(alloc, &mut source, &ranges);
+    let batch = vec![in alloc; fetch(0, (0, 2)), fetch(1, (0, 3))]?;
+    assert_eq!(rt;
+        session.submit(OWNER, batch),
+        Err(SubmitError::UnknownRange(1))
+    );
+    assert_eq!(rt;
+        session.poll_completion().err(),
+        Some(PollError::NothingInFlight)
+    );
+    assert!(rt; session.poll()?.is_none());
+    assert_eq!(rt; session.in_flight(), 0);
+    drop(session);
+    assert!(rt; source.asked().is_empty());
+    Ok(())
+}
+
+#[test]
+fn requests_before_a_failed_one_took_effect(rt: HostRuntime) -> Result<(), Fail> {
+    let alloc = rt.alloc();
+    let mut source = scripted(alloc, &[1], &[], &[], &[])?;
+    let ranges = three_ranges(alloc)?;
+    let mut session = SegmentIoSource::new(alloc, &mut source, &ranges);
+    let batch = vec![in alloc; fetch(0, RANGES[0]), fetch(1, RANGES[1])]?;
+    assert_eq!(rt;
+        session.submit(OWNER, batch),
+        Err(SubmitError::Source { taken: 1 })
+    );
+    assert_eq!(rt; session.in_flight(), 1);
+    assert!(rt; is_of(&polled(&mut session)?, 0, &BYTES[0]));
+    assert_eq!(rt; session.in_flight(), 0);
+    Ok(())
+}
+
+#[test]
+fn failed_poll_ends_its_fetch(rt: HostRuntime) -> Result<(), Fail> {
+    let alloc = rt.alloc();
+    let mut source = scripted(alloc, &[], &[0], &[], &[])?;
+    let ranges = three_ranges(alloc)?;
+    let mut session = SegmentIoSource::new(alloc, &mut source, &ranges);
+    let batch = vec![in alloc; fetch(0, RANGES[0]), fetch(1, RANGES[1])]?;
+    session.submit(OWNER, batch)?;
+    let failed = PollError::Source {
+        owner: OWNER,
+        request: IoRequestId(0),
+    };
+    assert_eq!(rt; session.poll().err(), Some(failed));
+    assert_eq!(rt; session.in_flight(), 1);
+    assert!(rt; is_of(&polled(&mut session)?, 1, &BYTES[1]));
+    assert_eq!(rt; session.in_flight(), 0);
+    Ok(())
+}
+
+#[test]
+fn session_is_cleared_and_released(rt: HostRuntime) -> Result<(), Fail> {
+    let alloc = rt.alloc();
+    let mut source = MemorySource::new(alloc, file(alloc)?);
+    let ranges = three_ranges(alloc)?;
+    let mut session = SegmentIoSource::new(alloc, &mut source, &ranges);
+    let announced = request(IoIntent::Announce, 0, RANGES[2]);
+    let batch = vec![in alloc; announced, fetch(1, RANGES[0]), fetch(2, RANGES[1])]?;
+    session.submit(OWNER, batch)?;
+    session.release(OWNER);
+    assert_eq!(rt; session.in_flight(), 2);
+    session.clear();
+    assert_eq!(rt; session.in_flight(), 0);
+    assert!(rt; session.poll()?.is_none());
+    // The announced read is forgotten too: the source is asked anew.
+    let batch = vec![in alloc; fetch(3, RANGES[2])]?;
+    session.submit(OWNER, batch)?;
+    session.release(OWNER);
+    assert!(rt; is_of(&polled(&mut session)?, 3, &BYTES[2]));
+    drop(session);
+    assert_eq!(rt; source.asked().len(), 4);
+    Ok(())
+}
+
+#[test]
+fn range_is_found_by_offset_and_length(rt: HostRuntime) -> Result<(), Fail> {
+    let alloc = rt.alloc();
+    let places = [(0, 4), (4, 0), (0, 4), (8, 0)].map(place);
+    let ranges = segment_ranges(alloc, &places)?;
+    // Of equal ranges the last number stays.
+    let table = [
+        ((0, 4), Some(2)),
+        ((4, 0), Some(1)),
+        ((8, 0), Some(3)),
+        ((0, 0), None),
+        ((0, 3), None),
+        ((4, 4), None),
+    ];
+    for ((offset, len), wanted) in table {
+        assert_eq!(rt; ranges.find(offset, len), wanted, "{len} from {offset}");
+    }
+
+    let mut source = MemorySource::new(alloc, file(alloc)?);
+    let mut session = SegmentIoSource::new(alloc, &mut source, &ranges);
+    let batch = vec![in alloc; fetch(0, (4, 0)), fetch(1, (8, 0)), fetch(2, (0, 4))]?;
+    session.submit(OWNER, batch)?;
+    let table: [&[u8]; 3] = [&[], &[], &[10, 11, 12, 13]];
+    for (number, bytes) in [0, 1, 2].iter().zip(table) {
+        assert!(rt; is_of(&polled(&mut session)?, *number, bytes), "{number}");
+    }
+    Ok(())
+}
+
+fn push_polls(commands: &mut Vec<IoCommand>, count: usize) -> Result<(), Fail>
+    ensures { OnOk result (fetches_in commands.new.items ≡ fetches_in commands.old.items) }
+{
+    for _poll in 0..count {
+        commands.push(IoCommand::Poll)?;
+    }
+    Ok(())
+}
+
+/// A fetch of number 0, some polls, fetches of number 1 and 2 in one batch, and some polls.
+fn commands_of(
+    alloc: Global,
+    ranges: [(u64, u32); 3],
+    between: usize,
+    behind: usize,
+) -> Result<Vec<IoCommand>, Fail>
+    ensures { IfOk result (λ commands. AreDistinct (fetches_in commands.items)) }
+{
+    let mut commands = Vec::new(alloc);
+    let batch = vec![in alloc; fetch(0, ranges[0])]?;
+    commands.push(IoCommand::Submit(OWNER, batch))?;
+    push_polls(&mut commands, between)?;
+    let batch = vec![in alloc; fetch(1, ranges[1]), fetch(2, ranges[2])]?;
+    commands.push(IoCommand::Submit(OWNER, batch))?;
+    push_polls(&mut commands, behind)?;
+    Ok(commands)
+}
+
+/// What commands give over the three ranges.
+fn driven(
+    alloc: Global,
+    source: &mut ScriptSource,
+    commands: Vec<IoCommand>,
+) -> Result<Driven, Fail>
+    requires { AreDistinct (fetches_in commands.items) }
+{
+    let ranges = three_ranges(alloc)?;
+    let mut session = SegmentIoSource::new(alloc, source, &ranges);
+    Ok(drive(alloc, &mut session, commands))
+}
+
+#[test]
+fn fetches_end_in_each_order_with_their_bytes(rt: HostRuntime) -> Result<(), Fail> {
+    let alloc = rt.alloc();
+    // The waits and the order of a script, the numbers in the order of their completion, and how many polls of
+    // a read found that it goes on.
+    let table: [(&[u64], [u64; 3], [u32; 3], u64); 8] = [
+        (&[], [0, 1, 2], [0, 1, 2], 0),
+        (&[], [0, 2, 1], [0, 2, 1], 1),
+        (&[], [1, 0, 2], [1, 0, 2], 1),
+        (&[], [1, 2, 0], [1, 2, 0], 2),
+        (&[], [2, 0, 1], [2, 0, 1], 2),
+        (&[], [2, 1, 0], [2, 1, 0], 3),
+        (&[2, 1, 0], [2, 1, 0], [2, 1, 0], 3),
+        (&[2, 1, 0], [0, 1, 2], [0, 1, 2], 6),
+    ];
+    for (case, (waits, order, numbers, idle)) in table.iter().enumerate() {
+        let mut source = scripted(alloc, &[], &[], waits, order)?;
+        let commands = commands_of(alloc, RANGES, 0, 5)?;
+        let given = driven(alloc, &mut source, commands)?;
+        assert_eq!(rt; given.done, 7, "at {case}");
+        assert_eq!(rt; given.error, None, "at {case}");
+        assert_eq!(rt; given.completions.len(), 3, "at {case}");
+        for (completion, number) in given.completions.as_slice().iter().zip(numbers) {
+            let bytes = BYTES.get(*number as usize).ok_or("no such range")?;
+            assert!(rt; is_of(completion, *number, bytes), "at {case}, {number}");
+        }
+        assert_eq!(rt; source.idle(), *idle, "at {case}");
+    }
+    Ok(())
+}
+
+fn poll_failed(number: u32) -> DriveError {
+    DriveError::Poll(PollError::Source {
+        owner: OWNER,
+        request: IoRequestId(number),
+    })
+}
+
+#[test]
+fn commands_stop_at_the_first_error(rt: HostRuntime) -> Result<(), Fail> {
+    let alloc = rt.alloc();
+    let unknown = [RANGES[0], RANGES[1], (4, 3)];
+    // The polls that fail, the ranges, how many commands succeeded and how many fetches were completed, how
+    // many requests the source got, and the error.
+    let table = [
+        (
+            [].as_slice(),
+            unknown,
+            2,
+            1,
+            1,
+            DriveError::Submit(SubmitError::UnknownRange(1)),
+        ),
+        (&[1], RANGES, 3, 1, 3, poll_failed(1)),
+        (&[2], RANGES, 4, 2, 3, poll_failed(2)),
+    ];
+    for (case, (fail_polls, ranges, done, completed, asked, error)) in table.iter().enumerate() {
+        let mut source = scripted(alloc, &[], fail_polls, &[], &[])?;
+        let commands = commands_of(alloc, *ranges, 1, 2)?;
+        let given = driven(alloc, &mut source, commands)?;
+        assert_eq!(rt; given.done, *done, "at {case}");
+        assert_eq!(rt; given.completions.len(), *completed, "at {case}");
+        assert_eq!(rt; given.error, Some(*error), "at {case}");
+        assert_eq!(rt; source.asked().len(), *asked, "at {case}");
+    }
+    Ok(())
+}

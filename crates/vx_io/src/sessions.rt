@@ -1,0 +1,236 @@
+//! The session: requests of many owners over one lent source, and the fetches that are in flight.
+
+ghost use Rattle.std.specs.Prelude.{◌≡◌, ◌<◌, ◌↔◌, [], ◌++◌, length, IsErrOf, MatchOption};
+ghost use Rattle.std.specs.List.{All};
+ghost use Rattle.std.specs.VecDeque.{deque_len, deque_capacity};
+ghost use Rattle.vx_base.specs.Sources.{Cleared};
+ghost use Rattle.vx_io.specs.Session.{table_in, if_fetch, empty_table, RequestsTellAsks};
+ghost use Rattle.vx_io.specs.Sound.{IsSound};
+ghost use Rattle.vx_io.specs.Submits.{IsKnown, IsFirstUnknown, SubmitGives, StartGives};
+ghost use Rattle.vx_io.specs.Polls.{SessionPollGives, CompletionGives, PollsAt};
+
+use crate::ranges::SegmentRanges;
+use crate::requests::{
+    Completion, IoIntent, IoOwnerId, IoRequest, IoRequestId, PollError, SubmitError,
+};
+use crate::waiting::{WaitingReads, take_at};
+use std::alloc::Global;
+use std::collections::{BTreeMap, VecDeque};
+use vx_base::{SegmentLocation, SegmentSource, SourceError};
+
+/// A fetch in flight: whose it is, its number, what it reads, and the ticket of its read.
+#[derive(Clone, Copy, Debug, PartialEq, Eq)]
+pub(crate) struct FetchInFlight {
+    owner: IoOwnerId,
+    request: IoRequestId,
+    at: SegmentLocation,
+    ticket: u64,
+}
+
+/// A session over a lent source. It keeps for each segment the announced reads in order and at most one
+/// prefetched read, and the fetches in flight in the order of their submission. Its tables grow in `submit`.
+#[derive(Drop)]
+pub struct SegmentIoSource<'a, S: SegmentSource> {
+    alloc: Global,
+    source: &'a mut S,
+    ranges: &'a SegmentRanges,
+    waiting: BTreeMap<u32, WaitingReads>,
+    fetches: VecDeque<FetchInFlight>,
+    ghost sound: { IsSound ranges.now (table_in waiting fetches.items) (S.state source.now) },
+}
+
+/// The first request of a batch whose range no segment has. None where each range is known.
+fn first_unknown(ranges: &SegmentRanges, batch: &[IoRequest]) -> Option<usize>
+    ensures { MatchOption result (All (IsKnown ranges.now) batch.now) (λ place. IsFirstUnknown ranges.now batch.now place) }
+{
+    for (place, request) in batch.iter().enumerate() {
+        let at = request.target.location();
+        if ranges.find(at.offset, at.length).is_none() {
+            return Some(place);
+        }
+    }
+    None
+}
+
+/// Adds a fetch behind the others, if the request is one.
+fn add_fetch(fetches: &mut VecDeque<FetchInFlight>, intent: IoIntent, fetch: FetchInFlight)
+    requires { deque_len fetches.old < deque_capacity fetches.old }
+    ensures { fetches.new.items ≡ fetches.old.items ++ if_fetch intent fetch }
+{
+    match intent {
+        IoIntent::Fetch => fetches.push_back_reserved(fetch),
+        IoIntent::Announce | IoIntent::Prefetch => {}
+    }
+}
+
+/// What a run of requests asks for depends on the requests alone.
+pub fn requests_tell_asks()
+    ensures { RequestsTellAsks }
+{}
+
+impl<'a, S: SegmentSource> SegmentIoSource<'a, S> {
+    ghost use Rattle.vx_io.specs.Tables.{table_of};
+
+    /// A session with nothing waiting and nothing in flight. It clears the source and takes no memory.
+    pub fn new(
+        alloc: Global,
+        source: &'a mut S,
+        ranges: &'a SegmentRanges,
+    ) -> SegmentIoSource<'a, S>
+        ensures same_reference { result.source.ghost_name ≡ source.entry.ghost_name }
+        ensures ranges { result.ranges.now ≡ ranges.now }
+        ensures empty { table_of result ≡ empty_table }
+        ensures cleared { Cleared (S.state source.old) (S.state result.source.now) }
+    {
+        source.clear();
+        SegmentIoSource {
+            alloc,
+            source,
+            ranges,
+            waiting: BTreeMap::new(alloc),
+            fetches: VecDeque::new(alloc),
+        }
+    }
+
+    /// Does one request of a batch, whose range is known.
+    fn start(&mut self, owner: IoOwnerId, request: IoRequest) -> Result<(), SourceError>
+        requires { IsKnown self.old.ranges.now request }
+        ensures same_reference { self.new.source.ghost_name ≡ self.old.source.ghost_name }
+        ensures ranges { self.new.ranges.now ≡ self.old.ranges.now }
+        ensures gives { StartGives self.old.ranges.now owner request result
+            (table_of self.old) (S.state self.old.source.now) (table_of self.new) (S.state self.new.source.now) }
+    {
+        let at = request.target.location();
+        let segment = self.ranges.find(at.offset, at.length).unwrap();
+        if self.fetches.reserve(1).is_err() {
+            return Err(SourceError::Memory);
+        }
+        match take_at(
+            self.alloc,
+            &mut self.waiting,
+            self.source,
+            request.intent,
+            segment,
+            at,
+        ) {
+            Ok(ticket) => {
+                let fetch = FetchInFlight {
+                    owner,
+                    request: request.request,
+                    at,
+                    ticket,
+                };
+                add_fetch(&mut self.fetches, request.intent, fetch);
+                Ok(())
+            }
+            Err(error) => Err(error),
+        }
+    }
+
+    /// Polls the fetch at a place in line. One that ended is gone.
+    fn poll_at(&mut self, place: usize) -> Result<Option<Completion>, PollError>
+        requires { place < length (table_of self.old).fetches }
+        ensures same_reference { self.new.source.ghost_name ≡ self.old.source.ghost_name }
+        ensures ranges { self.new.ranges.now ≡ self.old.ranges.now }
+        ensures gives { PollsAt place self.old.ranges.now result
+            (table_of self.old) (S.state self.old.source.now) (table_of self.new) (S.state self.new.source.now) }
+    {
+        let fetch = self.fetches[place];
+        match self.source.poll(fetch.ticket) {
+            Ok(None) => Ok(None),
+            Ok(Some(bytes)) => {
+                self.fetches.remove(place);
+                Ok(Some(Completion {
+                    owner: fetch.owner,
+                    request: fetch.request,
+                    bytes,
+                }))
+            }
+            Err(SourceError::Failed) => {
+                self.fetches.remove(place);
+                Err(PollError::Source {
+                    owner: fetch.owner,
+                    request: fetch.request,
+                })
+            }
+            Err(SourceError::Memory) => Err(PollError::Memory),
+        }
+    }
+
+    /// Takes a batch of requests of one owner, in order. A batch with a range that no segment has starts
+    /// nothing; after another refusal the first `taken` requests took effect, and no later one.
+    pub fn submit(&mut self, owner: IoOwnerId, batch: Vec<IoRequest>) -> Result<(), SubmitError>
+        ensures same_reference { self.new.source.ghost_name ≡ self.old.source.ghost_name }
+        ensures ranges { self.new.ranges.now ≡ self.old.ranges.now }
+        ensures gives { SubmitGives self.old.ranges.now owner batch.items result
+            (table_of self.old) (S.state self.old.source.now) (table_of self.new) (S.state self.new.source.now) }
+    {
+        if let Some(place) = first_unknown(self.ranges, batch.as_slice()) {
+            return Err(SubmitError::UnknownRange(place as u64));
+        }
+        let mut taken: u64 = 0;
+        for request in &batch {
+            match self.start(owner, *request) {
+                Ok(()) => taken += 1,
+                Err(SourceError::Failed) => return Err(SubmitError::Source { taken }),
+                Err(SourceError::Memory) => return Err(SubmitError::Memory { taken }),
+            }
+        }
+        Ok(())
+    }
+
+    /// Polls the fetches in flight in the order of their submission until one ends. `None` says that none is
+    /// in flight, or that each goes on.
+    pub fn poll(&mut self) -> Result<Option<Completion>, PollError>
+        ensures same_reference { self.new.source.ghost_name ≡ self.old.source.ghost_name }
+        ensures ranges { self.new.ranges.now ≡ self.old.ranges.now }
+        ensures gives { SessionPollGives self.old.ranges.now result
+            (table_of self.old) (S.state self.old.source.now) (table_of self.new) (S.state self.new.source.now) }
+    {
+        for place in 0..self.fetches.len() {
+            match self.poll_at(place) {
+                Ok(None) => {}
+                ended => return ended,
+            }
+        }
+        Ok(None)
+    }
+
+    /// As `poll`, but where no fetch is in flight it answers `NothingInFlight`.
+    pub fn poll_completion(&mut self) -> Result<Option<Completion>, PollError>
+        ensures same_reference { self.new.source.ghost_name ≡ self.old.source.ghost_name }
+        ensures ranges { self.new.ranges.now ≡ self.old.ranges.now }
+        ensures nothing { IsErrOf result PollError.NothingInFlight ↔ ((table_of self.old).fetches ≡ []) }
+        ensures gives { CompletionGives self.old.ranges.now result
+            (table_of self.old) (S.state self.old.source.now) (table_of self.new) (S.state self.new.source.now) }
+    {
+        if self.fetches.is_empty() {
+            return Err(PollError::NothingInFlight);
+        }
+        self.poll()
+    }
+
+    /// How many fetches are in flight. It takes no memory.
+    pub fn in_flight(&self) -> u64
+        ensures { result ≡ length (table_of self.now).fetches }
+    {
+        self.fetches.len() as u64
+    }
+
+    /// Forgets every read and clears the source. Its counts and asks stay. It takes no memory.
+    pub fn clear(&mut self)
+        ensures same_reference { self.new.source.ghost_name ≡ self.old.source.ghost_name }
+        ensures ranges { self.new.ranges.now ≡ self.old.ranges.now }
+        ensures empty { table_of self.new ≡ empty_table }
+        ensures cleared { Cleared (S.state self.old.source.now) (S.state self.new.source.now) }
+    {
+        self.waiting.clear();
+        self.fetches.clear();
+        self.source.clear();
+    }
+
+    /// Does nothing: the reads of an owner stay until they end or the session is cleared.
+    pub fn release(&mut self, _owner: IoOwnerId)
+        ensures { self.new ≡ self.old }
+    {}
+}

@@ -1,0 +1,9 @@
+pub mod Between
+pub mod ChunkRows
+pub mod Marks
+pub mod Rising
+pub mod Runs
+pub mod SpanCuts
+pub mod SplitGather
+pub mod SplitLaws
+pub mod Trims

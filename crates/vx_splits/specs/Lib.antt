@@ -1,0 +1,5 @@
+pub mod Chunks
+pub mod Spans
+pub mod SplitRanges
+pub mod Taken
+pub mod Trimmed
