@@ -1,14 +1,15 @@
 -- What is asked for depends on the requests alone: tables in which equally many reads wait ask alike.
-use Rattle.std.proofs.Common.{◌≡◌, ℕ, ◌+◌, ◌==◌, Bool, true, false, List, [], ◌∷◌, ◌++◌, length, Option, Some, None, refl, sym, ap, ◌∙◌, subst, arith, cond}
+use Rattle.std.proofs.Common.{◌≡◌, ℕ, ◌+◌, ◌==◌, Bool, true, false, List, [], ◌∷◌, ◌++◌, length, map, Option, Some, None, refl, sym, ap, ◌∙◌, subst, arith, cond}
 use Rattle.std.specs.Prelude.{is_some}
-use Rattle.std.proofs.lemmas.List.{length-append}
+use Rattle.std.proofs.lemmas.List.{length-append, map-append}
+use Rattle.vx_base.specs.declared.locations.SegmentLocation.{SegmentLocation}
 use Rattle.vx_io.specs.declared.requests.IoIntent.{IoIntent}
 use Rattle.vx_io.specs.declared.requests.IoIntent.TheVariants.{Announce, Prefetch, Fetch}
 use Rattle.vx_io.specs.declared.requests.IoOwnerId.{IoOwnerId}
 use Rattle.vx_io.specs.declared.requests.IoRequest.{IoRequest}
 use Rattle.vx_io.specs.declared.ranges.SegmentRanges.{SegmentRanges}
 use Rattle.vx_io.specs.Segments.{segment_of}
-use Rattle.vx_io.specs.Session.{Waiting, Table, Step, requested, ended, has_none, asks, left_by_fetch, left_by_prefetch, waiting_after, requested_at, table_after, asked_at, asked_by, requests_in, asks_of, range_of_target, RequestsTellAsks}
+use Rattle.vx_io.specs.Session.{Waiting, Table, Step, requested, ended, has_none, asks, left_by_fetch, left_by_prefetch, waiting_after, requested_at, table_after, starts_at, started_by, starts_of, requests_in, asks_of, location_of_target, range_of_target, RequestsTellAsks}
 
 -- equally many announced reads wait, and a prefetched one in both or in neither
 record Alike (one two : Waiting) : Type 0 where
@@ -63,10 +64,19 @@ after_alike Fetch one two ticket more alike = fetched_alike one.announced two.an
 abbrev AreAlike : Table → Table → Type 0
 AreAlike one two = (segment : ℕ) → Alike (one.waiting segment) (two.waiting segment)
 
-asked_alike : (found : Option ℕ) (request : IoRequest) (one two : Table) → AreAlike one two → asked_at found request one ≡ asked_at found request two
-asked_alike None request one two alike = refl
-asked_alike (Some segment) request one two alike =
-    ap (λ (asking : Bool). cond asking (range_of_target request.target ∷ []) []) (asks_alike request.intent (one.waiting segment) (two.waiting segment) (alike segment))
+-- where a step asks, without the ticket that it is given
+abbrev asked_at : Option ℕ → IoRequest → ℕ → Table → List SegmentLocation
+asked_at found request new table = map (λ (read : ℕ × SegmentLocation). read.1) (starts_at found request new table)
+
+asked_alike : (found : Option ℕ) (request : IoRequest) (ticket more : ℕ) (one two : Table) → AreAlike one two → asked_at found request ticket one ≡ asked_at found request more two
+asked_alike None request ticket more one two alike = refl
+asked_alike (Some segment) request ticket more one two alike =
+    ap (λ (asking : Bool). map (λ (read : ℕ × SegmentLocation). read.1) (cond asking ((ticket, location_of_target request.target) ∷ []) [])) (asks_alike request.intent (one.waiting segment) (two.waiting segment) (alike segment))
+    ∙ given (asks request.intent (two.waiting segment))
+  where
+    given : (asking : Bool) → map (λ (read : ℕ × SegmentLocation). read.1) (cond asking ((ticket, location_of_target request.target) ∷ []) []) ≡ map (λ (read : ℕ × SegmentLocation). read.1) (cond asking ((more, location_of_target request.target) ∷ []) [])
+    given true = refl
+    given false = refl
 
 requested_alike : (found : Option ℕ) (request : IoRequest) (owner other : IoOwnerId) (ticket more : ℕ) (one two : Table) → AreAlike one two → AreAlike (requested_at found owner request ticket one) (requested_at found other request more two)
 requested_alike None request owner other ticket more one two alike = alike
@@ -91,11 +101,15 @@ runs_alike ranges one two (requested owner request ticket ∷ steps) (requested 
     let first : ◌≡◌ {A = IoOwnerId × IoRequest} (owner, request) (other, again) = cc in
     let rest : requests_in steps ≡ requests_in more = cc in
     let equal : request ≡ again = ap (λ (p : IoOwnerId × IoRequest). p.1) first in
-    let asked = asked_alike (segment_of ranges (range_of_target request.target)) request one two alike ∙ ap (λ (r : IoRequest). asked_by ranges two (requested other r new)) equal in
+    let asked = asked_alike (segment_of ranges (range_of_target request.target)) request ticket new one two alike
+    ∙ ap (λ (r : IoRequest). asked_at (segment_of ranges (range_of_target r.target)) r new two) equal in
     let tables = subst (λ (r : IoRequest). AreAlike (table_after ranges one (requested owner request ticket)) (table_after ranges two (requested other r new))) equal
     (requested_alike (segment_of ranges (range_of_target request.target)) request owner other ticket new one two alike) in
     let later = runs_alike ranges (table_after ranges one (requested owner request ticket)) (table_after ranges two (requested other again new)) steps more rest tables in
-    λ i. asked i ++ later i
+    let f : (ℕ × SegmentLocation) → SegmentLocation = λ (read : ℕ × SegmentLocation). read.1 in
+    map-append f (started_by ranges one (requested owner request ticket)) (starts_of ranges (table_after ranges one (requested owner request ticket)) steps)
+    ∙ (λ i. asked i ++ later i)
+    ∙ sym (map-append f (started_by ranges two (requested other again new)) (starts_of ranges (table_after ranges two (requested other again new)) more))
 
 pub tells_asks : RequestsTellAsks
 tells_asks ranges table one two same = runs_alike ranges table table one two same (λ segment. record { announced = refl; prefetched = refl })

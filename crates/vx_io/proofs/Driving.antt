@@ -18,13 +18,13 @@ use Rattle.vx_io.specs.declared.commands.Driven.{Driven}
 use Rattle.vx_io.specs.declared.sessions.FetchInFlight.{FetchInFlight}
 use Rattle.vx_io.specs.declared.ranges.SegmentRanges.{SegmentRanges}
 use Rattle.vx_io.specs.Session.{Table, requests_in}
-use Rattle.vx_io.specs.Submits.{owned, Did, IsKnown, SubmitGives}
+use Rattle.vx_io.specs.Submits.{owned, Submitted, IsKnown, SubmitGives}
 use Rattle.vx_io.specs.Polls.{AllGoOn, EndsAt, HasBytes}
-use Rattle.vx_io.specs.Drive.{Wanted, wanted_by, wanted_of, fetches_in, requests_of_command, requests_of, is_pair, times_wanted, times_in_flight, times_completed, completions_due, IsCompletionOf, DidCommands, CommandGives, AreDistinct, Refused, EndsWith, Drives}
+use Rattle.vx_io.specs.Drive.{Wanted, wanted_by, wanted_of, fetches_in, requests_of_command, requests_of, is_pair, times_wanted, times_in_flight, times_completed, completions_due, IsCompletionOf, DidCommands, EachGives, CommandGives, AreDistinct, Refused, EndsWith, Drives}
 use Rattle.vx_io.proofs.Anys.{any_before, any_behind, any_map, all_map, all_none}
 use Rattle.vx_io.proofs.MoreFetches.{IsOf, IsAmongWanted, Adds, wanted_in, adds_in_steps, known_owned, wanted_owned, times_append_flying}
 use Rattle.vx_io.proofs.DueFetches.{left, due_or_left, due_more, due_submit, due_poll_none, due_poll_some}
-use Rattle.vx_io.proofs.Running.{did_then, did_nothing, did_end}
+use Rattle.vx_io.proofs.Running.{did_then, did_nothing, did_end, did_submitted}
 use Rattle.vx_io.proofs.SoundEnds.{all_removed}
 
 -- the commands were done, and each of their fetches is completed or in flight
@@ -60,11 +60,49 @@ size_more commands command = ap length (more_of wanted_of commands command) ∙ 
 in_flight_left : (commands : List IoCommand) (completed in_flight : ℕ) → completed + in_flight ≡ length (fetches_in commands) → completed ≡ completions_due 0 commands → in_flight ≡ left 0 commands
 in_flight_left commands completed in_flight sized due = let all = due_or_left 0 commands in omega (arith, sized, due, all)
 
+-- ---- each command
+
+-- the completions of one command alone
+own_gives : (ranges : SegmentRanges) (command : IoCommand) (completions more : List Completion) (old : Table) (before : SourceState) (new : Table) (after : SourceState) → CommandGives ranges command (Ok tt) completions more old before new after →
+    (first : List Completion) × (more ≡ completions ++ first) × CommandGives ranges command (Ok tt) [] first old before new after
+own_gives ranges (Submit owner batch) completions more old before new after gives = ([], gives.0 ∙ sym (append-nil completions), (refl, gives.1))
+own_gives ranges Poll completions more old before new after (inl gives) = ([], gives.0 ∙ sym (append-nil completions), inl (refl, gives.1))
+own_gives ranges Poll completions more old before new after (inr (completion, same, gives)) = (completion ∷ [], same, inr (completion, refl, gives))
+
+each_then : (ranges : SegmentRanges) (commands : List IoCommand) (command : IoCommand) (completions first : List Completion) (old : Table) (before : SourceState) (middle : Table) (between : SourceState) (new : Table) (after : SourceState) →
+    EachGives ranges commands completions old before middle between → CommandGives ranges command (Ok tt) [] first middle between new after → EachGives ranges (commands ++ command ∷ []) (completions ++ first) old before new after
+each_then ranges [] command completions first old before middle between new after each gives = (
+  first,
+  [],
+  new,
+  after,
+  ap (λ (cs : List Completion). cs ++ first) each.0 ∙ sym (append-nil first),
+  subst (λ (t : Table). CommandGives ranges command (Ok tt) [] first t before new after) each.1
+      (subst (λ (s : SourceState). CommandGives ranges command (Ok tt) [] first middle s new after) each.2 gives),
+  (refl, refl, refl),
+)
+each_then ranges (one ∷ commands) command completions first old before middle between new after each gives = (
+  each.0,
+  each.1 ++ first,
+  each.2,
+  each.3,
+  ap (λ (cs : List Completion). cs ++ first) each.4 ∙ append_assoc each.0 each.1 first,
+  each.5,
+  each_then ranges commands command each.1 first each.2 each.3 middle between new after each.6 gives,
+)
+
+each_more : (ranges : SegmentRanges) (commands : List IoCommand) (command : IoCommand) (completions more : List Completion) (old : Table) (before : SourceState) (middle : Table) (between : SourceState) (new : Table) (after : SourceState) →
+    EachGives ranges commands completions old before middle between → CommandGives ranges command (Ok tt) completions more middle between new after → EachGives ranges (commands ++ command ∷ []) more old before new after
+each_more ranges commands command completions more old before middle between new after each gives =
+    let own = own_gives ranges command completions more middle between new after gives in
+    rw own.1 (each_then ranges commands command completions own.0 old before middle between new after each own.2)
+
 -- ---- none yet
 
 pub drive_none : (ranges : SegmentRanges) (table : Table) (source : SourceState) → table.fetches ≡ [] → Driving ranges [] [] table source table source
 drive_none ranges table source none = record {
   did = record {
+    each = (refl, refl, refl);
     did = did_nothing ranges table table source source refl refl;
     named = all_none (λ (completion : Completion). Any (IsCompletionOf source.file completion) []);
     balance = λ owner request. rw none refl;
@@ -79,7 +117,7 @@ drive_none ranges table source none = record {
 
 -- ---- a batch
 
-fetches_added : (ranges : SegmentRanges) (owner : IoOwnerId) (batch : List IoRequest) (old : Table) (before : SourceState) (new : Table) (after : SourceState) → All (IsKnown ranges) batch → Did ranges (owned owner batch) 0 old before new after → Adds (flat_map (λ (request : IoRequest). wanted_by request.intent owner request) batch) old.fetches new.fetches
+fetches_added : (ranges : SegmentRanges) (owner : IoOwnerId) (batch : List IoRequest) (old : Table) (before : SourceState) (new : Table) (after : SourceState) → All (IsKnown ranges) batch → Submitted ranges (owned owner batch) old before new after → Adds (flat_map (λ (request : IoRequest). wanted_by request.intent owner request) batch) old.fetches new.fetches
 fetches_added ranges owner batch old before new after known did =
     let added = adds_in_steps ranges old did.ran.steps did.ran.fetches_ended (rw did.ran.requests_done (known_owned ranges owner batch known)) in
     let wanted : wanted_in (requests_in did.ran.steps) ≡ flat_map (λ (request : IoRequest). wanted_by request.intent owner request) batch = ap wanted_in did.ran.requests_done ∙ wanted_owned owner batch in
@@ -93,7 +131,8 @@ drive_submit ranges commands completions owner batch old before middle between n
     let wanted : List Wanted = wanted_of (Submit owner batch) in
     record {
       did = record {
-        did = let both = did_then ranges (requests_of commands) (owned owner batch.items) (length completions) 0 old before middle between new after done.did gives.1 in
+        each = each_more ranges commands (Submit owner batch) completions completions old before middle between new after done.each (refl, gives);
+        did = let both = did_then ranges (requests_of commands) (owned owner batch.items) (length completions) 0 old before middle between new after done.did (did_submitted ranges (owned owner batch.items) middle between new after gives.1) in
             let sum : length completions + 0 ≡ length completions = omega arith in
             rw (more_of requests_of_command commands (Submit owner batch)) (rw sum at both);
         named = still_named before.file commands (Submit owner batch) completions done.named;
@@ -139,6 +178,7 @@ drive_idle ranges commands completions old before middle between new after so_fa
     let done = so_far.did in
     record {
       did = record {
+        each = each_more ranges commands Poll completions completions old before middle between new after done.each (inl (refl, polled));
         did = let both = did_then ranges (requests_of commands) [] (length completions) 0 old before middle between new after done.did (did_nothing ranges middle new between after polled.table polled.keeps.asked) in
             let sum : length completions + 0 ≡ length completions = omega arith in
             let end : requests_of commands ++ [] ≡ requests_of commands = append-nil (requests_of commands) in
@@ -211,6 +251,7 @@ drive_ended ranges commands completions completion place old before middle betwe
     let count = length-append completions (completion ∷ []) in
     record {
       did = record {
+        each = each_more ranges commands Poll completions (completions ++ completion ∷ []) old before middle between new after done.each (inr (completion, refl, (place, ends, has, faults)));
         did = let both = did_then ranges (requests_of commands) [] (length completions) 1 old before middle between new after done.did (did_end ranges place middle new between after ends.table ends.keeps.asked) in
             let sum : length completions + 1 ≡ length (completions ++ completion ∷ []) = omega (arith, count) in
             let end : requests_of commands ++ [] ≡ requests_of commands = append-nil (requests_of commands) in

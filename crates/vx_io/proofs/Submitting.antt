@@ -9,14 +9,14 @@ use Rattle.vx_io.specs.declared.requests.IoRequest.{IoRequest}
 use Rattle.vx_io.specs.declared.requests.SubmitError.TheVariants.{Source, Memory}
 use Rattle.vx_io.specs.declared.ranges.SegmentRanges.{SegmentRanges}
 use Rattle.vx_io.specs.Session.{Table}
-use Rattle.vx_io.specs.Submits.{IsKnown, owned, Did, Stays, StartGives, SubmitGives}
-use Rattle.vx_io.proofs.Running.{did_nothing, did_more, stopped}
+use Rattle.vx_io.specs.Submits.{IsKnown, owned, Submitted, Stays, StartGives, SubmitGives}
+use Rattle.vx_io.proofs.Running.{submitted_none, submitted_more, stopped}
 
 -- the first n requests were done
 pub record Submitting (ranges : SegmentRanges) (owner : IoOwnerId) (batch : List IoRequest) (n taken : ℕ) (old : Table) (before : SourceState) (middle : Table) (between : SourceState) : Type 0 where
   pub counted : taken ≡ n
   pub known : All (IsKnown ranges) batch
-  pub did : Did ranges (owned owner (take n batch)) 0 old before middle between
+  pub did : Submitted ranges (owned owner (take n batch)) old before middle between
   pub stays : Stays before between
   pub faults : between.faults ≡ before.faults
 
@@ -24,7 +24,7 @@ pub submit_none : (ranges : SegmentRanges) (owner : IoOwnerId) (batch : List IoR
 submit_none ranges owner batch table source known = record {
   counted = refl;
   known = known;
-  did = did_nothing ranges table table source source refl refl;
+  did = submitted_none ranges table source;
   stays = record { file = refl; idle = refl };
   faults = refl;
 }
@@ -44,7 +44,7 @@ submit_more ranges other owner batch n taken d old before middle between new aft
     record {
       counted = let p = so_far.counted in omega (arith, p);
       known = so_far.known;
-      did = did_more ranges owner batch n (slice_index_or batch n d) old before middle between new after (got batch n d within) so_far.did gives.0;
+      did = submitted_more ranges owner batch n (slice_index_or batch n d) old before middle between new after (got batch n d within) so_far.did gives.0;
       stays = stays_then before between after so_far.stays gives.1;
       faults = gives.2 ∙ so_far.faults;
     }

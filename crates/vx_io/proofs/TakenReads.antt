@@ -31,11 +31,9 @@ fetches_announced at result announced prefetched before new after none taken =
     subst (λ (p : Option ℕ). TakesAnnounced at result (record { announced = announced; prefetched = p }) before new after → TakesFetch at result (record { announced = announced; prefetched = p }) before new after) (sym none)
     (λ t. taken_fetch at result announced before new after t) taken
 
--- a fetch is a request
-pub takes_fetch : (at : SegmentLocation) (result : Result ℕ SourceError) (old : Waiting) (before : SourceState) (new : Waiting) (after : SourceState) → TakesFetch at result old before new after → Takes Fetch at result old before new after
-takes_fetch at (Ok read) old before new after taken = taken
-takes_fetch at (Err Failed) old before new after taken = taken
-takes_fetch at (Err Memory) old before new after taken = taken
+-- a fetch is a request that is given its read
+pub taken_by_fetch : (at : SegmentLocation) (read : ℕ) (old : Waiting) (before : SourceState) (new : Waiting) (after : SourceState) → TakesFetch at (Ok read) old before new after → Takes Fetch at (Ok (Some read)) old before new after
+taken_by_fetch at read old before new after taken = (taken.0, taken.1, ap Some taken.2, taken.3)
 
 -- ---- over all segments
 
@@ -47,7 +45,7 @@ put_same old new segment here same put other = put other ∙ back (eqb_tells oth
     back (inr (is, differ)) = rw is refl
 
 -- what a request does at its segment is all that it does
-pub takes_at : (intent : IoIntent) (segment : ℕ) (at : SegmentLocation) (result : Result ℕ SourceError) (old : ℕ → Waiting) (before : SourceState) (here : Waiting) (new : ℕ → Waiting) (after : SourceState) →
+pub takes_at : (intent : IoIntent) (segment : ℕ) (at : SegmentLocation) (result : Result (Option ℕ) SourceError) (old : ℕ → Waiting) (before : SourceState) (here : Waiting) (new : ℕ → Waiting) (after : SourceState) →
     Takes intent at result (old segment) before here after → ((other : ℕ) → new other ≡ put_at old segment here other) → TakesAt intent segment at result old before new after
 takes_at intent segment at (Ok read) old before here new after taken put =
     (taken.0, taken.1, taken.2, λ other. put other ∙ ap (λ (w : Waiting). put_at old segment w other) taken.3)

@@ -61,3 +61,16 @@ commands_distinct none first polled last all batch more owner x y z empty begun 
     let begins : fetches_in polled ≡ wanted_in owner (x ∷ []) = kept ∙ ap fetches_in start ∙ append-nil (wanted_of batch) ∙ one in
     let goes_on : fetches_in last ≡ fetches_in polled ++ wanted_of more = ap fetches_in pushed ∙ fetches_push polled more in
     three_distinct (fetches_in all) owner x y z (ends ∙ goes_on ∙ (λ i. begins i ++ two i))
+
+-- a batch of one request, and polls
+pub one_distinct : (none first all : List IoCommand) (batch : IoCommand) (owner : IoOwnerId) (x : IoRequest) → none ≡ [] → first ≡ none ++ batch ∷ [] → fetches_in all ≡ fetches_in first → wanted_of batch ≡ wanted_in owner (x ∷ []) → AreDistinct (fetches_in all)
+one_distinct none first all batch owner x empty begun kept one number other =
+    let start : first ≡ batch ∷ [] = begun ∙ ap (λ (l : List IoCommand). l ++ batch ∷ []) empty in
+    let wanted : fetches_in all ≡ wanted_in owner (x ∷ []) = kept ∙ ap fetches_in start ∙ append-nil (wanted_of batch) ∙ one in
+    let most = wanted_at_most owner (x ∷ []) number other in
+    let small = one_or_none (is_pair number other owner x.request) in
+    rw wanted (omega (arith, most, small))
+  where
+    one_or_none : (b : Bool) → 0 + cond b 1 0 ≤ 1
+    one_or_none true = omega arith
+    one_or_none false = omega arith

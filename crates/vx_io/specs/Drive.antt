@@ -78,30 +78,6 @@ completions_due in_flight (Submit owner batch ∷ commands) = completions_due (i
 completions_due zero (Poll ∷ commands) = completions_due zero commands
 completions_due (suc in_flight) (Poll ∷ commands) = completions_due in_flight commands + 1
 
--- ---- the commands that succeeded
-
--- the completion is that of a wanted fetch, and its bytes are those of the fetch's range
-abbrev pub IsCompletionOf : Option (List ℕ) → Completion → Wanted → Type 0
-IsCompletionOf file completion fetch =
-    (completion.owner ≡ fetch.owner) × (completion.request ≡ fetch.request) × IsSegment file fetch.at completion.bytes.items
-
--- The commands were done.
-pub record DidCommands (ranges : SegmentRanges) (commands : List IoCommand) (completions : List Completion) (old : Table) (before : SourceState) (new : Table) (after : SourceState) : Type 0 where
-  -- the machine ran over their requests, and what the source gained are its asks
-  pub did : Did ranges (requests_of commands) (length completions) old before new after
-  -- each completion is that of a submitted fetch, with its bytes
-  pub named : All (λ completion. Any (IsCompletionOf before.file completion) (fetches_in commands)) completions
-  -- each submitted fetch is in flight or completed, and none is so twice
-  pub balance : (owner request : ℕ) →
-      times_completed owner request completions + times_in_flight owner request new.fetches ≡ times_wanted owner request (fetches_in commands)
-  -- each fetch in flight was submitted
-  pub submitted : All (λ (fetch : FetchInFlight). Any (λ (wanted : Wanted). (fetch.owner ≡ wanted.owner) × (fetch.request ≡ wanted.request) × (fetch.at ≡ wanted.at)) (fetches_in commands)) new.fetches
-  -- where no poll found nothing, each poll with a fetch in flight completed one
-  pub counted : after.idle ≡ before.idle → before.idle < 2 ^ 64 - 1 → length completions ≡ completions_due 0 commands
-  pub file : after.file ≡ before.file
-  pub faults : after.faults ≡ before.faults
-  pub idle : before.idle ≤ after.idle
-
 -- ---- the command that was refused
 
 abbrev pub Refused : SegmentRanges → IoCommand → DriveError → Table → SourceState → Table → SourceState → Type 0
@@ -130,6 +106,40 @@ CommandGives ranges (Submit owner batch) (Err error) completions more old before
     (more ≡ completions) × Refused ranges (Submit owner batch) error old before new after
 CommandGives ranges Poll result completions more old before new after = PollCommandGives ranges result completions more old before new after
 
+-- ---- the commands that succeeded
+
+-- the completion is that of a wanted fetch, and its bytes are those of the fetch's range
+abbrev pub IsCompletionOf : Option (List ℕ) → Completion → Wanted → Type 0
+IsCompletionOf file completion fetch =
+    (completion.owner ≡ fetch.owner) × (completion.request ≡ fetch.request) × IsSegment file fetch.at completion.bytes.items
+
+-- Each command did what its call does, one after the other: the completions are theirs, in order, and the table
+-- and the source behind one are those before the next.
+abbrev pub EachGives : SegmentRanges → List IoCommand → List Completion → Table → SourceState → Table → SourceState → Type 0
+EachGives ranges [] completions old before new after = (completions ≡ []) × (new ≡ old) × (after ≡ before)
+EachGives ranges (command ∷ commands) completions old before new after =
+    (first : List Completion) × (rest : List Completion) × (middle : Table) × (between : SourceState) × (completions ≡ first ++ rest)
+    × CommandGives ranges command (Ok tt) [] first old before middle between × EachGives ranges commands rest middle between new after
+
+-- The commands were done.
+pub record DidCommands (ranges : SegmentRanges) (commands : List IoCommand) (completions : List Completion) (old : Table) (before : SourceState) (new : Table) (after : SourceState) : Type 0 where
+  pub each : EachGives ranges commands completions old before new after
+  -- the machine ran over their requests, and the source was asked for exactly the reads that it starts
+  pub did : Did ranges (requests_of commands) (length completions) old before new after
+  -- each completion is that of a submitted fetch, with its bytes
+  pub named : All (λ completion. Any (IsCompletionOf before.file completion) (fetches_in commands)) completions
+  -- each submitted fetch is in flight or completed, and none is so twice
+  pub balance : (owner request : ℕ) →
+      times_completed owner request completions + times_in_flight owner request new.fetches ≡ times_wanted owner request (fetches_in commands)
+  -- each fetch in flight was submitted
+  pub submitted : All (λ (fetch : FetchInFlight). Any (λ (wanted : Wanted). (fetch.owner ≡ wanted.owner) × (fetch.request ≡ wanted.request) × (fetch.at ≡ wanted.at)) (fetches_in commands)) new.fetches
+  -- where no poll found nothing, each poll with a fetch in flight completed one
+  pub counted : after.idle ≡ before.idle → before.idle < 2 ^ 64 - 1 → length completions ≡ completions_due 0 commands
+  pub file : after.file ≡ before.file
+  pub faults : after.faults ≡ before.faults
+  pub idle : before.idle ≤ after.idle
+
+-- ---- the end
 -- no command is left, or the next one was refused
 abbrev pub EndsWith : SegmentRanges → List IoCommand → Option DriveError → Table → SourceState → Table → SourceState → Type 0
 EndsWith ranges [] None old before new after = (new ≡ old) × (after ≡ before)

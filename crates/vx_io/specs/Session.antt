@@ -1,6 +1,6 @@
 -- The session table as a machine over pure data: the reads that wait at each segment, the fetches in flight,
 -- and what one step does to them.
-use Rattle.std.specs.Prelude.{◌≡◌, ℕ, ◌+◌, ◌==◌, Bool, true, false, if◌then◌else◌, List, [], ◌∷◌, ◌++◌, remove, Option, Some, None}
+use Rattle.std.specs.Prelude.{◌≡◌, ℕ, ◌+◌, ◌==◌, Bool, true, false, if◌then◌else◌, List, [], map, ◌∷◌, ◌++◌, remove, Option, Some, None}
 use Rattle.std.specs.BTreeMap.{BTreeMap, get}
 use Rattle.std.specs.Ordering.{nat_cmp}
 use Rattle.vx_base.specs.declared.locations.SegmentLocation.{SegmentLocation}
@@ -10,6 +10,7 @@ use Rattle.vx_io.specs.declared.requests.IoIntent.TheVariants.{Announce, Prefetc
 use Rattle.vx_io.specs.declared.requests.IoTarget.{IoTarget}
 use Rattle.vx_io.specs.declared.requests.IoTarget.TheVariants.{Range}
 use Rattle.vx_io.specs.declared.requests.IoOwnerId.{IoOwnerId}
+use Rattle.vx_io.specs.declared.requests.IoRequestId.{IoRequestId}
 use Rattle.vx_io.specs.declared.requests.IoRequest.{IoRequest}
 use Rattle.vx_io.specs.declared.waiting.WaitingReads.{WaitingReads}
 use Rattle.vx_io.specs.declared.sessions.FetchInFlight.{FetchInFlight}
@@ -112,6 +113,11 @@ if_fetch Announce fetch = []
 if_fetch Prefetch fetch = []
 if_fetch Fetch fetch = fetch ∷ []
 
+-- the fetch that took a read, if one did
+abbrev pub fetch_with : IoOwnerId → IoRequestId → SegmentLocation → Option ℕ → List FetchInFlight
+fetch_with owner request at None = []
+fetch_with owner request at (Some ticket) = record { owner = owner; request = request; at = at; ticket = ticket } ∷ []
+
 -- the fetch that a request makes of what waits at its segment
 abbrev pub fetch_of : IoOwnerId → IoRequest → Waiting → ℕ → FetchInFlight
 fetch_of owner request waiting new =
@@ -129,14 +135,14 @@ abbrev pub table_after : SegmentRanges → Table → Step → Table
 table_after ranges table (requested owner request new) = requested_at (segment_of ranges (range_of_target request.target)) owner request new table
 table_after ranges table (ended place) = record { waiting = table.waiting; fetches = remove table.fetches place }
 
--- the ranges that a step asks for: one or none
-abbrev pub asked_at : Option ℕ → IoRequest → Table → List AskedRange
-asked_at None request table = []
-asked_at (Some segment) request table = if asks request.intent (table.waiting segment) then range_of_target request.target ∷ [] else []
+-- the reads that a step starts, each with its ticket and the location that the source is asked for: one or none
+abbrev pub starts_at : Option ℕ → IoRequest → ℕ → Table → List (ℕ × SegmentLocation)
+starts_at None request new table = []
+starts_at (Some segment) request new table = if asks request.intent (table.waiting segment) then (new, location_of_target request.target) ∷ [] else []
 
-abbrev pub asked_by : SegmentRanges → Table → Step → List AskedRange
-asked_by ranges table (requested owner request new) = asked_at (segment_of ranges (range_of_target request.target)) request table
-asked_by ranges table (ended place) = []
+abbrev pub started_by : SegmentRanges → Table → Step → List (ℕ × SegmentLocation)
+started_by ranges table (requested owner request new) = starts_at (segment_of ranges (range_of_target request.target)) request new table
+started_by ranges table (ended place) = []
 
 -- ---- runs of steps
 
@@ -144,10 +150,13 @@ abbrev pub session_after : SegmentRanges → Table → List Step → Table
 session_after ranges table [] = table
 session_after ranges table (step ∷ steps) = session_after ranges (table_after ranges table step) steps
 
--- the asks of a run, in order
-abbrev pub asks_of : SegmentRanges → Table → List Step → List AskedRange
-asks_of ranges table [] = []
-asks_of ranges table (step ∷ steps) = asked_by ranges table step ++ asks_of ranges (table_after ranges table step) steps
+-- the reads that a run starts, in order, and what it asks for
+abbrev pub starts_of : SegmentRanges → Table → List Step → List (ℕ × SegmentLocation)
+starts_of ranges table [] = []
+starts_of ranges table (step ∷ steps) = started_by ranges table step ++ starts_of ranges (table_after ranges table step) steps
+
+abbrev pub asks_of : SegmentRanges → Table → List Step → List SegmentLocation
+asks_of ranges table steps = map (λ read. read.1) (starts_of ranges table steps)
 
 -- the requests of a run, each with its owner, and how many fetches ended in it
 abbrev pub requests_in : List Step → List (IoOwnerId × IoRequest)
@@ -161,15 +170,15 @@ ends_in (requested owner request new ∷ steps) = ends_in steps
 ends_in (ended place ∷ steps) = ends_in steps + 1
 
 -- Some run of the machine with these requests and so many ended fetches leads from one table to the other,
--- with these asks.
-pub record Runs (ranges : SegmentRanges) (requests : List (IoOwnerId × IoRequest)) (ends : ℕ) (old new : Table) (asked : List AskedRange) : Type 0 where
+-- and starts these reads.
+pub record Runs (ranges : SegmentRanges) (requests : List (IoOwnerId × IoRequest)) (ends : ℕ) (old new : Table) (started : List (ℕ × SegmentLocation)) : Type 0 where
   pub steps : List Step
   pub requests_done : requests_in steps ≡ requests
   pub fetches_ended : ends_in steps ≡ ends
   pub table : session_after ranges old steps ≡ new
-  pub asks : asks_of ranges old steps ≡ asked
+  pub starts : starts_of ranges old steps ≡ started
 
 -- What is asked depends on the requests alone: two runs of one list of requests from one table ask for the
--- same ranges, whatever tickets the source gives and whichever fetches end in between.
+-- same locations, whatever tickets the source gives and whichever fetches end in between.
 abbrev pub RequestsTellAsks : Type 0
 RequestsTellAsks = (ranges : SegmentRanges) (table : Table) (one two : List Step) → requests_in one ≡ requests_in two → asks_of ranges table one ≡ asks_of ranges table two

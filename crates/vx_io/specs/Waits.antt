@@ -1,5 +1,5 @@
 -- What a request does to the reads that wait at its segment.
-use Rattle.std.specs.Prelude.{◌≡◌, ℕ, Bool, true, false, List, [], ◌∷◌, Result, Ok, Err}
+use Rattle.std.specs.Prelude.{◌≡◌, ℕ, Bool, true, false, List, [], ◌∷◌, Option, Some, None, Result, Ok, Err}
 use Rattle.vx_base.specs.Sources.{SourceState, Started, NotStarted, Rose}
 use Rattle.vx_base.specs.declared.locations.SegmentLocation.{SegmentLocation}
 use Rattle.vx_base.specs.declared.outside.SourceError.{SourceError}
@@ -41,21 +41,21 @@ TakesAnnounced at (Ok read) old before new after = TakesOldest at old.announced 
 TakesAnnounced at (Err Failed) old before new after = NoneTaken at old before new after × Rose before.faults after.faults
 TakesAnnounced at (Err Memory) old before new after = NoneTaken at old before new after × (after.faults ≡ before.faults)
 
--- what is given is the read that a fetch takes; nothing is said of other requests
-abbrev pub IsReadOf : IoIntent → ℕ → Waiting → ℕ → Type 0
-IsReadOf Announce read waiting new = Unit {0}
-IsReadOf Prefetch read waiting new = Unit {0}
-IsReadOf Fetch read waiting new = read ≡ next_read waiting.prefetched waiting.announced new
+-- what is given is the read that a fetch takes
+abbrev pub IsReadOf : IoIntent → Option ℕ → Waiting → ℕ → Type 0
+IsReadOf Announce read waiting new = read ≡ None
+IsReadOf Prefetch read waiting new = read ≡ None
+IsReadOf Fetch read waiting new = read ≡ Some (next_read waiting.prefetched waiting.announced new)
 
 -- Any request at its segment.
-abbrev pub Takes : IoIntent → SegmentLocation → Result ℕ SourceError → Waiting → SourceState → Waiting → SourceState → Type 0
+abbrev pub Takes : IoIntent → SegmentLocation → Result (Option ℕ) SourceError → Waiting → SourceState → Waiting → SourceState → Type 0
 Takes intent at (Ok read) old before new after =
     (ticket : ℕ) × AsksWhere (asks intent old) at ticket before after × IsReadOf intent read old ticket × (new ≡ waiting_after intent old ticket)
 Takes intent at (Err Failed) old before new after = NoneTaken at old before new after × Rose before.faults after.faults
 Takes intent at (Err Memory) old before new after = NoneTaken at old before new after × (after.faults ≡ before.faults)
 
 -- The same over what waits at all segments.
-abbrev pub TakesAt : IoIntent → ℕ → SegmentLocation → Result ℕ SourceError → (ℕ → Waiting) → SourceState → (ℕ → Waiting) → SourceState → Type 0
+abbrev pub TakesAt : IoIntent → ℕ → SegmentLocation → Result (Option ℕ) SourceError → (ℕ → Waiting) → SourceState → (ℕ → Waiting) → SourceState → Type 0
 TakesAt intent segment at (Ok read) old before new after =
     (ticket : ℕ) × AsksWhere (asks intent (old segment)) at ticket before after × IsReadOf intent read (old segment) ticket
     × ((other : ℕ) → new other ≡ put_at old segment (waiting_after intent (old segment) ticket) other)

@@ -88,13 +88,14 @@ fn run<S: SegmentSource>(
     }
 }
 
-/// Runs the commands in order and stops at the first error.
+/// Runs the commands in order and stops at the first error. No fetch is in flight before, and no two fetches of
+/// the commands share owner and number.
 pub fn drive<S: SegmentSource>(
     alloc: Global,
     session: &mut SegmentIoSource<'_, S>,
     commands: Vec<IoCommand>,
 ) -> Driven
-    requires idle { (table_of session.old).fetches ≡ [] }
+    requires none_in_flight { (table_of session.old).fetches ≡ [] }
     requires distinct { AreDistinct (fetches_in commands.items) }
     ensures same_reference { session.new.source.ghost_name ≡ session.old.source.ghost_name }
     ensures ranges { session.new.ranges.now ≡ session.old.ranges.now }

@@ -1,5 +1,5 @@
-//! What no clause says: that the calls succeed, how often a source is asked, and how fetches end that wait
-//! or fail.
+//! What no clause says: that the calls succeed, which fetch a poll asks about, by which number a source is
+//! asked; and how fetches end that wait or fail.
 
 ghost use Rattle.std.specs.Prelude.{◌≡◌, OnOk, IfOk};
 ghost use Rattle.vx_io.specs.Drive.{fetches_in, AreDistinct};
@@ -12,7 +12,7 @@ use crate::requests::{
 use crate::sessions::SegmentIoSource;
 use std::alloc::{AllocError, Global};
 use std::test::Fail;
-use vx_base::{MemorySource, Script, ScriptSource, SegmentLocation, SegmentSource};
+use vx_base::{MemorySource, Script, ScriptSource, SegmentLocation, SegmentSource, SourceError};
 
 const OWNER: IoOwnerId = IoOwnerId(7);
 
@@ -193,7 +193,8 @@ fn requests_before_a_failed_one_took_effect(rt: HostRuntime) -> Result<(), Fail>
         Err(SubmitError::Source { taken: 1 })
     );
     assert_eq!(rt; session.in_flight(), 1);
-    assert!(rt; is_of(&polled(&mut session)?, 0, &BYTES[0]));
+    let completion = session.poll_completion()?.ok_or("no fetch ended")?;
+    assert!(rt; is_of(&completion, 0, &BYTES[0]));
     assert_eq!(rt; session.in_flight(), 0);
     Ok(())
 }
@@ -270,6 +271,78 @@ fn range_is_found_by_offset_and_length(rt: HostRuntime) -> Result<(), Fail> {
     Ok(())
 }
 
+/// A source that notes by which number and for which location it is asked.
+#[derive(Drop)]
+struct Noting {
+    memory: MemorySource,
+    asked: Vec<(u32, SegmentLocation)>,
+}
+
+impl SegmentSource for Noting {
+    ghost use Rattle.vx_base.specs.MemorySources.{memory_state};
+
+    ghost state = { λ source. memory_state source.memory };
+
+    fn request(&mut self, id: u32, at: SegmentLocation) -> Result<u64, SourceError> {
+        if self.asked.push((id, at)).is_err() {
+            return Err(SourceError::Memory);
+        }
+        self.memory.request(id, at)
+    }
+
+    fn poll(&mut self, ticket: u64) -> Result<Option<Vec<u8>>, SourceError> {
+        self.memory.poll(ticket)
+    }
+
+    fn clear(&mut self) {
+        self.memory.clear();
+    }
+}
+
+#[test]
+fn source_is_asked_by_number_and_location(rt: HostRuntime) -> Result<(), Fail> {
+    let alloc = rt.alloc();
+    let mut source = Noting {
+        memory: MemorySource::new(alloc, file(alloc)?),
+        asked: Vec::new(alloc),
+    };
+    let places = [(0, 4), (4, 2), (0, 4), (6, 2)].map(place);
+    let ranges = segment_ranges(alloc, &places)?;
+    let mut session = SegmentIoSource::new(alloc, &mut source, &ranges);
+    // Each intent asks with an alignment of its own.
+    let table = [
+        (IoIntent::Announce, (6, 2), 8, 3),
+        (IoIntent::Prefetch, (4, 2), 16, 1),
+        (IoIntent::Fetch, (0, 4), 32, 2),
+    ];
+    for (number, (intent, (offset, len), alignment, _)) in table.iter().enumerate() {
+        let request = IoRequest {
+            intent: *intent,
+            request: IoRequestId(number as u32),
+            target: IoTarget::Range {
+                offset: *offset,
+                len: *len,
+                alignment: *alignment,
+            },
+        };
+        session.submit(OWNER, vec![in alloc; request]?)?;
+    }
+    drop(session);
+    assert_eq!(rt; source.asked.len(), table.len());
+    for ((id, at), (_, (offset, length), alignment, segment)) in source.asked.iter().zip(table) {
+        assert_eq!(rt; *id, segment);
+        assert_eq!(rt;
+            *at,
+            SegmentLocation {
+                offset,
+                length,
+                alignment
+            }
+        );
+    }
+    Ok(())
+}
+
 fn push_polls(commands: &mut Vec<IoCommand>, count: usize) -> Result<(), Fail>
     ensures { OnOk result (fetches_in commands.new.items ≡ fetches_in commands.old.items) }
 {
@@ -295,6 +368,17 @@ fn commands_of(
     let batch = vec![in alloc; fetch(1, ranges[1]), fetch(2, ranges[2])]?;
     commands.push(IoCommand::Submit(OWNER, batch))?;
     push_polls(&mut commands, behind)?;
+    Ok(commands)
+}
+
+/// One batch of an announcement of a range, and a poll.
+fn announcing(alloc: Global, range: (u64, u32)) -> Result<Vec<IoCommand>, Fail>
+    ensures { IfOk result (λ commands. AreDistinct (fetches_in commands.items)) }
+{
+    let mut commands = Vec::new(alloc);
+    let batch = vec![in alloc; request(IoIntent::Announce, 0, range)]?;
+    commands.push(IoCommand::Submit(OWNER, batch))?;
+    push_polls(&mut commands, 1)?;
     Ok(commands)
 }
 
@@ -347,6 +431,19 @@ fn poll_failed(number: u32) -> DriveError {
         owner: OWNER,
         request: IoRequestId(number),
     })
+}
+
+#[test]
+fn commands_stop_at_an_unknown_announcement(rt: HostRuntime) -> Result<(), Fail> {
+    let alloc = rt.alloc();
+    for (range, done) in [(RANGES[1], 2), ((2, 3), 0)] {
+        let mut source = scripted(alloc, &[], &[], &[], &[])?;
+        let commands = announcing(alloc, range)?;
+        let given = driven(alloc, &mut source, commands)?;
+        assert_eq!(rt; given.done, done);
+        assert_eq!(rt; given.error.is_none(), done == 2);
+    }
+    Ok(())
 }
 
 #[test]

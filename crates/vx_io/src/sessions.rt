@@ -4,7 +4,7 @@ ghost use Rattle.std.specs.Prelude.{◌≡◌, ◌<◌, ◌↔◌, [], ◌++◌,
 ghost use Rattle.std.specs.List.{All};
 ghost use Rattle.std.specs.VecDeque.{deque_len, deque_capacity};
 ghost use Rattle.vx_base.specs.Sources.{Cleared};
-ghost use Rattle.vx_io.specs.Session.{table_in, if_fetch, empty_table, RequestsTellAsks};
+ghost use Rattle.vx_io.specs.Session.{table_in, fetch_with, empty_table, RequestsTellAsks};
 ghost use Rattle.vx_io.specs.Sound.{IsSound};
 ghost use Rattle.vx_io.specs.Submits.{IsKnown, IsFirstUnknown, SubmitGives, StartGives};
 ghost use Rattle.vx_io.specs.Polls.{SessionPollGives, CompletionGives, PollsAt};
@@ -28,7 +28,8 @@ pub(crate) struct FetchInFlight {
 }
 
 /// A session over a lent source. It keeps for each segment the announced reads in order and at most one
-/// prefetched read, and the fetches in flight in the order of their submission. Its tables grow in `submit`.
+/// prefetched read, and the fetches in flight in the order of their submission. Its tables grow in `submit`. A
+/// session that is let go leaves its reads in flight at the source; `clear` forgets them.
 #[derive(Drop)]
 pub struct SegmentIoSource<'a, S: SegmentSource> {
     alloc: Global,
@@ -52,14 +53,24 @@ fn first_unknown(ranges: &SegmentRanges, batch: &[IoRequest]) -> Option<usize>
     None
 }
 
-/// Adds a fetch behind the others, if the request is one.
-fn add_fetch(fetches: &mut VecDeque<FetchInFlight>, intent: IoIntent, fetch: FetchInFlight)
+/// Adds the fetch that took a read behind the others.
+fn add_fetch(
+    fetches: &mut VecDeque<FetchInFlight>,
+    owner: IoOwnerId,
+    request: IoRequestId,
+    at: SegmentLocation,
+    taken: Option<u64>,
+)
     requires { deque_len fetches.old < deque_capacity fetches.old }
-    ensures { fetches.new.items ≡ fetches.old.items ++ if_fetch intent fetch }
+    ensures { fetches.new.items ≡ fetches.old.items ++ fetch_with owner request at taken }
 {
-    match intent {
-        IoIntent::Fetch => fetches.push_back_reserved(fetch),
-        IoIntent::Announce | IoIntent::Prefetch => {}
+    if let Some(ticket) = taken {
+        fetches.push_back_reserved(FetchInFlight {
+            owner,
+            request,
+            at,
+            ticket,
+        });
     }
 }
 
@@ -113,14 +124,8 @@ impl<'a, S: SegmentSource> SegmentIoSource<'a, S> {
             segment,
             at,
         ) {
-            Ok(ticket) => {
-                let fetch = FetchInFlight {
-                    owner,
-                    request: request.request,
-                    at,
-                    ticket,
-                };
-                add_fetch(&mut self.fetches, request.intent, fetch);
+            Ok(taken) => {
+                add_fetch(&mut self.fetches, owner, request.request, at, taken);
                 Ok(())
             }
             Err(error) => Err(error),

@@ -1,6 +1,6 @@
 //! The reads of one segment that no fetch has taken yet.
 
-ghost use Rattle.std.specs.Prelude.{◌≡◌, ◌≢◌, ℕ, OnOk, IsSome};
+ghost use Rattle.std.specs.Prelude.{◌≡◌, ◌≢◌, ℕ, OnOk, IsSome, IsTrue};
 ghost use Rattle.std.specs.BTreeMap.{get};
 ghost use Rattle.std.specs.Ordering.{nat_cmp};
 ghost use Rattle.vx_base.specs.Sources.{RequestGives};
@@ -21,7 +21,7 @@ pub(crate) struct WaitingReads {
 
 impl WaitingReads {
     /// No reads. It takes no memory.
-    pub(crate) fn new(alloc: Global) -> WaitingReads
+    fn new(alloc: Global) -> WaitingReads
         ensures { waiting_reads result ≡ nothing_waits }
     {
         WaitingReads {
@@ -31,7 +31,7 @@ impl WaitingReads {
     }
 
     /// Starts a read that waits behind the others. Room is made first, so that none is started in vain.
-    pub(crate) fn announce<S: SegmentSource>(
+    fn announce<S: SegmentSource>(
         &mut self,
         source: &mut S,
         segment: u32,
@@ -64,7 +64,7 @@ impl WaitingReads {
 
     /// Keeps one read as the prefetched one: the one that is kept already, else the oldest announced one, else
     /// a new one.
-    pub(crate) fn prefetch<S: SegmentSource>(
+    fn prefetch<S: SegmentSource>(
         &mut self,
         source: &mut S,
         segment: u32,
@@ -80,7 +80,7 @@ impl WaitingReads {
     }
 
     /// The read that a fetch takes: the prefetched one, else the oldest announced one, else a new one.
-    pub(crate) fn fetch<S: SegmentSource>(
+    fn fetch<S: SegmentSource>(
         &mut self,
         source: &mut S,
         segment: u32,
@@ -94,22 +94,32 @@ impl WaitingReads {
         }
     }
 
-    /// Does a request, and gives the read that a fetch takes; another request takes none, and gives 0.
+    /// Does a request, and gives the read that a fetch takes.
     fn take<S: SegmentSource>(
         &mut self,
         source: &mut S,
         intent: IoIntent,
         segment: u32,
         at: SegmentLocation,
-    ) -> Result<u64, SourceError>
+    ) -> Result<Option<u64>, SourceError>
         ensures { Takes intent at result (waiting_reads self.old) (S.state source.old) (waiting_reads self.new) (S.state source.new) }
     {
         match intent {
-            IoIntent::Fetch => return self.fetch(source, segment, at),
             IoIntent::Announce => self.announce(source, segment, at)?,
             IoIntent::Prefetch => self.prefetch(source, segment, at)?,
+            IoIntent::Fetch => {
+                let ticket = self.fetch(source, segment, at)?;
+                return Ok(Some(ticket));
+            }
         }
-        Ok(0)
+        Ok(None)
+    }
+
+    /// Whether no read waits.
+    fn is_empty(&self) -> bool
+        ensures { IsTrue result → waiting_reads self.now ≡ nothing_waits }
+    {
+        self.prefetched.is_none() && self.announced.is_empty()
     }
 }
 
@@ -131,6 +141,19 @@ fn make_room(
     }
 }
 
+/// Lets go of a segment at which nothing waits.
+fn drop_empty(waiting: &mut BTreeMap<u32, WaitingReads>, segment: u32)
+    ensures { (other : ℕ) → waits waiting.new other ≡ waits waiting.old other }
+{
+    let is_empty = match waiting.get(&segment) {
+        Some(reads) => reads.is_empty(),
+        None => false,
+    };
+    if is_empty {
+        waiting.remove(&segment);
+    }
+}
+
 /// Does a request at a segment that there is room for.
 fn take_in<S: SegmentSource>(
     waiting: &mut BTreeMap<u32, WaitingReads>,
@@ -138,7 +161,7 @@ fn take_in<S: SegmentSource>(
     intent: IoIntent,
     segment: u32,
     at: SegmentLocation,
-) -> Result<u64, SourceError>
+) -> Result<Option<u64>, SourceError>
     requires { IsSome (get nat_cmp waiting.old segment) }
     ensures here { Takes intent at result (waits waiting.old segment) (S.state source.old) (waits waiting.new segment) (S.state source.new) }
     ensures others { (other : ℕ) → other ≢ segment → get nat_cmp waiting.new other ≡ get nat_cmp waiting.old other }
@@ -147,7 +170,42 @@ fn take_in<S: SegmentSource>(
     reads.take(source, intent, segment, at)
 }
 
-/// Does a request at its segment, and gives the read that a fetch takes. Room is made first.
+/// Does an announcement or a prefetch at its segment. Room is made first.
+fn wait_at<S: SegmentSource>(
+    alloc: Global,
+    waiting: &mut BTreeMap<u32, WaitingReads>,
+    source: &mut S,
+    intent: IoIntent,
+    segment: u32,
+    at: SegmentLocation,
+) -> Result<Option<u64>, SourceError>
+    ensures { TakesAt intent segment at result (waits waiting.old) (S.state source.old) (waits waiting.new) (S.state source.new) }
+{
+    if make_room(alloc, waiting, segment).is_err() {
+        return Err(SourceError::Memory);
+    }
+    take_in(waiting, source, intent, segment, at)
+}
+
+/// Does a fetch at its segment. Nothing is kept of a segment at which nothing waits afterwards.
+fn fetch_at<S: SegmentSource>(
+    waiting: &mut BTreeMap<u32, WaitingReads>,
+    source: &mut S,
+    segment: u32,
+    at: SegmentLocation,
+) -> Result<Option<u64>, SourceError>
+    ensures { TakesAt IoIntent.Fetch segment at result (waits waiting.old) (S.state source.old) (waits waiting.new) (S.state source.new) }
+{
+    if !waiting.contains_key(&segment) {
+        let ticket = source.request(segment, at)?;
+        return Ok(Some(ticket));
+    }
+    let taken = take_in(waiting, source, IoIntent::Fetch, segment, at)?;
+    drop_empty(waiting, segment);
+    Ok(taken)
+}
+
+/// Does a request at its segment, and gives the read that a fetch takes.
 pub(crate) fn take_at<S: SegmentSource>(
     alloc: Global,
     waiting: &mut BTreeMap<u32, WaitingReads>,
@@ -155,11 +213,13 @@ pub(crate) fn take_at<S: SegmentSource>(
     intent: IoIntent,
     segment: u32,
     at: SegmentLocation,
-) -> Result<u64, SourceError>
+) -> Result<Option<u64>, SourceError>
     ensures { TakesAt intent segment at result (waits waiting.old) (S.state source.old) (waits waiting.new) (S.state source.new) }
 {
-    if make_room(alloc, waiting, segment).is_err() {
-        return Err(SourceError::Memory);
+    match intent {
+        IoIntent::Fetch => fetch_at(waiting, source, segment, at),
+        IoIntent::Announce | IoIntent::Prefetch => {
+            wait_at(alloc, waiting, source, intent, segment, at)
+        }
     }
-    take_in(waiting, source, intent, segment, at)
 }

@@ -1,4 +1,4 @@
--- Ranges of rows that selected indices are gathered into.
+-- Ranges of rows that included indices are gathered into.
 use Rattle.std.specs.Prelude.{ℕ, ◌+◌, ◌-◌, ◌^◌, ◌<◌, ◌≤◌, nat_le, nat_lt, if◌then◌else◌, List, [], ◌∷◌, length, Option, Some, None, option_map}
 use Rattle.std.specs.List.{All, Any, AllAdjacentBelow}
 use Rattle.std.specs.declared.ops.Range.{Range}
@@ -24,19 +24,19 @@ abbrev pub gathered_ranges : List ℕ → Option (List (Range ℕ))
 gathered_ranges [] = Some []
 gathered_ranges (index ∷ indices) = gathered index (index + 1) indices
 
--- the answer for a range that isn't empty: only chosen indices are gathered
+-- the answer for a range that isn't empty: only included indices are gathered
 abbrev pub split_ranges_within : Selection → ℕ → ℕ → Option (List (Range ℕ))
 split_ranges_within variants.All start end = None
 split_ranges_within (variants.IncludeByIndex rows) start end = gathered_ranges (selected_rows (variants.IncludeByIndex rows) start end)
 split_ranges_within (variants.ExcludeByIndex rows) start end = None
 
--- The selected rows of the given range, or of all rows. It is no abbrev: a list of all rows is never to be
+-- The selected rows of the given range, else of 0..2^64-1. It is no abbrev: a list of all rows is never to be
 -- computed.
 unfoldable pub rows_to_cover : Selection → Option (Range ℕ) → List ℕ
 rows_to_cover selection None = selected_rows selection 0 (2 ^ 64 - 1)
 rows_to_cover selection (Some range) = selected_rows selection range.start range.end
 
--- the answer for a given range, or for all rows
+-- the answer for a given range, else for 0..2^64-1
 abbrev pub split_ranges : Selection → Option (Range ℕ) → Option (List (Range ℕ))
 split_ranges selection None = split_ranges_within selection 0 (2 ^ 64 - 1)
 split_ranges selection (Some range) = if nat_lt range.start range.end then split_ranges_within selection range.start range.end else Some []

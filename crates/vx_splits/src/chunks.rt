@@ -8,7 +8,7 @@ use std::alloc::{AllocError, Global};
 use std::ops::Range;
 use vx_base::SegmentLocation;
 
-/// The most rows that one chunk has, and the size of a file that is one chunk.
+/// The most rows that one chunk has. A file of at most so many rows is one chunk.
 const MAX_ROWS: u64 = 65536;
 /// The rows of a block: a chunk has one to eight of them.
 const BLOCK_ROWS: u64 = 8192;
@@ -17,8 +17,9 @@ const MAX_BLOCKS: u64 = 8;
 /// The bytes that a chunk is meant to have.
 const CHUNK_BYTES: u64 = 8_388_608;
 
-/// How many rows a chunk of a file has, by the file's rows and the bytes of its segments: about eight MiB
-/// of rows, in blocks of 8192, one block to eight. It takes no memory.
+/// How many rows a chunk of a file has, by the file's rows and the bytes of its segments: 65536 for a file
+/// of at most so many rows, else about eight MiB of rows, in blocks of 8192, one block to eight. It takes no
+/// memory.
 pub fn rows_per_chunk(row_count: u64, locations: &[SegmentLocation]) -> u64
     requires { length locations.now ≤ 2 ^ 32 - 1 }
     ensures rows { result ≡ rows_per_chunk row_count locations.now }

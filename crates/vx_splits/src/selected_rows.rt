@@ -25,7 +25,8 @@ pub struct SelectedRows {
 }
 
 /// The scope cut down to its first and last selected row, with a mask as long. None where no row of the
-/// scope is selected. Indices are trimmed before the mask is made: it costs its own length.
+/// scope is selected. The scope is trimmed by the indices before a mask is made, so that the mask is only as
+/// long as what is left.
 pub fn select_rows(
     alloc: Global,
     scope: WorkScope,

@@ -230,6 +230,10 @@ fn leaves(
 #[test]
 fn very_many_rows(rt: HostRuntime) -> Result<(), Fail> {
     let alloc = rt.alloc();
+    // A mask of the whole scope would have 68719476736 rows.
+    let two = selection_of(alloc, Kind::Include, &[34359738368, 34359738370])?;
+    let left = Some((34359738368, 34359738371, [T, F, T].as_slice()));
+    assert!(rt; is_selected(alloc, &two, 0..68719476736, left)?);
     let included = Selection::IncludeByIndex(spread_indices(alloc)?);
     assert!(rt; counts(&included, 0..68719400000, 999998));
     assert!(rt; counts(&included, 0..34359738368, 499996));

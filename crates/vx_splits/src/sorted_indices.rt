@@ -55,9 +55,8 @@ impl StrictSorted {
         self.values.as_slice()
     }
 
-    /// The indices that lie in the range, found by a search. None where the range is empty or reversed. It
-    /// takes no memory.
-    pub fn within(&self, rows: &Range<u64>) -> &[u64]
+    /// The indices that lie in the range, found by a search; no index where the range is empty or reversed.
+    pub(crate) fn within(&self, rows: &Range<u64>) -> &[u64]
         ensures { result.now ≡ filter (is_among self.now) (rows_between rows.now.start rows.now.end) }
     {
         let values = self.values.as_slice();

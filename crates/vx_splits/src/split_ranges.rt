@@ -1,4 +1,4 @@
-//! Ranges of rows that chosen indices are gathered into, so that far-apart indices are read by ranges of
+//! Ranges of rows that included indices are gathered into, so that far-apart indices are read by ranges of
 //! their own.
 
 ghost use Rattle.std.specs.Prelude.{◌≡◌, ◌-◌, ◌^◌, ◌<◌, IfOk, IfSome, option_map};
@@ -10,7 +10,7 @@ use std::alloc::{AllocError, Global};
 use std::ops::Range;
 
 /// A range of gathered indices has fewer rows than this.
-const MAX_RANGE_ROWS: u64 = 4000;
+const RANGE_ROWS_LIMIT: u64 = 4000;
 /// An index that lies this far from the open range opens one of its own.
 const MIN_GAP_ROWS: u64 = 50_000;
 
@@ -23,9 +23,9 @@ pub enum Splits {
     Ranges(Vec<Range<u64>>),
 }
 
-/// The ranges that the chosen indices of the row range are gathered into. Without a row range it is all
-/// rows; an empty one gives no ranges. `None` says that the selection chooses no indices, or that an index
-/// lies too far from the open range to extend it and not far enough to open its own.
+/// The ranges that the included indices of the row range are gathered into. Without a row range it is
+/// `0..u64::MAX`; an empty one gives no ranges. `None` says that the selection isn't `IncludeByIndex`, or
+/// that an index lies too far from the open range to extend it and not far enough to open its own.
 pub fn attempt_split_ranges(
     alloc: Global,
     selection: &Selection,
@@ -43,7 +43,7 @@ pub fn attempt_split_ranges(
     }
 }
 
-/// The same for the rows from start on that lie before end. There are some.
+/// The same for the rows from start on that lie before end.
 fn split_within(
     alloc: Global,
     selection: &Selection,
@@ -70,7 +70,7 @@ fn gather(alloc: Global, indices: &[u64]) -> Result<Option<Vec<Range<u64>>>, All
     let mut open = *first..*first + 1;
     for index in indices {
         let end = *index + 1;
-        if end.saturating_sub(open.start) < MAX_RANGE_ROWS {
+        if end.saturating_sub(open.start) < RANGE_ROWS_LIMIT {
             open.end = end;
         } else if MIN_GAP_ROWS <= end.saturating_sub(open.end) {
             closed.push(open)?;

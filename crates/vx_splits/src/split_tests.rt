@@ -24,7 +24,7 @@ fn subdivides(
 fn cut_spans(rt: HostRuntime) -> Result<(), Fail> {
     let alloc = rt.alloc();
     let last = u64::MAX;
-    let cases: [(&[u64], u64, &[u64]); 6] = [
+    let cases: [(&[u64], u64, &[u64]); 8] = [
         (&[last - 3, last], 2, &[last - 3, last - 1, last]),
         (&[0, 50, 350, 360], 100, &[0, 50, 150, 250, 350, 360]),
         (&[], 2, &[]),
@@ -35,6 +35,8 @@ fn cut_spans(rt: HostRuntime) -> Result<(), Fail> {
             DEFAULT_MAX_SPLIT_ROWS,
             &[0, 83334, 166668, 250_000],
         ),
+        (&[0, 100_000], DEFAULT_MAX_SPLIT_ROWS, &[0, 100_000]),
+        (&[0, 100_001], DEFAULT_MAX_SPLIT_ROWS, &[0, 50_001, 100_001]),
     ];
     for (boundaries, max_span, cuts) in cases {
         assert!(rt;
@@ -68,7 +70,7 @@ fn splits_into(
 #[test]
 fn gathered_indices(rt: HostRuntime) -> Result<(), Fail> {
     let alloc = rt.alloc();
-    let cases: [(&[u64], Option<&Range<u64>>, Option<&[Range<u64>]>); 9] = [
+    let cases: [(&[u64], Option<&Range<u64>>, Option<&[Range<u64>]>); 12] = [
         (&[], None, Some(&[])),
         (&[1, 3, 5, 7, 9], Some(&(3..9)), Some(&[3..8])),
         (&[1, 3, 5], Some(&(6..9)), Some(&[])),
@@ -78,6 +80,9 @@ fn gathered_indices(rt: HostRuntime) -> Result<(), Fail> {
         (&[0, 50_000], None, Some(&[0..1, 50_000..50_001])),
         (&[0, 3998], None, Some(&[0..3999])),
         (&[0, 3999], None, None),
+        (&[0, 3000, 52_999], None, None),
+        (&[u64::MAX], None, Some(&[])),
+        (&[u64::MAX - 1], None, Some(&[u64::MAX - 1..u64::MAX])),
     ];
     for (indices, rows, ranges) in cases {
         let selection = including(alloc, indices)?;

@@ -11,7 +11,7 @@ invariant_of-self-in-Ok g c =
     let added = rw c.reserve.ensures.items at c.add_fetch.ensures in
     record {
       sound = sound_done c.args.self.now.ranges.now (waits c.args.self.now.waiting) (waits c.take_at.new.waiting) c.args.self.now.fetches.items c.add_fetch.new.fetches.items
-          (g.S.SegmentSource.state c.args.self.now.source.now) (g.S.SegmentSource.state c.take_at.new.source) c.args.owner c.args.request c.location-at.result c.unwrap-segment.result c.in-Ok.ticket done.0
+          (g.S.SegmentSource.state c.args.self.now.source.now) (g.S.SegmentSource.state c.take_at.new.source) c.args.owner c.args.request c.location-at.result c.unwrap-segment.result c.in-Ok.taken done.0
           c.args.self.now.sound known c.location-at.ensures done.1 done.3 done.2 added;
     }
 
