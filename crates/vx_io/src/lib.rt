@@ -22,4 +22,8 @@ pub use requests::{
 pub use sessions::{SegmentIoSource, requests_tell_asks};
 
 #[cfg(test)]
+mod command_tests;
+#[cfg(test)]
+mod fixture_tests;
+#[cfg(test)]
 mod session_tests;

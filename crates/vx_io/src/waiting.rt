@@ -37,7 +37,8 @@ impl WaitingReads {
         segment: u32,
         at: SegmentLocation,
     ) -> Result<(), SourceError>
-        ensures { TakesRequest IoIntent.Announce at result (waiting_reads self.old) (S.state source.old) (waiting_reads self.new) (S.state source.new) }
+        ensures { TakesRequest IoIntent.Announce at result
+            (waiting_reads self.old) (S.state source.old) (waiting_reads self.new) (S.state source.new) }
     {
         if self.announced.reserve(1).is_err() {
             return Err(SourceError::Memory);
@@ -54,7 +55,8 @@ impl WaitingReads {
         segment: u32,
         at: SegmentLocation,
     ) -> Result<u64, SourceError>
-        ensures { TakesAnnounced at result (waiting_reads self.old) (S.state source.old) (waiting_reads self.new) (S.state source.new) }
+        ensures { TakesAnnounced at result
+            (waiting_reads self.old) (S.state source.old) (waiting_reads self.new) (S.state source.new) }
     {
         match self.announced.pop_front() {
             Some(ticket) => Ok(ticket),
@@ -70,7 +72,8 @@ impl WaitingReads {
         segment: u32,
         at: SegmentLocation,
     ) -> Result<(), SourceError>
-        ensures { TakesRequest IoIntent.Prefetch at result (waiting_reads self.old) (S.state source.old) (waiting_reads self.new) (S.state source.new) }
+        ensures { TakesRequest IoIntent.Prefetch at result
+            (waiting_reads self.old) (S.state source.old) (waiting_reads self.new) (S.state source.new) }
     {
         if self.prefetched.is_none() {
             let ticket = self.take_announced(source, segment, at)?;
@@ -86,7 +89,8 @@ impl WaitingReads {
         segment: u32,
         at: SegmentLocation,
     ) -> Result<u64, SourceError>
-        ensures { TakesFetch at result (waiting_reads self.old) (S.state source.old) (waiting_reads self.new) (S.state source.new) }
+        ensures { TakesFetch at result
+            (waiting_reads self.old) (S.state source.old) (waiting_reads self.new) (S.state source.new) }
     {
         match self.prefetched.take() {
             Some(ticket) => Ok(ticket),
@@ -102,7 +106,8 @@ impl WaitingReads {
         segment: u32,
         at: SegmentLocation,
     ) -> Result<Option<u64>, SourceError>
-        ensures { Takes intent at result (waiting_reads self.old) (S.state source.old) (waiting_reads self.new) (S.state source.new) }
+        ensures { Takes intent at result
+            (waiting_reads self.old) (S.state source.old) (waiting_reads self.new) (S.state source.new) }
     {
         match intent {
             IoIntent::Announce => self.announce(source, segment, at)?,
@@ -163,7 +168,8 @@ fn take_in<S: SegmentSource>(
     at: SegmentLocation,
 ) -> Result<Option<u64>, SourceError>
     requires { IsSome (get nat_cmp waiting.old segment) }
-    ensures here { Takes intent at result (waits waiting.old segment) (S.state source.old) (waits waiting.new segment) (S.state source.new) }
+    ensures here { Takes intent at result
+        (waits waiting.old segment) (S.state source.old) (waits waiting.new segment) (S.state source.new) }
     ensures others { (other : ℕ) → other ≢ segment → get nat_cmp waiting.new other ≡ get nat_cmp waiting.old other }
 {
     let reads = waiting.get_mut(&segment).unwrap();
@@ -179,7 +185,8 @@ fn wait_at<S: SegmentSource>(
     segment: u32,
     at: SegmentLocation,
 ) -> Result<Option<u64>, SourceError>
-    ensures { TakesAt intent segment at result (waits waiting.old) (S.state source.old) (waits waiting.new) (S.state source.new) }
+    ensures { TakesAt intent segment at result
+        (waits waiting.old) (S.state source.old) (waits waiting.new) (S.state source.new) }
 {
     if make_room(alloc, waiting, segment).is_err() {
         return Err(SourceError::Memory);
@@ -194,7 +201,8 @@ fn fetch_at<S: SegmentSource>(
     segment: u32,
     at: SegmentLocation,
 ) -> Result<Option<u64>, SourceError>
-    ensures { TakesAt IoIntent.Fetch segment at result (waits waiting.old) (S.state source.old) (waits waiting.new) (S.state source.new) }
+    ensures { TakesAt IoIntent.Fetch segment at result
+        (waits waiting.old) (S.state source.old) (waits waiting.new) (S.state source.new) }
 {
     if !waiting.contains_key(&segment) {
         let ticket = source.request(segment, at)?;
@@ -214,7 +222,8 @@ pub(crate) fn take_at<S: SegmentSource>(
     segment: u32,
     at: SegmentLocation,
 ) -> Result<Option<u64>, SourceError>
-    ensures { TakesAt intent segment at result (waits waiting.old) (S.state source.old) (waits waiting.new) (S.state source.new) }
+    ensures { TakesAt intent segment at result
+        (waits waiting.old) (S.state source.old) (waits waiting.new) (S.state source.new) }
 {
     match intent {
         IoIntent::Fetch => fetch_at(waiting, source, segment, at),

@@ -32,7 +32,8 @@ pub fn select_rows(
     scope: WorkScope,
     selection: &Selection,
 ) -> Result<Option<SelectedRows>, AllocError>
-    ensures none { IfOk result (λ chunk. IsNone chunk ↔ (selected_rows selection.now scope.rows.start scope.rows.end ≡ [])) }
+    ensures none { IfOk result (λ chunk. IsNone chunk
+        ↔ (selected_rows selection.now scope.rows.start scope.rows.end ≡ [])) }
     ensures trimmed { IfOk result (λ chunk. IfSome chunk (λ chunk. IsTrimmed selection.now scope chunk)) }
 {
     let Some(rows) = selection.trim(&scope.rows) else {

@@ -86,7 +86,8 @@ fn marked(alloc: Global, rows: &Range<u64>, indices: &[u64], mark: bool) -> Resu
     requires forwards { rows.now.start ≤ rows.now.end }
     requires from { All (λ index. rows.now.start ≤ index) indices.now }
     requires below { All (λ index. index < rows.now.end) indices.now }
-    ensures { IfOk result (λ mask. mask ≡ map (λ row. marked_as mark (is_among indices.now row)) (rows_between rows.now.start rows.now.end)) }
+    ensures { IfOk result (λ mask. mask
+        ≡ map (λ row. marked_as mark (is_among indices.now row)) (rows_between rows.now.start rows.now.end)) }
 {
     let len = (rows.end - rows.start) as usize;
     let mut bits = Vec::with_capacity(alloc, len)?;
@@ -158,7 +159,8 @@ fn left_of(rows: &Range<u64>, excluded: &[u64]) -> Option<Range<u64>>
     requires ascending { Ascend excluded.now }
     requires from { All (λ row. rows.now.start ≤ row) excluded.now }
     requires below { All (λ row. row < rows.now.end) excluded.now }
-    ensures { MatchOption result (AllAmong excluded.now rows.now.start rows.now.end) (λ left. IsLeft excluded.now rows.now.start rows.now.end left) }
+    ensures { MatchOption result (AllAmong excluded.now rows.now.start rows.now.end)
+        (λ left. IsLeft excluded.now rows.now.start rows.now.end left) }
 {
     if rows.start >= rows.end {
         return None;

@@ -31,8 +31,10 @@ pub fn attempt_split_ranges(
     selection: &Selection,
     row_range: Option<&Range<u64>>,
 ) -> Result<Option<Vec<Range<u64>>>, AllocError>
-    ensures ranges { IfOk result (λ ranges. option_map (λ ranges. ranges.items) ranges ≡ split_ranges selection.now (option_map (λ range. range.now) row_range.entry)) }
-    ensures laws { IfOk result (λ ranges. IfSome ranges (λ ranges. AreSplitRanges (rows_to_cover selection.now (option_map (λ range. range.now) row_range.entry)) ranges.items)) }
+    ensures ranges { IfOk result (λ ranges. option_map (λ ranges. ranges.items) ranges
+        ≡ split_ranges selection.now (option_map (λ range. range.now) row_range.entry)) }
+    ensures laws { IfOk result (λ ranges. IfSome ranges (λ ranges.
+        AreSplitRanges (rows_to_cover selection.now (option_map (λ range. range.now) row_range.entry)) ranges.items)) }
 {
     match row_range {
         None => split_within(alloc, selection, 0, u64::MAX),
@@ -50,7 +52,8 @@ fn split_within(
     start: u64,
     end: u64,
 ) -> Result<Option<Vec<Range<u64>>>, AllocError>
-    ensures { IfOk result (λ ranges. option_map (λ ranges. ranges.items) ranges ≡ split_ranges_within selection.now start end) }
+    ensures { IfOk result (λ ranges. option_map (λ ranges. ranges.items) ranges
+        ≡ split_ranges_within selection.now start end) }
 {
     match selection {
         Selection::All | Selection::ExcludeByIndex(_) => Ok(None),

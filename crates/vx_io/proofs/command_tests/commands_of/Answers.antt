@@ -1,6 +1,6 @@
 use Rattle.std.proofs.Common.{ap}
 use Rattle.vx_io.proofs.TestedCommands.{wanted_in, commands_distinct}
-use Rattle.vx_io.proofs.session_tests.commands_of.Goals as goal
+use Rattle.vx_io.proofs.command_tests.commands_of.Goals as goal
 
 pub returns : goal.returns
 returns c =

@@ -1,6 +1,6 @@
 use Rattle.std.proofs.Common.{ap}
 use Rattle.vx_io.proofs.TestedCommands.{wanted_in, one_distinct}
-use Rattle.vx_io.proofs.session_tests.announcing.Goals as goal
+use Rattle.vx_io.proofs.command_tests.announcing.Goals as goal
 
 pub returns : goal.returns
 returns c =
