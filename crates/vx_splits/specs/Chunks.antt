@@ -1,4 +1,4 @@
--- Chunks: rows in steps of a size, counted from row 0.
+-- Chunks: rows in steps of a size, counted from the first row of the file on.
 use Rattle.std.specs.Prelude.{◌≡◌, ℕ, ◌+◌, ◌-◌, ◌*◌, ◌/◌, ◌%◌, ◌<◌, nat_le, nat_lt, min, max, Bool, true, false, if◌then◌else◌, List, [], ◌∷◌, map}
 use Rattle.std.specs.List.{sum_by, flat_map, range_with_len}
 use Rattle.std.specs.Int.{div_ceil}

@@ -47,8 +47,8 @@ fn total_length(locations: &[SegmentLocation]) -> u64
     total
 }
 
-/// The range cut at the multiples of the size, counted from row 0; the first and the last piece may be
-/// smaller. An empty range gives none.
+/// The range cut at the multiples of the size, counted from the first row of the file on; the first and the
+/// last piece may be smaller. An empty range gives none.
 pub fn row_chunks(alloc: Global, rows: Range<u64>, size: u64) -> Result<Vec<Range<u64>>, AllocError>
     requires { 0 < size }
     ensures chunks { IfOk result (λ chunks. chunks.items ≡ row_chunks size rows.start rows.end) }
