@@ -58,7 +58,7 @@ null_fits (utf8_type n) = tt
 null_fits (struct_type ms n) = tt
 null_fits (list_type t n) = tt
 
-fits_where : (n : Nullability) (t : DataType) (v : Datum) → Fits t v → Fits (nullable_where n t) v
+pub fits_where : (n : Nullability) (t : DataType) (v : Datum) → Fits t v → Fits (nullable_where n t) v
 fits_where NonNullable t v h = h
 fits_where Nullable t v h = fits_nullable t v h
 

@@ -18,7 +18,7 @@ left_cons (suc n) f fs = refl
 left_next : (place : ℕ) (fs : List Field) → left_text (place + 1) fs ≡ more_text (members_of fs)
 left_next place fs = rw add-one refl
 
-joined : (a s n e t m : List ℕ) → ((((a ++ s) ++ n) ++ e) ++ t) ++ m ≡ a ++ (s ++ (n ++ (e ++ (t ++ m))))
+pub joined : (a s n e t m : List ℕ) → ((((a ++ s) ++ n) ++ e) ++ t) ++ m ≡ a ++ (s ++ (n ++ (e ++ (t ++ m))))
 joined a s n e t m = simp append_assoc
 
 pub text_more : (fs : List Field) (place : ℕ) (f : Field) (before after whole : List ℕ) → place < length fs → f ≡ get_or fs place f → after ≡ (((before ++ separator place) ++ f.name) ++ 61 ∷ []) ++ type_text (data_type f.dtype)

@@ -138,7 +138,7 @@ null_taken : (n : Nullability) → TakesNull n → takes_null n ≡ true
 null_taken NonNullable h = absurd h
 null_taken Nullable h = refl
 
-fits_passes : (t : DataType) (v : Datum) → IsLeaf t → Fits t v → fits_leaf t v ≡ true
+pub fits_passes : (t : DataType) (v : Datum) → IsLeaf t → Fits t v → fits_leaf t v ≡ true
 fits_passes (bool_type n) null l h = null_taken n h
 fits_passes (bool_type n) (truth b) l h = refl
 fits_passes (int_type kind n) null l h = null_taken n h

@@ -28,10 +28,10 @@ null_fits : (n : Nullability) → takes_null n ≡ true → TakesNull n
 null_fits NonNullable e = absurd cc
 null_fits Nullable e = tt
 
-le_from : (a b : ℤ) → int_le a b ≡ true → a ≤ℤ b
+pub le_from : (a b : ℤ) → int_le a b ≡ true → a ≤ℤ b
 le_from a b e = record { le = subst T (sym e) tt }
 
-leaf_fits : (t : DataType) (v : Datum) → fits_leaf t v ≡ true → Fits t v
+pub leaf_fits : (t : DataType) (v : Datum) → fits_leaf t v ≡ true → Fits t v
 leaf_fits (bool_type n) null e = null_fits n e
 leaf_fits (bool_type n) (truth b) e = tt
 leaf_fits (int_type kind n) null e = null_fits n e
