@@ -8,6 +8,7 @@ use Rattle.vx_base.specs.Data.{Datum}
 use Rattle.vx_base.specs.Columns.{ColumnData}
 use Rattle.vx_base.specs.ValueViews.{datum}
 use Rattle.vx_base.specs.Masks.{chosen}
+use Rattle.vx_base.proofs.Items.{some_datum}
 
 -- ---- what holds of each value holds of each that is taken
 pub all_take : (P : Datum → Type 0) (n : ℕ) (xs : List Datum) → AllByRecursion P xs → AllByRecursion P (take n xs)
@@ -59,9 +60,6 @@ chosen_all bits values kept row len past h =
     more
 
 -- ---- equal values
-abbrev some_datum : Datum → Option Datum
-some_datum v = Some v
-
 pub lengths_same : (xs ys : List Value) → map datum xs ≡ map datum ys → length xs ≡ length ys
 lengths_same xs ys e = sym (length-map xs datum) ∙ ap length e ∙ length-map ys datum
 

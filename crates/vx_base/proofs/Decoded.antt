@@ -41,10 +41,6 @@ valid_len : (n : Nullability) (rows : ℕ) (validity : List ℕ) → IsValidity 
 valid_len NonNullable rows validity h = length-replicate rows true
 valid_len Nullable rows validity h = omega (arith, length-take rows (flat_map bits_of validity), length-bits_of validity, h.0)
 
-pub valid_room : (n : Nullability) (rows row : ℕ) (validity : List ℕ) → IsValidity n rows validity → row < rows → TakesNull n → row / 8 < length validity
-valid_room NonNullable rows row validity h lt t = absurd t
-valid_room Nullable rows row validity h lt t = omega (arith, h.0)
-
 validity_is : (n : Nullability) (rows : ℕ) (validity : List ℕ) (values : List Datum) → IsValidity n rows validity → AreBytes validity → map is_value values ≡ take rows (valid_bits n rows validity) → validity_bytes n values ≡ validity
 validity_is NonNullable rows validity values h small e = sym h
 validity_is Nullable rows validity values h small e = ap packed (e ∙ take-take rows rows (flat_map bits_of validity) (omega arith)) ∙ read_packed rows validity h.0 h.1 small

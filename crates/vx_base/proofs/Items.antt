@@ -19,7 +19,7 @@ data_in-items_from (v ∷ vs) = ap (λ (ws : List Datum). v ∷ ws) (data_in-ite
 pub data_in_view : (values : List Value) (vs : Items) → items_of values ≡ vs → data_in vs ≡ map datum values
 data_in_view values vs e = ap data_in (sym e) ∙ data_in-items_from (map datum values)
 
-abbrev some_datum : Datum → Option Datum
+abbrev pub some_datum : Datum → Option Datum
 some_datum v = Some v
 
 -- a value is no larger than all of them together
@@ -66,10 +66,3 @@ each_more fs vs i f v lt lu p q fit h = rw add-one (each_more_suc fs vs i f v lt
 
 pub each_of : (fs : List Field) (vs : List Value) (ms : Members) (ws : Items) → members_of fs ≡ ms → items_of vs ≡ ws → EachFits ms ws → EachFits (members_of fs) (items_of vs)
 each_of fs vs ms ws e f h = subst (λ (m : Members). EachFits m (items_of vs)) (sym e) (subst (λ (u : Items). EachFits ms u) (sym f) h)
-
-pub each_whole : (fs : List Field) (vs : List Value) (ms : Members) (ws : Items) (i : ℕ) → members_of fs ≡ ms → items_of vs ≡ ws → length fs ≤ i → length fs ≡ length vs
-    → EachFits (members_of (take i fs)) (items_of (take i vs)) → EachFits ms ws
-each_whole fs vs ms ws i e f past len h =
-    let one = take_all i fs past in
-    let two = take_all i vs (omega arith) in
-    rw (← e, ← f) (rw (one, two) at h)

@@ -77,48 +77,6 @@ number_again I64 z h =
     let fits : FitsSigned w64 z = signed_fits_64 z h in
     signed_bits w64 z _ fits (from_le_bytes-to_le_bytes_8 (cast_unsigned w64 z) (omega (arith, ints)))
 
--- ---- bytes that were read are written again
-abbrev AreBytes : List ℕ → Type 0
-AreBytes bytes = (i : ℕ) → get_or bytes i 0 < 256
-
-one_byte : (bytes : List ℕ) (n : ℕ) → length bytes ≡ 1 → AreBytes bytes → n ≡ from_le_bytes w8 bytes → to_le_bytes w8 n ≡ bytes
-one_byte [] n len small e = absurd (omega arith)
-one_byte (b ∷ c ∷ bytes) n len small e = absurd (omega arith)
-one_byte (b ∷ []) n len small e = let same : n % 256 ≡ b = omega (arith, small 0) in λ i. same i ∷ []
-
-below_1 : (bytes : List ℕ) → AreBytes bytes → from_le_bytes w8 bytes < 2 ^ 8
-below_1 bytes small = omega (arith, small 0)
-
-below_2 : (bytes : List ℕ) → AreBytes bytes → from_le_bytes w16 bytes < 2 ^ 16
-below_2 bytes small = omega (arith, small 0, small 1)
-
-below_4 : (bytes : List ℕ) → AreBytes bytes → from_le_bytes w32 bytes < 2 ^ 32
-below_4 bytes small = omega (arith, small 0, small 1, small 2, small 3)
-
-below_8 : (bytes : List ℕ) → AreBytes bytes → from_le_bytes w64 bytes < 2 ^ 64
-below_8 bytes small = omega (arith, small 0, small 1, small 2, small 3, small 4, small 5, small 6, small 7)
-
-pub number_spelled : (kind : IntKind) (bytes : List ℕ) → length bytes ≡ size_of kind → ((i : ℕ) → get_or bytes i 0 < 256) → number_bytes kind (number_of kind bytes) ≡ bytes
-number_spelled U8 bytes len small = one_byte bytes (from_le_bytes w8 bytes) len small refl
-number_spelled U16 bytes len small = le_bytes_2 bytes (from_le_bytes w16 bytes) len small refl
-number_spelled U32 bytes len small = le_bytes_4 bytes (from_le_bytes w32 bytes) len small refl
-number_spelled U64 bytes len small = le_bytes_8 bytes (from_le_bytes w64 bytes) len small refl
-number_spelled I8 bytes len small = one_byte bytes _ len small (of_z-to_z w8 (from_le_bytes w8 bytes) (below_1 bytes small))
-number_spelled I16 bytes len small = le_bytes_2 bytes _ len small (of_z-to_z w16 (from_le_bytes w16 bytes) (below_2 bytes small))
-number_spelled I32 bytes len small = le_bytes_4 bytes _ len small (of_z-to_z w32 (from_le_bytes w32 bytes) (below_4 bytes small))
-number_spelled I64 bytes len small = le_bytes_8 bytes _ len small (of_z-to_z w64 (from_le_bytes w64 bytes) (below_8 bytes small))
-
--- ---- and what was read lies inside the kind
-pub number_inside : (kind : IntKind) (bytes : List ℕ) → ((i : ℕ) → get_or bytes i 0 < 256) → IsInside kind (number_of kind bytes)
-number_inside U8 bytes small = let h = below_1 bytes small in (omega (arith, ints), omega (arith, ints))
-number_inside U16 bytes small = let h = below_2 bytes small in (omega (arith, ints), omega (arith, ints))
-number_inside U32 bytes small = let h = below_4 bytes small in (omega (arith, ints), omega (arith, ints))
-number_inside U64 bytes small = let h = below_8 bytes small in (omega (arith, ints), omega (arith, ints))
-number_inside I8 bytes small = let h = below_1 bytes small in (omega (arith, ints), omega (arith, ints))
-number_inside I16 bytes small = let h = below_2 bytes small in (omega (arith, ints), omega (arith, ints))
-number_inside I32 bytes small = let h = below_4 bytes small in (omega (arith, ints), omega (arith, ints))
-number_inside I64 bytes small = let h = below_8 bytes small in (omega (arith, ints), omega (arith, ints))
-
 -- ---- all of them
 read_step : (kind : IntKind) (n : ℕ) (word rest : List ℕ) → length word ≡ size_of kind → numbers_read kind (suc n) (word ++ rest) ≡ number_of kind word ∷ numbers_read kind n rest
 unfolding numbers_read

@@ -19,6 +19,7 @@ use Rattle.vx_base.specs.Leaf.{IsLeaf, number_slot, length_slot, slot_bytes}
 use Rattle.vx_base.specs.Segment.{IsShort, spelling, is_value, truth_in, number_in, text_in, number_bytes, validity_bytes, packed}
 use Rattle.vx_base.specs.Reading.{decoded, is_spelled, if_spelled, fits_leaf, spelled_as, numbers_read, lengths_read, texts_read, bits_read, validity_read, slots, slots_read, where_valid, leaf_read, packed_len}
 use Rattle.vx_base.specs.Laws.{LeavesHaveOneMeaning, SpelledLeavesAreRead, EncodingIsUndone}
+use Rattle.vx_base.proofs.Spelled.{some_bytes}
 use Rattle.vx_base.proofs.Bits.{packed_read, length-packed}
 use Rattle.vx_base.proofs.KindNumbers.{numbers_again}
 
@@ -157,9 +158,6 @@ short_pass : (values : List Datum) → AllByRecursion IsShort values → list_al
 short_pass [] h = refl
 short_pass (v ∷ vs) h = and_from _ _ (lt-ltb (length (text_in v)) (2 ^ 32) h.0) (short_pass vs h.1)
 
-abbrev some_list : List ℕ → Option (List ℕ)
-some_list bytes = Some bytes
-
 abbrev some_data : List Datum → Option (List Datum)
 some_data values = Some values
 
@@ -197,21 +195,21 @@ unfolding decoded
 read_whole (bool_type n) values bytes l e fit short =
     let t = bool_type n in
     let rest = packed (map truth_in values) in
-    let is : some_list (validity_bytes n values ++ rest) ≡ some_list bytes = e in
+    let is : some_bytes (validity_bytes n values ++ rest) ≡ some_bytes bytes = e in
     let same : validity_bytes n values ++ rest ≡ bytes = cc in
     let read = from_parts t n values (map truth (map truth_in values)) rest refl fit (ap (map truth) (bits_part values)) (truths_again n values fit) in
     given t values (leaf_read t n (length values) bytes) bytes l e fit short (ap (leaf_read t n (length values)) (sym same) ∙ read)
 read_whole (int_type kind n) values bytes l e fit short =
     let t = int_type kind n in
     let rest = flat_map (number_slot kind) values in
-    let is : some_list (validity_bytes n values ++ rest) ≡ some_list bytes = e in
+    let is : some_bytes (validity_bytes n values ++ rest) ≡ some_bytes bytes = e in
     let same : validity_bytes n values ++ rest ≡ bytes = cc in
     let read = from_parts t n values (map number (map number_in values)) rest refl fit (ap (map number) (all_numbers_again kind n values fit)) (again_where_valid kind n values fit) in
     given t values (leaf_read t n (length values) bytes) bytes l e fit short (ap (leaf_read t n (length values)) (sym same) ∙ read)
 read_whole (utf8_type n) values bytes l e fit short =
     let t = utf8_type n in
     let rest = flat_map length_slot values ++ flat_map text_in values in
-    let is : some_list ((validity_bytes n values ++ flat_map length_slot values) ++ flat_map text_in values) ≡ some_list bytes = e in
+    let is : some_bytes ((validity_bytes n values ++ flat_map length_slot values) ++ flat_map text_in values) ≡ some_bytes bytes = e in
     let whole : (validity_bytes n values ++ flat_map length_slot values) ++ flat_map text_in values ≡ bytes = cc in
     let same : validity_bytes n values ++ rest ≡ bytes = sym (append_assoc (validity_bytes n values) (flat_map length_slot values) (flat_map text_in values)) ∙ whole in
     let read = from_parts t n values (map text (map text_in values)) rest refl fit (ap (map text) (texts_part values short)) (texts_where_valid n values fit) in
@@ -223,7 +221,7 @@ read_whole (list_type t n) values bytes l e fit short = absurd l
 pub two_parts : (t : DataType) (values : List Datum) → IsLeaf t → spelling t values ≡ Some (validity_bytes (nullability_of t) values ++ slot_bytes t values)
 two_parts (bool_type n) values l = refl
 two_parts (int_type kind n) values l = refl
-two_parts (utf8_type n) values l = ap some_list (append_assoc (validity_bytes n values) (flat_map length_slot values) (flat_map text_in values))
+two_parts (utf8_type n) values l = ap some_bytes (append_assoc (validity_bytes n values) (flat_map length_slot values) (flat_map text_in values))
 two_parts (struct_type ms n) values l = absurd l
 two_parts (list_type t n) values l = absurd l
 

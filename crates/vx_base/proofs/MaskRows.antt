@@ -26,9 +26,6 @@ chooses_twice X (true ∷ mask) (false ∷ ranks) (x ∷ xs) = chooses_twice X m
 abbrev some_bit : Bool → Option Bool
 some_bit bit = Some bit
 
-bit_at : (bits : List Bool) (i : ℕ) (x : Bool) → i < length bits → x ≡ get_or bits i x → slice_get bits i ≡ Some x
-bit_at bits i x lt e = slice_get-get_or bits i x lt ∙ ap some_bit (sym e)
-
 -- ---- the first and the last
 pub none_more : (bits : List Bool) (i : ℕ) → i < length bits → get_or bits i false ≡ false → NoneTrue bits 0 i → NoneTrue bits 0 (i + 1)
 none_more bits i lt e so_far row low high =

@@ -1,4 +1,4 @@
--- The value of a row by its validity and its slot.
+-- The bits of a segment: what is behind the last row, and the front where they stand.
 use Rattle.std.proofs.Common.{◌≡◌, ℕ, pos, ◌+◌, ◌*◌, ◌/◌, ◌%◌, ◌^◌, ◌<◌, ◌≤◌, true, false, List, [], ◌++◌, length, get_or, refl, sym, ap, subst, ◌∙◌, arith}
 use Rattle.std.specs.Str.{IsUtf8}
 use Rattle.std.proofs.lemmas.List.{get_or_past, take_at}
@@ -15,41 +15,7 @@ use Rattle.vx_base.proofs.Leaves.{validity_len}
 use Rattle.std.proofs.lemmas.List.{length-map, length-append}
 use Rattle.std.proofs.Common.{map, take}
 
--- ---- no value has this slot
-pub no_truth : (n : Nullability) (w : Datum) → Fits (bool_type n) w → is_value w ≡ false → truth_in w ≡ true → ⊥
-no_truth n null h e s = absurd cc
-no_truth n (truth b) h e s = absurd cc
-no_truth n (number z) h e s = h
-no_truth n (text bytes) h e s = h
-no_truth n (structure ws) h e s = h
-
-pub no_number : (kind : IntKind) (n : Nullability) (w : Datum) → Fits (int_type kind n) w → is_value w ≡ false → number_in w ≡ pos 0
-no_number kind n null h e = refl
-no_number kind n (number z) h e = absurd cc
-no_number kind n (truth b) h e = absurd h
-no_number kind n (text bytes) h e = absurd h
-no_number kind n (structure ws) h e = absurd h
-
-pub no_text : (n : Nullability) (w : Datum) → Fits (utf8_type n) w → is_value w ≡ false → text_in w ≡ []
-no_text n null h e = refl
-no_text n (text bytes) h e = absurd cc
-no_text n (truth b) h e = absurd h
-no_text n (number z) h e = absurd h
-no_text n (structure ws) h e = absurd h
-
-pub is_text : (n : Nullability) (w : Datum) → Fits (utf8_type n) w → is_value w ≡ true → IsUtf8 (text_in w)
-is_text n null h e = absurd cc
-is_text n (text bytes) h e = h
-is_text n (truth b) h e = absurd h
-is_text n (number z) h e = absurd h
-is_text n (structure ws) h e = absurd h
-
 -- ---- padding
-pub whole_padded : (rows : ℕ) (bytes : List ℕ) → length bytes ≡ packed_len rows → rows % 8 ≡ 0 → IsPadded rows bytes
-whole_padded rows bytes len e =
-    let past : get_or bytes (rows / 8) 0 ≡ 0 = get_or_past bytes (rows / 8) 0 (omega arith) in
-    omega (arith, past, pow_pos (rows % 8))
-
 pub small_from_shift : (b k : ℕ) → b / 2 ^ k ≡ 0 → b < 2 ^ k
 small_from_shift b k e =
     let split : 0 * 2 ^ k + b % 2 ^ k ≡ b = subst (λ (q : ℕ). q * 2 ^ k + b % 2 ^ k ≡ b) e (shr_split b k) in

@@ -50,7 +50,7 @@ all_short : (vs : List Datum) → list_all (λ v. nat_lt (length (text_in v)) (2
 all_short [] e = tt
 all_short (v ∷ vs) e = let p = and_parts (nat_lt (length (text_in v)) (2 ^ 32)) (list_all (λ w. nat_lt (length (text_in w)) (2 ^ 32)) vs) e in (ltb-true (length (text_in v)) (2 ^ 32) p.0, all_short vs p.1)
 
-abbrev some_bytes : List ℕ → Option (List ℕ)
+abbrev pub some_bytes : List ℕ → Option (List ℕ)
 some_bytes bytes = Some bytes
 
 spelled_from : (o : Option (List ℕ)) (bytes : List ℕ) → spelled_as o bytes ≡ true → o ≡ Some bytes

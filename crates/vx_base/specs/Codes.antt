@@ -44,20 +44,21 @@ kind_at (suc (suc (suc (suc (suc zero))))) = I16
 kind_at (suc (suc (suc (suc (suc (suc zero)))))) = I32
 kind_at (suc (suc (suc (suc (suc (suc (suc n))))))) = I64
 
-kind_back : (k : IntKind) → kind_at (number_of_kind k) ≡ k
-kind_back U8 = refl
-kind_back U16 = refl
-kind_back U32 = refl
-kind_back U64 = refl
-kind_back I8 = refl
-kind_back I16 = refl
-kind_back I32 = refl
-kind_back I64 = refl
+int_kind_back : (k : IntKind) → kind_at (number_of_kind k) ≡ k
+int_kind_back U8 = refl
+int_kind_back U16 = refl
+int_kind_back U32 = refl
+int_kind_back U64 = refl
+int_kind_back I8 = refl
+int_kind_back I16 = refl
+int_kind_back I32 = refl
+int_kind_back I64 = refl
 
 kind_same : (a b : IntKind) → number_of_kind a ≡ number_of_kind b → a ≡ b
-kind_same a b e = sym (kind_back a) ∙ ap kind_at e ∙ kind_back b
+kind_same a b e = sym (int_kind_back a) ∙ ap kind_at e ∙ int_kind_back b
 
-abbrev coded_name : Coded (List ℕ)
+-- a name is coded as the list of its bytes
+abbrev pub coded_name : Coded (List ℕ)
 coded_name = coded_list coded_ℕ
 
 -- ---- dtypes

@@ -19,11 +19,6 @@ abbrev pub IsBool : DataType → Type 0
 IsBool (bool_type n) = Unit {0}
 IsBool t = ⊥
 
--- whether a value is true: null is not
-abbrev pub is_true : Datum → Bool
-is_true (truth b) = b
-is_true v = false
-
 -- ---- look-ups
 -- the same dtype, which takes nulls
 abbrev pub made_nullable : DataType → DataType

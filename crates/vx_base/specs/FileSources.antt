@@ -1,6 +1,7 @@
 -- What a source over an opened file is to its callers.
-use Rattle.std.specs.Prelude.{ℕ, None, IsSome}
+use Rattle.std.specs.Prelude.{ℕ, ◌+◌, ◌≤◌, Option, Some, None, option_map, IsSome, IsSomeAnd}
 use Rattle.vx_base.specs.Sources.{SourceState}
+use Rattle.vx_base.specs.declared.locations.SegmentLocation.{SegmentLocation}
 use Rattle.vx_base.specs.declared.file_sources.FileSource.{FileSource}
 
 -- it tells neither its file nor what was asked
@@ -16,6 +17,15 @@ file_state source = record {
 -- there is a file that it reads
 abbrev pub IsOpen : FileSource → Type 0
 IsOpen source = IsSome source.file
+
+-- how many bytes the file had when it was opened, where there is one
+abbrev pub size_of_file : FileSource → Option ℕ
+size_of_file source = option_map (λ file. file.size) source.file
+
+-- a location lies inside a file of that size
+abbrev pub LiesInside : Option ℕ → SegmentLocation → Type 0
+LiesInside (Some size) at = at.offset + at.length ≤ size
+LiesInside None at = ⊥
 
 -- how many tickets it gave, which is the next one
 abbrev pub tickets_given : FileSource → ℕ

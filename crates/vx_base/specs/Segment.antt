@@ -10,7 +10,8 @@ use Rattle.vx_base.specs.declared.dtypes.Nullability.TheVariants.{NonNullable, N
 use Rattle.vx_base.specs.Data.{DataType, bool_type, int_type, utf8_type, struct_type, list_type, Datum, null, truth, number, text, structure}
 use Rattle.vx_base.specs.Fits.{Fits}
 
--- what a row has in each part of the bytes; a null has false, 0 or the empty text
+-- What a row has in each part of the bytes. A null has false, 0 or the empty text, so `truth_in` also says
+-- whether a value is true.
 abbrev pub is_value : Datum → Bool
 is_value null = false
 is_value (truth b) = true

@@ -1,6 +1,6 @@
 //! A reader and a writer of std as streams.
 
-ghost use Rattle.std.specs.Prelude.{◌≡◌, ◌↔◌, ◌<◌, [], Some, None, IsSome, IsErrOf, IfOk, MatchResult};
+ghost use Rattle.std.specs.Prelude.{◌≡◌, ◌↔◌, ◌<◌, [], Some, None, IsSome, IsErrOf, IfOk, MatchResult, option_and_then};
 ghost use Rattle.std.specs.Io.KnownBytes.{Keeps, Consumes, IsAtEnd, WriteAppends};
 ghost use Rattle.vx_base.specs.Streams.{ReadGives, WriteGives};
 ghost use Rattle.vx_base.specs.Faults.{StreamCountsFaults};
@@ -22,12 +22,13 @@ pub struct ReadSource<I> {
 }
 
 impl<I: Read + Drop> ReadSource<I> {
-    ghost use Rattle.vx_base.specs.Adapters.{reader_state, HasReader};
+    ghost use Rattle.vx_base.specs.Adapters.{reader_state, reader_rest, HasReader};
 
-    /// A stream over the reader. It takes no memory.
+    /// A stream over the reader, which begins at what the reader has left. It takes no memory.
     pub fn new(alloc: Global, reader: Option<I>) -> ReadSource<I>
         ensures state { reader_state result ≡ record { rest = None; pieces = []; faults = 0 } }
         ensures has_reader { HasReader result ↔ IsSome reader }
+        ensures rest { reader_rest I.remaining result ≡ option_and_then I.remaining reader }
     {
         ReadSource {
             alloc,
@@ -92,11 +93,12 @@ pub struct WriteSink<O> {
 }
 
 impl<O: Write + Drop> WriteSink<O> {
-    ghost use Rattle.vx_base.specs.Adapters.{writer_state};
+    ghost use Rattle.vx_base.specs.Adapters.{writer_state, writer_bytes};
 
-    /// A stream over the writer.
+    /// A stream over the writer, which begins behind what the writer holds.
     pub fn new(writer: O) -> WriteSink<O>
-        ensures { writer_state result ≡ record { written = None; faults = 0 } }
+        ensures state { writer_state result ≡ record { written = None; faults = 0 } }
+        ensures bytes { writer_bytes O.contents result ≡ O.contents writer }
     {
         WriteSink { writer, faults: 0 }
     }

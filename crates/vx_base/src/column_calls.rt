@@ -8,7 +8,8 @@ ghost use Rattle.vx_base.specs.Data.{int_type};
 ghost use Rattle.vx_base.specs.Fits.{Fits};
 ghost use Rattle.vx_base.specs.ValueViews.{datum};
 ghost use Rattle.vx_base.specs.Masks.{chosen};
-ghost use Rattle.vx_base.specs.ColumnCalls.{natural, IsBool, is_true};
+ghost use Rattle.vx_base.specs.ColumnCalls.{natural, IsBool};
+ghost use Rattle.vx_base.specs.Segment.{truth_in};
 
 use crate::columns::Column;
 use crate::dtypes::{DType, IntKind, Nullability};
@@ -110,7 +111,7 @@ impl Column {
     /// The rows whose value is true: a null is not.
     pub fn truth(&self, alloc: Global) -> Result<Mask, AllocError>
         requires { IsBool self.now.dtype }
-        ensures { IfOk result (λ mask. mask ≡ map is_true self.now.values) }
+        ensures { IfOk result (λ mask. mask ≡ map truth_in self.now.values) }
     {
         let values = self.values();
         let mut bits = Vec::with_capacity(alloc, values.len())?;

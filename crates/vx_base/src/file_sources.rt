@@ -1,6 +1,7 @@
-//! A source of segments over a file of the system. It answers every read at the first poll.
+//! A source of segments over a regular file of the system. It answers every read at the first poll.
 
-ghost use Rattle.std.specs.Prelude.{◌≡◌, ◌↔◌, ◌⊎◌, ℕ, ◌+◌, ◌-◌, ◌^◌, ◌≤◌, [], Some, None, IsNone, IsSome, IsTrue, IfOk, OnOk, OnErr, IsErrOf, length};
+ghost use Rattle.std.specs.Prelude.{◌≡◌, ◌↔◌, ◌⊎◌, ℕ, ◌+◌, ◌-◌, ◌^◌, ◌<◌, ◌≤◌, [], Some, None, IsNone, IsSome, IsTrue, IfSome, IfOk, IfErr, IsOkAnd, OnErr, IsErrOf, Ok, Err, ◌≢◌, alloc_error, length};
+ghost use Rattle.std.specs.IoError.{error_kind};
 ghost use Rattle.vx_base.specs.Sources.{RequestGives, PollGives, Cleared, location_of};
 ghost use Rattle.vx_base.specs.Faults.{FailsWhere, CountsFaults};
 
@@ -21,7 +22,7 @@ struct OpenFile {
     size: u64,
 }
 
-/// A file of the system as a source. Where there is no file to read, every request answers `Failed`.
+/// A regular file of the system as a source. Where there is no file to read, every request answers `Failed`.
 #[derive(Drop)]
 pub struct FileSource {
     alloc: Global,
@@ -34,8 +35,8 @@ pub struct FileSource {
 impl FileSource {
     ghost use Rattle.vx_base.specs.FileSources.{file_state, IsOpen, tickets_given};
 
-    /// Opens the file of a path for reading. With no path, and where the file cannot be opened, the
-    /// source has no file. The error is for want of memory alone.
+    /// Opens the file of a path for reading. With no path, and where the path names no regular file or the
+    /// file cannot be opened, the source has no file. The error is for want of memory alone.
     pub fn new<R: Files<File = File>>(
         rt: &R,
         alloc: Global,
@@ -43,10 +44,10 @@ impl FileSource {
     ) -> Result<FileSource, AllocError>
         ensures state { IfOk result (λ source. file_state source ≡ record { file = None; asked = None; in_flight = []; faults = 0; idle = 0 }) }
         ensures tickets { IfOk result (λ source. tickets_given source ≡ 0) }
-        ensures no_path { IsNone path.entry → IfOk result (λ source. ¬ IsOpen source) }
+        ensures no_path { IsNone path.entry → IsOkAnd result (λ source. ¬ IsOpen source) }
     {
         let file = match path {
-            Some(path) => opened(fs::open(rt, path))?,
+            Some(path) => opened(regular_file(rt, path))?,
             None => None,
         };
         Ok(FileSource {
@@ -82,7 +83,7 @@ impl FileSource {
 }
 
 impl SegmentSource for FileSource {
-    ghost use Rattle.vx_base.specs.FileSources.{file_state, IsOpen, tickets_given};
+    ghost use Rattle.vx_base.specs.FileSources.{file_state, IsOpen, LiesInside, size_of_file, tickets_given};
 
     ghost state = { file_state };
 
@@ -95,6 +96,7 @@ impl SegmentSource for FileSource {
         ensures not_counted { OnErr result (tickets_given self.new ≡ tickets_given self.old) }
         ensures faults { CountsFaults result (file_state self.old).faults (file_state self.new).faults }
         ensures open { IsOpen self.new ↔ IsOpen self.old }
+        ensures size { size_of_file self.new ≡ size_of_file self.old }
     {
         if self.file.is_none() || self.in_flight.is_used_up() {
             self.faults = self.faults.saturating_add(1);
@@ -113,6 +115,9 @@ impl SegmentSource for FileSource {
         ensures tickets { tickets_given self.new ≡ tickets_given self.old }
         ensures open { IsOpen self.new ↔ IsOpen self.old }
         ensures no_file { ¬ IsOpen self.old → IsErrOf result SourceError.Failed }
+        ensures size { size_of_file self.new ≡ size_of_file self.old }
+        ensures outside_the_file { IfSome (location_of ticket (file_state self.old).in_flight)
+            (λ at. ¬ LiesInside (size_of_file self.old) at → IsErrOf result SourceError.Failed) }
     {
         let at = self.in_flight.location(ticket).unwrap();
         let bytes = match &self.file {
@@ -138,37 +143,48 @@ impl SegmentSource for FileSource {
         ensures cleared { Cleared (file_state self.old) (file_state self.new) }
         ensures tickets { tickets_given self.new ≡ tickets_given self.old }
         ensures open { IsOpen self.new ↔ IsOpen self.old }
+        ensures size { size_of_file self.new ≡ size_of_file self.old }
     {
         self.in_flight.clear();
     }
 }
 
+/// The regular file of a path, opened for reading. What the path names is asked for before it is opened,
+/// since opening a pipe waits for its writer.
+fn regular_file<R: Files<File = File>>(rt: &R, path: &str) -> io::Result<OpenFile> {
+    if !fs::metadata(rt, path)?.is_file() {
+        return Err(io::Error::from(ErrorKind::InvalidInput));
+    }
+    let mut file = fs::open(rt, path)?;
+    let size = file.seek(SeekFrom::End(0))?;
+    Ok(OpenFile { file, size })
+}
+
 /// The file that was opened, if it was. The error is for want of memory alone.
-fn opened(file: io::Result<File>) -> Result<Option<OpenFile>, AllocError>
-    ensures kept { OnOk file (IfOk result (λ file. IsSome file)) }
-    ensures none { OnErr file (IfOk result (λ file. file ≡ None)) }
+fn opened(file: io::Result<OpenFile>) -> Result<Option<OpenFile>, AllocError>
+    ensures kept { IfOk file (λ opened. result ≡ Ok (Some opened)) }
+    ensures memory { IfErr file (λ error. error_kind error ≡ ErrorKind.OutOfMemory → result ≡ Err alloc_error) }
+    ensures failed { IfErr file (λ error. error_kind error ≢ ErrorKind.OutOfMemory → result ≡ Ok None) }
 {
     match file {
-        Ok(mut file) => {
-            let size = file.seek(SeekFrom::End(0)).unwrap_or(0);
-            Ok(Some(OpenFile { file, size }))
-        }
+        Ok(file) => Ok(Some(file)),
         Err(error) if error.kind() == ErrorKind::OutOfMemory => Err(AllocError),
         Err(_) => Ok(None),
     }
 }
 
 /// The bytes of a location. Where it does not lie inside the file, no memory is taken for it.
-fn segment_of(open: &OpenFile, alloc: Global, at: SegmentLocation) -> Result<Vec<u8>, SourceError>
-    ensures { IfOk result (λ bytes. length bytes.items ≡ at.length) }
+fn segment_of(file: &OpenFile, alloc: Global, at: SegmentLocation) -> Result<Vec<u8>, SourceError>
+    ensures size { IfOk result (λ bytes. length bytes.items ≡ at.length) }
+    ensures outside { file.now.size < at.offset + at.length → IsErrOf result SourceError.Failed }
 {
-    if !lies_inside(open.size, at) {
+    if !lies_inside(file.size, at) {
         return Err(SourceError::Failed);
     }
     let Ok(mut bytes) = Vec::from_elem(alloc, 0u8, at.length as usize) else {
         return Err(SourceError::Memory);
     };
-    if open
+    if file
         .file
         .read_exact_at(bytes.as_mut_slice(), at.offset)
         .is_err()

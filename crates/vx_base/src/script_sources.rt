@@ -20,7 +20,8 @@ pub struct Script {
     pub fail_requests: Vec<u64>,
     /// The numbers of the polls that fail.
     pub fail_polls: Vec<u64>,
-    /// At how many of its first polls nothing is found of each ticket; none where the list is shorter.
+    /// At the place of each ticket, how many of its first polls find nothing. A ticket behind the list's
+    /// end doesn't wait.
     pub waits: Vec<u64>,
     /// The order of the tickets: nothing is found of a ticket while one before its first place here is in
     /// flight. A ticket that isn't listed waits for none.
@@ -74,8 +75,8 @@ impl ScriptSource {
         self.memory.idle()
     }
 
-    /// Whether a ticket is in flight.
-    pub(crate) fn is_in_flight(&self, ticket: u64) -> bool
+    /// Whether a ticket is in flight: its read was started, and neither ended nor was cleared.
+    pub fn is_in_flight(&self, ticket: u64) -> bool
         ensures { result ≡ is_some (location_of ticket (script_state self.now).in_flight) }
     {
         self.memory.is_in_flight(ticket)
