@@ -52,20 +52,3 @@ pub use script_sources::{Script, ScriptSource};
 pub use segment_laws::{decoded_is_spelled, decoding_undoes_encoding, one_spelling};
 pub use texts::Text;
 pub use values::{Value, Values, fits};
-
-#[cfg(test)]
-mod built_column_tests;
-#[cfg(test)]
-mod codec_tests;
-#[cfg(test)]
-mod column_call_tests;
-#[cfg(test)]
-mod column_tests;
-#[cfg(test)]
-mod mask_tests;
-#[cfg(test)]
-mod number_codec_tests;
-#[cfg(test)]
-mod outside_tests;
-#[cfg(test)]
-mod script_source_tests;

@@ -1,0 +1,92 @@
+//! Columns of many rows, which are built here and told by their count and their last row.
+
+ghost use Rattle.std.specs.Prelude.{◌≡◌, IfOk};
+ghost use Rattle.std.specs.List.{AllByRecursion};
+ghost use Rattle.vx_base.specs.Data.{utf8_type};
+ghost use Rattle.vx_base.specs.declared.dtypes.Nullability.TheVariants.{Nullable};
+ghost use Rattle.vx_base.specs.Views.{data_type};
+
+use crate::built::texts_or_nulls;
+use crate::fields::number_of;
+use anyhow::{Context, Error, Result};
+use std::alloc::Global;
+use vx_base::{Column, Text, Value, decode, encode};
+use vx_notation::write_value;
+
+/// The text of a row: its number, and null at each seventh row.
+fn value_at(alloc: Global, row: u64) -> Result<Value> {
+    if row % 7 == 6 {
+        return Ok(Value::Null);
+    }
+    Ok(Value::Text(Text::from_string(format!(in alloc; "row {row}")?)))
+}
+
+/// The texts of the rows of a range.
+fn texts_of(alloc: Global, from: u64, to: u64) -> Result<Column>
+    ensures { IfOk result (λ column. column.dtype ≡ utf8_type Nullable) }
+{
+    let mut values = Vec::new(alloc);
+    for row in from..to {
+        let value = value_at(alloc, row)?;
+        values.push(value)?;
+    }
+    match Column::try_of(alloc, texts_or_nulls(), values) {
+        Ok(column) => Ok(column),
+        Err(_) => Err(Error::msg("values that fit the dtype")),
+    }
+}
+
+/// How many rows there are, and the last one.
+fn told(alloc: Global, column: &Column) -> Result<String> {
+    let rows = column.len();
+    let mut text = format!(in alloc; "{rows} rows, the last ")?;
+    let last = column.values().last().context("a row")?;
+    write_value(last, &mut text)?;
+    Ok(text)
+}
+
+/// The parts of a column, of two rows each.
+fn parts_of(alloc: Global, count: u64) -> Result<Vec<Column>>
+    ensures { IfOk result (λ parts. AllByRecursion (λ part. part.dtype ≡ utf8_type Nullable) parts.items) }
+{
+    let mut parts = Vec::new(alloc);
+    let mut row: u64 = 0;
+    for _ in 0..count {
+        let next = row.saturating_add(2);
+        parts.push(texts_of(alloc, row, next)?)?;
+        row = next;
+    }
+    Ok(parts)
+}
+
+/// The column of that many parts, which is the same as that of all its rows at once.
+fn joined(alloc: Global, count: u64) -> Result<String> {
+    let column = Column::concat(alloc, texts_or_nulls(), parts_of(alloc, count)?)?;
+    if !column.same(&texts_of(alloc, 0, count.saturating_mul(2))?) {
+        return Err(Error::msg("the same rows"));
+    }
+    told(alloc, &column)
+}
+
+/// The column that is read from what that many rows are written as.
+fn coded(alloc: Global, count: u64) -> Result<String> {
+    let column = texts_of(alloc, 0, count)?;
+    let bytes = encode(alloc, &column)?;
+    let read = decode(alloc, &texts_or_nulls(), count, bytes.as_slice())?;
+    if !read.same(&column) {
+        return Err(Error::msg("the same rows"));
+    }
+    let text = told(alloc, &read)?;
+    Ok(format!(in alloc; "{} bytes, {text}", bytes.len())?)
+}
+
+/// The answer to `big joined COUNT` and `big coded COUNT`.
+pub(crate) fn big(alloc: Global, rest: &str) -> Result<String> {
+    let (word, count) = rest.split_once(' ').context("a word and a count")?;
+    let count = number_of(count)?;
+    match word {
+        "joined" => joined(alloc, count),
+        "coded" => coded(alloc, count),
+        _ => Err(Error::msg("`joined` or `coded`")),
+    }
+}

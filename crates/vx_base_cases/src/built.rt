@@ -1,0 +1,143 @@
+//! Columns that are made of columns: look-ups and structs.
+
+ghost use Rattle.std.specs.Prelude.{◌≡◌, ◌∷◌, [], length, map, IsTrue, IfOk};
+ghost use Rattle.std.specs.List.{AllByRecursion};
+ghost use Rattle.std.specs.Option.{ForSome};
+ghost use Rattle.vx_base.specs.declared.dtypes.IntKind.TheVariants.{U64};
+ghost use Rattle.vx_base.specs.declared.dtypes.Nullability.TheVariants.{NonNullable, Nullable};
+ghost use Rattle.vx_base.specs.Data.{int_type, utf8_type, member, no_members};
+ghost use Rattle.vx_base.specs.ColumnCalls.{IsUnsigned, IsCodeBelow};
+ghost use Rattle.vx_base.specs.Views.{data_type};
+ghost use Rattle.vx_base.specs.ValueViews.{datum};
+
+use crate::column_calls::shown;
+use crate::fields::{bits_of, number_of, three, two};
+use anyhow::{Error, Result};
+use std::alloc::Global;
+use vx_base::{Column, DType, Field, Fields, IntKind, Mask, Nullability, Text, Value};
+use vx_notation::{column_of, dtype_of};
+
+/// Whether the codes are unsigned numbers.
+fn is_unsigned(dtype: &DType) -> bool
+    ensures { IsTrue result → IsUnsigned (data_type dtype.now) }
+{
+    match dtype {
+        DType::Int(IntKind::U8 | IntKind::U16 | IntKind::U32 | IntKind::U64, _) => true,
+        _ => false,
+    }
+}
+
+/// Whether the code is below the count.
+fn is_below(code: &Value, count: usize) -> bool
+    ensures { IsTrue result → IsCodeBelow count (datum code.now) }
+{
+    match code {
+        Value::Int(number) => *number < count as i128,
+        _ => true,
+    }
+}
+
+/// Whether each code is below the count.
+fn are_below(codes: &[Value], count: usize) -> bool
+    ensures { IsTrue result → AllByRecursion (IsCodeBelow count) (map datum codes.now) }
+{
+    for (row, code) in codes.iter().enumerate() {
+        if !is_below(code, count) {
+            return false;
+        }
+    }
+    true
+}
+
+/// The values at codes, each column with its dtype before it.
+fn look_up(alloc: Global, rest: &str) -> Result<String> {
+    let (codes_dtype, codes, values) = three(rest)?;
+    let (values_dtype, values) = two(values)?;
+    let codes = column_of(alloc, dtype_of(alloc, codes_dtype)?, codes)?;
+    let values = column_of(alloc, dtype_of(alloc, values_dtype)?, values)?;
+    if !is_unsigned(codes.dtype()) || !are_below(codes.values(), values.values().len()) {
+        return Err(Error::msg("codes of values"));
+    }
+    let column = Column::look_up(alloc, &codes, &values)?;
+    shown(alloc, &column)
+}
+
+/// A validity of so many rows: none where the word is `all`.
+fn validity_of(alloc: Global, word: &str, rows: u64) -> Result<Option<Mask>>
+    ensures { IfOk result (λ validity. ForSome validity (λ mask. length mask ≡ rows)) }
+{
+    if word == "all" {
+        return Ok(None);
+    }
+    let mask = Mask::of(alloc, bits_of(alloc, word)?)?;
+    if mask.len() == rows {
+        Ok(Some(mask))
+    } else {
+        Err(Error::msg("as many bits as rows"))
+    }
+}
+
+/// The dtype of numbers of 64 bits that takes no nulls.
+fn plain_numbers() -> DType
+    ensures { data_type result ≡ int_type U64 NonNullable }
+{
+    DType::Int(IntKind::U64, Nullability::NonNullable)
+}
+
+/// The dtype of texts that takes nulls.
+pub(crate) fn texts_or_nulls() -> DType
+    ensures { data_type result ≡ utf8_type Nullable }
+{
+    DType::Utf8(Nullability::Nullable)
+}
+
+/// The fields of these two dtypes, a number and a text.
+fn two_fields(alloc: Global) -> Result<Fields>
+    ensures { IfOk result (λ fields. fields ≡ member (97 ∷ []) (int_type U64 NonNullable) (member (98 ∷ []) (utf8_type Nullable) no_members)) }
+{
+    let first = Field {
+        name: Text::from_string(String::from_str(alloc, "a")?),
+        dtype: DType::Int(IntKind::U64, Nullability::NonNullable),
+    };
+    let second = Field {
+        name: Text::from_string(String::from_str(alloc, "b")?),
+        dtype: DType::Utf8(Nullability::Nullable),
+    };
+    Ok(Fields::from_vec(vec![in alloc; first, second]?))
+}
+
+/// The structs of a validity, numbers and texts, `{a=u64, b=utf8?}`.
+fn pack(alloc: Global, rest: &str) -> Result<String> {
+    let (validity, numbers, texts) = three(rest)?;
+    let fields = two_fields(alloc)?;
+    let numbers = column_of(alloc, plain_numbers(), numbers)?;
+    let texts = column_of(alloc, texts_or_nulls(), texts)?;
+    let rows = numbers.len();
+    if texts.len() != rows {
+        return Err(Error::msg("as many texts as numbers"));
+    }
+    let validity = validity_of(alloc, validity, rows)?;
+    let parts = vec![in alloc; numbers, texts]?;
+    let column = Column::pack(alloc, fields, parts, validity, rows)?;
+    shown(alloc, &column)
+}
+
+/// The structs of a validity and no fields.
+fn pack_none(alloc: Global, rest: &str) -> Result<String> {
+    let (validity, rows) = two(rest)?;
+    let rows = number_of(rows)?;
+    let fields = Fields::from_vec(Vec::new(alloc));
+    let validity = validity_of(alloc, validity, rows)?;
+    let column = Column::pack(alloc, fields, Vec::new(alloc), validity, rows)?;
+    shown(alloc, &column)
+}
+
+/// The answer to a command that makes a column of columns.
+pub(crate) fn of_built(alloc: Global, command: &str, rest: &str) -> Result<String> {
+    match command {
+        "look_up" => look_up(alloc, rest),
+        "pack" => pack(alloc, rest),
+        "pack_none" => pack_none(alloc, rest),
+        _ => Err(Error::msg("a command")),
+    }
+}

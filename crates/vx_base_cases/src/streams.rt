@@ -1,0 +1,66 @@
+//! Streams over memory: one that is read and one that is written.
+
+ghost use Rattle.std.specs.Prelude.{◌<◌, IfOk};
+
+use crate::desks::Desk;
+use crate::fields::{bytes_of, hexadecimal, numbers_of, three, two};
+use anyhow::{Context, Error, Result};
+use std::alloc::Global;
+use vx_base::{BytesSink, BytesSource, Sink, Source};
+
+/// A count that is not 0.
+fn size_of(word: &str) -> Result<usize>
+    ensures { IfOk result (λ size. 0 < size) }
+{
+    let size = word.parse::<usize>().context("a size")?;
+    if size == 0 {
+        return Err(Error::msg("a size of at least 1"));
+    }
+    Ok(size)
+}
+
+/// The next piece of the stream that is read.
+fn next(alloc: Global, stream: &mut BytesSource, rest: &str) -> Result<String> {
+    let text = match stream.read(size_of(rest)?) {
+        Ok(piece) => hexadecimal(alloc, piece.as_slice())?,
+        Err(error) => format!(in alloc; "{error}")?,
+    };
+    Ok(format!(in alloc; "{text}, {} faults", stream.faults())?)
+}
+
+/// Hands a piece to the stream that is written.
+fn put(alloc: Global, stream: &mut BytesSink, rest: &str) -> Result<String> {
+    let piece = bytes_of(alloc, rest)?;
+    let text = match stream.write(piece.as_slice()) {
+        Ok(count) => format!(in alloc; "took {count}")?,
+        Err(error) => format!(in alloc; "{error}")?,
+    };
+    Ok(format!(in alloc; "{text}, {} faults", stream.faults())?)
+}
+
+/// The answer to a command about streams.
+pub(crate) fn of_streams(
+    alloc: Global,
+    desk: &mut Desk,
+    command: &str,
+    rest: &str,
+) -> Result<String> {
+    match command {
+        "stream" => {
+            let (piece, fails, bytes) = three(rest)?;
+            let piece = size_of(piece)?;
+            let bytes = bytes_of(alloc, bytes)?;
+            desk.stream = BytesSource::new(alloc, bytes, piece, numbers_of(alloc, fails)?);
+            Ok(String::from_str(alloc, "made")?)
+        }
+        "sink" => {
+            let (piece, fails) = two(rest)?;
+            let piece = size_of(piece)?;
+            desk.sink = BytesSink::new(alloc, piece, numbers_of(alloc, fails)?);
+            Ok(String::from_str(alloc, "made")?)
+        }
+        "next" => next(alloc, &mut desk.stream, rest),
+        "put" => put(alloc, &mut desk.sink, rest),
+        _ => hexadecimal(alloc, desk.sink.written()),
+    }
+}

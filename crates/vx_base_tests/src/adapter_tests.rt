@@ -1,0 +1,139 @@
+//! What readers and writers of std give as streams, and that a call of theirs that fails is counted.
+
+ghost use Rattle.std.specs.Prelude.{◌<◌};
+
+use std::fs::File;
+use std::io;
+use std::io::{ErrorKind, Read, Write};
+use std::process::Abort;
+use vx_base::{ReadSource, Sink, Source, StreamError, WriteSink};
+
+const FAILED: Result<usize, StreamError> = Err(StreamError::Failed);
+
+/// A reader of some bytes, and a writer that takes at most so many at once. The first call fails.
+#[derive(Drop)]
+struct FailsFirst {
+    failed: bool,
+    bytes: u8,
+}
+
+impl Read for FailsFirst {
+    fn read(&mut self, buf: &mut [u8]) -> io::Result<usize> {
+        if !self.failed {
+            self.failed = true;
+            return Err(io::Error::from(ErrorKind::Other));
+        }
+        if self.bytes == 0 {
+            return Ok(0);
+        }
+        for byte in buf.iter_mut().take(1) {
+            *byte = self.bytes;
+        }
+        self.bytes -= 1;
+        Ok(buf.len().min(1))
+    }
+}
+
+impl Write for FailsFirst {
+    fn write(&mut self, buf: &[u8]) -> io::Result<usize> {
+        if !self.failed {
+            self.failed = true;
+            return Err(io::Error::from(ErrorKind::Other));
+        }
+        Ok(buf.len().min(self.bytes as usize))
+    }
+
+    fn flush(&mut self) -> io::Result<()> {
+        Ok(())
+    }
+}
+
+/// Asserts that the next piece is this one.
+fn gives<I: Read + Drop>(rt: &impl Abort, source: &mut ReadSource<I>, max: usize, wanted: &[u8])
+    requires { 0 < max }
+{
+    let piece = source.read(max).expect(rt, "a piece");
+    assert_eq!(rt; piece.as_slice(), wanted);
+}
+
+/// Asserts that the next read fails.
+fn fails<I: Read + Drop>(rt: &impl Abort, source: &mut ReadSource<I>, faults: u64) {
+    assert_eq!(rt; source.read(4).err(), Some(StreamError::Failed));
+    assert_eq!(rt; source.faults(), faults);
+}
+
+#[test]
+fn reads_bytes(rt: HostRuntime) {
+    let bytes: &[u8] = &[1, 2, 3];
+    let mut source = ReadSource::new(rt.alloc(), Some(bytes));
+    gives(&rt, &mut source, 2, &[1, 2]);
+    gives(&rt, &mut source, 2, &[3]);
+    gives(&rt, &mut source, 2, &[]);
+    assert_eq!(rt; source.faults(), 0);
+}
+
+#[test]
+fn reads_on_after_a_fault(rt: HostRuntime) {
+    let reader = FailsFirst {
+        failed: false,
+        bytes: 2,
+    };
+    let mut source = ReadSource::new(rt.alloc(), Some(reader));
+    fails(&rt, &mut source, 1);
+    gives(&rt, &mut source, usize::MAX, &[2]);
+    gives(&rt, &mut source, usize::MAX, &[1]);
+    gives(&rt, &mut source, usize::MAX, &[]);
+    assert_eq!(rt; source.faults(), 1);
+}
+
+#[test]
+fn reads_nothing_without_a_reader(rt: HostRuntime) {
+    let mut source: ReadSource<File> = ReadSource::new(rt.alloc(), None);
+    fails(&rt, &mut source, 1);
+    fails(&rt, &mut source, 2);
+}
+
+/// Asserts what the next write answers, and how many failed then.
+fn takes<O: Write + Drop>(
+    rt: &impl Abort,
+    sink: &mut WriteSink<O>,
+    piece: &[u8],
+    wanted: Result<usize, StreamError>,
+    faults: u64,
+) {
+    assert_eq!(rt; sink.write(piece), wanted);
+    assert_eq!(rt; sink.faults(), faults);
+}
+
+#[test]
+fn writes_bytes(rt: HostRuntime) {
+    let mut written = Vec::new(rt.alloc());
+    let mut sink = WriteSink::new(&mut written);
+    takes(&rt, &mut sink, &[1, 2], Ok(2), 0);
+    takes(&rt, &mut sink, &[], Ok(0), 0);
+    takes(&rt, &mut sink, &[3], Ok(1), 0);
+    drop(sink);
+    assert_eq!(rt; written.as_slice(), [1, 2, 3].as_slice());
+}
+
+#[test]
+fn writes_on_after_a_fault(rt: HostRuntime) {
+    let mut sink = WriteSink::new(FailsFirst {
+        failed: false,
+        bytes: 1,
+    });
+    takes(&rt, &mut sink, &[1, 2], FAILED, 1);
+    takes(&rt, &mut sink, &[1, 2], Ok(1), 1);
+    takes(&rt, &mut sink, &[], Ok(0), 1);
+}
+
+#[test]
+fn counts_writes_that_take_nothing(rt: HostRuntime) {
+    let mut sink = WriteSink::new(FailsFirst {
+        failed: true,
+        bytes: 0,
+    });
+    takes(&rt, &mut sink, &[1], FAILED, 1);
+    takes(&rt, &mut sink, &[], Ok(0), 1);
+    takes(&rt, &mut sink, &[1, 2], FAILED, 2);
+}

@@ -1,0 +1,113 @@
+//! What real files give, and what is no regular file.
+
+use std::alloc::Global;
+use std::fs;
+use std::fs::File;
+use std::process::Abort;
+use std::rt::Files;
+use std::test::Fail;
+use vx_base::{FileSource, SegmentLocation, SegmentSource, SourceError};
+
+fn place(offset: u64, length: u32) -> SegmentLocation {
+    SegmentLocation {
+        offset,
+        length,
+        alignment: 1,
+    }
+}
+
+/// Asserts that the first poll of a location gives these bytes.
+fn gives(rt: &impl Abort, source: &mut FileSource, at: SegmentLocation, wanted: &[u8]) {
+    let before = source.faults();
+    let ticket = source.request(3, at).expect(rt, "a ticket");
+    match source.poll(ticket) {
+        Ok(Some(bytes)) => assert_eq!(rt; bytes.as_slice(), wanted),
+        _ => panic!(rt; "no bytes"),
+    }
+    assert_eq!(rt; source.faults(), before);
+}
+
+/// Asserts that the first poll of a location fails.
+fn fails(rt: &impl Abort, source: &mut FileSource, at: SegmentLocation, faults: u64) {
+    let ticket = source.request(3, at).expect(rt, "a ticket");
+    assert_eq!(rt; source.poll(ticket).err(), Some(SourceError::Failed));
+    assert_eq!(rt; source.faults(), faults);
+}
+
+fn is_send<T: Send>(_value: &T) {}
+
+#[test]
+fn reads_a_file(rt: HostRuntime) -> Result<(), Fail> {
+    let path = "vx_base_reads_a_file.bytes";
+    fs::write(&rt, path, [10u8, 11, 12, 13, 14, 15].as_slice())?;
+    let mut source = FileSource::new(&rt, rt.alloc(), Some(path))?;
+    is_send(&source);
+    assert!(rt; source.is_open());
+    gives(&rt, &mut source, place(1, 3), &[11, 12, 13]);
+    fails(&rt, &mut source, place(4, 3), 1);
+    gives(&rt, &mut source, place(0, 6), &[10, 11, 12, 13, 14, 15]);
+    gives(&rt, &mut source, place(6, 0), &[]);
+    fails(&rt, &mut source, place(0, u32::MAX), 2);
+    fails(&rt, &mut source, place(u64::MAX, 2), 3);
+    assert_eq!(rt; source.idle(), 0);
+    fs::remove_file(&rt, path)?;
+    Ok(())
+}
+
+#[test]
+fn forgets_its_reads(rt: HostRuntime) -> Result<(), Fail> {
+    let path = "vx_base_forgets_its_reads.bytes";
+    fs::write(&rt, path, [10u8, 11].as_slice())?;
+    let mut source = FileSource::new(&rt, rt.alloc(), Some(path))?;
+    assert_eq!(rt; source.request(0, place(0, 1)), Ok(0));
+    source.clear();
+    assert_eq!(rt; source.request(0, place(1, 1)), Ok(1));
+    assert_eq!(rt; source.faults(), 0);
+    fs::remove_file(&rt, path)?;
+    Ok(())
+}
+
+/// So many bytes, of which each is its place's remainder by 251.
+fn remainders(alloc: Global, count: usize) -> Result<Vec<u8>, Fail> {
+    let mut bytes = Vec::new(alloc);
+    for place in 0..count {
+        bytes.push((place % 251) as u8)?;
+    }
+    Ok(bytes)
+}
+
+#[test]
+fn reads_behind_64_kib(rt: HostRuntime) -> Result<(), Fail> {
+    let path = "vx_base_reads_behind_64_kib.bytes";
+    let bytes = remainders(rt.alloc(), 70000)?;
+    fs::write(&rt, path, bytes.as_slice())?;
+    let mut source = FileSource::new(&rt, rt.alloc(), Some(path))?;
+    gives(&rt, &mut source, place(65530, 8), &[19, 20, 21, 22, 23, 24, 25, 26]);
+    gives(&rt, &mut source, place(69996, 4), &[218, 219, 220, 221]);
+    fails(&rt, &mut source, place(69996, 5), 1);
+    fs::remove_file(&rt, path)?;
+    Ok(())
+}
+
+/// Asserts that there is no file to read, so that each request fails, of however many bytes.
+fn refuses<R: Files<File = File> + Abort>(rt: &R, alloc: Global, path: Option<&str>) {
+    let mut source = FileSource::new(rt, alloc, path).expect(rt, "memory");
+    assert!(rt; !source.is_open());
+    assert_eq!(rt; source.request(0, place(0, 4294967295)), Err(SourceError::Failed));
+    assert_eq!(rt; source.faults(), 1);
+    assert_eq!(rt; source.request(0, place(0, 0)), Err(SourceError::Failed));
+    assert_eq!(rt; source.faults(), 2);
+}
+
+#[test]
+fn refuses_what_is_no_regular_file(rt: HostRuntime) -> Result<(), Fail> {
+    let path = "vx_base_refuses.bytes";
+    fs::write(&rt, path, [10u8].as_slice())?;
+    refuses(&rt, rt.alloc(), None);
+    refuses(&rt, rt.alloc(), Some("vx_base_no_such_file.bytes"));
+    refuses(&rt, rt.alloc(), Some("."));
+    refuses(&rt, rt.alloc(), Some("/dev/null"));
+    refuses(&rt, rt.alloc(), Some("vx_base_refuses.bytes/inside"));
+    fs::remove_file(&rt, path)?;
+    Ok(())
+}
