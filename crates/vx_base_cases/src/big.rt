@@ -50,11 +50,10 @@ fn parts_of(alloc: Global, count: u64) -> Result<Vec<Column>>
     ensures { IfOk result (λ parts. AllByRecursion (λ part. part.dtype ≡ utf8_type Nullable) parts.items) }
 {
     let mut parts = Vec::new(alloc);
-    let mut row: u64 = 0;
-    for _ in 0..count {
-        let next = row.saturating_add(2);
-        parts.push(texts_of(alloc, row, next)?)?;
-        row = next;
+    for part in 0..count {
+        let row = part.saturating_mul(2);
+        let texts = texts_of(alloc, row, row.saturating_add(2))?;
+        parts.push(texts)?;
     }
     Ok(parts)
 }
