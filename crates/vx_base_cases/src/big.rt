@@ -1,10 +1,11 @@
 //! Columns of many rows, which are built here and told by their count and their last row.
 
-ghost use Rattle.std.specs.Prelude.{◌≡◌, IfOk};
+ghost use Rattle.std.specs.Prelude.{◌≡◌, IfOk, IsTrue, map};
 ghost use Rattle.std.specs.List.{AllByRecursion};
 ghost use Rattle.vx_base.specs.Data.{utf8_type};
 ghost use Rattle.vx_base.specs.declared.dtypes.Nullability.TheVariants.{Nullable};
-ghost use Rattle.vx_base.specs.Views.{data_type};
+ghost use Rattle.vx_base.specs.Segment.{IsShort};
+ghost use Rattle.vx_base.specs.ValueViews.{datum};
 
 use crate::built::texts_or_nulls;
 use crate::fields::number_of;
@@ -67,9 +68,34 @@ fn joined(alloc: Global, count: u64) -> Result<String> {
     told(alloc, &column)
 }
 
+/// Whether the value's text, if it is one, has a length that a segment can hold.
+fn is_short(value: &Value) -> bool
+    ensures { IsTrue result → IsShort (datum value.now) }
+{
+    match value {
+        Value::Text(text) => text.as_str().len() < 4294967296,
+        _ => true,
+    }
+}
+
+/// Whether each value's text has such a length.
+fn are_short(values: &[Value]) -> bool
+    ensures { IsTrue result → AllByRecursion IsShort (map datum values.now) }
+{
+    for (row, value) in values.iter().enumerate() {
+        if !is_short(value) {
+            return false;
+        }
+    }
+    true
+}
+
 /// The column that is read from what that many rows are written as.
 fn coded(alloc: Global, count: u64) -> Result<String> {
     let column = texts_of(alloc, 0, count)?;
+    if !are_short(column.values()) {
+        return Err(Error::msg("short texts"));
+    }
     let bytes = encode(alloc, &column)?;
     let read = decode(alloc, &texts_or_nulls(), count, bytes.as_slice())?;
     if !read.same(&column) {

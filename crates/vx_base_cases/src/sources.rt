@@ -95,7 +95,7 @@ pub(crate) fn of_memory(
     match command {
         "memory" => {
             desk.memory = MemorySource::new(alloc, bytes_of(alloc, rest)?);
-            Ok(String::from_str(alloc, "made")?)
+            Ok(String::new(alloc))
         }
         "fetch" => fetch(alloc, &mut desk.memory, rest),
         "forget" => forget(alloc, &mut desk.memory, rest),
@@ -117,13 +117,13 @@ pub(crate) fn of_scripts(
         "script" => {
             let script = script_of(alloc, rest)?;
             desk.script = ScriptSource::new(alloc, bytes_of(alloc, "0a 0b 0c 0d 0e 0f")?, script);
-            Ok(String::from_str(alloc, "made")?)
+            Ok(String::new(alloc))
         }
         "request" => request(alloc, &mut desk.script, rest),
         "poll" => poll(alloc, &mut desk.script, rest),
         "clear" => {
             desk.script.clear();
-            Ok(String::from_str(alloc, "cleared")?)
+            Ok(String::new(alloc))
         }
         "counts" => {
             let script = &desk.script;

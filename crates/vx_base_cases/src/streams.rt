@@ -51,13 +51,13 @@ pub(crate) fn of_streams(
             let piece = size_of(piece)?;
             let bytes = bytes_of(alloc, bytes)?;
             desk.stream = BytesSource::new(alloc, bytes, piece, numbers_of(alloc, fails)?);
-            Ok(String::from_str(alloc, "made")?)
+            Ok(String::new(alloc))
         }
         "sink" => {
             let (piece, fails) = two(rest)?;
             let piece = size_of(piece)?;
             desk.sink = BytesSink::new(alloc, piece, numbers_of(alloc, fails)?);
-            Ok(String::from_str(alloc, "made")?)
+            Ok(String::new(alloc))
         }
         "next" => next(alloc, &mut desk.stream, rest),
         "put" => put(alloc, &mut desk.sink, rest),

@@ -82,7 +82,12 @@ fn reads_behind_64_kib(rt: HostRuntime) -> Result<(), Fail> {
     let bytes = remainders(rt.alloc(), 70000)?;
     fs::write(&rt, path, bytes.as_slice())?;
     let mut source = FileSource::new(&rt, rt.alloc(), Some(path))?;
-    gives(&rt, &mut source, place(65530, 8), &[19, 20, 21, 22, 23, 24, 25, 26]);
+    gives(
+        &rt,
+        &mut source,
+        place(65530, 8),
+        &[19, 20, 21, 22, 23, 24, 25, 26],
+    );
     gives(&rt, &mut source, place(69996, 4), &[218, 219, 220, 221]);
     fails(&rt, &mut source, place(69996, 5), 1);
     fs::remove_file(&rt, path)?;
@@ -93,7 +98,10 @@ fn reads_behind_64_kib(rt: HostRuntime) -> Result<(), Fail> {
 fn refuses<R: Files<File = File> + Abort>(rt: &R, alloc: Global, path: Option<&str>) {
     let mut source = FileSource::new(rt, alloc, path).expect(rt, "memory");
     assert!(rt; !source.is_open());
-    assert_eq!(rt; source.request(0, place(0, 4294967295)), Err(SourceError::Failed));
+    assert_eq!(rt;
+        source.request(0, place(0, 4294967295)),
+        Err(SourceError::Failed)
+    );
     assert_eq!(rt; source.faults(), 1);
     assert_eq!(rt; source.request(0, place(0, 0)), Err(SourceError::Failed));
     assert_eq!(rt; source.faults(), 2);
