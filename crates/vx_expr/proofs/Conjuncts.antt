@@ -16,10 +16,6 @@ use Rattle.vx_expr.specs.Types.{on_both, logic_type}
 pub range_next : (n : ℕ) → range_with_len 0 n ++ n ∷ [] ≡ range_with_len 0 (n + 1)
 range_next n = sym (simp map-id at (map-range_with_len_more (λ (x : ℕ). x) 0 n n (omega arith)))
 
--- one element more of which P holds
-pub all_pushed : {X : Type 0} (P : X → Type 0) (xs : List X) (x : X) → AllByRecursion P xs → P x → AllByRecursion P (xs ++ x ∷ [])
-all_pushed P xs x all one = recursion_from_All P (xs ++ x ∷ []) (All-push P xs x (All-from_recursion P xs all) one)
-
 -- the parts of a conjunction of truth values are truth values
 logic_parts : (s t : DataType) → IsSomeAnd (logic_type s t) IsBool → IsBool s × IsBool t
 logic_parts (bool_type n) (bool_type m) h = (tt, tt)

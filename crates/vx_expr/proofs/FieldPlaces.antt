@@ -9,6 +9,7 @@ use Rattle.vx_base.specs.Views.{FieldData, fields_in}
 use Rattle.vx_base.specs.ValueViews.{data_in}
 use Rattle.vx_expr.specs.Meaning.{item_in, field_of}
 use Rattle.vx_expr.specs.Steps.{item_at}
+use Rattle.vx_expr.proofs.MemberTypes.{a_type}
 
 -- the place of the first field of that name
 abbrev pub place_of : List ℕ → Members → Option ℕ
@@ -62,9 +63,6 @@ field_here ms n name place (structure vs) e = at_place place vs ∙ ap (item_the
 -- the item at that place is the field
 pub field_at : (t : Option DataType) (ms : Members) (n : Nullability) (name written : List ℕ) (place : Option ℕ) → t ≡ Some (struct_type ms n) → written ≡ name → place ≡ place_of written ms → (v : Datum) → item_at place v ≡ field_of t name v
 field_at t ms n name written place is same e v = field_here ms n name place v (e ∙ ap (λ (bytes : List ℕ). place_of bytes ms) same) ∙ ap (λ (s : Option DataType). field_of s name v) (sym is)
-
-abbrev a_type : DataType → Option DataType
-a_type t = Some t
 
 -- the dtype that was found is the one that was looked at
 pub found_type : (found : Option DataType) (given looked written : DataType) → found ≡ a_type given → looked ≡ given → looked ≡ written → found ≡ Some written

@@ -19,7 +19,8 @@ use Rattle.vx_expr.specs.Meaning.{meaning, meanings_in, item_in, field_of, negat
 use Rattle.vx_expr.specs.Mentions.{mentions_in, uses_root}
 use Rattle.vx_expr.specs.Terms.{Term, root, literal, get_field, pack, negation, conjunction, disjunction, comparison, null_test, value_test, arithmetic, row_number, bound_test, Terms, no_terms, named}
 use Rattle.vx_expr.specs.Types.{on_both, either_nullable, is_kind, type_in, field_type, are_distinct, negation_type, logic_type, comparison_type, arithmetic_type, test_type, bound_test_type, one_more_member, names_in, type_of, types_in}
-use Rattle.vx_expr.proofs.LeafFits.{leaf_fits, le_from}
+use Rattle.vx_base.proofs.BuiltRows.{fits_where}
+use Rattle.vx_base.proofs.Spelled.{leaf_fits, le_from}
 
 -- ---- values of a dtype, case by case
 abbrev bool_cases : (P : Datum → Type 0) (n : Nullability) (v : Datum) → Fits (bool_type n) v → (TakesNull n → P null) → ((b : Bool) → P (truth b)) → P v
@@ -78,30 +79,6 @@ literal_fits : (b : Bool) (w : Datum) (t s : DataType) → fits_leaf t w ≡ b �
 literal_fits true w t s p e = subst (λ (x : DataType). Fits x w) (found t s e) (leaf_fits t w p)
 literal_fits false w t s p e = absurd cc
 
-nullable_fits : (n : Nullability) (t : DataType) (w : Datum) → Fits t w → Fits (nullable_where n t) w
-nullable_fits NonNullable t w h = h
-nullable_fits Nullable (bool_type m) w h = bool_cases (Fits (bool_type Nullable)) m w h (λ k. tt) (λ b. tt)
-nullable_fits Nullable (int_type kind m) null h = tt
-nullable_fits Nullable (int_type kind m) (truth b) h = absurd h
-nullable_fits Nullable (int_type kind m) (number z) h = h
-nullable_fits Nullable (int_type kind m) (text bytes) h = absurd h
-nullable_fits Nullable (int_type kind m) (structure vs) h = absurd h
-nullable_fits Nullable (utf8_type m) null h = tt
-nullable_fits Nullable (utf8_type m) (truth b) h = absurd h
-nullable_fits Nullable (utf8_type m) (number z) h = absurd h
-nullable_fits Nullable (utf8_type m) (text bytes) h = h
-nullable_fits Nullable (utf8_type m) (structure vs) h = absurd h
-nullable_fits Nullable (struct_type ms m) null h = tt
-nullable_fits Nullable (struct_type ms m) (truth b) h = absurd h
-nullable_fits Nullable (struct_type ms m) (number z) h = absurd h
-nullable_fits Nullable (struct_type ms m) (text bytes) h = absurd h
-nullable_fits Nullable (struct_type ms m) (structure vs) h = h
-nullable_fits Nullable (list_type t m) null h = tt
-nullable_fits Nullable (list_type t m) (truth b) h = absurd h
-nullable_fits Nullable (list_type t m) (number z) h = absurd h
-nullable_fits Nullable (list_type t m) (text bytes) h = absurd h
-nullable_fits Nullable (list_type t m) (structure vs) h = absurd h
-
 -- the item that is found fits the member that is found
 item_fits : (ms : Members) (name : List ℕ) (vs : Items) (x : DataType) → EachFits ms vs → type_in ms name ≡ Some x → IfSome (item_in ms name vs) (Fits x)
 item_fits no_members name vs x h e = tt
@@ -124,7 +101,7 @@ field_null Nullable (Some (list_type t m)) s e h = subst (λ (x : DataType). Fit
 found_field : (n : Nullability) (o : Option DataType) (s : DataType) (m : Option Datum) → option_map (nullable_where n) o ≡ Some s → ((x : DataType) → o ≡ Some x → IfSome m (Fits x)) → IfSome m (Fits s)
 found_field n None s m e h = absurd cc
 found_field n (Some x) s None e h = tt
-found_field n (Some x) s (Some w) e h = subst (λ (y : DataType). Fits y w) (found (nullable_where n x) s e) (nullable_fits n x w (h x refl))
+found_field n (Some x) s (Some w) e h = subst (λ (y : DataType). Fits y w) (found (nullable_where n x) s e) (fits_where n x w (h x refl))
 
 field_step : (name : List ℕ) (s x : DataType) → field_type name x ≡ Some s → (w : Datum) → Fits x w → IfSome (field_of (Some x) name w) (Fits s)
 field_step name s (bool_type n) e w h = absurd cc

@@ -7,11 +7,8 @@ use Rattle.vx_base.specs.declared.dtypes.IntKind.{IntKind}
 use Rattle.vx_base.specs.declared.dtypes.IntKind.TheVariants.{U8, U16, U32, U64, I8, I16, I32, I64}
 use Rattle.vx_base.specs.Data.{number}
 use Rattle.vx_base.specs.Fits.{least_of, greatest_of}
+use Rattle.vx_base.proofs.Spelled.{le_from}
 use Rattle.vx_expr.specs.Meaning.{if_inside}
-
--- what the test of an order answers
-le_of : (a b : ℤ) → int_le a b ≡ true → a ≤ℤ b
-le_of a b h = grind (arith, ints)
 
 -- what lies inside a kind fits in 128 bits
 fits_128 : (kind : IntKind) (z : ℤ) → least_of kind ≤ℤ z → z ≤ℤ greatest_of kind → FitsSigned w128 z
@@ -39,5 +36,5 @@ neither z true true h = absurd (h refl refl)
 
 -- what does not fit in 128 bits lies inside no kind
 pub inside_same : (z : ℤ) (r : Option ℤ) (kind : IntKind) → SomeIff r (FitsSigned w128 z) z → option_and_then (if_inside kind) r ≡ if_inside kind z
-inside_same z None kind h = neither z (int_le (least_of kind) z) (int_le z (greatest_of kind)) (λ p q. h (fits_128 kind z (le_of (least_of kind) z p) (le_of z (greatest_of kind) q)))
+inside_same z None kind h = neither z (int_le (least_of kind) z) (int_le z (greatest_of kind)) (λ p q. h (fits_128 kind z (le_from (least_of kind) z p) (le_from z (greatest_of kind) q)))
 inside_same z (Some x) kind h = ap (if_inside kind) h.1

@@ -9,7 +9,7 @@ pub mod FittingMeaning
 pub mod FoundNames
 pub mod Fronts
 pub mod Inside
-pub mod LeafFits
+pub mod LiteralTypes
 pub mod MemberTypes
 pub mod PairTexts
 pub mod Pairs

@@ -7,7 +7,7 @@ use Rattle.vx_base.specs.Data.{DataType, Members, no_members, member}
 use Rattle.vx_base.specs.Views.{FieldData, fields_in}
 use Rattle.vx_expr.specs.Types.{type_in}
 
-abbrev a_type : DataType → Option DataType
+abbrev pub a_type : DataType → Option DataType
 a_type t = Some t
 
 abbrev a_field : FieldData → Option FieldData

@@ -18,6 +18,8 @@ use Rattle.vx_expr.specs.Terms.{Term, pack, Terms, no_terms, named}
 use Rattle.vx_expr.specs.TermViews.{term, terms_of}
 use Rattle.vx_expr.specs.Types.{on_both, type_of, types_in, one_more_member, names_in, pack_type}
 use Rattle.vx_expr.specs.Typing.{pair_type, GivesOr, GivesType, GivesPack}
+use Rattle.vx_expr.proofs.MemberTypes.{a_type}
+use Rattle.vx_expr.proofs.Pairs.{left_next}
 
 -- the refusal of a part is that of the whole, where both find nothing and give the same reason
 refused_too : {A B : Type 0} (error : BindError) (found : Option A) (whole : Option B) (part all : BindError) → (found ≡ None → whole ≡ None) → (found ≡ None → part ≡ all) → IsRefusal error found part → IsRefusal error whole all
@@ -27,18 +29,6 @@ refused_too (NoField name) found whole part all f g h = (f h.0, sym (g h.0) ∙ 
 refused_too (TypeMismatch place) found whole part all f g h = (f h.0, sym (g h.0) ∙ h.1)
 
 -- ---- pairs
-abbrev pub a_type : DataType → Option DataType
-a_type t = Some t
-
-none_left : (f : DataType → DataType → Option DataType) (x y : Option DataType) → x ≡ None → on_both f x y ≡ None
-none_left f x y e = ap (λ (o : Option DataType). on_both f o y) e
-
-none_right : (f : DataType → DataType → Option DataType) (x y : Option DataType) (s : DataType) → x ≡ Some s → y ≡ None → on_both f x y ≡ None
-none_right f x y s d e = ap (λ (o : Option DataType). on_both f o y) d ∙ ap (λ (o : Option DataType). on_both f (Some s) o) e
-
-first_refuses : (x : Option DataType) (part rest : BindError) → x ≡ None → part ≡ unless x part rest
-first_refuses x part rest e = sym (ap (λ (o : Option DataType). unless o part rest) e)
-
 first_passes : (x : Option DataType) (part rest : BindError) (s : DataType) → x ≡ Some s → rest ≡ unless x part rest
 first_passes x part rest s e = sym (ap (λ (o : Option DataType). unless o part rest) e)
 
@@ -123,12 +113,6 @@ pub followed_by_none : (fields : List Field) → followed_by fields no_members �
 followed_by_none [] = refl
 followed_by_none (field ∷ fields) = ap (member field.name (data_type field.dtype)) (followed_by_none fields)
 
--- an expression has no more parts than all of them together
-pub count_at : (items : List (List ℕ × Expr)) (i : ℕ) (item : List ℕ × Expr) → i < length items → item ≡ get_or items i item → node_count (term item.1) ≤ nodes_in (terms_of items)
-count_at [] i item lt e = absurd (omega arith)
-count_at (one ∷ items) zero item lt e = omega (arith, ap (λ (p : List ℕ × Expr). node_count (term p.1)) e)
-count_at (one ∷ items) (suc i) item lt e = omega (arith, count_at items i item (omega arith) e)
-
 -- How far the loop has come: what the rest gives is what all of them give.
 pub record SoFar (t : DataType) (all rest : Terms) (fields : List Field) (start next : ℕ) : Type 0 where
   pub types : (ms : Members) → types_in t rest ≡ Some ms → types_in t all ≡ Some (followed_by fields ms)
@@ -155,16 +139,13 @@ so_far_more t all rest fields start next after name e field d is step h = record
   count = moved next (capped (start + nodes_in all)) after (node_count e) (nodes_in rest) step h.count;
 }
 
-terms_next : (items : List (List ℕ × Expr)) (i : ℕ) (item : List ℕ × Expr) → i < length items → item ≡ get_or items i item → terms_of (drop i items) ≡ named item.0 (term item.1) (terms_of (drop (i + 1) items))
-terms_next items i item lt is = ap terms_of (drop_more items i item lt) ∙ ap (λ (u : List ℕ × Expr). named u.0 (term u.1) (terms_of (drop (i + 1) items))) (sym is)
-
 pub so_far_next : (t : DataType) (items : List (List ℕ × Expr)) (i : ℕ) (item : List ℕ × Expr) (fields more : List Field) (start next after : ℕ) (field : Field) → i < length items → item ≡ get_or items i item
     → type_of t (term item.1) ≡ Some (data_type field.dtype) → field.name ≡ item.0 → after ≡ behind next (term item.1) → more ≡ fields ++ field ∷ []
     → SoFar t (terms_of items) (terms_of (drop i items)) fields start next → SoFar t (terms_of items) (terms_of (drop (i + 1) items)) more start after
 so_far_next t items i item fields more start next after field lt is d name step put h =
     subst (λ (fs : List Field). SoFar t (terms_of items) (terms_of (drop (i + 1) items)) fs start after) (sym put)
     (so_far_more t (terms_of items) (terms_of (drop (i + 1) items)) fields start next after item.0 (term item.1) field d name step
-    (subst (λ (es : Terms). SoFar t (terms_of items) es fields start next) (terms_next items i item lt is) h))
+    (subst (λ (es : Terms). SoFar t (terms_of items) es fields start next) (left_next items i item lt is) h))
 
 -- the dtypes of all of them
 pub all_typed : (t : DataType) (items : List (List ℕ × Expr)) (self : Terms) (i : ℕ) (fields : List Field) (start next : ℕ) → terms_of items ≡ self → length items ≤ i → SoFar t (terms_of items) (terms_of (drop i items)) fields start next → types_in t self ≡ Some (members_of fields)

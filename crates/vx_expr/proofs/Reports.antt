@@ -1,5 +1,5 @@
 -- Lemmas on the reports of a filter's conjuncts.
-use Rattle.std.proofs.Common.{◌≡◌, ℕ, ◌+◌, ◌<◌, ◌≤◌, ◌≢◌, zero, suc, List, [], ◌∷◌, map, length, get_or, set, drop, refl, sym, ap, ◌∙◌, arith, true, false, ◌&&◌, subst, eqb, Result, Ok, Err, Bor}
+use Rattle.std.proofs.Common.{◌≡◌, ℕ, ◌+◌, ◌-◌, ◌^◌, ◌<◌, ◌≤◌, ◌≢◌, zero, suc, List, [], ◌∷◌, map, length, get_or, set, drop, refl, sym, ap, ◌∙◌, arith, true, false, ◌&&◌, subst, eqb, Result, Ok, Err, Bor}
 use Rattle.std.specs.Prelude.{IsPermutation, OnOk, insert, slice_get, slice_set, nat_lt}
 use Rattle.std.specs.List.{AllByRecursion, remove, range_with_len}
 use Rattle.std.specs.List.Sorted.{IsNonDecreasing, IsBinarySearchResult, IsSortedByKeyClosure, IsStableByKeyClosure}
@@ -12,7 +12,7 @@ use Rattle.std.proofs.lemmas.List.{drop_more, map-set, get_or-map, length-map, g
 use Rattle.std.proofs.lemmas.List.Elements.{All-from_recursion, recursion_from_All, All-set}
 use Rattle.std.proofs.lemmas.List.Sorted.{searched, IsNonDecreasingBy-insert, IsPermutation-insert, IsPermutation-trans}
 use Rattle.vx_expr.specs.Bound.{Bound}
-use Rattle.vx_expr.specs.Filters.{IsStablySorted, FilterData, IsFilter, AddsReport, IsReordered, TakesReport, most_reports, reports_of, are_reported, quantile_of}
+use Rattle.vx_expr.specs.Filters.{IsStablySorted, FilterData, IsFilter, AddsReport, IsReordered, TakesReport, reports_of, are_reported, quantile_of}
 
 -- a number beside its equal keeps the order
 pub found_insert : (xs : List ℕ) (x i : ℕ) → IsNonDecreasing xs → IsBinarySearchResult (λ y. nat_cmp y x) xs (Ok i) → IsNonDecreasing (insert xs i x)
@@ -114,9 +114,9 @@ adds_report old conjunct permille place new within same is up ordered =
     }
 
 -- a conjunct that has fewer reports than the most takes one
-pub takes_report : (old : FilterData) (conjunct permille count : ℕ) (new : FilterData) → count ≡ length (reports_of old.reports conjunct) → count ≢ most_reports → AddsReport old conjunct permille new → TakesReport old conjunct permille new
+pub takes_report : (old : FilterData) (conjunct permille count : ℕ) (new : FilterData) → count ≡ length (reports_of old.reports conjunct) → count ≢ 2 ^ 64 - 1 → AddsReport old conjunct permille new → TakesReport old conjunct permille new
 takes_report old conjunct permille count new is fewer adds =
-    let fails : eqb (length (reports_of old.reports conjunct)) most_reports ≡ false = ne_eqb (length (reports_of old.reports conjunct)) most_reports (λ e. fewer (is ∙ e)) in
+    let fails : eqb (length (reports_of old.reports conjunct)) (2 ^ 64 - 1) ≡ false = ne_eqb (length (reports_of old.reports conjunct)) (2 ^ 64 - 1) (λ e. fewer (is ∙ e)) in
     rw fails adds
 
 -- taking back what was inserted
@@ -133,7 +133,7 @@ taken_back reports conjunct permille place more less within le is taken =
     rw (taken, gone, is) (set-set reports conjunct (insert (reports_of reports conjunct) place permille) (reports_of reports conjunct) ∙ set-get_or reports conjunct [])
 
 -- a filter takes a report of a conjunct
-pub takes_one : {X : Type 0} (f : X → List ℕ) (conjuncts : List Bound) (items more : List X) (ordering next : List ℕ) (conjunct permille place count : ℕ) (x : X) → conjunct < length conjuncts → length (map f items) ≡ length conjuncts → x ≡ get_or items conjunct x → count ≡ length (f x) → count ≢ most_reports → map f more ≡ slice_set (map f items) conjunct (insert (reports_of (map f items) conjunct) place permille) → AllByRecursion IsNonDecreasing (map f more) → IsReordered (map f more) ordering next → TakesReport (record { conjuncts = conjuncts; reports = map f items; ordering = ordering }) conjunct permille (record { conjuncts = conjuncts; reports = map f more; ordering = next })
+pub takes_one : {X : Type 0} (f : X → List ℕ) (conjuncts : List Bound) (items more : List X) (ordering next : List ℕ) (conjunct permille place count : ℕ) (x : X) → conjunct < length conjuncts → length (map f items) ≡ length conjuncts → x ≡ get_or items conjunct x → count ≡ length (f x) → count ≢ 2 ^ 64 - 1 → map f more ≡ slice_set (map f items) conjunct (insert (reports_of (map f items) conjunct) place permille) → AllByRecursion IsNonDecreasing (map f more) → IsReordered (map f more) ordering next → TakesReport (record { conjuncts = conjuncts; reports = map f items; ordering = ordering }) conjunct permille (record { conjuncts = conjuncts; reports = map f more; ordering = next })
 takes_one f conjuncts items more ordering next conjunct permille place count x within same is counted fewer added up ordered =
     let old : FilterData = record { conjuncts = conjuncts; reports = map f items; ordering = ordering } in
     let new : FilterData = record { conjuncts = conjuncts; reports = map f more; ordering = next } in

@@ -57,7 +57,7 @@ arith_back Div = refl
 arith_same : (a b : ArithOp) → number_of_arith a ≡ number_of_arith b → a ≡ b
 arith_same a b e = sym (arith_back a) ∙ ap arith_at e ∙ arith_back b
 
-abbrev coded_name : Coded (List ℕ)
+abbrev pub coded_name : Coded (List ℕ)
 coded_name = coded_list coded_ℕ
 
 -- the two parts of a form's number

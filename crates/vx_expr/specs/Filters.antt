@@ -1,8 +1,8 @@
 -- Filters: the conjuncts of a truth-valued expression, what was reported of them, and in which order they
 -- are tried.
 use Rattle.std.proofs.Common.{◌≡◌, ℕ, List}
-use base.Stored.{Gv, gcons, Coded, coded_ℕ, coded_list}
-use Rattle.std.specs.Prelude.{◌-◌, ◌/◌, ◌==◌, ◌≢◌, nat_lt, Bool, [], ◌∷◌, ◌++◌, length, slice_get, slice_index_or, IsPermutation, MatchBool, IsSomeAnd}
+use base.Stored.{Gv, gcons, Coded, coded_list}
+use Rattle.std.specs.Prelude.{◌-◌, ◌/◌, ◌^◌, ◌==◌, ◌≢◌, nat_lt, Bool, [], ◌∷◌, ◌++◌, length, slice_get, slice_index_or, IsPermutation, MatchBool, IsSomeAnd}
 use Rattle.std.specs.List.{AllByRecursion, list_all, range_with_len}
 use Rattle.std.specs.List.Sorted.{IsSortedByKey, IsStableByKey, IsNonDecreasing}
 use Rattle.std.specs.Ordering.{nat_cmp}
@@ -10,6 +10,7 @@ use Rattle.vx_base.specs.ColumnCalls.{IsBool}
 use Rattle.vx_base.specs.Data.{DataType}
 use Rattle.vx_expr.specs.Types.{type_of}
 use Rattle.vx_expr.specs.Bound.{Bound, coded_bound}
+use Rattle.vx_expr.specs.Codes.{coded_name}
 use Rattle.vx_expr.specs.Terms.{Term, conjunction}
 
 -- the parts of conjunctions, from left to right
@@ -72,30 +73,24 @@ pub record AddsReport (old : FilterData) (conjunct permille : ℕ) (new : Filter
   pub ordered : IsReordered new.reports old.ordering new.ordering
 
 -- a conjunct that has as many reports as a number of 64 bits counts takes no more
-abbrev pub most_reports : ℕ
-most_reports = 18446744073709551615
-
 abbrev pub TakesReport : FilterData → ℕ → ℕ → FilterData → Type 0
-TakesReport old conjunct permille new = MatchBool (length (reports_of old.reports conjunct) == most_reports) (new ≡ old) (AddsReport old conjunct permille new)
+TakesReport old conjunct permille new = MatchBool (length (reports_of old.reports conjunct) == 2 ^ 64 - 1) (new ≡ old) (AddsReport old conjunct permille new)
 
 -- ---- as a tree of numbers
 abbrev coded_conjuncts : Coded (List Bound)
 coded_conjuncts = coded_list coded_bound
 
-abbrev coded_numbers : Coded (List ℕ)
-coded_numbers = coded_list coded_ℕ
-
 abbrev coded_reports : Coded (List (List ℕ))
-coded_reports = coded_list coded_numbers
+coded_reports = coded_list coded_name
 
 abbrev code_filter : FilterData → Gv
-code_filter a = gcons (coded_conjuncts.code a.conjuncts) (gcons (coded_reports.code a.reports) (coded_numbers.code a.ordering))
+code_filter a = gcons (coded_conjuncts.code a.conjuncts) (gcons (coded_reports.code a.reports) (coded_name.code a.ordering))
 
 pub filter_same : (a b : FilterData) → code_filter a ≡ code_filter b → a ≡ b
 filter_same a b e =
     let p : a.conjuncts ≡ b.conjuncts = coded_conjuncts.inj a.conjuncts b.conjuncts cc in
     let q : a.reports ≡ b.reports = coded_reports.inj a.reports b.reports cc in
-    let r : a.ordering ≡ b.ordering = coded_numbers.inj a.ordering b.ordering cc in
+    let r : a.ordering ≡ b.ordering = coded_name.inj a.ordering b.ordering cc in
     λ i. record { conjuncts = p i; reports = q i; ordering = r i }
 
 abbrev pub coded_filter : Coded FilterData

@@ -1,4 +1,5 @@
 pub mod Laws
+pub mod ByHand
 pub mod Filters
 pub mod Typing
 pub mod TermText

@@ -90,8 +90,8 @@ abbrev mutual
   -- each name, a colon, a space and the part, with a comma and a space between two of them
   pub terms_text : Terms → List ℕ
   terms_text no_terms = []
-  terms_text (named name e es) = name ++ (codes ": " ++ (term_text e ++ more_text es))
+  terms_text (named name e es) = name ++ (codes ": " ++ (term_text e ++ more_terms es))
 
-  pub more_text : Terms → List ℕ
-  more_text no_terms = []
-  more_text (named name e es) = codes ", " ++ (name ++ (codes ": " ++ (term_text e ++ more_text es)))
+  pub more_terms : Terms → List ℕ
+  more_terms no_terms = []
+  more_terms (named name e es) = codes ", " ++ (name ++ (codes ": " ++ (term_text e ++ more_terms es)))

@@ -11,7 +11,7 @@ use vx_base::Text;
 #[derive(Debug, Drop, Error)]
 pub enum BindError {
     /// A struct has no field of this name.
-    #[error("there is no such field")]
+    #[error("there is no field \"{}\"", .0.as_str())]
     NoField(Text),
     /// The part of this number, counted from 0 with the whole before its parts, breaks the rule of its
     /// form: an operand has another dtype, a literal's value doesn't fit a leaf dtype, or two names of a

@@ -5,12 +5,14 @@
 //! - Binding: [`bind`] with [`BindError`], and [`BoundExpression`].
 //! - Meaning row by row: [`apply`] with [`ApplyError`].
 //! - Filters: [`FilterExpr`].
-//! - The laws: [`meaning_fits`], [`strict_is_null`], [`conjuncts_tell`], [`rewriting_keeps`].
+//! - The laws: [`meaning_fits`], [`strict_is_null`], [`conjuncts_tell`], [`rewriting_keeps`] and
+//!   [`expressions_by_hand`].
 #![tactic(auto)]
 
 mod applying;
 mod binding;
 mod bound_expressions;
+mod by_hand;
 mod cells;
 mod constructors;
 mod depths;
@@ -29,26 +31,8 @@ mod typing;
 pub use applying::{ApplyError, apply};
 pub use binding::BindError;
 pub use bound_expressions::{BoundExpression, bind};
+pub use by_hand::expressions_by_hand;
 pub use expressions::{Expr, NamedExprs, Operand};
 pub use filters::FilterExpr;
 pub use laws::{conjuncts_tell, meaning_fits, rewriting_keeps, strict_is_null};
 pub use operators::{ArithOp, CompareOp};
-
-#[cfg(test)]
-mod apply_tests;
-#[cfg(test)]
-mod bind_tests;
-#[cfg(test)]
-mod filter_tests;
-#[cfg(test)]
-mod fixture_tests;
-#[cfg(test)]
-mod form_tests;
-#[cfg(test)]
-mod meaning_tests;
-#[cfg(test)]
-mod number_tests;
-#[cfg(test)]
-mod text_tests;
-#[cfg(test)]
-mod worth_tests;

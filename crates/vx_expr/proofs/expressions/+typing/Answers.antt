@@ -3,7 +3,9 @@ use Rattle.vx_base.specs.Views.{data_type}
 use Rattle.vx_expr.specs.Counts.{nodes_in}
 use Rattle.vx_expr.specs.TermViews.{terms_of}
 use Rattle.vx_expr.specs.Typing.{typed_data}
-use Rattle.vx_expr.proofs.Refused.{a_type, some_members, pack_answer, pair_answer, so_far_start, so_far_next, all_typed, all_counted, count_at}
+use Rattle.vx_expr.proofs.Refused.{some_members, pack_answer, pair_answer, so_far_start, so_far_next, all_typed, all_counted}
+use Rattle.vx_expr.proofs.MemberTypes.{a_type}
+use Rattle.vx_expr.proofs.Pairs.{nodes_at}
 use Rattle.vx_expr.proofs.expressions.+typing.Goals as goal
 
 pub Expr::typed-returns-in-Ok-clause-given : goal.Expr::typed-returns-in-Ok-clause-given
@@ -16,7 +18,7 @@ pub NamedExprs::fields-loop-item-init : goal.NamedExprs::fields-loop-item-init
 NamedExprs::fields-loop-item-init t c = so_far_start (data_type c.args.root.now) c.items-items.result.now c.in_ok-fields.fields.items c.args.next.now c.in_ok-fields.ensures.items
 
 pub NamedExprs::fields-typed-requires : goal.NamedExprs::fields-typed-requires
-NamedExprs::fields-typed-requires t c = (omega (arith, count_at c.items-items.result.now c.loop-item.item-index c.item-item.result c.loop-item-test.true c.item-item.is, ap nodes_in c.items-items.ensures), tt)
+NamedExprs::fields-typed-requires t c = (omega (arith, nodes_at c.items-items.result.now c.loop-item.item-index c.item-item.result c.loop-item-test.true c.item-item.is, ap nodes_in c.items-items.ensures), tt)
 
 pub NamedExprs::fields-loop-item-preserved : goal.NamedExprs::fields-loop-item-preserved
 NamedExprs::fields-loop-item-preserved t c = so_far_next (data_type c.args.root.now) c.items-items.result.now c.loop-item.item-index c.item-item.result c.loop-item.fields.items c.push.new.self.items c.args.next.now c.loop-item.next c.typed.new.next (record { name = c.in_ok-name.name; dtype = c.in_ok-dtype.dtype }) c.loop-item-test.true c.item-item.is (c.in-Ok.ensures.given ∙ ap a_type (sym c.in_ok-dtype.ensures)) c.in_ok-name.ensures c.in-Ok.ensures.counted c.in_ok-push.ensures.items c.loop-item.invariant

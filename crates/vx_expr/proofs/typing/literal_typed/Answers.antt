@@ -1,6 +1,6 @@
 use Rattle.vx_base.specs.Views.{data_type}
 use Rattle.vx_base.specs.ValueViews.{datum}
-use Rattle.vx_expr.proofs.LeafFits.{leaf_type, literal_fits, literal_fails}
+use Rattle.vx_expr.proofs.LiteralTypes.{leaf_type, literal_fits, literal_fails}
 use Rattle.vx_expr.proofs.typing.literal_typed.Goals as goal
 
 pub returns-then-fits : goal.returns-then-fits
