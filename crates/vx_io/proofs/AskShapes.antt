@@ -7,8 +7,7 @@ use Rattle.vx_io.specs.declared.requests.IoIntent.{IoIntent}
 use Rattle.vx_io.specs.declared.requests.IoIntent.TheVariants.{Announce, Prefetch, Fetch}
 use Rattle.vx_io.specs.declared.requests.IoOwnerId.{IoOwnerId}
 use Rattle.vx_io.specs.declared.requests.IoRequest.{IoRequest}
-use Rattle.vx_io.specs.declared.ranges.SegmentRanges.{SegmentRanges}
-use Rattle.vx_io.specs.Segments.{segment_of}
+use Rattle.vx_io.specs.Ranges.{RangeTable, segment_of}
 use Rattle.vx_io.specs.Session.{Waiting, Table, Step, requested, ended, has_none, asks, left_by_fetch, left_by_prefetch, waiting_after, requested_at, table_after, starts_at, started_by, starts_of, requests_in, asks_of, location_of_target, range_of_target, RequestsTellAsks}
 
 -- equally many announced reads wait, and a prefetched one in both or in neither
@@ -89,7 +88,7 @@ requested_alike (Some segment) request owner other ticket more one two alike = �
 -- ---- runs
 
 -- two runs, each of which may end fetches that the other doesn't
-runs_alike : (ranges : SegmentRanges) (one two : Table) (steps more : List Step) → requests_in steps ≡ requests_in more → AreAlike one two → asks_of ranges one steps ≡ asks_of ranges two more
+runs_alike : (ranges : RangeTable) (one two : Table) (steps more : List Step) → requests_in steps ≡ requests_in more → AreAlike one two → asks_of ranges one steps ≡ asks_of ranges two more
 runs_alike ranges one two [] [] same alike = refl
 runs_alike ranges one two (ended place ∷ steps) more same alike = runs_alike ranges (table_after ranges one (ended place)) two steps more same alike
 runs_alike ranges one two [] (ended place ∷ more) same alike = runs_alike ranges one (table_after ranges two (ended place)) [] more same alike

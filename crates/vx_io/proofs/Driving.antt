@@ -15,9 +15,9 @@ use Rattle.vx_io.specs.declared.commands.IoCommand.{IoCommand}
 use Rattle.vx_io.specs.declared.commands.IoCommand.TheVariants.{Submit, Poll}
 use Rattle.vx_io.specs.declared.commands.DriveError.{DriveError}
 use Rattle.vx_io.specs.declared.commands.Driven.{Driven}
-use Rattle.vx_io.specs.declared.sessions.FetchInFlight.{FetchInFlight}
-use Rattle.vx_io.specs.declared.ranges.SegmentRanges.{SegmentRanges}
-use Rattle.vx_io.specs.Session.{Table, requests_in}
+use Rattle.vx_io.specs.Ranges.{RangeTable, segment_of}
+use Rattle.vx_io.specs.Session.{Table, Flight, SessionState, requests_in}
+use Rattle.vx_io.specs.Sound.{HasWhatIsInFlight}
 use Rattle.vx_io.specs.Submits.{owned, Submitted, IsKnown, SubmitGives}
 use Rattle.vx_io.specs.Polls.{AllGoOn, EndsAt, HasBytes}
 use Rattle.vx_io.specs.Drive.{Wanted, wanted_by, wanted_of, fetches_in, requests_of_command, requests_of, is_pair, times_wanted, times_in_flight, times_completed, completions_due, IsCompletionOf, DidCommands, EachGives, CommandGives, AreDistinct, Refused, EndsWith, Drives}
@@ -25,12 +25,12 @@ use Rattle.vx_io.proofs.Anys.{any_before, any_behind, any_map, all_map, all_none
 use Rattle.vx_io.proofs.MoreFetches.{IsOf, IsAmongWanted, Adds, wanted_in, adds_in_steps, known_owned, wanted_owned, times_append_flying}
 use Rattle.vx_io.proofs.DueFetches.{left, due_or_left, due_more, due_submit, due_poll_none, due_poll_some}
 use Rattle.vx_io.proofs.Running.{did_then, did_nothing, did_end, did_submitted}
-use Rattle.vx_io.proofs.SoundEnds.{all_removed}
+use Rattle.vx_io.proofs.Places.{stands_at, all_got, all_removed, size_removed}
 
 -- the commands were done, and each of their fetches is completed or in flight
-pub record Driving (ranges : SegmentRanges) (commands : List IoCommand) (completions : List Completion) (old : Table) (before : SourceState) (middle : Table) (between : SourceState) : Type 0 where
-  pub did : DidCommands ranges commands completions old before middle between
-  pub sized : length completions + length middle.fetches ≡ length (fetches_in commands)
+pub record Driving (ranges : RangeTable) (commands : List IoCommand) (completions : List Completion) (old middle : SessionState) : Type 0 where
+  pub did : DidCommands ranges commands completions old middle
+  pub sized : length completions + length middle.table.fetches ≡ length (fetches_in commands)
 
 -- ---- one command behind the others
 
@@ -44,7 +44,7 @@ still_named file commands command completions all =
     all_map (λ (completion : Completion). Any (IsCompletionOf file completion) (fetches_in commands)) (λ (completion : Completion). Any (IsCompletionOf file completion) (fetches_in (commands ++ command ∷ []))) completions
     (λ completion some. rw (more_of wanted_of commands command) (any_before (IsCompletionOf file completion) (fetches_in commands) (wanted_of command) some)) all
 
-still_wanted : (commands : List IoCommand) (command : IoCommand) (fetches : List FetchInFlight) → All (IsAmongWanted (fetches_in commands)) fetches → All (IsAmongWanted (fetches_in (commands ++ command ∷ []))) fetches
+still_wanted : (commands : List IoCommand) (command : IoCommand) (fetches : List Flight) → All (IsAmongWanted (fetches_in commands)) fetches → All (IsAmongWanted (fetches_in (commands ++ command ∷ []))) fetches
 still_wanted commands command fetches all =
     all_map (IsAmongWanted (fetches_in commands)) (IsAmongWanted (fetches_in (commands ++ command ∷ []))) fetches
     (λ fetch some. rw (more_of wanted_of commands command) (any_before (IsOf fetch) (fetches_in commands) (wanted_of command) some)) all
@@ -63,91 +63,70 @@ in_flight_left commands completed in_flight sized due = let all = due_or_left 0 
 -- ---- each command
 
 -- the completions of one command alone
-own_gives : (ranges : SegmentRanges) (command : IoCommand) (completions more : List Completion) (old : Table) (before : SourceState) (new : Table) (after : SourceState) → CommandGives ranges command (Ok tt) completions more old before new after →
-    (first : List Completion) × (more ≡ completions ++ first) × CommandGives ranges command (Ok tt) [] first old before new after
-own_gives ranges (Submit owner batch) completions more old before new after gives = ([], gives.0 ∙ sym (append-nil completions), (refl, gives.1))
-own_gives ranges Poll completions more old before new after (inl gives) = ([], gives.0 ∙ sym (append-nil completions), inl (refl, gives.1))
-own_gives ranges Poll completions more old before new after (inr (completion, same, gives)) = (completion ∷ [], same, inr (completion, refl, gives))
+own_gives : (ranges : RangeTable) (command : IoCommand) (completions more : List Completion) (old new : SessionState) → CommandGives ranges command (Ok tt) completions more old new →
+    (first : List Completion) × (more ≡ completions ++ first) × CommandGives ranges command (Ok tt) [] first old new
+own_gives ranges (Submit owner batch) completions more old new gives = ([], gives.0 ∙ sym (append-nil completions), (refl, gives.1))
+own_gives ranges Poll completions more old new (inl gives) = ([], gives.0 ∙ sym (append-nil completions), inl (refl, gives.1))
+own_gives ranges Poll completions more old new (inr (completion, same, gives)) = (completion ∷ [], same, inr (completion, refl, gives))
 
-each_then : (ranges : SegmentRanges) (commands : List IoCommand) (command : IoCommand) (completions first : List Completion) (old : Table) (before : SourceState) (middle : Table) (between : SourceState) (new : Table) (after : SourceState) →
-    EachGives ranges commands completions old before middle between → CommandGives ranges command (Ok tt) [] first middle between new after → EachGives ranges (commands ++ command ∷ []) (completions ++ first) old before new after
-each_then ranges [] command completions first old before middle between new after each gives = (
+each_then : (ranges : RangeTable) (commands : List IoCommand) (command : IoCommand) (completions first : List Completion) (old middle new : SessionState) →
+    EachGives ranges commands completions old middle → CommandGives ranges command (Ok tt) [] first middle new → EachGives ranges (commands ++ command ∷ []) (completions ++ first) old new
+each_then ranges [] command completions first old middle new each gives = (
   first,
   [],
   new,
-  after,
   ap (λ (cs : List Completion). cs ++ first) each.0 ∙ sym (append-nil first),
-  subst (λ (t : Table). CommandGives ranges command (Ok tt) [] first t before new after) each.1
-      (subst (λ (s : SourceState). CommandGives ranges command (Ok tt) [] first middle s new after) each.2 gives),
-  (refl, refl, refl),
+  subst (λ (s : SessionState). CommandGives ranges command (Ok tt) [] first s new) each.1 gives,
+  (refl, refl),
 )
-each_then ranges (one ∷ commands) command completions first old before middle between new after each gives = (
+each_then ranges (one ∷ commands) command completions first old middle new each gives = (
   each.0,
   each.1 ++ first,
   each.2,
-  each.3,
-  ap (λ (cs : List Completion). cs ++ first) each.4 ∙ append_assoc each.0 each.1 first,
-  each.5,
-  each_then ranges commands command each.1 first each.2 each.3 middle between new after each.6 gives,
+  ap (λ (cs : List Completion). cs ++ first) each.3 ∙ append_assoc each.0 each.1 first,
+  each.4,
+  each_then ranges commands command each.1 first each.2 middle new each.5 gives,
 )
 
-each_more : (ranges : SegmentRanges) (commands : List IoCommand) (command : IoCommand) (completions more : List Completion) (old : Table) (before : SourceState) (middle : Table) (between : SourceState) (new : Table) (after : SourceState) →
-    EachGives ranges commands completions old before middle between → CommandGives ranges command (Ok tt) completions more middle between new after → EachGives ranges (commands ++ command ∷ []) more old before new after
-each_more ranges commands command completions more old before middle between new after each gives =
-    let own = own_gives ranges command completions more middle between new after gives in
-    rw own.1 (each_then ranges commands command completions own.0 old before middle between new after each own.2)
-
--- ---- none yet
-
-pub drive_none : (ranges : SegmentRanges) (table : Table) (source : SourceState) → table.fetches ≡ [] → Driving ranges [] [] table source table source
-drive_none ranges table source none = record {
-  did = record {
-    each = (refl, refl, refl);
-    did = did_nothing ranges table table source source refl refl;
-    named = all_none (λ (completion : Completion). Any (IsCompletionOf source.file completion) []);
-    balance = λ owner request. rw none refl;
-    submitted = rw none (all_none (IsAmongWanted []));
-    counted = λ same below. refl;
-    file = refl;
-    faults = refl;
-    idle = omega arith;
-  };
-  sized = rw none refl;
-}
+each_more : (ranges : RangeTable) (commands : List IoCommand) (command : IoCommand) (completions more : List Completion) (old middle new : SessionState) →
+    EachGives ranges commands completions old middle → CommandGives ranges command (Ok tt) completions more middle new → EachGives ranges (commands ++ command ∷ []) more old new
+each_more ranges commands command completions more old middle new each gives =
+    let own = own_gives ranges command completions more middle new gives in
+    rw own.1 (each_then ranges commands command completions own.0 old middle new each own.2)
 
 -- ---- a batch
 
-fetches_added : (ranges : SegmentRanges) (owner : IoOwnerId) (batch : List IoRequest) (old : Table) (before : SourceState) (new : Table) (after : SourceState) → All (IsKnown ranges) batch → Submitted ranges (owned owner batch) old before new after → Adds (flat_map (λ (request : IoRequest). wanted_by request.intent owner request) batch) old.fetches new.fetches
-fetches_added ranges owner batch old before new after known did =
-    let added = adds_in_steps ranges old did.ran.steps did.ran.fetches_ended (rw did.ran.requests_done (known_owned ranges owner batch known)) in
+fetches_added : (ranges : RangeTable) (owner : IoOwnerId) (batch : List IoRequest) (old new : SessionState) → All (IsKnown ranges) batch → Submitted ranges (owned owner batch) old new → Adds (flat_map (λ (request : IoRequest). wanted_by request.intent owner request) batch) old.table.fetches new.table.fetches
+fetches_added ranges owner batch old new known did =
+    let added = adds_in_steps ranges old.table did.ran.steps did.ran.fetches_ended (rw did.ran.requests_done (known_owned ranges owner batch known)) in
     let wanted : wanted_in (requests_in did.ran.steps) ≡ flat_map (λ (request : IoRequest). wanted_by request.intent owner request) batch = ap wanted_in did.ran.requests_done ∙ wanted_owned owner batch in
     rw (did.ran.table, wanted) at added
 
-pub drive_submit : (ranges : SegmentRanges) (commands : List IoCommand) (completions : List Completion) (owner : IoOwnerId) (batch : Vec IoRequest Global) (old : Table) (before : SourceState) (middle : Table) (between : SourceState) (new : Table) (after : SourceState) →
-    Driving ranges commands completions old before middle between → SubmitGives ranges owner batch.items (Ok tt) middle between new after → Driving ranges (commands ++ Submit owner batch ∷ []) completions old before new after
-drive_submit ranges commands completions owner batch old before middle between new after so_far gives =
+pub drive_submit : (ranges : RangeTable) (commands : List IoCommand) (completions : List Completion) (owner : IoOwnerId) (batch : Vec IoRequest Global) (old middle new : SessionState) →
+    Driving ranges commands completions old middle → SubmitGives ranges owner batch.items (Ok tt) middle new → Driving ranges (commands ++ Submit owner batch ∷ []) completions old new
+drive_submit ranges commands completions owner batch old middle new so_far gives =
     let done = so_far.did in
-    let added = fetches_added ranges owner batch.items middle between new after gives.0 gives.1 in
+    let added = fetches_added ranges owner batch.items middle new gives.0 gives.1 in
     let wanted : List Wanted = wanted_of (Submit owner batch) in
     record {
       did = record {
-        each = each_more ranges commands (Submit owner batch) completions completions old before middle between new after done.each (refl, gives);
-        did = let both = did_then ranges (requests_of commands) (owned owner batch.items) (length completions) 0 old before middle between new after done.did (did_submitted ranges (owned owner batch.items) middle between new after gives.1) in
+        each = each_more ranges commands (Submit owner batch) completions completions old middle new done.each (refl, gives);
+        did = let both = did_then ranges (requests_of commands) (owned owner batch.items) (length completions) 0 old middle new done.did (did_submitted ranges (owned owner batch.items) middle new gives.1) in
             let sum : length completions + 0 ≡ length completions = omega arith in
             rw (more_of requests_of_command commands (Submit owner batch)) (rw sum at both);
-        named = still_named before.file commands (Submit owner batch) completions done.named;
+        named = still_named old.source.file commands (Submit owner batch) completions done.named;
         balance = λ o r.
             let p = done.balance o r in
             let q = times_more o r commands (Submit owner batch) in
-            let s = ap (times_in_flight o r) added.behind ∙ times_append_flying o r middle.fetches added.more in
+            let s = ap (times_in_flight o r) added.behind ∙ times_append_flying o r middle.table.fetches added.more in
             let t = added.times o r in
             omega (arith, p, q, s, t);
-        submitted = rw added.behind (All-append (IsAmongWanted (fetches_in (commands ++ Submit owner batch ∷ []))) middle.fetches added.more
-            (still_wanted commands (Submit owner batch) middle.fetches done.submitted)
+        submitted = rw added.behind (All-append (IsAmongWanted (fetches_in (commands ++ Submit owner batch ∷ []))) middle.table.fetches added.more
+            (still_wanted commands (Submit owner batch) middle.table.fetches done.submitted)
             (all_map (IsAmongWanted wanted) (IsAmongWanted (fetches_in (commands ++ Submit owner batch ∷ []))) added.more
             (λ fetch some. rw (more_of wanted_of commands (Submit owner batch)) (any_behind (IsOf fetch) (fetches_in commands) wanted some)) added.among));
         counted = λ same below.
-            let idle : between.idle ≡ before.idle = sym gives.2.idle ∙ same in
+            let idle : middle.source.idle ≡ old.source.idle = sym gives.2.idle ∙ same in
             let due = done.counted idle below in
             let more = due_more 0 commands (Submit owner batch) in
             let none = due_submit (left 0 commands) owner batch in
@@ -159,7 +138,7 @@ drive_submit ranges commands completions owner batch old before middle between n
       sized =
           let p = so_far.sized in
           let q = size_more commands (Submit owner batch) in
-          let r = ap length added.behind ∙ length-append middle.fetches added.more in
+          let r = ap length added.behind ∙ length-append middle.table.fetches added.more in
           let s = added.size in
           omega (arith, p, q, r, s);
     }
@@ -172,27 +151,27 @@ no_wanted commands = more_of wanted_of commands Poll ∙ append-nil (fetches_in 
 no_requests : (commands : List IoCommand) → requests_of (commands ++ Poll ∷ []) ≡ requests_of commands
 no_requests commands = more_of requests_of_command commands Poll ∙ append-nil (requests_of commands)
 
-pub drive_idle : (ranges : SegmentRanges) (commands : List IoCommand) (completions : List Completion) (old : Table) (before : SourceState) (middle : Table) (between : SourceState) (new : Table) (after : SourceState) →
-    Driving ranges commands completions old before middle between → AllGoOn (length middle.fetches) middle between new after → Driving ranges (commands ++ Poll ∷ []) completions old before new after
-drive_idle ranges commands completions old before middle between new after so_far polled =
+pub drive_idle : (ranges : RangeTable) (commands : List IoCommand) (completions : List Completion) (old middle new : SessionState) →
+    Driving ranges commands completions old middle → AllGoOn (length middle.table.fetches) middle new → Driving ranges (commands ++ Poll ∷ []) completions old new
+drive_idle ranges commands completions old middle new so_far polled =
     let done = so_far.did in
     record {
       did = record {
-        each = each_more ranges commands Poll completions completions old before middle between new after done.each (inl (refl, polled));
-        did = let both = did_then ranges (requests_of commands) [] (length completions) 0 old before middle between new after done.did (did_nothing ranges middle new between after polled.table polled.keeps.asked) in
+        each = each_more ranges commands Poll completions completions old middle new done.each (inl (refl, polled));
+        did = let both = did_then ranges (requests_of commands) [] (length completions) 0 old middle new done.did (did_nothing ranges middle new polled.table polled.keeps.asked) in
             let sum : length completions + 0 ≡ length completions = omega arith in
             let end : requests_of commands ++ [] ≡ requests_of commands = append-nil (requests_of commands) in
             rw (no_requests commands) (rw (sum, end) at both);
-        named = still_named before.file commands Poll completions done.named;
+        named = still_named old.source.file commands Poll completions done.named;
         balance = λ o r. rw (no_wanted commands, polled.table) (done.balance o r);
-        submitted = rw polled.table (still_wanted commands Poll middle.fetches done.submitted);
+        submitted = rw polled.table (still_wanted commands Poll middle.table.fetches done.submitted);
         counted = λ same below.
             let p = done.idle in
             let q = polled.waited.rose in
             let k = polled.waited.kept in
-            let idle : between.idle ≡ before.idle = omega (arith, p, k, same) in
+            let idle : middle.source.idle ≡ old.source.idle = omega (arith, p, k, same) in
             let due = done.counted idle below in
-            let in_flight = in_flight_left commands (length completions) (length middle.fetches) so_far.sized due in
+            let in_flight = in_flight_left commands (length completions) (length middle.table.fetches) so_far.sized due in
             let none : left 0 commands ≡ 0 = omega (arith, in_flight, idle, q, same, below) in
             let more = due_more 0 commands Poll in
             let last = due_poll_none (left 0 commands) none in
@@ -206,72 +185,57 @@ drive_idle ranges commands completions old before middle between new after so_fa
 
 -- ---- a poll that ended a fetch
 
-named_wanted : (commands : List IoCommand) (fetches : List FetchInFlight) (place : ℕ) (fetch : FetchInFlight) → All (IsAmongWanted (fetches_in commands)) fetches → slice_get fetches place ≡ Some fetch → IsAmongWanted (fetches_in commands) fetch
-named_wanted commands [] place fetch all at = absurd cc
-named_wanted commands (one ∷ fetches) zero fetch all at = let same : one ≡ fetch = cc in rw (← same) (All-head (IsAmongWanted (fetches_in commands)) one fetches all)
-named_wanted commands (one ∷ fetches) (suc place) fetch all at = named_wanted commands fetches place fetch (All-tail (IsAmongWanted (fetches_in commands)) one fetches all) at
-
-completed_wanted : (file : Option (List ℕ)) (completion : Completion) (fetch : FetchInFlight) (wanted : List Wanted) → fetch.owner ≡ completion.owner → fetch.request ≡ completion.request → IsSegment file fetch.at completion.bytes.items → IsAmongWanted wanted fetch → Any (IsCompletionOf file completion) wanted
+completed_wanted : (file : Option (List ℕ)) (completion : Completion) (fetch : Flight) (wanted : List Wanted) → fetch.owner ≡ completion.owner → fetch.request ≡ completion.request → IsSegment file fetch.at completion.bytes.items → IsAmongWanted wanted fetch → Any (IsCompletionOf file completion) wanted
 completed_wanted file completion fetch wanted owner request segment some =
     any_map (IsOf fetch) (IsCompletionOf file completion) wanted
     (λ one is. (sym owner ∙ is.0, sym request ∙ is.1, rw is.2 at segment)) some
 
 -- the fetch at a place, with what is told of it
-record At (place : ℕ) (table : Table) (source : SourceState) (completion : Completion) : Type 0 where
-  fetch : FetchInFlight
-  here : slice_get table.fetches place ≡ Some fetch
+record At (place : ℕ) (state : SessionState) (completion : Completion) : Type 0 where
+  fetch : Flight
+  here : slice_get state.table.fetches place ≡ Some fetch
   owner : fetch.owner ≡ completion.owner
   request : fetch.request ≡ completion.request
-  segment : IsSegment source.file fetch.at completion.bytes.items
+  segment : IsSegment state.source.file fetch.at completion.bytes.items
 
-at_place : (place : ℕ) (table : Table) (source : SourceState) (completion : Completion) (found : Option FetchInFlight) → slice_get table.fetches place ≡ found →
-    IsSomeAnd found (λ fetch. (fetch.owner ≡ completion.owner) × (fetch.request ≡ completion.request)) → IsSomeAnd found (λ fetch. IsSegment source.file fetch.at completion.bytes.items) → At place table source completion
-at_place place table source completion None is named has = absurd named
-at_place place table source completion (Some fetch) is named has = record { fetch = fetch; here = is; owner = named.0; request = named.1; segment = has }
+at_place : (place : ℕ) (state : SessionState) (completion : Completion) (found : Option Flight) → slice_get state.table.fetches place ≡ found →
+    IsSomeAnd found (λ fetch. (fetch.owner ≡ completion.owner) × (fetch.request ≡ completion.request)) → IsSomeAnd found (λ fetch. IsSegment state.source.file fetch.at completion.bytes.items) → At place state completion
+at_place place state completion None is named has = absurd named
+at_place place state completion (Some fetch) is named has = record { fetch = fetch; here = is; owner = named.0; request = named.1; segment = has }
 
-got_or : (fetches : List FetchInFlight) (place : ℕ) (fetch : FetchInFlight) → slice_get fetches place ≡ Some fetch → slice_index_or fetches place fetch ≡ fetch
-got_or [] place fetch at = absurd cc
-got_or (one ∷ fetches) zero fetch at = cc
-got_or (one ∷ fetches) (suc place) fetch at = got_or fetches place fetch at
-
-size_removed : (fetches : List FetchInFlight) (place : ℕ) → place < length fetches → length (remove fetches place) + 1 ≡ length fetches
-size_removed [] place within = absurd (omega (arith, within))
-size_removed (one ∷ fetches) zero within = omega arith
-size_removed (one ∷ fetches) (suc place) within = let rest = size_removed fetches place (omega (arith, within)) in omega (arith, rest)
-
-pub drive_ended : (ranges : SegmentRanges) (commands : List IoCommand) (completions : List Completion) (completion : Completion) (place : ℕ) (old : Table) (before : SourceState) (middle : Table) (between : SourceState) (new : Table) (after : SourceState) →
-    Driving ranges commands completions old before middle between → EndsAt place completion.owner completion.request ranges middle between new after → HasBytes place middle between completion.bytes.items → after.faults ≡ between.faults →
-    Driving ranges (commands ++ Poll ∷ []) (completions ++ completion ∷ []) old before new after
-drive_ended ranges commands completions completion place old before middle between new after so_far ends has faults =
+pub drive_ended : (ranges : RangeTable) (commands : List IoCommand) (completions : List Completion) (completion : Completion) (place : ℕ) (old middle new : SessionState) →
+    Driving ranges commands completions old middle → EndsAt place completion.owner completion.request ranges middle new → HasBytes place middle completion.bytes.items → new.source.faults ≡ middle.source.faults →
+    Driving ranges (commands ++ Poll ∷ []) (completions ++ completion ∷ []) old new
+drive_ended ranges commands completions completion place old middle new so_far ends has faults =
     let done = so_far.did in
-    let one = at_place place middle between completion (slice_get middle.fetches place) refl ends.named has in
-    let gone : new.fetches ≡ remove middle.fetches place = ap (λ (t : Table). t.fetches) ends.table in
-    let named : Any (IsCompletionOf before.file completion) (fetches_in commands) =
-    completed_wanted before.file completion one.fetch (fetches_in commands) one.owner one.request (subst (λ (f : Option (List ℕ)). IsSegment f one.fetch.at completion.bytes.items) done.file one.segment) (named_wanted commands middle.fetches place one.fetch done.submitted one.here) in
+    let one = at_place place middle completion (slice_get middle.table.fetches place) refl ends.named has in
+    let gone : new.table.fetches ≡ remove middle.table.fetches place = ap (λ (t : Table). t.fetches) ends.table in
+    let named : Any (IsCompletionOf old.source.file completion) (fetches_in commands) =
+    completed_wanted old.source.file completion one.fetch (fetches_in commands) one.owner one.request (subst (λ (f : Option (List ℕ)). IsSegment f one.fetch.at completion.bytes.items) done.file one.segment) (all_got (IsAmongWanted (fetches_in commands)) middle.table.fetches place one.fetch done.submitted one.here) in
     let count = length-append completions (completion ∷ []) in
     record {
       did = record {
-        each = each_more ranges commands Poll completions (completions ++ completion ∷ []) old before middle between new after done.each (inr (completion, refl, (place, ends, has, faults)));
-        did = let both = did_then ranges (requests_of commands) [] (length completions) 1 old before middle between new after done.did (did_end ranges place middle new between after ends.table ends.keeps.asked) in
+        each = each_more ranges commands Poll completions (completions ++ completion ∷ []) old middle new done.each (inr (completion, refl, (place, ends, has, faults)));
+        did = let both = did_then ranges (requests_of commands) [] (length completions) 1 old middle new done.did (did_end ranges place middle new ends.table ends.keeps.asked) in
             let sum : length completions + 1 ≡ length (completions ++ completion ∷ []) = omega (arith, count) in
             let end : requests_of commands ++ [] ≡ requests_of commands = append-nil (requests_of commands) in
             rw (no_requests commands) (rw (sum, end) at both);
-        named = rw (no_wanted commands) (All-append (λ (c : Completion). Any (IsCompletionOf before.file c) (fetches_in commands)) completions (completion ∷ []) done.named
-            (All-cons (λ (c : Completion). Any (IsCompletionOf before.file c) (fetches_in commands)) completion [] named (all_none (λ (c : Completion). Any (IsCompletionOf before.file c) (fetches_in commands)))));
+        named = rw (no_wanted commands) (All-append (λ (c : Completion). Any (IsCompletionOf old.source.file c) (fetches_in commands)) completions (completion ∷ []) done.named
+            (All-cons (λ (c : Completion). Any (IsCompletionOf old.source.file c) (fetches_in commands)) completion [] named (all_none (λ (c : Completion). Any (IsCompletionOf old.source.file c) (fetches_in commands)))));
         balance = λ o r.
             let p = done.balance o r in
             let q = sum_by-append (λ (c : Completion). cond (is_pair o r c.owner c.request) 1 0) completions (completion ∷ []) in
-            let s = sum_by-remove (λ (f : FetchInFlight). cond (is_pair o r f.owner f.request) 1 0) middle.fetches place one.fetch ends.within in
-            let t : cond {A = ℕ} (is_pair o r (slice_index_or middle.fetches place one.fetch).owner (slice_index_or middle.fetches place one.fetch).request) 1 0 ≡ cond {A = ℕ} (is_pair o r completion.owner completion.request) 1 0 =
-            rw (got_or middle.fetches place one.fetch one.here, one.owner, one.request) refl in
+            let s = sum_by-remove (λ (f : Flight). cond (is_pair o r f.owner f.request) 1 0) middle.table.fetches place one.fetch ends.within in
+            let t : cond {A = ℕ} (is_pair o r (slice_index_or middle.table.fetches place one.fetch).owner (slice_index_or middle.table.fetches place one.fetch).request) 1 0 ≡ cond {A = ℕ} (is_pair o r completion.owner completion.request) 1 0 =
+            rw (stands_at middle.table.fetches place one.fetch one.fetch one.here, one.owner, one.request) refl in
             rw (no_wanted commands, gone) (omega (arith, p, q, s, t));
-        submitted = rw gone (all_removed (IsAmongWanted (fetches_in (commands ++ Poll ∷ []))) middle.fetches place (still_wanted commands Poll middle.fetches done.submitted));
+        submitted = rw gone (all_removed (IsAmongWanted (fetches_in (commands ++ Poll ∷ []))) middle.table.fetches place (still_wanted commands Poll middle.table.fetches done.submitted));
         counted = λ same below.
             let p = done.idle in
             let k = ends.waited.kept in
-            let idle : between.idle ≡ before.idle = omega (arith, p, k, same) in
+            let idle : middle.source.idle ≡ old.source.idle = omega (arith, p, k, same) in
             let due = done.counted idle below in
-            let in_flight = in_flight_left commands (length completions) (length middle.fetches) so_far.sized due in
+            let in_flight = in_flight_left commands (length completions) (length middle.table.fetches) so_far.sized due in
             let within = ends.within in
             let some : 0 < left 0 commands = omega (arith, in_flight, within) in
             let more = due_more 0 commands Poll in
@@ -283,20 +247,20 @@ drive_ended ranges commands completions completion place old before middle betwe
       };
       sized =
           let p = so_far.sized in
-          let q = size_removed middle.fetches place ends.within in
+          let q = size_removed middle.table.fetches place ends.within in
           rw (no_wanted commands, gone) (omega (arith, p, q, count));
     }
 
 -- ---- one command
 
-pub drive_more : (ranges : SegmentRanges) (commands : List IoCommand) (command : IoCommand) (completions more : List Completion) (old : Table) (before : SourceState) (middle : Table) (between : SourceState) (new : Table) (after : SourceState) →
-    Driving ranges commands completions old before middle between → CommandGives ranges command (Ok tt) completions more middle between new after → Driving ranges (commands ++ command ∷ []) more old before new after
-drive_more ranges commands (Submit owner batch) completions more old before middle between new after so_far gives =
-    rw gives.0 (drive_submit ranges commands completions owner batch old before middle between new after so_far gives.1)
-drive_more ranges commands Poll completions more old before middle between new after so_far (inl gives) =
-    rw gives.0 (drive_idle ranges commands completions old before middle between new after so_far gives.1)
-drive_more ranges commands Poll completions more old before middle between new after so_far (inr (completion, same, gives)) =
-    rw same (drive_ended ranges commands completions completion gives.0 old before middle between new after so_far gives.1 gives.2 gives.3)
+pub drive_more : (ranges : RangeTable) (commands : List IoCommand) (command : IoCommand) (completions more : List Completion) (old middle new : SessionState) →
+    Driving ranges commands completions old middle → CommandGives ranges command (Ok tt) completions more middle new → Driving ranges (commands ++ command ∷ []) more old new
+drive_more ranges commands (Submit owner batch) completions more old middle new so_far gives =
+    rw gives.0 (drive_submit ranges commands completions owner batch old middle new so_far gives.1)
+drive_more ranges commands Poll completions more old middle new so_far (inl gives) =
+    rw gives.0 (drive_idle ranges commands completions old middle new so_far gives.1)
+drive_more ranges commands Poll completions more old middle new so_far (inr (completion, same, gives)) =
+    rw same (drive_ended ranges commands completions completion gives.0 old middle new so_far gives.1 gives.2 gives.3)
 
 -- ---- the whole list
 
@@ -313,35 +277,35 @@ drop_front (one ∷ ones) twos zero is = absurd (omega (arith, is))
 drop_front (one ∷ ones) twos (suc n) is = drop_front ones twos n (omega (arith, is))
 
 -- what is completed is what was wanted, each at most once
-completed_once : (ranges : SegmentRanges) (ones twos : List IoCommand) (completions : List Completion) (old : Table) (before : SourceState) (middle : Table) (between : SourceState) → DidCommands ranges ones completions old before middle between → AreDistinct (fetches_in (ones ++ twos)) → (owner request : ℕ) → times_completed owner request completions ≤ 1
-completed_once ranges ones twos completions old before middle between did distinct owner request =
+completed_once : (ranges : RangeTable) (ones twos : List IoCommand) (completions : List Completion) (old middle : SessionState) → DidCommands ranges ones completions old middle → AreDistinct (fetches_in (ones ++ twos)) → (owner request : ℕ) → times_completed owner request completions ≤ 1
+completed_once ranges ones twos completions old middle did distinct owner request =
     let p = did.balance owner request in
     let q = ap (times_wanted owner request) (flat_map-append wanted_of ones twos) ∙ sum_by-append (λ (fetch : Wanted). cond (is_pair owner request fetch.owner fetch.request) 1 0) (fetches_in ones) (fetches_in twos) in
     let r = distinct owner request in
     omega (arith, p, q, r)
 
-pub drive_all : (ranges : SegmentRanges) (commands ones twos : List IoCommand) (outcome : Driven) (old : Table) (before : SourceState) (middle : Table) (between : SourceState) (new : Table) (after : SourceState) → ones ++ twos ≡ commands → outcome.done ≡ length ones → AreDistinct (fetches_in commands) →
-    Driving ranges ones outcome.completions.items old before middle between → EndsWith ranges twos outcome.error middle between new after → Drives ranges commands outcome old before new after
-drive_all ranges commands ones twos outcome old before middle between new after joined done distinct so_far ends =
+pub drive_all : (ranges : RangeTable) (commands ones twos : List IoCommand) (outcome : Driven) (old middle new : SessionState) → ones ++ twos ≡ commands → outcome.done ≡ length ones → AreDistinct (fetches_in commands) →
+    Driving ranges ones outcome.completions.items old middle → EndsWith ranges twos outcome.error middle new → HasWhatIsInFlight new → Drives ranges commands outcome old new
+drive_all ranges commands ones twos outcome old middle new joined done distinct so_far ends has =
     rw (← joined) (record {
       within = let sum = length-append ones twos in omega (arith, sum, done);
-      once = completed_once ranges ones twos outcome.completions.items old before middle between so_far.did (rw (← joined) at distinct);
+      once = completed_once ranges ones twos outcome.completions.items old middle so_far.did (rw (← joined) at distinct);
       between = middle;
-      source = between;
       did = rw (take_front ones twos outcome.done done) so_far.did;
       ends = rw (drop_front ones twos outcome.done done) ends;
+      in_flight = has;
     })
 
 -- the command behind them was refused
-refused_by : (ranges : SegmentRanges) (command : IoCommand) (error : DriveError) (completions more : List Completion) (old : Table) (before : SourceState) (new : Table) (after : SourceState) → CommandGives ranges command (Err error) completions more old before new after → (more ≡ completions) × Refused ranges command error old before new after
-refused_by ranges (Submit owner batch) error completions more old before new after gives = gives
-refused_by ranges Poll error completions more old before new after gives = gives
+refused_by : (ranges : RangeTable) (command : IoCommand) (error : DriveError) (completions more : List Completion) (old new : SessionState) → CommandGives ranges command (Err error) completions more old new → (more ≡ completions) × Refused ranges command error old new
+refused_by ranges (Submit owner batch) error completions more old new gives = gives
+refused_by ranges Poll error completions more old new gives = gives
 
-pub drive_refused : (ranges : SegmentRanges) (commands ones twos : List IoCommand) (command : IoCommand) (error : DriveError) (outcome : Driven) (completions : List Completion) (old : Table) (before : SourceState) (middle : Table) (between : SourceState) (new : Table) (after : SourceState) → ones ++ command ∷ twos ≡ commands → outcome.done ≡ length ones → outcome.error ≡ Some error → AreDistinct (fetches_in commands) →
-    Driving ranges ones completions old before middle between → CommandGives ranges command (Err error) completions outcome.completions.items middle between new after → Drives ranges commands outcome old before new after
-drive_refused ranges commands ones twos command error outcome completions old before middle between new after joined done failed distinct so_far gives =
-    let refused = refused_by ranges command error completions outcome.completions.items middle between new after gives in
-    drive_all ranges commands ones (command ∷ twos) outcome old before middle between new after joined done distinct (rw refused.0 so_far) (rw failed refused.1)
+pub drive_refused : (ranges : RangeTable) (commands ones twos : List IoCommand) (command : IoCommand) (error : DriveError) (outcome : Driven) (completions : List Completion) (old middle new : SessionState) → ones ++ command ∷ twos ≡ commands → outcome.done ≡ length ones → outcome.error ≡ Some error → AreDistinct (fetches_in commands) →
+    Driving ranges ones completions old middle → CommandGives ranges command (Err error) completions outcome.completions.items middle new → HasWhatIsInFlight new → Drives ranges commands outcome old new
+drive_refused ranges commands ones twos command error outcome completions old middle new joined done failed distinct so_far gives has =
+    let refused = refused_by ranges command error completions outcome.completions.items middle new gives in
+    drive_all ranges commands ones (command ∷ twos) outcome old middle new joined done distinct (rw refused.0 so_far) (rw failed refused.1) has
 
 pub next_joined : (ones twos commands rest : List IoCommand) (command : IoCommand) → ones ++ twos ≡ commands → twos ≡ command ∷ rest → (ones ++ command ∷ []) ++ rest ≡ commands
 next_joined ones twos commands rest command joined is = append_assoc ones (command ∷ []) rest ∙ ap (λ (cs : List IoCommand). ones ++ cs) (sym is) ∙ joined

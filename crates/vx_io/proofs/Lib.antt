@@ -2,9 +2,11 @@ mod Anys
 mod AskShapes
 mod Driving
 mod DueFetches
+pub mod Fetches
 mod InFlightReads
 mod KnownRanges
 mod MoreFetches
+mod Places
 mod PolledFetches
 mod RangeTables
 mod Running
@@ -13,4 +15,3 @@ mod SoundSteps
 mod Submitting
 mod TableSteps
 mod TakenReads
-mod TestedCommands

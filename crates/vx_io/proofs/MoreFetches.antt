@@ -10,10 +10,8 @@ use Rattle.vx_io.specs.declared.requests.IoIntent.{IoIntent}
 use Rattle.vx_io.specs.declared.requests.IoIntent.TheVariants.{Announce, Prefetch, Fetch}
 use Rattle.vx_io.specs.declared.requests.IoOwnerId.{IoOwnerId}
 use Rattle.vx_io.specs.declared.requests.IoRequest.{IoRequest}
-use Rattle.vx_io.specs.declared.sessions.FetchInFlight.{FetchInFlight}
-use Rattle.vx_io.specs.declared.ranges.SegmentRanges.{SegmentRanges}
-use Rattle.vx_io.specs.Segments.{segment_of}
-use Rattle.vx_io.specs.Session.{Table, Step, requested, ended, requested_at, table_after, session_after, requests_in, ends_in, if_fetch, fetch_of, location_of_target, range_of_target}
+use Rattle.vx_io.specs.Ranges.{RangeTable, segment_of}
+use Rattle.vx_io.specs.Session.{Table, Flight, Step, requested, ended, requested_at, table_after, session_after, requests_in, ends_in, if_fetch, fetch_of, location_of_target, range_of_target}
 use Rattle.vx_io.specs.Submits.{IsKnown, owned}
 use Rattle.vx_io.specs.Drive.{Wanted, wanted_by, is_pair, times_wanted, times_in_flight}
 use Rattle.vx_io.proofs.Anys.{any_here, any_behind, any_before, all_map, all_none}
@@ -23,28 +21,28 @@ abbrev pub wanted_in : List (IoOwnerId × IoRequest) → List Wanted
 wanted_in requests = flat_map (λ (one : IoOwnerId × IoRequest). wanted_by one.1.intent one.0 one.1) requests
 
 -- a fetch in flight is one of the wanted ones
-abbrev pub IsOf : FetchInFlight → Wanted → Type 0
+abbrev pub IsOf : Flight → Wanted → Type 0
 IsOf fetch wanted = (fetch.owner ≡ wanted.owner) × (fetch.request ≡ wanted.request) × (fetch.at ≡ wanted.at)
 
-abbrev pub IsAmongWanted : List Wanted → FetchInFlight → Type 0
+abbrev pub IsAmongWanted : List Wanted → Flight → Type 0
 IsAmongWanted wanted fetch = Any (IsOf fetch) wanted
 
 -- these fetches came behind the others, and they are the wanted ones
-pub record Adds (wanted : List Wanted) (old new : List FetchInFlight) : Type 0 where
-  pub more : List FetchInFlight
+pub record Adds (wanted : List Wanted) (old new : List Flight) : Type 0 where
+  pub more : List Flight
   pub behind : new ≡ old ++ more
   pub times : (owner request : ℕ) → times_in_flight owner request more ≡ times_wanted owner request wanted
   pub size : length more ≡ length wanted
   pub among : All (IsAmongWanted wanted) more
 
-adds_nothing : (fetches : List FetchInFlight) → Adds [] fetches fetches
+adds_nothing : (fetches : List Flight) → Adds [] fetches fetches
 adds_nothing fetches = record { more = []; behind = sym (append-nil fetches); times = λ owner request. refl; size = refl; among = all_none (IsAmongWanted []) }
 
-one_wanted : (intent : IoIntent) (owner : IoOwnerId) (request : IoRequest) (ticket : ℕ) (old : List FetchInFlight) → Adds (wanted_by intent owner request) old (old ++ if_fetch intent (record { owner = owner; request = request.request; at = location_of_target request.target; ticket = ticket }))
+one_wanted : (intent : IoIntent) (owner : IoOwnerId) (request : IoRequest) (ticket : ℕ) (old : List Flight) → Adds (wanted_by intent owner request) old (old ++ if_fetch intent (record { owner = owner; request = request.request; at = location_of_target request.target; ticket = ticket }))
 one_wanted Announce owner request ticket old = record { more = []; behind = refl; times = λ o r. refl; size = refl; among = all_none (IsAmongWanted []) }
 one_wanted Prefetch owner request ticket old = record { more = []; behind = refl; times = λ o r. refl; size = refl; among = all_none (IsAmongWanted []) }
 one_wanted Fetch owner request ticket old =
-    let fetch : FetchInFlight = record { owner = owner; request = request.request; at = location_of_target request.target; ticket = ticket } in
+    let fetch : Flight = record { owner = owner; request = request.request; at = location_of_target request.target; ticket = ticket } in
     let wanted : Wanted = record { owner = owner; request = request.request; at = location_of_target request.target } in
     record {
       more = fetch ∷ [];
@@ -61,13 +59,13 @@ one_request (Some segment) owner request new table known = one_wanted request.in
 times_append_wanted : (owner request : ℕ) (ones twos : List Wanted) → times_wanted owner request (ones ++ twos) ≡ times_wanted owner request ones + times_wanted owner request twos
 times_append_wanted owner request ones twos = sum_by-append (λ (fetch : Wanted). cond (is_pair owner request fetch.owner fetch.request) 1 0) ones twos
 
-pub times_append_flying : (owner request : ℕ) (ones twos : List FetchInFlight) → times_in_flight owner request (ones ++ twos) ≡ times_in_flight owner request ones + times_in_flight owner request twos
-times_append_flying owner request ones twos = sum_by-append (λ (fetch : FetchInFlight). cond (is_pair owner request fetch.owner fetch.request) 1 0) ones twos
+pub times_append_flying : (owner request : ℕ) (ones twos : List Flight) → times_in_flight owner request (ones ++ twos) ≡ times_in_flight owner request ones + times_in_flight owner request twos
+times_append_flying owner request ones twos = sum_by-append (λ (fetch : Flight). cond (is_pair owner request fetch.owner fetch.request) 1 0) ones twos
 
-adds_then : (ones twos : List Wanted) (old middle new : List FetchInFlight) → Adds ones old middle → Adds twos middle new → Adds (ones ++ twos) old new
+adds_then : (ones twos : List Wanted) (old middle new : List Flight) → Adds ones old middle → Adds twos middle new → Adds (ones ++ twos) old new
 adds_then ones twos old middle new one two = record {
   more = one.more ++ two.more;
-  behind = two.behind ∙ ap (λ (fs : List FetchInFlight). fs ++ two.more) one.behind ∙ append_assoc old one.more two.more;
+  behind = two.behind ∙ ap (λ (fs : List Flight). fs ++ two.more) one.behind ∙ append_assoc old one.more two.more;
   times = λ owner request.
       let p = times_append_flying owner request one.more two.more in
       let q = times_append_wanted owner request ones twos in
@@ -81,7 +79,7 @@ adds_then ones twos old middle new one two = record {
 }
 
 -- what the steps of requests add
-pub adds_in_steps : (ranges : SegmentRanges) (table : Table) (steps : List Step) → ends_in steps ≡ 0 → All (λ (one : IoOwnerId × IoRequest). IsKnown ranges one.1) (requests_in steps) → Adds (wanted_in (requests_in steps)) table.fetches (session_after ranges table steps).fetches
+pub adds_in_steps : (ranges : RangeTable) (table : Table) (steps : List Step) → ends_in steps ≡ 0 → All (λ (one : IoOwnerId × IoRequest). IsKnown ranges one.1) (requests_in steps) → Adds (wanted_in (requests_in steps)) table.fetches (session_after ranges table steps).fetches
 adds_in_steps ranges table [] none known = adds_nothing table.fetches
 adds_in_steps ranges table (requested owner request new ∷ steps) none known =
     let P : (IoOwnerId × IoRequest) → Type 0 = λ (one : IoOwnerId × IoRequest). IsKnown ranges one.1 in
@@ -92,7 +90,7 @@ adds_in_steps ranges table (requested owner request new ∷ steps) none known =
 adds_in_steps ranges table (ended place ∷ steps) none known = absurd (omega (arith, none))
 
 -- the requests of a batch and its fetches
-pub known_owned : (ranges : SegmentRanges) (owner : IoOwnerId) (batch : List IoRequest) → All (IsKnown ranges) batch → All (λ (one : IoOwnerId × IoRequest). IsKnown ranges one.1) (owned owner batch)
+pub known_owned : (ranges : RangeTable) (owner : IoOwnerId) (batch : List IoRequest) → All (IsKnown ranges) batch → All (λ (one : IoOwnerId × IoRequest). IsKnown ranges one.1) (owned owner batch)
 known_owned ranges owner [] known = all_none (λ (one : IoOwnerId × IoRequest). IsKnown ranges one.1)
 known_owned ranges owner (request ∷ batch) known = All-cons (λ (one : IoOwnerId × IoRequest). IsKnown ranges one.1) (owner, request) (owned owner batch) (All-head (IsKnown ranges) request batch known) (known_owned ranges owner batch (All-tail (IsKnown ranges) request batch known))
 

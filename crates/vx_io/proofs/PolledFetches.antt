@@ -1,30 +1,29 @@
 -- A fetch that was polled.
-use Rattle.std.proofs.Common.{◌≡◌, ℕ, zero, suc, ◌<◌, List, [], ◌∷◌, Option, Some, None, length, refl, sym, ap, ◌∙◌, subst, arith}
-use Rattle.std.specs.Prelude.{option_map, slice_index_or, slice_get, remove, IfSome}
+use Rattle.std.proofs.Common.{◌≡◌, ℕ, ◌<◌, List, Option, Some, None, length, refl, sym, ap, ◌∙◌, subst, arith}
+use Rattle.std.specs.Prelude.{option_map, slice_get, slice_index_or, remove, IfSome}
 use Rattle.vx_base.specs.declared.locations.SegmentLocation.{SegmentLocation}
 use Rattle.vx_base.specs.declared.locations.AskedRange.{AskedRange}
 use Rattle.vx_base.specs.Sources.{SourceState, Ended, IsSegment, bytes_at, location_of, range_of}
-use Rattle.vx_io.specs.declared.sessions.FetchInFlight.{FetchInFlight}
-use Rattle.vx_io.specs.declared.ranges.SegmentRanges.{SegmentRanges}
-use Rattle.vx_io.specs.Session.{Table, Waiting}
+use Rattle.vx_io.specs.Ranges.{RangeTable}
+use Rattle.vx_io.specs.Session.{Flight, Waiting, SessionState, state_in}
 use Rattle.vx_io.specs.Sound.{IsSound}
 use Rattle.vx_io.specs.Polls.{EndsHere, HasBytes}
+use Rattle.vx_io.proofs.Places.{got}
 use Rattle.vx_io.proofs.SoundSteps.{IsFetchRead}
 
--- the element at a place is got there
-pub got_at : (fetches : List FetchInFlight) (place : ℕ) (fetch : FetchInFlight) → place < length fetches → fetch ≡ slice_index_or fetches place fetch → slice_get fetches place ≡ Some fetch
-got_at [] place fetch within here = absurd (omega (arith, within))
-got_at (one ∷ fetches) zero fetch within here = ap Some (sym here)
-got_at (one ∷ fetches) (suc place) fetch within here = got_at fetches place fetch (omega (arith, within)) here
+-- the fetch at a place is got there
+got_here : (fetches : List Flight) (place : ℕ) (fetch : Flight) → place < length fetches → fetch ≡ slice_index_or fetches place fetch → slice_get fetches place ≡ Some fetch
+got_here fetches place fetch within here = got fetches place fetch within ∙ ap Some (sym here)
 
-pub fetch_sound : (ranges : SegmentRanges) (table : Table) (source : SourceState) (place : ℕ) (fetch : FetchInFlight) → IsSound ranges table source → place < length table.fetches → fetch ≡ slice_index_or table.fetches place fetch → IsFetchRead source fetch
-fetch_sound ranges table source place fetch sound within here = subst (IsFetchRead source) (sym here) (sound.fetches_in_flight place fetch within)
+fetch_sound : (ranges : RangeTable) (state : SessionState) (place : ℕ) (fetch : Flight) → IsSound ranges state → place < length state.table.fetches → fetch ≡ slice_index_or state.table.fetches place fetch → IsFetchRead state.source fetch
+fetch_sound ranges state place fetch sound within here = subst (IsFetchRead state.source) (sym here) (sound.fetches_in_flight place fetch within)
 
-pub ends_here : (ranges : SegmentRanges) (waiting : ℕ → Waiting) (fetches more : List FetchInFlight) (before after : SourceState) (place : ℕ) (fetch : FetchInFlight) → place < length fetches → fetch ≡ slice_index_or fetches place fetch → more ≡ remove fetches place → Ended fetch.ticket before after →
-    EndsHere place fetch.owner fetch.request ranges (record { waiting = waiting; fetches = fetches }) before (record { waiting = waiting; fetches = more }) after
+pub ends_here : (ranges : RangeTable) (waiting : ℕ → Waiting) (fetches more : List Flight) (before after : SourceState) (place : ℕ) (fetch : Flight) → place < length fetches → fetch ≡ slice_index_or fetches place fetch → more ≡ remove fetches place → Ended fetch.ticket before after →
+    EndsHere place fetch.owner fetch.request ranges (state_in waiting fetches before) (state_in waiting more after)
 ends_here ranges waiting fetches more before after place fetch within here removed ended = record {
-  named = rw (got_at fetches place fetch within here) (refl, refl);
+  named = rw (got_here fetches place fetch within here) (refl, refl);
   table = λ i. record { waiting = waiting; fetches = removed i };
+  in_flight = rw (got_here fetches place fetch within here) ended.in_flight;
   idle = let same = ended.idle in omega (arith, same);
   keeps = record { file = ended.file; asked = ended.asked };
 }
@@ -43,7 +42,7 @@ found_bytes : (file : Option (List ℕ)) (found : Option SegmentLocation) (at : 
 found_bytes file None at bytes is has = absurd cc
 found_bytes file (Some one) at bytes is has = let same : range_of one ≡ range_of at = cc in segment_moved file one at bytes same has
 
-pub has_bytes : (ranges : SegmentRanges) (table : Table) (source : SourceState) (place : ℕ) (fetch : FetchInFlight) (bytes : List ℕ) → IsSound ranges table source → place < length table.fetches → fetch ≡ slice_index_or table.fetches place fetch →
-    IfSome (location_of fetch.ticket source.in_flight) (λ at. IsSegment source.file at bytes) → HasBytes place table source bytes
-has_bytes ranges table source place fetch bytes sound within here has =
-    rw (got_at table.fetches place fetch within here) (found_bytes source.file (location_of fetch.ticket source.in_flight) fetch.at bytes (fetch_sound ranges table source place fetch sound within here) has)
+pub has_bytes : (ranges : RangeTable) (state : SessionState) (place : ℕ) (fetch : Flight) (bytes : List ℕ) → IsSound ranges state → place < length state.table.fetches → fetch ≡ slice_index_or state.table.fetches place fetch →
+    IfSome (location_of fetch.ticket state.source.in_flight) (λ at. IsSegment state.source.file at bytes) → HasBytes place state bytes
+has_bytes ranges state place fetch bytes sound within here has =
+    rw (got_here state.table.fetches place fetch within here) (found_bytes state.source.file (location_of fetch.ticket state.source.in_flight) fetch.at bytes (fetch_sound ranges state place fetch sound within here) has)

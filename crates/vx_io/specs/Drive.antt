@@ -1,7 +1,7 @@
 -- What a list of commands does to a session and its source: each fetch ends at most once, with its own bytes.
 use Rattle.std.specs.Prelude.{◌≡◌, ℕ, zero, suc, ◌⊎◌, ◌+◌, ◌-◌, ◌^◌, ◌<◌, ◌≤◌, ◌==◌, ◌&&◌, Bool, List, [], ◌∷◌, ◌++◌, length, take, drop, Option, Some, None, Result, Ok, Err}
 use Rattle.std.specs.List.{All, Any, count_by, flat_map}
-use Rattle.vx_base.specs.Sources.{SourceState, IsSegment}
+use Rattle.vx_base.specs.Sources.{IsSegment}
 use Rattle.vx_base.specs.declared.locations.SegmentLocation.{SegmentLocation}
 use Rattle.vx_io.specs.declared.requests.IoIntent.{IoIntent}
 use Rattle.vx_io.specs.declared.requests.IoIntent.TheVariants.{Announce, Prefetch, Fetch}
@@ -15,9 +15,9 @@ use Rattle.vx_io.specs.declared.commands.IoCommand.TheVariants.{Submit, Poll}
 use Rattle.vx_io.specs.declared.commands.Driven.{Driven}
 use Rattle.vx_io.specs.declared.commands.DriveError.{DriveError}
 use Rattle.vx_io.specs.declared.commands.DriveError.TheVariants as errors
-use Rattle.vx_io.specs.declared.sessions.FetchInFlight.{FetchInFlight}
-use Rattle.vx_io.specs.declared.ranges.SegmentRanges.{SegmentRanges}
-use Rattle.vx_io.specs.Session.{Table, location_of_target}
+use Rattle.vx_io.specs.Ranges.{RangeTable}
+use Rattle.vx_io.specs.Session.{Flight, SessionState, location_of_target}
+use Rattle.vx_io.specs.Sound.{HasWhatIsInFlight}
 use Rattle.vx_io.specs.Submits.{SubmitGives, Did, owned}
 use Rattle.vx_io.specs.Polls.{SessionPollGives, AllGoOn}
 
@@ -58,8 +58,8 @@ is_pair owner request one other = (one.0 == owner) && (other.0 == request)
 abbrev pub times_wanted : ℕ → ℕ → List Wanted → ℕ
 times_wanted owner request fetches = count_by (λ (fetch : Wanted). is_pair owner request fetch.owner fetch.request) fetches
 
-abbrev pub times_in_flight : ℕ → ℕ → List FetchInFlight → ℕ
-times_in_flight owner request fetches = count_by (λ (fetch : FetchInFlight). is_pair owner request fetch.owner fetch.request) fetches
+abbrev pub times_in_flight : ℕ → ℕ → List Flight → ℕ
+times_in_flight owner request fetches = count_by (λ (fetch : Flight). is_pair owner request fetch.owner fetch.request) fetches
 
 abbrev pub times_completed : ℕ → ℕ → List Completion → ℕ
 times_completed owner request completions = count_by (λ (one : Completion). is_pair owner request one.owner one.request) completions
@@ -80,31 +80,31 @@ completions_due (suc in_flight) (Poll ∷ commands) = completions_due in_flight 
 
 -- ---- the command that was refused
 
-abbrev pub Refused : SegmentRanges → IoCommand → DriveError → Table → SourceState → Table → SourceState → Type 0
-Refused ranges (Submit owner batch) (errors.Submit error) old before new after = SubmitGives ranges owner batch.items (Err error) old before new after
-Refused ranges (Submit owner batch) (errors.Poll error) old before new after = ⊥
-Refused ranges (Submit owner batch) errors.Memory old before new after = ⊥
-Refused ranges Poll (errors.Submit error) old before new after = ⊥
-Refused ranges Poll (errors.Poll (poll_errors.Source owner request)) old before new after = SessionPollGives ranges (Err (poll_errors.Source owner request)) old before new after
-Refused ranges Poll (errors.Poll poll_errors.NothingInFlight) old before new after = ⊥
-Refused ranges Poll (errors.Poll poll_errors.Memory) old before new after = ⊥
-Refused ranges Poll errors.Memory old before new after = AllGoOn 0 old before new after
+abbrev pub Refused : RangeTable → IoCommand → DriveError → SessionState → SessionState → Type 0
+Refused ranges (Submit owner batch) (errors.Submit error) old new = SubmitGives ranges owner batch.items (Err error) old new
+Refused ranges (Submit owner batch) (errors.Poll error) old new = ⊥
+Refused ranges (Submit owner batch) errors.Memory old new = ⊥
+Refused ranges Poll (errors.Submit error) old new = ⊥
+Refused ranges Poll (errors.Poll (poll_errors.Source owner request)) old new = SessionPollGives ranges (Err (poll_errors.Source owner request)) old new
+Refused ranges Poll (errors.Poll poll_errors.NothingInFlight) old new = ⊥
+Refused ranges Poll (errors.Poll poll_errors.Memory) old new = ⊥
+Refused ranges Poll errors.Memory old new = AllGoOn 0 old new
 
 -- ---- one command
 
 -- a poll, and the completions before and behind it
-abbrev pub PollCommandGives : SegmentRanges → Result (Unit {0}) DriveError → List Completion → List Completion → Table → SourceState → Table → SourceState → Type 0
-PollCommandGives ranges (Ok done) completions more old before new after =
-    ((more ≡ completions) × SessionPollGives ranges (Ok None) old before new after)
-    ⊎ ((completion : Completion) × (more ≡ completions ++ completion ∷ []) × SessionPollGives ranges (Ok (Some completion)) old before new after)
-PollCommandGives ranges (Err error) completions more old before new after = (more ≡ completions) × Refused ranges Poll error old before new after
+abbrev pub PollCommandGives : RangeTable → Result (Unit {0}) DriveError → List Completion → List Completion → SessionState → SessionState → Type 0
+PollCommandGives ranges (Ok done) completions more old new =
+    ((more ≡ completions) × SessionPollGives ranges (Ok None) old new)
+    ⊎ ((completion : Completion) × (more ≡ completions ++ completion ∷ []) × SessionPollGives ranges (Ok (Some completion)) old new)
+PollCommandGives ranges (Err error) completions more old new = (more ≡ completions) × Refused ranges Poll error old new
 
-abbrev pub CommandGives : SegmentRanges → IoCommand → Result (Unit {0}) DriveError → List Completion → List Completion → Table → SourceState → Table → SourceState → Type 0
-CommandGives ranges (Submit owner batch) (Ok done) completions more old before new after =
-    (more ≡ completions) × SubmitGives ranges owner batch.items (Ok done) old before new after
-CommandGives ranges (Submit owner batch) (Err error) completions more old before new after =
-    (more ≡ completions) × Refused ranges (Submit owner batch) error old before new after
-CommandGives ranges Poll result completions more old before new after = PollCommandGives ranges result completions more old before new after
+abbrev pub CommandGives : RangeTable → IoCommand → Result (Unit {0}) DriveError → List Completion → List Completion → SessionState → SessionState → Type 0
+CommandGives ranges (Submit owner batch) (Ok done) completions more old new =
+    (more ≡ completions) × SubmitGives ranges owner batch.items (Ok done) old new
+CommandGives ranges (Submit owner batch) (Err error) completions more old new =
+    (more ≡ completions) × Refused ranges (Submit owner batch) error old new
+CommandGives ranges Poll result completions more old new = PollCommandGives ranges result completions more old new
 
 -- ---- the commands that succeeded
 
@@ -113,48 +113,49 @@ abbrev pub IsCompletionOf : Option (List ℕ) → Completion → Wanted → Type
 IsCompletionOf file completion fetch =
     (completion.owner ≡ fetch.owner) × (completion.request ≡ fetch.request) × IsSegment file fetch.at completion.bytes.items
 
--- Each command did what its call does, one after the other: the completions are theirs, in order, and the table
--- and the source behind one are those before the next.
-abbrev pub EachGives : SegmentRanges → List IoCommand → List Completion → Table → SourceState → Table → SourceState → Type 0
-EachGives ranges [] completions old before new after = (completions ≡ []) × (new ≡ old) × (after ≡ before)
-EachGives ranges (command ∷ commands) completions old before new after =
-    (first : List Completion) × (rest : List Completion) × (middle : Table) × (between : SourceState) × (completions ≡ first ++ rest)
-    × CommandGives ranges command (Ok tt) [] first old before middle between × EachGives ranges commands rest middle between new after
+-- Each command did what its call does, one after the other: the completions are theirs, in order, and the state
+-- behind one is that before the next.
+abbrev pub EachGives : RangeTable → List IoCommand → List Completion → SessionState → SessionState → Type 0
+EachGives ranges [] completions old new = (completions ≡ []) × (new ≡ old)
+EachGives ranges (command ∷ commands) completions old new =
+    (first : List Completion) × (rest : List Completion) × (middle : SessionState) × (completions ≡ first ++ rest)
+    × CommandGives ranges command (Ok tt) [] first old middle × EachGives ranges commands rest middle new
 
 -- The commands were done.
-pub record DidCommands (ranges : SegmentRanges) (commands : List IoCommand) (completions : List Completion) (old : Table) (before : SourceState) (new : Table) (after : SourceState) : Type 0 where
-  pub each : EachGives ranges commands completions old before new after
+pub record DidCommands (ranges : RangeTable) (commands : List IoCommand) (completions : List Completion) (old new : SessionState) : Type 0 where
+  pub each : EachGives ranges commands completions old new
   -- the machine ran over their requests, and the source was asked for exactly the reads that it starts
-  pub did : Did ranges (requests_of commands) (length completions) old before new after
+  pub did : Did ranges (requests_of commands) (length completions) old new
   -- each completion is that of a submitted fetch, with its bytes
-  pub named : All (λ completion. Any (IsCompletionOf before.file completion) (fetches_in commands)) completions
+  pub named : All (λ completion. Any (IsCompletionOf old.source.file completion) (fetches_in commands)) completions
   -- each submitted fetch is in flight or completed, and none is so twice
   pub balance : (owner request : ℕ) →
-      times_completed owner request completions + times_in_flight owner request new.fetches ≡ times_wanted owner request (fetches_in commands)
+      times_completed owner request completions + times_in_flight owner request new.table.fetches ≡ times_wanted owner request (fetches_in commands)
   -- each fetch in flight was submitted
-  pub submitted : All (λ (fetch : FetchInFlight). Any (λ (wanted : Wanted). (fetch.owner ≡ wanted.owner) × (fetch.request ≡ wanted.request) × (fetch.at ≡ wanted.at)) (fetches_in commands)) new.fetches
+  pub submitted : All (λ (fetch : Flight). Any (λ (wanted : Wanted). (fetch.owner ≡ wanted.owner) × (fetch.request ≡ wanted.request) × (fetch.at ≡ wanted.at)) (fetches_in commands)) new.table.fetches
   -- where no poll found nothing, each poll with a fetch in flight completed one
-  pub counted : after.idle ≡ before.idle → before.idle < 2 ^ 64 - 1 → length completions ≡ completions_due 0 commands
-  pub file : after.file ≡ before.file
-  pub faults : after.faults ≡ before.faults
-  pub idle : before.idle ≤ after.idle
+  pub counted : new.source.idle ≡ old.source.idle → old.source.idle < 2 ^ 64 - 1 → length completions ≡ completions_due 0 commands
+  pub file : new.source.file ≡ old.source.file
+  pub faults : new.source.faults ≡ old.source.faults
+  pub idle : old.source.idle ≤ new.source.idle
 
 -- ---- the end
 -- no command is left, or the next one was refused
-abbrev pub EndsWith : SegmentRanges → List IoCommand → Option DriveError → Table → SourceState → Table → SourceState → Type 0
-EndsWith ranges [] None old before new after = (new ≡ old) × (after ≡ before)
-EndsWith ranges (command ∷ commands) (Some error) old before new after = Refused ranges command error old before new after
-EndsWith ranges [] (Some error) old before new after = ⊥
-EndsWith ranges (command ∷ commands) None old before new after = ⊥
+abbrev pub EndsWith : RangeTable → List IoCommand → Option DriveError → SessionState → SessionState → Type 0
+EndsWith ranges [] None old new = new ≡ old
+EndsWith ranges (command ∷ commands) (Some error) old new = Refused ranges command error old new
+EndsWith ranges [] (Some error) old new = ⊥
+EndsWith ranges (command ∷ commands) None old new = ⊥
 
 -- ---- the whole list
 
-pub record Drives (ranges : SegmentRanges) (commands : List IoCommand) (driven : Driven) (old : Table) (before : SourceState) (new : Table) (after : SourceState) : Type 0 where
+pub record Drives (ranges : RangeTable) (commands : List IoCommand) (driven : Driven) (old new : SessionState) : Type 0 where
   pub within : driven.done ≤ length commands
   -- no fetch is completed twice
   pub once : (owner request : ℕ) → times_completed owner request driven.completions.items ≤ 1
-  -- the table and the source behind the commands that succeeded
-  pub between : Table
-  pub source : SourceState
-  pub did : DidCommands ranges (take driven.done commands) driven.completions.items old before between source
-  pub ends : EndsWith ranges (drop driven.done commands) driven.error between source new after
+  -- the state behind the commands that succeeded
+  pub between : SessionState
+  pub did : DidCommands ranges (take driven.done commands) driven.completions.items old between
+  pub ends : EndsWith ranges (drop driven.done commands) driven.error between new
+  -- what is in flight at the source is exactly what the table has
+  pub in_flight : HasWhatIsInFlight new

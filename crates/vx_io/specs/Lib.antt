@@ -1,7 +1,8 @@
+pub mod ByHand
 pub mod Drive
+pub mod Fetches
 pub mod Polls
 pub mod Ranges
-pub mod Segments
 pub mod Session
 pub mod Sound
 pub mod Submits

@@ -5,6 +5,7 @@ use Rattle.std.specs.BTreeMap.{BTreeMap, get}
 use Rattle.std.specs.Ordering.{nat_cmp}
 use Rattle.vx_base.specs.declared.locations.SegmentLocation.{SegmentLocation}
 use Rattle.vx_base.specs.declared.locations.AskedRange.{AskedRange}
+use Rattle.vx_base.specs.Sources.{SourceState}
 use Rattle.vx_io.specs.declared.requests.IoIntent.{IoIntent}
 use Rattle.vx_io.specs.declared.requests.IoIntent.TheVariants.{Announce, Prefetch, Fetch}
 use Rattle.vx_io.specs.declared.requests.IoTarget.{IoTarget}
@@ -13,9 +14,7 @@ use Rattle.vx_io.specs.declared.requests.IoOwnerId.{IoOwnerId}
 use Rattle.vx_io.specs.declared.requests.IoRequestId.{IoRequestId}
 use Rattle.vx_io.specs.declared.requests.IoRequest.{IoRequest}
 use Rattle.vx_io.specs.declared.waiting.WaitingReads.{WaitingReads}
-use Rattle.vx_io.specs.declared.sessions.FetchInFlight.{FetchInFlight}
-use Rattle.vx_io.specs.declared.ranges.SegmentRanges.{SegmentRanges}
-use Rattle.vx_io.specs.Segments.{segment_of}
+use Rattle.vx_io.specs.Ranges.{RangeTable, segment_of}
 
 -- ---- what waits at one segment
 
@@ -43,10 +42,10 @@ asks Prefetch waiting = has_none waiting.prefetched waiting.announced
 asks Fetch waiting = has_none waiting.prefetched waiting.announced
 
 -- the read that a fetch takes: the prefetched one, else the oldest announced one, else the one just asked for
-abbrev pub next_read : Option ℕ → List ℕ → ℕ → ℕ
-next_read (Some read) announced new = read
-next_read None (read ∷ announced) new = read
-next_read None [] new = new
+abbrev pub fetched_read : Option ℕ → List ℕ → ℕ → ℕ
+fetched_read (Some read) announced new = read
+fetched_read None (read ∷ announced) new = read
+fetched_read None [] new = new
 
 -- what a fetch leaves
 abbrev pub left_by_fetch : Option ℕ → List ℕ → Waiting
@@ -68,10 +67,17 @@ waiting_after Fetch waiting new = left_by_fetch waiting.prefetched waiting.annou
 
 -- ---- the table
 
+-- A fetch in flight: whose it is, its number, what it reads, and the ticket of its read.
+pub record Flight : Type 0 where
+  pub owner : IoOwnerId
+  pub request : IoRequestId
+  pub at : SegmentLocation
+  pub ticket : ℕ
+
 -- what waits at each segment, and the fetches in flight in the order of their submission
 pub record Table : Type 0 where
   pub waiting : ℕ → Waiting
-  pub fetches : List FetchInFlight
+  pub fetches : List Flight
 
 abbrev pub empty_table : Table
 empty_table = record { waiting = λ segment. nothing_waits; fetches = [] }
@@ -84,11 +90,16 @@ waiting_or_none (Some reads) = waiting_reads reads
 abbrev pub waits : BTreeMap ℕ WaitingReads → ℕ → Waiting
 waits waiting segment = waiting_or_none (get nat_cmp waiting segment)
 
--- the table that a session's fields make
-abbrev pub table_in : BTreeMap ℕ WaitingReads → List FetchInFlight → Table
-table_in waiting fetches = record {
-  waiting = waits waiting;
-  fetches = fetches;
+-- What a session is to its callers: its table, and the state of its source.
+pub record SessionState : Type 0 where
+  pub table : Table
+  pub source : SourceState
+
+-- the state that a session's fields make
+abbrev pub state_in : (ℕ → Waiting) → List Flight → SourceState → SessionState
+state_in waiting fetches source = record {
+  table = record { waiting = waiting; fetches = fetches };
+  source = source;
 }
 
 abbrev pub location_of_target : IoTarget → SegmentLocation
@@ -108,20 +119,20 @@ abbrev pub put_at : (ℕ → Waiting) → ℕ → Waiting → ℕ → Waiting
 put_at waiting segment now other = if other == segment then now else waiting other
 
 -- only a fetch adds one to those in flight
-abbrev pub if_fetch : IoIntent → FetchInFlight → List FetchInFlight
+abbrev pub if_fetch : IoIntent → Flight → List Flight
 if_fetch Announce fetch = []
 if_fetch Prefetch fetch = []
 if_fetch Fetch fetch = fetch ∷ []
 
 -- the fetch that took a read, if one did
-abbrev pub fetch_with : IoOwnerId → IoRequestId → SegmentLocation → Option ℕ → List FetchInFlight
+abbrev pub fetch_with : IoOwnerId → IoRequestId → SegmentLocation → Option ℕ → List Flight
 fetch_with owner request at None = []
 fetch_with owner request at (Some ticket) = record { owner = owner; request = request; at = at; ticket = ticket } ∷ []
 
 -- the fetch that a request makes of what waits at its segment
-abbrev pub fetch_of : IoOwnerId → IoRequest → Waiting → ℕ → FetchInFlight
+abbrev pub fetch_of : IoOwnerId → IoRequest → Waiting → ℕ → Flight
 fetch_of owner request waiting new =
-    record { owner = owner; request = request.request; at = location_of_target request.target; ticket = next_read waiting.prefetched waiting.announced new }
+    record { owner = owner; request = request.request; at = location_of_target request.target; ticket = fetched_read waiting.prefetched waiting.announced new }
 
 -- a request at its segment; one whose range no segment has does nothing
 abbrev pub requested_at : Option ℕ → IoOwnerId → IoRequest → ℕ → Table → Table
@@ -131,7 +142,7 @@ requested_at (Some segment) owner request new table = record {
   fetches = table.fetches ++ if_fetch request.intent (fetch_of owner request (table.waiting segment) new);
 }
 
-abbrev pub table_after : SegmentRanges → Table → Step → Table
+abbrev pub table_after : RangeTable → Table → Step → Table
 table_after ranges table (requested owner request new) = requested_at (segment_of ranges (range_of_target request.target)) owner request new table
 table_after ranges table (ended place) = record { waiting = table.waiting; fetches = remove table.fetches place }
 
@@ -140,22 +151,22 @@ abbrev pub starts_at : Option ℕ → IoRequest → ℕ → Table → List (ℕ 
 starts_at None request new table = []
 starts_at (Some segment) request new table = if asks request.intent (table.waiting segment) then (new, location_of_target request.target) ∷ [] else []
 
-abbrev pub started_by : SegmentRanges → Table → Step → List (ℕ × SegmentLocation)
+abbrev pub started_by : RangeTable → Table → Step → List (ℕ × SegmentLocation)
 started_by ranges table (requested owner request new) = starts_at (segment_of ranges (range_of_target request.target)) request new table
 started_by ranges table (ended place) = []
 
 -- ---- runs of steps
 
-abbrev pub session_after : SegmentRanges → Table → List Step → Table
+abbrev pub session_after : RangeTable → Table → List Step → Table
 session_after ranges table [] = table
 session_after ranges table (step ∷ steps) = session_after ranges (table_after ranges table step) steps
 
 -- the reads that a run starts, in order, and what it asks for
-abbrev pub starts_of : SegmentRanges → Table → List Step → List (ℕ × SegmentLocation)
+abbrev pub starts_of : RangeTable → Table → List Step → List (ℕ × SegmentLocation)
 starts_of ranges table [] = []
 starts_of ranges table (step ∷ steps) = started_by ranges table step ++ starts_of ranges (table_after ranges table step) steps
 
-abbrev pub asks_of : SegmentRanges → Table → List Step → List SegmentLocation
+abbrev pub asks_of : RangeTable → Table → List Step → List SegmentLocation
 asks_of ranges table steps = map (λ read. read.1) (starts_of ranges table steps)
 
 -- the requests of a run, each with its owner, and how many fetches ended in it
@@ -171,7 +182,7 @@ ends_in (ended place ∷ steps) = ends_in steps + 1
 
 -- Some run of the machine with these requests and so many ended fetches leads from one table to the other,
 -- and starts these reads.
-pub record Runs (ranges : SegmentRanges) (requests : List (IoOwnerId × IoRequest)) (ends : ℕ) (old new : Table) (started : List (ℕ × SegmentLocation)) : Type 0 where
+pub record Runs (ranges : RangeTable) (requests : List (IoOwnerId × IoRequest)) (ends : ℕ) (old new : Table) (started : List (ℕ × SegmentLocation)) : Type 0 where
   pub steps : List Step
   pub requests_done : requests_in steps ≡ requests
   pub fetches_ended : ends_in steps ≡ ends
@@ -181,4 +192,4 @@ pub record Runs (ranges : SegmentRanges) (requests : List (IoOwnerId × IoReques
 -- What is asked depends on the requests alone: two runs of one list of requests from one table ask for the
 -- same locations, whatever tickets the source gives and whichever fetches end in between.
 abbrev pub RequestsTellAsks : Type 0
-RequestsTellAsks = (ranges : SegmentRanges) (table : Table) (one two : List Step) → requests_in one ≡ requests_in two → asks_of ranges table one ≡ asks_of ranges table two
+RequestsTellAsks = (ranges : RangeTable) (table : Table) (one two : List Step) → requests_in one ≡ requests_in two → asks_of ranges table one ≡ asks_of ranges table two

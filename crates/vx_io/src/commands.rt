@@ -1,7 +1,7 @@
 //! A list of commands, run over a session one after the other.
 
 ghost use Rattle.std.specs.Prelude.{◌≡◌, []};
-ghost use Rattle.vx_io.specs.Tables.{table_of};
+ghost use Rattle.vx_io.specs.Tables.{session_state, KeepsLoans};
 ghost use Rattle.vx_io.specs.Drive.{fetches_in, AreDistinct, Drives, PollCommandGives, CommandGives};
 
 use crate::requests::{Completion, IoOwnerId, IoRequest, PollError, SubmitError};
@@ -49,10 +49,9 @@ fn poll<S: SegmentSource>(
     session: &mut SegmentIoSource<'_, S>,
     completions: &mut Vec<Completion>,
 ) -> Result<(), DriveError>
-    ensures same_reference { session.new.source.ghost_name ≡ session.old.source.ghost_name }
-    ensures ranges { session.new.ranges.now ≡ session.old.ranges.now }
+    ensures loans { KeepsLoans session.old session.new }
     ensures gives { PollCommandGives session.old.ranges.now result completions.old.items completions.new.items
-        (table_of session.old) (S.state session.old.source.now) (table_of session.new) (S.state session.new.source.now) }
+        (session_state session.old) (session_state session.new) }
 {
     if completions.reserve(1).is_err() {
         return Err(DriveError::Memory);
@@ -74,10 +73,9 @@ fn run<S: SegmentSource>(
     command: IoCommand,
     completions: &mut Vec<Completion>,
 ) -> Result<(), DriveError>
-    ensures same_reference { session.new.source.ghost_name ≡ session.old.source.ghost_name }
-    ensures ranges { session.new.ranges.now ≡ session.old.ranges.now }
+    ensures loans { KeepsLoans session.old session.new }
     ensures gives { CommandGives session.old.ranges.now command result completions.old.items completions.new.items
-        (table_of session.old) (S.state session.old.source.now) (table_of session.new) (S.state session.new.source.now) }
+        (session_state session.old) (session_state session.new) }
 {
     match command {
         IoCommand::Submit(owner, batch) => match session.submit(owner, batch) {
@@ -95,12 +93,10 @@ pub fn drive<S: SegmentSource>(
     session: &mut SegmentIoSource<'_, S>,
     commands: Vec<IoCommand>,
 ) -> Driven
-    requires none_in_flight { (table_of session.old).fetches ≡ [] }
+    requires none_in_flight { (session_state session.old).table.fetches ≡ [] }
     requires distinct { AreDistinct (fetches_in commands.items) }
-    ensures same_reference { session.new.source.ghost_name ≡ session.old.source.ghost_name }
-    ensures ranges { session.new.ranges.now ≡ session.old.ranges.now }
-    ensures drives { Drives session.old.ranges.now commands.items result
-        (table_of session.old) (S.state session.old.source.now) (table_of session.new) (S.state session.new.source.now) }
+    ensures loans { KeepsLoans session.old session.new }
+    ensures drives { Drives session.old.ranges.now commands.items result (session_state session.old) (session_state session.new) }
 {
     let mut driven = Driven {
         completions: Vec::new(alloc),

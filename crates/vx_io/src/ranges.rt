@@ -1,17 +1,27 @@
 //! Which segment has a range of the file.
 
 ghost use Rattle.std.specs.Prelude.{◌≡◌, ◌≤◌, ◌-◌, ◌^◌, length, IfOk};
-ghost use Rattle.vx_io.specs.Ranges.{AreApart, IsTableOf};
+ghost use Rattle.vx_io.specs.Ranges.{IsTableOf};
 
 use std::alloc::{AllocError, Global};
 use std::collections::BTreeMap;
+use std::marker::Model;
 use vx_base::{AskedRange, SegmentLocation};
 
 /// The segments of a file by their ranges: each range has at most one segment, and each segment one range.
 #[derive(Drop)]
 pub struct SegmentRanges {
     segments: BTreeMap<AskedRange, u32>,
-    ghost apart: { AreApart segments },
+}
+
+impl Model for SegmentRanges {
+    ghost use Rattle.vx_io.specs.Ranges.{RangeTable, AreApart};
+
+    ghost Value = { RangeTable };
+
+    ghost view = { λ ranges. ranges.segments.entries };
+
+    ghost invariant = { λ ranges. AreApart ranges.segments.entries };
 }
 
 /// The table of the locations: a segment's number is the place of its location. Of equal ranges the last
@@ -21,7 +31,7 @@ pub fn segment_ranges(
     locations: &[SegmentLocation],
 ) -> Result<SegmentRanges, AllocError>
     requires { length locations.now ≤ 2 ^ 32 - 1 }
-    ensures { IfOk result (λ ranges. IsTableOf ranges.segments locations.now) }
+    ensures { IfOk result (λ ranges. IsTableOf ranges locations.now) }
 {
     let mut segments = BTreeMap::new(alloc);
     for (number, at) in locations.iter().enumerate() {
@@ -35,8 +45,7 @@ pub fn segment_ranges(
 }
 
 impl SegmentRanges {
-    ghost use Rattle.vx_io.specs.Ranges.{range_at};
-    ghost use Rattle.vx_io.specs.Segments.{segment_of};
+    ghost use Rattle.vx_io.specs.Ranges.{range_at, segment_of, AreApart};
 
     /// The segment that has exactly this range. None where none has it.
     pub fn find(&self, offset: u64, len: u32) -> Option<u32>
@@ -47,5 +56,12 @@ impl SegmentRanges {
             length: len,
         };
         self.segments.get(&range).copied()
+    }
+
+    /// No two ranges have one segment.
+    pub(crate) fn are_apart(&self)
+        ensures { AreApart self.now }
+    {
+        let _ = &self.segments;
     }
 }

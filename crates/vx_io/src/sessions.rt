@@ -4,40 +4,29 @@ ghost use Rattle.std.specs.Prelude.{◌≡◌, ◌<◌, ◌↔◌, [], ◌++◌,
 ghost use Rattle.std.specs.List.{All};
 ghost use Rattle.std.specs.VecDeque.{deque_len, deque_capacity};
 ghost use Rattle.vx_base.specs.Sources.{Cleared};
-ghost use Rattle.vx_io.specs.Session.{table_in, fetch_with, empty_table, RequestsTellAsks};
+ghost use Rattle.vx_io.specs.Session.{waits, state_in, fetch_with, empty_table, RequestsTellAsks};
 ghost use Rattle.vx_io.specs.Sound.{IsSound};
 ghost use Rattle.vx_io.specs.Submits.{IsKnown, IsFirstUnknown, SubmitGives, StartGives};
 ghost use Rattle.vx_io.specs.Polls.{SessionPollGives, CompletionGives, PollsAt};
 
+use crate::flights::FetchInFlight;
 use crate::ranges::SegmentRanges;
-use crate::requests::{
-    Completion, IoIntent, IoOwnerId, IoRequest, IoRequestId, PollError, SubmitError,
-};
-use crate::waiting::{WaitingReads, take_at};
+use crate::requests::{Completion, IoOwnerId, IoRequest, IoRequestId, PollError, SubmitError};
+use crate::waiting::WaitingTable;
 use std::alloc::Global;
-use std::collections::{BTreeMap, VecDeque};
+use std::collections::VecDeque;
 use vx_base::{SegmentLocation, SegmentSource, SourceError};
-
-/// A fetch in flight: whose it is, its number, what it reads, and the ticket of its read.
-#[derive(Clone, Copy, Debug, PartialEq, Eq)]
-pub(crate) struct FetchInFlight {
-    owner: IoOwnerId,
-    request: IoRequestId,
-    at: SegmentLocation,
-    ticket: u64,
-}
 
 /// A session over a lent source. It keeps for each segment the announced reads in order and at most one
 /// prefetched read, and the fetches in flight in the order of their submission. Its tables grow in `submit`. A
 /// session that is let go leaves its reads in flight at the source; `clear` forgets them.
 #[derive(Drop)]
 pub struct SegmentIoSource<'a, S: SegmentSource> {
-    alloc: Global,
     source: &'a mut S,
     ranges: &'a SegmentRanges,
-    waiting: BTreeMap<u32, WaitingReads>,
+    waiting: WaitingTable,
     fetches: VecDeque<FetchInFlight>,
-    ghost sound: { IsSound ranges.now (table_in waiting fetches.items) (S.state source.now) },
+    ghost sound: { IsSound ranges.now (state_in (waits waiting.segments) fetches.items (S.state source.now)) },
 }
 
 /// The first request of a batch whose range no segment has. None where each range is known.
@@ -80,7 +69,7 @@ pub fn requests_tell_asks()
 {}
 
 impl<'a, S: SegmentSource> SegmentIoSource<'a, S> {
-    ghost use Rattle.vx_io.specs.Tables.{table_of};
+    ghost use Rattle.vx_io.specs.Tables.{session_state, KeepsLoans};
 
     /// A session with nothing waiting and nothing in flight. It clears the source and takes no memory.
     pub fn new(
@@ -90,15 +79,15 @@ impl<'a, S: SegmentSource> SegmentIoSource<'a, S> {
     ) -> SegmentIoSource<'a, S>
         ensures same_reference { result.source.ghost_name ≡ source.entry.ghost_name }
         ensures ranges { result.ranges.now ≡ ranges.now }
-        ensures empty { table_of result ≡ empty_table }
+        ensures empty { (session_state result).table ≡ empty_table }
         ensures cleared { Cleared (S.state source.old) (S.state result.source.now) }
     {
         source.clear();
+        ranges.are_apart();
         SegmentIoSource {
-            alloc,
             source,
             ranges,
-            waiting: BTreeMap::new(alloc),
+            waiting: WaitingTable::new(alloc),
             fetches: VecDeque::new(alloc),
         }
     }
@@ -106,24 +95,18 @@ impl<'a, S: SegmentSource> SegmentIoSource<'a, S> {
     /// Does one request of a batch, whose range is known.
     fn start(&mut self, owner: IoOwnerId, request: IoRequest) -> Result<(), SourceError>
         requires { IsKnown self.old.ranges.now request }
-        ensures same_reference { self.new.source.ghost_name ≡ self.old.source.ghost_name }
-        ensures ranges { self.new.ranges.now ≡ self.old.ranges.now }
-        ensures gives { StartGives self.old.ranges.now owner request result
-            (table_of self.old) (S.state self.old.source.now) (table_of self.new) (S.state self.new.source.now) }
+        ensures loans { KeepsLoans self.old self.new }
+        ensures gives { StartGives self.old.ranges.now owner request result (session_state self.old) (session_state self.new) }
     {
         let at = request.target.location();
         let segment = self.ranges.find(at.offset, at.length).unwrap();
         if self.fetches.reserve(1).is_err() {
             return Err(SourceError::Memory);
         }
-        match take_at(
-            self.alloc,
-            &mut self.waiting,
-            self.source,
-            request.intent,
-            segment,
-            at,
-        ) {
+        match self
+            .waiting
+            .take(self.source, request.intent, segment, at)
+        {
             Ok(taken) => {
                 add_fetch(&mut self.fetches, owner, request.request, at, taken);
                 Ok(())
@@ -134,11 +117,9 @@ impl<'a, S: SegmentSource> SegmentIoSource<'a, S> {
 
     /// Polls the fetch at a place in line. One that ended is gone.
     fn poll_at(&mut self, place: usize) -> Result<Option<Completion>, PollError>
-        requires { place < length (table_of self.old).fetches }
-        ensures same_reference { self.new.source.ghost_name ≡ self.old.source.ghost_name }
-        ensures ranges { self.new.ranges.now ≡ self.old.ranges.now }
-        ensures gives { PollsAt place self.old.ranges.now result
-            (table_of self.old) (S.state self.old.source.now) (table_of self.new) (S.state self.new.source.now) }
+        requires { place < length (session_state self.old).table.fetches }
+        ensures loans { KeepsLoans self.old self.new }
+        ensures gives { PollsAt place self.old.ranges.now result (session_state self.old) (session_state self.new) }
     {
         let fetch = self.fetches[place];
         match self.source.poll(fetch.ticket) {
@@ -165,10 +146,8 @@ impl<'a, S: SegmentSource> SegmentIoSource<'a, S> {
     /// Takes a batch of requests of one owner, in order. A batch with a range that no segment has starts
     /// nothing; after another refusal the first `taken` requests took effect, and no later one.
     pub fn submit(&mut self, owner: IoOwnerId, batch: Vec<IoRequest>) -> Result<(), SubmitError>
-        ensures same_reference { self.new.source.ghost_name ≡ self.old.source.ghost_name }
-        ensures ranges { self.new.ranges.now ≡ self.old.ranges.now }
-        ensures gives { SubmitGives self.old.ranges.now owner batch.items result
-            (table_of self.old) (S.state self.old.source.now) (table_of self.new) (S.state self.new.source.now) }
+        ensures loans { KeepsLoans self.old self.new }
+        ensures gives { SubmitGives self.old.ranges.now owner batch.items result (session_state self.old) (session_state self.new) }
     {
         if let Some(place) = first_unknown(self.ranges, batch.as_slice()) {
             return Err(SubmitError::UnknownRange(place as u64));
@@ -187,10 +166,8 @@ impl<'a, S: SegmentSource> SegmentIoSource<'a, S> {
     /// Polls the fetches in flight in the order of their submission until one ends. `None` says that none is
     /// in flight, or that each goes on.
     pub fn poll(&mut self) -> Result<Option<Completion>, PollError>
-        ensures same_reference { self.new.source.ghost_name ≡ self.old.source.ghost_name }
-        ensures ranges { self.new.ranges.now ≡ self.old.ranges.now }
-        ensures gives { SessionPollGives self.old.ranges.now result
-            (table_of self.old) (S.state self.old.source.now) (table_of self.new) (S.state self.new.source.now) }
+        ensures loans { KeepsLoans self.old self.new }
+        ensures gives { SessionPollGives self.old.ranges.now result (session_state self.old) (session_state self.new) }
     {
         for place in 0..self.fetches.len() {
             match self.poll_at(place) {
@@ -203,11 +180,9 @@ impl<'a, S: SegmentSource> SegmentIoSource<'a, S> {
 
     /// As `poll`, but where no fetch is in flight it answers `NothingInFlight`.
     pub fn poll_completion(&mut self) -> Result<Option<Completion>, PollError>
-        ensures same_reference { self.new.source.ghost_name ≡ self.old.source.ghost_name }
-        ensures ranges { self.new.ranges.now ≡ self.old.ranges.now }
-        ensures nothing { IsErrOf result PollError.NothingInFlight ↔ ((table_of self.old).fetches ≡ []) }
-        ensures gives { CompletionGives self.old.ranges.now result
-            (table_of self.old) (S.state self.old.source.now) (table_of self.new) (S.state self.new.source.now) }
+        ensures loans { KeepsLoans self.old self.new }
+        ensures nothing { IsErrOf result PollError.NothingInFlight ↔ ((session_state self.old).table.fetches ≡ []) }
+        ensures gives { CompletionGives self.old.ranges.now result (session_state self.old) (session_state self.new) }
     {
         if self.fetches.is_empty() {
             return Err(PollError::NothingInFlight);
@@ -217,21 +192,30 @@ impl<'a, S: SegmentSource> SegmentIoSource<'a, S> {
 
     /// How many fetches are in flight. It takes no memory.
     pub fn in_flight(&self) -> u64
-        ensures { result ≡ length (table_of self.now).fetches }
+        ensures { result ≡ length (session_state self.now).table.fetches }
     {
         self.fetches.len() as u64
     }
 
     /// Forgets every read and clears the source. Its counts and asks stay. It takes no memory.
     pub fn clear(&mut self)
-        ensures same_reference { self.new.source.ghost_name ≡ self.old.source.ghost_name }
-        ensures ranges { self.new.ranges.now ≡ self.old.ranges.now }
-        ensures empty { table_of self.new ≡ empty_table }
+        ensures loans { KeepsLoans self.old self.new }
+        ensures empty { (session_state self.new).table ≡ empty_table }
         ensures cleared { Cleared (S.state self.old.source.now) (S.state self.new.source.now) }
     {
         self.waiting.clear();
         self.fetches.clear();
         self.source.clear();
+    }
+
+    /// Ends the session and gives its lent source back as it stands, with what is in flight there. It takes no
+    /// memory.
+    pub fn into_source(self) -> &'a mut S
+        ensures same_reference { result.ghost_name ≡ self.entry.source.ghost_name }
+        ensures same { result.now ≡ self.entry.source.now }
+    {
+        let SegmentIoSource { source, .. } = self;
+        source
     }
 
     /// Does nothing: the reads of an owner stay until they end or the session is cleared.

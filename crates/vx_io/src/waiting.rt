@@ -1,9 +1,8 @@
-//! The reads of one segment that no fetch has taken yet.
+//! The reads that no fetch has taken yet, of one segment and of all.
 
-ghost use Rattle.std.specs.Prelude.{◌≡◌, ◌≢◌, ℕ, OnOk, IsSome, IsTrue};
+ghost use Rattle.std.specs.Prelude.{◌≡◌, ◌≢◌, ℕ, [], IsTrue, IsSome, OnOk};
 ghost use Rattle.std.specs.BTreeMap.{get};
 ghost use Rattle.std.specs.Ordering.{nat_cmp};
-ghost use Rattle.vx_base.specs.Sources.{RequestGives};
 ghost use Rattle.vx_io.specs.Session.{waiting_reads, nothing_waits, waits};
 ghost use Rattle.vx_io.specs.Waits.{TakesRequest, TakesFetch, TakesAnnounced, Takes, TakesAt};
 
@@ -128,107 +127,97 @@ impl WaitingReads {
     }
 }
 
-/// Makes room for reads at a segment.
-fn make_room(
+/// The reads that wait at each segment. A segment at which nothing waits isn't kept.
+#[derive(Drop)]
+pub(crate) struct WaitingTable {
     alloc: Global,
-    waiting: &mut BTreeMap<u32, WaitingReads>,
-    segment: u32,
-) -> Result<(), SourceError>
-    ensures here { OnOk result (IsSome (get nat_cmp waiting.new segment)) }
-    ensures same { (other : ℕ) → waits waiting.new other ≡ waits waiting.old other }
-{
-    if waiting.contains_key(&segment) {
-        return Ok(());
-    }
-    match waiting.insert(segment, WaitingReads::new(alloc)) {
-        Ok(_) => Ok(()),
-        Err(_) => Err(SourceError::Memory),
-    }
+    segments: BTreeMap<u32, WaitingReads>,
 }
 
-/// Lets go of a segment at which nothing waits.
-fn drop_empty(waiting: &mut BTreeMap<u32, WaitingReads>, segment: u32)
-    ensures { (other : ℕ) → waits waiting.new other ≡ waits waiting.old other }
-{
-    let is_empty = match waiting.get(&segment) {
-        Some(reads) => reads.is_empty(),
-        None => false,
-    };
-    if is_empty {
-        waiting.remove(&segment);
-    }
-}
-
-/// Does a request at a segment that there is room for.
-fn take_in<S: SegmentSource>(
-    waiting: &mut BTreeMap<u32, WaitingReads>,
-    source: &mut S,
-    intent: IoIntent,
-    segment: u32,
-    at: SegmentLocation,
-) -> Result<Option<u64>, SourceError>
-    requires { IsSome (get nat_cmp waiting.old segment) }
-    ensures here { Takes intent at result
-        (waits waiting.old segment) (S.state source.old) (waits waiting.new segment) (S.state source.new) }
-    ensures others { (other : ℕ) → other ≢ segment → get nat_cmp waiting.new other ≡ get nat_cmp waiting.old other }
-{
-    let reads = waiting.get_mut(&segment).unwrap();
-    reads.take(source, intent, segment, at)
-}
-
-/// Does an announcement or a prefetch at its segment. Room is made first.
-fn wait_at<S: SegmentSource>(
-    alloc: Global,
-    waiting: &mut BTreeMap<u32, WaitingReads>,
-    source: &mut S,
-    intent: IoIntent,
-    segment: u32,
-    at: SegmentLocation,
-) -> Result<Option<u64>, SourceError>
-    ensures { TakesAt intent segment at result
-        (waits waiting.old) (S.state source.old) (waits waiting.new) (S.state source.new) }
-{
-    if make_room(alloc, waiting, segment).is_err() {
-        return Err(SourceError::Memory);
-    }
-    take_in(waiting, source, intent, segment, at)
-}
-
-/// Does a fetch at its segment. Nothing is kept of a segment at which nothing waits afterwards.
-fn fetch_at<S: SegmentSource>(
-    waiting: &mut BTreeMap<u32, WaitingReads>,
-    source: &mut S,
-    segment: u32,
-    at: SegmentLocation,
-) -> Result<Option<u64>, SourceError>
-    ensures { TakesAt IoIntent.Fetch segment at result
-        (waits waiting.old) (S.state source.old) (waits waiting.new) (S.state source.new) }
-{
-    if !waiting.contains_key(&segment) {
-        let ticket = source.request(segment, at)?;
-        return Ok(Some(ticket));
-    }
-    let taken = take_in(waiting, source, IoIntent::Fetch, segment, at)?;
-    drop_empty(waiting, segment);
-    Ok(taken)
-}
-
-/// Does a request at its segment, and gives the read that a fetch takes.
-pub(crate) fn take_at<S: SegmentSource>(
-    alloc: Global,
-    waiting: &mut BTreeMap<u32, WaitingReads>,
-    source: &mut S,
-    intent: IoIntent,
-    segment: u32,
-    at: SegmentLocation,
-) -> Result<Option<u64>, SourceError>
-    ensures { TakesAt intent segment at result
-        (waits waiting.old) (S.state source.old) (waits waiting.new) (S.state source.new) }
-{
-    match intent {
-        IoIntent::Fetch => fetch_at(waiting, source, segment, at),
-        IoIntent::Announce | IoIntent::Prefetch => {
-            wait_at(alloc, waiting, source, intent, segment, at)
+impl WaitingTable {
+    /// No reads. It takes no memory.
+    pub(crate) fn new(alloc: Global) -> WaitingTable
+        ensures { result.segments.entries ≡ [] }
+    {
+        WaitingTable {
+            alloc,
+            segments: BTreeMap::new(alloc),
         }
+    }
+
+    /// Makes room for reads at a segment.
+    fn make_room(&mut self, segment: u32) -> Result<(), SourceError>
+        ensures here { OnOk result (IsSome (get nat_cmp self.new.segments segment)) }
+        ensures same { (other : ℕ) → waits self.new.segments other ≡ waits self.old.segments other }
+    {
+        match self.segments.entry(segment) {
+            Ok(entry) => {
+                let _reads = entry.or_insert(WaitingReads::new(self.alloc));
+                Ok(())
+            }
+            Err(_) => Err(SourceError::Memory),
+        }
+    }
+
+    /// Does a request at a segment that there is room for.
+    fn take_in<S: SegmentSource>(
+        &mut self,
+        source: &mut S,
+        intent: IoIntent,
+        segment: u32,
+        at: SegmentLocation,
+    ) -> Result<Option<u64>, SourceError>
+        requires { IsSome (get nat_cmp self.old.segments segment) }
+        ensures here { Takes intent at result
+            (waits self.old.segments segment) (S.state source.old) (waits self.new.segments segment) (S.state source.new) }
+        ensures others { (other : ℕ) → other ≢ segment → get nat_cmp self.new.segments other ≡ get nat_cmp self.old.segments other }
+    {
+        let reads = self.segments.get_mut(&segment).unwrap();
+        reads.take(source, intent, segment, at)
+    }
+
+    /// Lets go of a segment at which nothing waits.
+    fn drop_empty(&mut self, segment: u32)
+        ensures { (other : ℕ) → waits self.new.segments other ≡ waits self.old.segments other }
+    {
+        let is_empty = match self.segments.get(&segment) {
+            Some(reads) => reads.is_empty(),
+            None => false,
+        };
+        if is_empty {
+            self.segments.remove(&segment);
+        }
+    }
+
+    /// Does a request at its segment, and gives the read that a fetch takes. Room is made first, so that no read is
+    /// started in vain; a fetch where nothing waits needs none. Nothing is kept of a segment at which nothing waits
+    /// afterwards.
+    pub(crate) fn take<S: SegmentSource>(
+        &mut self,
+        source: &mut S,
+        intent: IoIntent,
+        segment: u32,
+        at: SegmentLocation,
+    ) -> Result<Option<u64>, SourceError>
+        ensures { TakesAt intent segment at result
+            (waits self.old.segments) (S.state source.old) (waits self.new.segments) (S.state source.new) }
+    {
+        if intent == IoIntent::Fetch && !self.segments.contains_key(&segment) {
+            let ticket = source.request(segment, at)?;
+            return Ok(Some(ticket));
+        }
+        if self.make_room(segment).is_err() {
+            return Err(SourceError::Memory);
+        }
+        let taken = self.take_in(source, intent, segment, at);
+        self.drop_empty(segment);
+        taken
+    }
+
+    /// Forgets all reads. It takes no memory.
+    pub(crate) fn clear(&mut self)
+        ensures { self.new.segments.entries ≡ [] }
+    {
+        self.segments.clear();
     }
 }

@@ -7,4 +7,4 @@ loop-number-preserved c =
     table_more c.loop-number.segments c.insert.new.self c.args.locations.now c.loop-number.number (record { offset = 0; length = 0; alignment = 0 }) c.loop-number-test.true c.loop-number.invariant c.in_ok-insert.ensures.updates.0
 
 pub invariant_of-result : goal.invariant_of-result
-invariant_of-result c = record { apart = table_apart c.loop-number.segments (take c.loop-number.number c.args.locations.now) c.loop-number.invariant }
+invariant_of-result c = table_apart c.loop-number.segments.entries (take c.loop-number.number c.args.locations.now) c.loop-number.invariant

@@ -3,4 +3,4 @@ use Rattle.vx_io.specs.Ranges.{IsTableOf}
 use Rattle.vx_io.proofs.ranges.segment_ranges.Given as goal
 
 abbrev pub invariant-loop-number : goal.invariant-loop-number
-invariant-loop-number l = IsTableOf l.segments (take l.number l.locations)
+invariant-loop-number l = IsTableOf l.segments.entries (take l.number l.locations)
