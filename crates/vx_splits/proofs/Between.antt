@@ -73,9 +73,6 @@ narrowed p start lo hi end a b c before after =
 from_start : (a n : ℕ) → All (λ row. a ≤ row) (range_with_len a n)
 from_start a n k d lt = let e = get_or-range_with_len a n k d (omega (arith, length-range_with_len a n)) in omega arith
 
-below_end : (a n : ℕ) → All (λ row. row < a + n) (range_with_len a n)
-below_end a n k d lt = let e = get_or-range_with_len a n k d (omega (arith, length-range_with_len a n)) in omega (arith, length-range_with_len a n)
-
 pub all_from : (p : ℕ → Bool) (start end : ℕ) → All (λ row. start ≤ row) (filter p (rows_between start end))
 all_from p start end = All-filter p (λ row. start ≤ row) (rows_between start end) (from_start start (end - start))
 
@@ -112,14 +109,14 @@ some p a (suc n) row low high e =
 pub some_between : (p : ℕ → Bool) (start end row : ℕ) → start ≤ row → row < end → p row ≡ true → 0 < length (filter p (rows_between start end))
 some_between p start end row low high e = some p start (end - start) row low (omega arith) e
 
-or_false' : (b c : Bool) → b ≡ false → (b || c) ≡ c
-or_false' b c e = rw e refl
+pub or_false : {b : Bool} (c : Bool) → b ≡ false → (b || c) ≡ c
+or_false {b} c e = rw e refl
 
 among_none : (row : ℕ) (rows : List ℕ) → All (λ index. row < index) rows → is_among rows row ≡ false
 among_none row rows h = list_any_none (λ (index : ℕ). index == row) rows (λ k d lt. let above = h k d lt in ne_eqb (get_or rows k d) row (λ e. absurd (omega arith)))
 
 among_cond : (b : Bool) (a row : ℕ) (rows : List ℕ) → (a ≡ row → ⊥) → is_among (cond b (a ∷ rows) rows) row ≡ is_among rows row
-among_cond true a row rows ne = or_false' (a == row) (is_among rows row) (ne_eqb a row ne)
+among_cond true a row rows ne = or_false (is_among rows row) (ne_eqb a row ne)
 among_cond false a row rows ne = refl
 
 among_here : (b : Bool) (a : ℕ) (rows : List ℕ) → is_among rows a ≡ false → is_among (cond b (a ∷ rows) rows) a ≡ b
@@ -141,20 +138,17 @@ pub among_kept : (p : ℕ → Bool) (start end row : ℕ) → start ≤ row → 
 among_kept p start end row low high = among p start (end - start) row low (omega arith)
 
 -- ---- the first and the last row that passes
-abbrev kept_between : (ℕ → Bool) → ℕ → ℕ → List ℕ
-kept_between p start end = filter p (rows_between start end)
-
 pub before_first : (p : ℕ → Bool) (start end : ℕ) → 0 < length (filter p (rows_between start end)) → NoneBetween p start (get_or (filter p (rows_between start end)) 0 0)
 before_first p start end nonempty row low high =
     elim (cases_Bool (p row)) [
       | inr fails ↦ fails
       | inl holds ↦
-          let first = get_or (kept_between p start end) 0 0 in
+          let first = get_or (filter p (rows_between start end)) 0 0 in
           let bound : first < end = all_below p start end 0 0 nonempty in
           let parts = filter_at p start first end (omega arith) (omega arith) in
-          let some_front : 0 < length (kept_between p start first) = some_between p start first row low high holds in
+          let some_front : 0 < length (filter p (rows_between start first)) = some_between p start first row low high holds in
           let small = all_below p start first 0 0 some_front in
-          let e : first ≡ get_or (kept_between p start first) 0 0 = ap (λ (rows : List ℕ). get_or rows 0 0) parts ∙ get_or_append_left (kept_between p start first) (kept_between p first end) 0 0 some_front in
+          let e : first ≡ get_or (filter p (rows_between start first)) 0 0 = ap (λ (rows : List ℕ). get_or rows 0 0) parts ∙ get_or_append_left (filter p (rows_between start first)) (filter p (rows_between first end)) 0 0 some_front in
           absurd (omega arith)
     ]
 
@@ -163,11 +157,11 @@ after_last p start end nonempty row low high =
     elim (cases_Bool (p row)) [
       | inr fails ↦ fails
       | inl holds ↦
-          let rows = kept_between p start end in
+          let rows = filter p (rows_between start end) in
           let last = get_or rows (length rows - 1) 0 in
           let from : start ≤ last = all_from p start end (length rows - 1) 0 (omega arith) in
-          let front = kept_between p start (last + 1) in
-          let back = kept_between p (last + 1) end in
+          let front = filter p (rows_between start (last + 1)) in
+          let back = filter p (rows_between (last + 1) end) in
           let parts : rows ≡ front ++ back = filter_at p start (last + 1) end (omega arith) (omega arith) in
           let some_back : 0 < length back = some_between p (last + 1) end row low high holds in
           let long : length rows ≡ length front + length back = ap length parts ∙ length-append front back in

@@ -1,16 +1,19 @@
 -- The chunks of a range: they tile it, and they are cut at multiples.
-use Rattle.std.proofs.Common.{inl, inr, ◌≡◌, ℕ, zero, suc, ◌+◌, ◌-◌, ◌*◌, ◌/◌, ◌%◌, ◌<◌, ◌≤◌, min, max, Bool, List, [], ◌∷◌, ◌++◌, map, refl, sym, ap, ◌∙◌, arith}
+use Rattle.std.proofs.Common.{inl, inr, ◌≡◌, ℕ, zero, suc, ◌+◌, ◌-◌, ◌*◌, ◌/◌, ◌%◌, ◌<◌, ◌≤◌, min, max, Bool, true, false, List, [], ◌∷◌, ◌++◌, length, get_or, map, refl, sym, ap, ◌∙◌, arith}
+use Rattle.std.specs.Prelude.{nat_le}
 use Rattle.std.specs.List.{flat_map, filter, range_with_len}
 use Rattle.std.specs.declared.ops.Range.{Range}
-use Rattle.std.proofs.lemmas.Bool.{cases_lt, lt-ltb, le-ltb}
-use Rattle.std.proofs.lemmas.List.Elements.{filter-append}
-use Rattle.std.proofs.lemmas.Nat.{mod-mul-add, div-add-mod', mod_below, le-div}
-use Rattle.std.proofs.lemmas.List.FromFn.{map-range_with_len_more}
-use Rattle.vx_splits.specs.Chunks.{clipped_chunk, row_chunks, Tile, CutsAtMultiples, ChunksJoin}
+use Rattle.std.proofs.lemmas.Bool.{cases_lt, lt-ltb, le-ltb, cond_both}
+use Rattle.std.proofs.lemmas.List.{length-map}
+use Rattle.std.proofs.lemmas.Nat.{mod-mul-add, div-add-mod', mod_below, le-div, mul-le}
+use Rattle.std.proofs.lemmas.List.FromFn.{map-range_with_len_more, length-range_with_len, get_or-map-range_with_len}
+use Rattle.vx_splits.specs.Limits.{most_chunk_rows, block_rows, chunk_bytes}
+use Rattle.vx_splits.specs.Chunks.{bytes_per_row, IsChunkSize, ChunkSizes, SharesChunk, clipped_chunk, row_chunks, Tile, CutsAtMultiples, ChunksJoin, ChunksTake, LieInOne, ChunksAreShared}
 use Rattle.vx_splits.specs.Taken.{rows_between, selects}
+use Rattle.vx_splits.proofs.Between.{filter_at}
 
 -- ---- products
-next_multiple : (q size : ℕ) → (q + 1) * size ≡ q * size + size
+pub next_multiple : (q size : ℕ) → (q + 1) * size ≡ q * size + size
 next_multiple q size = grind arith
 
 multiple_behind : (q n size : ℕ) → (q + suc n) * size ≡ (q + 1 + n) * size
@@ -85,12 +88,6 @@ pub chunks_all : (size start end number : ℕ) (so_far : List (Range ℕ)) → s
 chunks_all size start end number so_far forwards e h = rw (lt-ltb start end forwards) (h ∙ ap (λ (n : ℕ). chunks_from size start end (start / size) (n - start / size)) e)
 
 -- ---- what is selected of the chunks
-range_joins : (m a b n : ℕ) → a + m ≡ b → range_with_len a m ++ range_with_len b n ≡ range_with_len a (m + n)
-range_joins zero a b n e = ap (λ (k : ℕ). range_with_len k n) (omega arith) ∙ ap (λ (k : ℕ). range_with_len a k) (omega arith)
-range_joins (suc m) a b n e =
-    let next : suc m + n ≡ suc (m + n) = omega arith in
-    rw next (ap (λ (xs : List ℕ). a ∷ xs) (range_joins m (a + 1) b n (omega arith)))
-
 tile_forwards : (pieces : List (Range ℕ)) (start end : ℕ) → Tile start end pieces → start ≤ end
 tile_forwards [] start end e = omega arith
 tile_forwards (piece ∷ pieces) start end h = let rest = tile_forwards pieces piece.end end h.2 in omega (arith, h.0, h.1)
@@ -101,16 +98,88 @@ joined test [] start end h =
     rw none refl
 joined test (piece ∷ pieces) start end h =
     let behind = tile_forwards pieces piece.end end h.2 in
-    let size : piece.end - start + (end - piece.end) ≡ end - start = omega (arith, h.0, h.1) in
     let first : filter test (rows_between piece.start piece.end) ≡ filter test (rows_between start piece.end) = ap (λ (k : ℕ). filter test (rows_between k piece.end)) h.0 in
     let rest = joined test pieces piece.end end h.2 in
-    let whole : rows_between start piece.end ++ rows_between piece.end end ≡ rows_between start end = range_joins (piece.end - start) start piece.end (end - piece.end) (omega (arith, h.0, h.1)) ∙ ap (λ (k : ℕ). range_with_len start k) size in
+    let whole = filter_at test start piece.end end (omega (arith, h.0, h.1)) behind in
     ap (λ (xs : List ℕ). xs ++ flat_map (λ (part : Range ℕ). filter test (rows_between part.start part.end)) pieces) first
     ∙ ap (λ (xs : List ℕ). filter test (rows_between start piece.end) ++ xs) rest
-    ∙ sym (filter-append test (rows_between start piece.end) (rows_between piece.end end)) ∙ ap (λ (xs : List ℕ). filter test xs) whole
+    ∙ sym whole
 
 pub joins : ChunksJoin
 joins selection size start end some = elim (cases_lt start end) [
   | inl forwards ↦ joined (selects selection) (row_chunks size start end) start end (row_chunks-tile size start end some forwards)
   | inr back ↦ let none : end - start ≡ 0 = omega arith in rw (le-ltb start end back, none) refl
 ]
+
+-- what is selected of the chunks below the row count
+pub takes : ChunksTake
+takes selection range size row_count some = joins selection size range.start (min range.end row_count) some
+
+-- ---- the rows of a chunk
+blocks_sized : (blocks : ℕ) → IsChunkSize (block_rows * max 1 (min 8 blocks))
+blocks_sized blocks =
+    let count : ℕ = max 1 (min 8 blocks) in
+    let turned : block_rows * count ≡ count * block_rows + 0 = omega arith in
+    record {
+      blocks = ap (λ (k : ℕ). k % block_rows) turned ∙ mod-mul-add count block_rows 0 (omega arith);
+      at_least = omega arith;
+      at_most = omega arith;
+    }
+
+most_sized : IsChunkSize most_chunk_rows
+most_sized = record { blocks = refl; at_least = omega arith; at_most = omega arith }
+
+pub sizes : ChunkSizes
+sizes true row_count locations =
+    cond_both (nat_le row_count most_chunk_rows) most_chunk_rows (block_rows * max 1 (min 8 (chunk_bytes / bytes_per_row row_count locations / block_rows))) IsChunkSize (λ e. most_sized) (λ e. blocks_sized (chunk_bytes / bytes_per_row row_count locations / block_rows))
+sizes false row_count locations = most_sized
+
+-- ---- shared chunks
+-- a row lies in one chunk only
+in_chunk : (size number row : ℕ) → 0 < size → number * size ≤ row → row < number * size + size → row / size ≡ number
+in_chunk size number row some low high =
+    let here = first_chunk size row some in
+    elim (cases_lt (row / size) number) [
+      | inl under ↦ absurd (let le = mul-le (row / size + 1) size number size (omega arith) (omega arith) in let e = next_multiple (row / size) size in omega (arith, here))
+      | inr over ↦ elim (cases_lt number (row / size)) [
+        | inl above ↦ absurd (let le = mul-le (number + 1) size (row / size) size (omega arith) (omega arith) in let e = next_multiple number size in omega (arith, here))
+        | inr same ↦ omega arith
+      ]
+    ]
+
+chunk_at : (size start end q n k number : ℕ) (d : Range ℕ) → k < n → q + k ≡ number → get_or (chunks_from size start end q n) k d ≡ clipped_chunk size start end number
+chunk_at size start end q n k number d lt e = get_or-map-range_with_len (clipped_chunk size start end) q n k number d lt e
+
+chunk_count : (size start end q n : ℕ) → length (chunks_from size start end q n) ≡ n
+chunk_count size start end q n = length-map (range_with_len q n) (clipped_chunk size start end) ∙ length-range_with_len q n
+
+one_chunk : (size start end q n row other : ℕ) → 0 < size → LieInOne (chunks_from size start end q n) row other → SharesChunk size row other
+one_chunk size start end q n row other some h =
+    let k : ℕ = h.0 in
+    let piece : Range ℕ = h.1 in
+    let inside : k < n = omega (arith, h.2, chunk_count size start end q n) in
+    let is : piece ≡ clipped_chunk size start end (q + k) = sym h.3 ∙ chunk_at size start end q n k (q + k) piece inside refl in
+    let begins : piece.start ≡ max start ((q + k) * size) = ap (λ (p : Range ℕ). p.start) is in
+    let ends : piece.end ≡ min end ((q + k) * size + size) = ap (λ (p : Range ℕ). p.end) is in
+    in_chunk size (q + k) row some (omega (arith, h.4)) (omega (arith, h.4)) ∙ sym (in_chunk size (q + k) other some (omega (arith, h.4)) (omega (arith, h.4)))
+
+lies_in_one : (size start end row other : ℕ) → 0 < size → start ≤ row → row < end → start ≤ other → other < end → SharesChunk size row other
+    → LieInOne (chunks_from size start end (start / size) ((end - 1) / size + 1 - start / size)) row other
+lies_in_one size start end row other some from below other_from other_below same =
+    let q : ℕ = start / size in
+    let n : ℕ = (end - 1) / size + 1 - start / size in
+    let number : ℕ = row / size in
+    let first = first_chunk size start some in
+    let here = first_chunk size row some in
+    let there = first_chunk size other some in
+    let at : other / size * size ≡ number * size = ap (λ (k : ℕ). k * size) (sym same) in
+    let low : q ≤ number = le-div q row size some (omega (arith, first)) in
+    let high : number ≤ (end - 1) / size = le-div number (end - 1) size some (omega (arith, here)) in
+    let inside : number - q < n = omega arith in
+    (number - q, clipped_chunk size start end number, omega (arith, chunk_count size start end q n), chunk_at size start end q n (number - q) number (clipped_chunk size start end number) inside (omega arith), (omega (arith, here), omega (arith, here), omega (arith, there), omega (arith, there)))
+
+pub shared : ChunksAreShared
+shared size start end row other some from below other_from other_below =
+    let forwards : start < end = omega arith in
+    rw (lt-ltb start end forwards)
+    (one_chunk size start end (start / size) ((end - 1) / size + 1 - start / size) row other some, lies_in_one size start end row other some from below other_from other_below)

@@ -6,4 +6,5 @@ pub mod Runs
 pub mod SpanCuts
 pub mod SplitGather
 pub mod SplitLaws
+pub mod TakenRows
 pub mod Trims

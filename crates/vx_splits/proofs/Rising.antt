@@ -14,7 +14,7 @@ abbrev pub Rising : ℕ → List ℕ → Type 0
 Rising low [] = Unit {0}
 Rising low (x ∷ xs) = (low ≤ x) × Rising (x + 1) xs
 
-Ascend-tail : (x : ℕ) (xs : List ℕ) → Ascend (x ∷ xs) → Ascend xs
+pub Ascend-tail : (x : ℕ) (xs : List ℕ) → Ascend (x ∷ xs) → Ascend xs
 Ascend-tail x xs up k d within =
     let e : suc k + 1 ≡ suc (k + 1) = omega arith in
     let next = up (suc k) d (omega arith) in
@@ -24,7 +24,7 @@ pub rising : (low : ℕ) (xs : List ℕ) → Ascend xs → (0 < length xs → lo
 rising low [] up h = tt
 rising low (x ∷ xs) up h = (h (omega arith), rising (x + 1) xs (Ascend-tail x xs up) (λ lt. let e : x < get_or xs 0 0 = up 0 0 (omega arith) in omega arith))
 
-lower : (low high : ℕ) (xs : List ℕ) → low ≤ high → Rising high xs → Rising low xs
+pub lower : (low high : ℕ) (xs : List ℕ) → low ≤ high → Rising high xs → Rising low xs
 lower low high [] le h = tt
 lower low high (x ∷ xs) le h = (omega (arith, h.0), h.1)
 

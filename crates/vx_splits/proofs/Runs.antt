@@ -1,12 +1,12 @@
 -- Runs at the ends of rows that ascend, and the first place at which values don't ascend.
-use Rattle.std.proofs.Common.{inl, inr, ◌≡◌, ℕ, zero, suc, ◌+◌, ◌-◌, ◌<◌, ◌≤◌, false, ◌==◌, List, length, get_or, All, sym, ap, ◌∙◌, arith, eq-eqb, ne_eqb, get_or-take, length-take, true≢false}
+use Rattle.std.proofs.Common.{inl, inr, ◌≡◌, ℕ, zero, suc, ◌+◌, ◌-◌, ◌<◌, ◌≤◌, true, false, ◌==◌, List, length, get_or, All, sym, ap, ◌∙◌, arith, eq-eqb, ne_eqb, get_or-take, length-take, true≢false}
 use Rattle.std.specs.List.{AllAdjacentBelow}
 use Rattle.std.proofs.lemmas.Bool.{cases_eq, cases_lt}
 use Rattle.std.proofs.lemmas.List.{get_or_default}
 use Rattle.std.proofs.lemmas.List.Folds.{list_any_none, list_any_at}
 use Rattle.vx_base.specs.Masks.{Ascend, is_among}
 use Rattle.vx_splits.specs.Taken.{IsFirstUnsorted}
-use Rattle.vx_splits.specs.Trimmed.{AllAmong}
+use Rattle.vx_splits.specs.Trimmed.{AllAmong, IsPartedAt}
 
 -- the values before the place ascend
 abbrev pub AscendBelow : List ℕ → ℕ → Type 0
@@ -50,115 +50,118 @@ apart_at xs i j up le lt = let e : i + (j - i) ≡ j = omega arith in let h = ap
 not_among : (row : ℕ) (xs : List ℕ) → ((k : ℕ) → k < length xs → get_or xs k 0 ≡ row → ⊥) → is_among xs row ≡ false
 not_among row xs h = list_any_none (λ (index : ℕ). index == row) xs (λ k d lt. ne_eqb (get_or xs k d) row (λ e. h k lt (get_or_default xs k 0 d lt ∙ e)))
 
+-- ---- the search
+pub place_below : (rows : List ℕ) (place : ℕ) → Ascend rows → place < length rows → place ≤ get_or rows place 0
+place_below rows place up lt = let far = apart_at rows 0 place up (omega arith) lt in omega arith
+
+-- what the search knows: the place lies from low to high
+pub record Parting (rows : List ℕ) (bound low high : ℕ) : Type 0 where
+  pub order : low ≤ high
+  pub inside : high ≤ length rows
+  pub near : 0 < low → get_or rows (low - 1) 0 < bound + (low - 1)
+  pub far : high < length rows → bound + high ≤ get_or rows high 0
+
+pub parting_none : (rows : List ℕ) (bound : ℕ) → Parting rows bound 0 (length rows)
+parting_none rows bound = record { order = omega arith; inside = omega arith; near = λ some. absurd (omega arith); far = λ more. absurd (omega arith) }
+
+pub parting_upper : (rows : List ℕ) (bound low high middle : ℕ) → middle < high → get_or rows middle 0 - middle < bound → Parting rows bound low high → Parting rows bound (middle + 1) high
+parting_upper rows bound low high middle under near h =
+    let same : middle + 1 - 1 ≡ middle = omega arith in
+    record { order = omega arith; inside = h.inside; near = λ some. rw same (omega arith); far = h.far }
+
+pub parting_lower : (rows : List ℕ) (bound low high middle : ℕ) → low ≤ middle → middle < high → middle ≤ get_or rows middle 0 → bound ≤ get_or rows middle 0 - middle → Parting rows bound low high → Parting rows bound low middle
+parting_lower rows bound low high middle over under place far h = record { order = over; inside = omega (arith, h.inside); near = h.near; far = λ more. omega arith }
+
+pub parted : (rows : List ℕ) (bound low high : ℕ) → high ≤ low → Parting rows bound low high → IsPartedAt rows bound low
+parted rows bound low high past h =
+    let same : high ≡ low = omega (arith, h.order) in
+    record { inside = omega (arith, h.inside); near = h.near; far = λ more. let far = h.far (omega arith) in rw same at far }
+
+-- the rows before the place, and those from it on
+pub near_all : (rows : List ℕ) (bound place k : ℕ) → Ascend rows → IsPartedAt rows bound place → k < place → get_or rows k 0 < bound + k
+near_all rows bound place k up h lt =
+    let inside = h.inside in
+    let last = h.near (omega arith) in
+    let far = apart_at rows k (place - 1) up (omega arith) (omega arith) in
+    omega arith
+
+pub far_all : (rows : List ℕ) (bound place k : ℕ) → Ascend rows → IsPartedAt rows bound place → place ≤ k → k < length rows → bound + k ≤ get_or rows k 0
+far_all rows bound place k up h le lt =
+    let first = h.far (omega arith) in
+    let far = apart_at rows place k up le lt in
+    omega arith
+
+among_at : (rows : List ℕ) (k row : ℕ) → k < length rows → get_or rows k 0 ≡ row → is_among rows row ≡ true
+among_at rows k row lt e = list_any_at (λ (index : ℕ). index == row) rows k 0 lt (eq-eqb (get_or rows k 0) row e)
+
 -- ---- from the front
-pub record Leading (excluded : List ℕ) (start end next i : ℕ) : Type 0 where
-  pub next_is : next ≡ start + i
-  pub inside : next ≤ end
-  pub run : (k : ℕ) → k < i → get_or excluded k 0 ≡ start + k
+pub leading_at : (excluded : List ℕ) (start place k : ℕ) → Ascend excluded → All (λ row. start ≤ row) excluded → IsPartedAt excluded (start + 1) place → k < place → get_or excluded k 0 ≡ start + k
+leading_at excluded start place k up from h lt =
+    let inside = h.inside in
+    let near = near_all excluded (start + 1) place k up h lt in
+    let first = from 0 0 (omega arith) in
+    let far = apart_at excluded 0 k up (omega arith) (omega arith) in
+    omega arith
 
-pub leading_none : (excluded : List ℕ) (start end : ℕ) → start ≤ end → Leading excluded start end start 0
-leading_none excluded start end le = record { next_is = omega arith; inside = le; run = λ k lt. absurd (omega arith) }
-
-pub leading_more : (excluded : List ℕ) (start end next i : ℕ) → i < length excluded → All (λ row. row < end) excluded → get_or excluded i 0 ≡ next → Leading excluded start end next i → Leading excluded start end (next + 1) (i + 1)
-leading_more excluded start end next i lt below here h =
-    let small = below i 0 lt in
-    record {
-      next_is = omega (arith, h.next_is);
-      inside = omega arith;
-      run = λ k le. elim (cases_eq k i) [ inl same ↦ rw same (here ∙ h.next_is) | inr other ↦ h.run k (omega arith) ];
-    }
-
-pub leading_among : (excluded : List ℕ) (start end next i : ℕ) → i ≤ length excluded → Leading excluded start end next i → AllAmong excluded start next
-leading_among excluded start end next i le h row low high =
-    let e = h.next_is in
-    let small : row - start < i = omega arith in
-    let at = h.run (row - start) small in
-    list_any_at (λ (index : ℕ). index == row) excluded (row - start) 0 (omega arith) (eq-eqb (get_or excluded (row - start) 0) row (omega arith))
-
-pub leading_ends : (excluded : List ℕ) (start end next i : ℕ) → i < length excluded → Ascend excluded → All (λ row. start ≤ row) excluded → (get_or excluded i 0 ≡ next → ⊥) → Leading excluded start end next i → is_among excluded next ≡ false
-leading_ends excluded start end next i lt up from other h = not_among next excluded (λ k within e.
-    let is = h.next_is in
-    elim (cases_lt k i) [
-      | inl before ↦ let at = h.run k before in absurd (omega arith)
-      | inr after ↦
-          let one = apart_at excluded 0 i up (omega arith) lt in
-          let first = from 0 0 (omega arith) in
-          let two = apart_at excluded i k up after within in
-          elim (cases_eq k i) [
-            | inl same ↦ absurd (other (ap (λ (j : ℕ). get_or excluded j 0) (sym same) ∙ e))
-            | inr more ↦ absurd (omega arith)
-          ]
-    ])
-
-pub leading_all : (excluded : List ℕ) (start end next i : ℕ) → length excluded ≤ i → Leading excluded start end next i → is_among excluded next ≡ false
-leading_all excluded start end next i past h = not_among next excluded (λ k within e. let at = h.run k (omega arith) in let is = h.next_is in absurd (omega arith))
-
--- ---- from the end
-pub record Trailing (excluded : List ℕ) (end past later : ℕ) : Type 0 where
-  pub inside : past ≤ end
-  pub places : later ≤ length excluded
-  pub as_many : past + (length excluded - later) ≡ end
-  pub run : (k : ℕ) → later ≤ k → k < length excluded → get_or excluded k 0 ≡ past + (k - later)
-
-pub trailing_none : (excluded : List ℕ) (end : ℕ) → Trailing excluded end end (length excluded)
-trailing_none excluded end = record { inside = omega arith; places = omega arith; as_many = omega arith; run = λ k low high. absurd (omega arith) }
-
-pub trailing_below : (excluded : List ℕ) (end past later k : ℕ) → Ascend excluded → All (λ row. row < end) excluded → k < later → Trailing excluded end past later → get_or excluded k 0 < past
-trailing_below excluded end past later k up below lt h =
-    let places = h.places in
-    let as_many = h.as_many in
-    elim (cases_lt later (length excluded)) [
-      | inl more ↦
-          let at = h.run later (omega arith) more in
-          let far = apart_at excluded k later up (omega arith) more in
+pub leading_inside : (excluded : List ℕ) (start end place : ℕ) → start < end → Ascend excluded → All (λ row. start ≤ row) excluded → All (λ row. row < end) excluded → IsPartedAt excluded (start + 1) place → start + place ≤ end
+leading_inside excluded start end place some up from below h =
+    elim (cases_eq place 0) [
+      | inl none ↦ omega arith
+      | inr more ↦
+          let inside = h.inside in
+          let at = leading_at excluded start place (place - 1) up from h (omega arith) in
+          let under = below (place - 1) 0 (omega arith) in
           omega arith
-      | inr none ↦ let small = below k 0 (omega arith) in omega arith
     ]
 
-pub trailing_some : (excluded : List ℕ) (end past later : ℕ) → Ascend excluded → All (λ row. row < end) excluded → 0 < later → Trailing excluded end past later → 1 ≤ past
-trailing_some excluded end past later up below some h = let small = trailing_below excluded end past later (later - 1) up below (omega arith) h in omega arith
-
-pub trailing_more : (excluded : List ℕ) (end past later : ℕ) → Ascend excluded → All (λ row. row < end) excluded → 0 < later → get_or excluded (later - 1) 0 ≡ past - 1 → Trailing excluded end past later → Trailing excluded end (past - 1) (later - 1)
-trailing_more excluded end past later up below some here h =
+pub leading_among : (excluded : List ℕ) (start place : ℕ) → Ascend excluded → All (λ row. start ≤ row) excluded → IsPartedAt excluded (start + 1) place → AllAmong excluded start (start + place)
+leading_among excluded start place up from h row low high =
     let inside = h.inside in
-    let places = h.places in
-    let as_many = h.as_many in
-    let more = trailing_some excluded end past later up below some h in
-    record {
-      inside = omega arith;
-      places = omega arith;
-      as_many = omega arith;
-      run = λ k low high. elim (cases_eq k (later - 1)) [
-        | inl same ↦ rw same (omega arith)
-        | inr other ↦ let at = h.run k (omega arith) high in omega arith
-      ];
-    }
+    let at = leading_at excluded start place (row - start) up from h (omega arith) in
+    among_at excluded (row - start) row (omega arith) (omega arith)
 
-pub trailing_among : (excluded : List ℕ) (end past later : ℕ) → Trailing excluded end past later → AllAmong excluded past end
-trailing_among excluded end past later h row low high =
-    let places = h.places in
-    let as_many = h.as_many in
-    let k = later + (row - past) in
-    let small : k < length excluded = omega arith in
-    let at = h.run k (omega arith) small in
-    list_any_at (λ (index : ℕ). index == row) excluded k 0 small (eq-eqb (get_or excluded k 0) row (omega arith))
-
-pub trailing_ends : (excluded : List ℕ) (end past later : ℕ) → Ascend excluded → All (λ row. row < end) excluded → 0 < later → (get_or excluded (later - 1) 0 ≡ past - 1 → ⊥) → Trailing excluded end past later → is_among excluded (past - 1) ≡ false
-trailing_ends excluded end past later up below some other h = not_among (past - 1) excluded (λ k within e.
-    let places = h.places in
-    let small = trailing_below excluded end past later (later - 1) up below (omega arith) h in
-    elim (cases_lt k later) [
-      | inr after ↦ let at = h.run k after within in absurd (omega arith)
-      | inl before ↦
-          let far = apart_at excluded k (later - 1) up (omega arith) (omega arith) in
-          elim (cases_eq k (later - 1)) [
-            | inl same ↦ absurd (other (ap (λ (j : ℕ). get_or excluded j 0) (sym same) ∙ e))
-            | inr less ↦ absurd (omega arith)
-          ]
+pub leading_ends : (excluded : List ℕ) (start place : ℕ) → Ascend excluded → All (λ row. start ≤ row) excluded → IsPartedAt excluded (start + 1) place → is_among excluded (start + place) ≡ false
+leading_ends excluded start place up from h = not_among (start + place) excluded (λ k within e.
+    elim (cases_lt k place) [
+      | inl before ↦ let at = leading_at excluded start place k up from h before in absurd (omega arith)
+      | inr after ↦ let far = far_all excluded (start + 1) place k up h after within in absurd (omega arith)
     ])
 
-pub trailing_all : (excluded : List ℕ) (end past later : ℕ) → later ≤ 0 → 0 < past → Trailing excluded end past later → is_among excluded (past - 1) ≡ false
-trailing_all excluded end past later none some h = not_among (past - 1) excluded (λ k within e. let at = h.run k (omega arith) within in absurd (omega arith))
+-- ---- from the end
+pub as_many_below : (excluded : List ℕ) (end : ℕ) → Ascend excluded → All (λ row. row < end) excluded → length excluded ≤ end
+as_many_below excluded end up below =
+    elim (cases_eq (length excluded) 0) [
+      | inl none ↦ omega arith
+      | inr more ↦
+          let last = place_below excluded (length excluded - 1) up (omega arith) in
+          let under = below (length excluded - 1) 0 (omega arith) in
+          omega arith
+    ]
+
+pub trailing_at : (excluded : List ℕ) (end place k : ℕ) → Ascend excluded → All (λ row. row < end) excluded → IsPartedAt excluded (end - length excluded) place → place ≤ k → k < length excluded → get_or excluded k 0 ≡ end - length excluded + k
+trailing_at excluded end place k up below h le lt =
+    let many = as_many_below excluded end up below in
+    let far = far_all excluded (end - length excluded) place k up h le lt in
+    let apart_last = apart_at excluded k (length excluded - 1) up (omega arith) (omega arith) in
+    let under = below (length excluded - 1) 0 (omega arith) in
+    omega arith
+
+pub trailing_among : (excluded : List ℕ) (end place : ℕ) → Ascend excluded → All (λ row. row < end) excluded → IsPartedAt excluded (end - length excluded) place → AllAmong excluded (end - (length excluded - place)) end
+trailing_among excluded end place up below h row low high =
+    let many = as_many_below excluded end up below in
+    let inside = h.inside in
+    let k = row + length excluded - end in
+    let at = trailing_at excluded end place k up below h (omega arith) (omega arith) in
+    among_at excluded k row (omega arith) (omega arith)
+
+pub trailing_ends : (excluded : List ℕ) (end place : ℕ) → Ascend excluded → All (λ row. row < end) excluded → IsPartedAt excluded (end - length excluded) place → 0 < end - (length excluded - place) → is_among excluded (end - (length excluded - place) - 1) ≡ false
+trailing_ends excluded end place up below h some = not_among (end - (length excluded - place) - 1) excluded (λ k within e.
+    let many = as_many_below excluded end up below in
+    let inside = h.inside in
+    elim (cases_lt k place) [
+      | inl before ↦ let near = near_all excluded (end - length excluded) place k up h before in absurd (omega arith)
+      | inr after ↦ let at = trailing_at excluded end place k up below h after within in absurd (omega arith)
+    ])
 
 -- the rows that are left lie between
 pub left_some : (excluded : List ℕ) (start end past : ℕ) → start < end → is_among excluded start ≡ false → AllAmong excluded past end → start < past

@@ -1,6 +1,7 @@
 -- Boundaries with cuts between them: they ascend, lie close, and keep the boundaries.
-use Rattle.std.proofs.Common.{inl, inr, ◌≡◌, ℕ, zero, suc, ◌+◌, ◌-◌, ◌*◌, ◌<◌, ◌≤◌, List, [], ◌∷◌, ◌++◌, length, get_or, drop, map, refl, sym, ap, subst, ◌∙◌, arith, append-nil, append_assoc}
+use Rattle.std.proofs.Common.{inl, inr, ◌≡◌, ℕ, zero, suc, ◌+◌, ◌-◌, ◌*◌, ◌<◌, ◌≤◌, List, [], ◌∷◌, ◌++◌, length, get_or, drop, map, Result, Ok, Err, refl, sym, ap, subst, ◌∙◌, arith, append-nil, append_assoc}
 use Rattle.std.specs.List.{All, Contains, AllAdjacentBelow, range_with_len}
+use Rattle.std.specs.Prelude.{IfOk}
 use Rattle.std.specs.Int.{div_ceil}
 use Rattle.std.proofs.lemmas.Bool.{cases_lt}
 use Rattle.std.proofs.lemmas.Grind.{div_ceil_times}
@@ -10,7 +11,9 @@ use Rattle.std.proofs.lemmas.List.FromFn.{map-range_with_len_more}
 use Rattle.std.proofs.lemmas.Nat.{mul-le}
 use Rattle.std.proofs.Math.Nat.{mul_comm}
 use Rattle.vx_base.specs.Masks.{Ascend}
-use Rattle.vx_splits.specs.Spans.{parts_of, step_of, cuts_between, subdivided, NoGapAbove}
+use Rattle.vx_splits.proofs.ChunkRows.{next_multiple}
+use Rattle.vx_splits.proofs.Rising.{Ascend-tail}
+use Rattle.vx_splits.specs.Spans.{parts_of, step_of, cuts_between, cut_count, subdivided, NoGapAbove}
 
 -- ---- the code's loops
 -- the cuts and boundaries behind the first boundary
@@ -52,6 +55,31 @@ pub spans_pushed : (max_span i : ℕ) (so_far boundaries whole : List ℕ) → l
 spans_pushed max_span i so_far boundaries whole past h =
     sym (append-nil so_far) ∙ ap (λ (xs : List ℕ). so_far ++ xs) (sym (nothing_behind max_span (drop i boundaries) (omega (arith, length-drop i boundaries)))) ∙ h
 
+no_cuts : (max_span : ℕ) (xs : List ℕ) → length xs ≤ 1 → cut_count max_span xs ≡ 0
+no_cuts max_span [] short = refl
+no_cuts max_span (x ∷ []) short = refl
+no_cuts max_span (x ∷ y ∷ xs) short = absurd (omega arith)
+
+-- all cuts are counted once one boundary is left
+pub cuts_counted : (max_span i count : ℕ) (boundaries : List ℕ) → length boundaries ≤ i + 1 → count + cut_count max_span (drop i boundaries) ≡ cut_count max_span boundaries → count ≡ cut_count max_span boundaries
+cuts_counted max_span i count boundaries past h = let none = no_cuts max_span (drop i boundaries) (omega (arith, length-drop i boundaries)) in omega arith
+
+-- where there is no cut, the boundaries stand as they are
+pub uncut : (max_span : ℕ) (boundaries : List ℕ) → cut_count max_span boundaries ≡ 0 → subdivided max_span boundaries ≡ boundaries
+uncut max_span [] e = refl
+uncut max_span (last ∷ []) e = refl
+uncut max_span (start ∷ end ∷ boundaries) e =
+    let here : parts_of max_span (end - start) - 1 ≡ 0 = omega arith in
+    let rest : subdivided max_span (end ∷ boundaries) ≡ end ∷ boundaries = uncut max_span (end ∷ boundaries) (omega arith) in
+    let parts : cuts_between max_span start end ≡ [] = ap (λ (n : ℕ). map (λ (part : ℕ). start + part * step_of max_span (end - start)) (range_with_len 1 n)) here in
+    ap (λ (xs : List ℕ). start ∷ (xs ++ subdivided max_span (end ∷ boundaries))) parts ∙ ap (λ (xs : List ℕ). start ∷ xs) rest
+
+-- what a list that is the boundaries with their cuts has
+pub record AreCuts (max_span : ℕ) (boundaries cuts : List ℕ) : Type 0 where
+  pub kept : All (λ (boundary : ℕ). Contains cuts boundary) boundaries
+  pub ascend : Ascend cuts
+  pub close : NoGapAbove max_span cuts
+
 -- ---- one span
 -- the second lies above the first, and no further than the greatest span
 abbrev pub Near : ℕ → ℕ → ℕ → Type 0
@@ -67,9 +95,6 @@ quotient_le step parts span max_span short reach = elim (cases_lt max_span step)
   | inr small ↦ small
 ]
 
-one_more : (k step : ℕ) → (k + 1) * step ≡ k * step + step
-one_more k step = grind arith
-
 spread : (max_span start step end : ℕ) (rest : List ℕ) → 0 < step → step ≤ max_span → Linked max_span end rest → (n k : ℕ) → start + (k + n) * step < end → end ≤ start + (k + n) * step + max_span
     → Linked max_span (start + k * step) (map (λ (part : ℕ). start + part * step) (range_with_len (k + 1) n) ++ (end ∷ rest))
 spread max_span start step end rest some small linked zero k below near =
@@ -77,7 +102,7 @@ spread max_span start step end rest some small linked zero k below near =
     ((omega arith, omega arith), linked)
 spread max_span start step end rest some small linked (suc n) k below near =
     let same : (k + suc n) * step ≡ (k + 1 + n) * step = ap (λ (m : ℕ). m * step) (omega arith) in
-    let next : (k + 1) * step ≡ k * step + step = one_more k step in
+    let next : (k + 1) * step ≡ k * step + step = next_multiple k step in
     ((omega arith, omega arith), spread max_span start step end rest some small linked n (k + 1) (omega arith) (omega arith))
 
 -- the steps of a span: each above 0 and at most the greatest span, and the last begins less than that before the end
@@ -92,7 +117,7 @@ factor_above zero b n some le = absurd (let none : 0 * b ≡ 0 = grind arith in 
 factor_above (suc a) b n some le = omega arith
 
 one_less : (parts step : ℕ) → 0 < parts → (0 + (parts - 1)) * step + step ≡ parts * step
-one_less parts step some = sym (one_more (0 + (parts - 1)) step) ∙ ap (λ (k : ℕ). k * step) (omega arith)
+one_less parts step some = sym (next_multiple (0 + (parts - 1)) step) ∙ ap (λ (k : ℕ). k * step) (omega arith)
 
 steps_of : (max_span span parts step : ℕ) → 0 < span → 0 < parts → span ≤ parts * max_span → parts * max_span < span + max_span → span ≤ step * parts → step * parts < span + parts → Steps max_span span parts step
 steps_of max_span span parts step forwards positive reach short split over =
@@ -136,16 +161,10 @@ part_pushed start step part before so_far more some e h =
     ∙ ap (λ (xs : List ℕ). before ++ xs) (sym (map-range_with_len_more cut 1 (part - 1) part (omega arith)) ∙ ap (λ (n : ℕ). map cut (range_with_len 1 n)) (omega arith))
 
 -- ---- all spans
-ascend_tail : (first : ℕ) (rest : List ℕ) → Ascend (first ∷ rest) → Ascend rest
-ascend_tail first rest h k d below =
-    let e : suc k + 1 ≡ suc (k + 1) = omega arith in
-    let next = h (suc k) d (omega arith) in
-    rw e at next
-
 behind_linked : (max_span start : ℕ) (boundaries : List ℕ) → 0 < max_span → Ascend (start ∷ boundaries) → Linked max_span start (behind_first max_span (start ∷ boundaries))
 behind_linked max_span start [] some h = tt
 behind_linked max_span start (end ∷ boundaries) some h =
-    span_linked max_span start end (behind_first max_span (end ∷ boundaries)) some (h 0 0 (omega arith)) (behind_linked max_span end boundaries some (ascend_tail start (end ∷ boundaries) h))
+    span_linked max_span start end (behind_first max_span (end ∷ boundaries)) some (h 0 0 (omega arith)) (behind_linked max_span end boundaries some (Ascend-tail start (end ∷ boundaries) h))
 
 adjacent : (max_span one : ℕ) (rest : List ℕ) → Linked max_span one rest → AllAdjacentBelow (Near max_span) (one ∷ rest) (length (one ∷ rest))
 adjacent max_span one [] h k d below = absurd (omega arith)
@@ -179,3 +198,16 @@ subdivided-kept max_span (start ∷ end ∷ boundaries) =
     let Kept = λ (boundary : ℕ). Contains (start ∷ (parts ++ inner)) boundary in
     All-cons Kept start (end ∷ boundaries) (contains_first start (parts ++ inner))
     (All-weaker (λ (boundary : ℕ). Contains inner boundary) Kept (λ x held. contains_behind start x (parts ++ inner) (Contains-append_right parts inner x held)) (end ∷ boundaries) (subdivided-kept max_span (end ∷ boundaries)))
+
+pub subdivided_cuts : (max_span : ℕ) (boundaries cuts : List ℕ) → 0 < max_span → Ascend boundaries → cuts ≡ subdivided max_span boundaries → AreCuts max_span boundaries cuts
+subdivided_cuts max_span boundaries cuts some h e = subst (AreCuts max_span boundaries) (sym e) (record {
+  kept = subdivided-kept max_span boundaries;
+  ascend = subdivided-ascend max_span boundaries some h;
+  close = subdivided-close max_span boundaries some h;
+})
+
+-- the same of an answer that is told, of any type that has boundaries
+pub told_cuts : {Y E : Type 0} (items : Y → List ℕ) (max_span : ℕ) (boundaries : List ℕ) (P : List ℕ → Type 0) (answer : Result Y E) → ((cuts : List ℕ) → cuts ≡ subdivided max_span boundaries → P cuts)
+    → IfOk answer (λ cuts. items cuts ≡ subdivided max_span boundaries) → IfOk answer (λ cuts. P (items cuts))
+told_cuts items max_span boundaries P (Ok cuts) has e = has (items cuts) e
+told_cuts items max_span boundaries P (Err error) has e = tt

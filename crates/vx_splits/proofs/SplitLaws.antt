@@ -9,24 +9,17 @@ use Rattle.std.proofs.lemmas.List.FromFn.{length-range_with_len, get_or-range_wi
 use Rattle.vx_splits.specs.declared.selections.Selection.{Selection}
 use Rattle.vx_splits.specs.declared.selections.Selection.TheVariants as variants
 use Rattle.vx_splits.specs.SplitRanges.{range_of, gathered, gathered_ranges, split_ranges, split_ranges_within, rows_to_cover, IsCovered, AreSplitRanges}
+use Rattle.vx_splits.specs.Limits.{range_rows_limit, least_gap}
 use Rattle.vx_splits.specs.Taken.{selects, rows_between, selected_rows}
+use Rattle.vx_splits.proofs.Rising.{Rising, lower}
 
 -- ---- the rows that are gathered
--- each at least low, and each above the one before it
-abbrev Rising : ℕ → List ℕ → Type 0
-Rising low [] = Unit {0}
-Rising low (row ∷ rows) = (low ≤ row) × Rising (row + 1) rows
-
-rising_from : (low high : ℕ) (rows : List ℕ) → low ≤ high → Rising high rows → Rising low rows
-rising_from low high [] le h = tt
-rising_from low high (row ∷ rows) le h = (omega (arith, h.0), h.1)
-
-rising : (test : ℕ → Bool) (n low : ℕ) → Rising low (filter test (range_with_len low n))
-rising test zero low = tt
-rising test (suc n) low =
-    let rest = rising test n (low + 1) in
+rising_kept : (test : ℕ → Bool) (n low : ℕ) → Rising low (filter test (range_with_len low n))
+rising_kept test zero low = tt
+rising_kept test (suc n) low =
+    let rest = rising_kept test n (low + 1) in
     let rows = filter test (range_with_len (low + 1) n) in
-    cond_both (test low) (low ∷ rows) rows (Rising low) (λ e. (omega arith, rest)) (λ e. rising_from low (low + 1) rows (omega arith) rest)
+    cond_both (test low) (low ∷ rows) rows (Rising low) (λ e. (omega arith, rest)) (λ e. lower low (low + 1) rows (omega arith) rest)
 
 pub rows_below : (test : ℕ → Bool) (start end limit : ℕ) (rows : List ℕ) → end ≤ limit → rows ≡ filter test (rows_between start end) → All (λ (row : ℕ). row < limit) rows
 rows_below test start end limit rows le e =
@@ -38,29 +31,29 @@ rows_below test start end limit rows le e =
     omega arith))
 
 -- ---- the ranges
--- each begins at low or where the one before it ends, or behind, and is small
+abbrev IsSmall : Range ℕ → Type 0
+IsSmall range = (range.start < range.end) × (range.end - range.start < range_rows_limit)
+
+-- each begins behind low, or far enough behind the one before it, and is small
 abbrev Ordered : ℕ → List (Range ℕ) → Type 0
 Ordered low [] = Unit {0}
-Ordered low (range ∷ ranges) = (low ≤ range.start) × ((range.start < range.end) × (range.end - range.start < 4000)) × Ordered range.end ranges
+Ordered low (range ∷ ranges) = (low ≤ range.start + 1) × IsSmall range × Ordered (range.end + least_gap) ranges
 
 ordered_from : (low high : ℕ) (ranges : List (Range ℕ)) → low ≤ high → Ordered high ranges → Ordered low ranges
 ordered_from low high [] le h = tt
 ordered_from low high (range ∷ ranges) le h = (omega (arith, h.0), h.1, h.2)
 
-ascend : (low : ℕ) (ranges : List (Range ℕ)) → Ordered low ranges → AllAdjacentBelow (λ one two. one.end ≤ two.start) ranges (length ranges)
-ascend low [] h k d below = absurd (omega arith)
-ascend low (one ∷ []) h k d below = absurd (omega arith)
-ascend low (one ∷ two ∷ ranges) h zero d below = h.2.0
-ascend low (one ∷ two ∷ ranges) h (suc k) d below =
+far_behind : (low : ℕ) (ranges : List (Range ℕ)) → Ordered low ranges → AllAdjacentBelow (λ one two. one.end + least_gap ≤ two.start + 1) ranges (length ranges)
+far_behind low [] h k d below = absurd (omega arith)
+far_behind low (one ∷ []) h k d below = absurd (omega arith)
+far_behind low (one ∷ two ∷ ranges) h zero d below = h.2.0
+far_behind low (one ∷ two ∷ ranges) h (suc k) d below =
     let e : suc k + 1 ≡ suc (k + 1) = omega arith in
-    rw e (ascend one.end (two ∷ ranges) h.2 k d (omega arith))
-
-abbrev IsSmall : Range ℕ → Type 0
-IsSmall range = (range.start < range.end) × (range.end - range.start < 4000)
+    rw e (far_behind (one.end + least_gap) (two ∷ ranges) h.2 k d (omega arith))
 
 small : (low : ℕ) (ranges : List (Range ℕ)) → Ordered low ranges → All IsSmall ranges
 small low [] h = All-nil IsSmall
-small low (range ∷ ranges) h = All-cons IsSmall range ranges h.1 (small range.end ranges h.2)
+small low (range ∷ ranges) h = All-cons IsSmall range ranges h.1 (small (range.end + least_gap) ranges h.2)
 
 abbrev Covered : List (Range ℕ) → ℕ → Type 0
 Covered [] row = ⊥
@@ -76,7 +69,7 @@ is_covered (range ∷ ranges) row h = elim h [
 -- ---- what is gathered
 -- the laws, with an open range before the indices
 record Laws (start end : ℕ) (indices : List ℕ) (ranges : List (Range ℕ)) : Type 0 where
-  ordered : Ordered start ranges
+  ordered : Ordered (start + 1) ranges
   opened : (row : ℕ) → start ≤ row → row < end → Covered ranges row
   others : All (Covered ranges) indices
 
@@ -84,7 +77,7 @@ mapped : (first : Range ℕ) (o : Option (List (Range ℕ))) (ranges : List (Ran
 mapped first None ranges e = absurd (cc)
 mapped first (Some rest) ranges e = (rest, refl, cc)
 
-laws : (indices : List ℕ) (start end : ℕ) (ranges : List (Range ℕ)) → start < end → end - start < 4000 → Rising end indices → gathered start end indices ≡ Some ranges → Laws start end indices ranges
+laws : (indices : List ℕ) (start end : ℕ) (ranges : List (Range ℕ)) → start < end → end - start < range_rows_limit → Rising end indices → gathered start end indices ≡ Some ranges → Laws start end indices ranges
 laws [] start end ranges some short up e =
     let same : range_of start end ∷ [] ≡ ranges = cc in
     subst (λ (rs : List (Range ℕ)). Laws start end [] rs) same (record {
@@ -92,45 +85,50 @@ laws [] start end ranges some short up e =
       opened = λ row low high. inl (low, high);
       others = All-nil (Covered (range_of start end ∷ []));
     })
-laws (index ∷ indices) start end ranges some short up e = elim (cases_lt (index + 1 - start) 4000) [
+laws (index ∷ indices) start end ranges some short up e = elim (cases_lt (index + 1 - start) range_rows_limit) [
   | inl fits ↦
-      let more = rw (lt-ltb (index + 1 - start) 4000 fits) at e in
+      let more = rw (lt-ltb (index + 1 - start) range_rows_limit fits) at e in
       let rest = laws indices start (index + 1) ranges (omega (arith, up.0)) fits up.1 more in
       record {
         ordered = rest.ordered;
         opened = λ row low high. rest.opened row low (omega (arith, up.0));
         others = All-cons (Covered ranges) index indices (rest.opened index (omega (arith, up.0)) (omega arith)) rest.others;
       }
-  | inr large ↦ elim (cases_lt (index + 1 - end) 50000) [
-    | inl near ↦ absurd (let none = rw (le-ltb (index + 1 - start) 4000 large, lt-leb 50000 (index + 1 - end) near) at e in cc)
+  | inr large ↦ elim (cases_lt (index + 1 - end) least_gap) [
+    | inl near ↦ absurd (let none = rw (le-ltb (index + 1 - start) range_rows_limit large, lt-leb least_gap (index + 1 - end) near) at e in cc)
     | inr far ↦
-        let own = rw (le-ltb (index + 1 - start) 4000 large, le-leb 50000 (index + 1 - end) far) at e in
+        let own = rw (le-ltb (index + 1 - start) range_rows_limit large, le-leb least_gap (index + 1 - end) far) at e in
         let parts = mapped (range_of start end) (gathered index (index + 1) indices) ranges own in
         let rest = laws indices index (index + 1) parts.0 (omega arith) (omega arith) up.1 parts.1 in
         let whole = range_of start end ∷ parts.0 in
         subst (λ (rs : List (Range ℕ)). Laws start end (index ∷ indices) rs) parts.2 (record {
-          ordered = (omega arith, (some, short), ordered_from end index parts.0 up.0 rest.ordered);
+          ordered = (omega arith, (some, short), ordered_from (end + least_gap) (index + 1) parts.0 (omega arith) rest.ordered);
           opened = λ row low high. inl (low, high);
           others = All-cons (Covered whole) index indices (inr (rest.opened index (omega arith) (omega arith))) (All-weaker (Covered parts.0) (Covered whole) (λ row h. inr h) indices rest.others);
         })
   ]
 ]
 
+split_ranges_of : (low : ℕ) (rows : List ℕ) (ranges : List (Range ℕ)) → Ordered low ranges → All (IsCovered ranges) rows → AreSplitRanges rows ranges
+split_ranges_of low rows ranges ordered cover = record {
+  ascend = λ k d below. let far = far_behind low ranges ordered k d below in omega arith;
+  apart = λ k d below. let far = far_behind low ranges ordered k d below in omega arith;
+  small = small low ranges ordered;
+  cover = cover;
+}
+
 gathered_laws : (low : ℕ) (rows : List ℕ) (ranges : List (Range ℕ)) → Rising low rows → gathered_ranges rows ≡ Some ranges → AreSplitRanges rows ranges
 gathered_laws low [] ranges up e =
     let same : [] ≡ ranges = cc in
-    subst (λ (rs : List (Range ℕ)). AreSplitRanges [] rs) same (record { ascend = ascend 0 [] tt; small = small 0 [] tt; cover = All-nil (IsCovered []) })
+    subst (λ (rs : List (Range ℕ)). AreSplitRanges [] rs) same (split_ranges_of 0 [] [] tt (All-nil (IsCovered [])))
 gathered_laws low (index ∷ rows) ranges up e =
     let rest = laws rows index (index + 1) ranges (omega arith) (omega arith) up.1 e in
-    record {
-      ascend = ascend index ranges rest.ordered;
-      small = small index ranges rest.ordered;
-      cover = All-weaker (Covered ranges) (IsCovered ranges) (is_covered ranges) (index ∷ rows) (All-cons (Covered ranges) index rows (rest.opened index (omega arith) (omega arith)) rest.others);
-    }
+    split_ranges_of (index + 1) (index ∷ rows) ranges rest.ordered
+    (All-weaker (Covered ranges) (IsCovered ranges) (is_covered ranges) (index ∷ rows) (All-cons (Covered ranges) index rows (rest.opened index (omega arith) (omega arith)) rest.others))
 
 within_laws : (selection : Selection) (start end : ℕ) (ranges : List (Range ℕ)) → split_ranges_within selection start end ≡ Some ranges → AreSplitRanges (selected_rows selection start end) ranges
 within_laws variants.All start end ranges e = absurd (cc)
-within_laws (variants.IncludeByIndex rows) start end ranges e = gathered_laws start (selected_rows (variants.IncludeByIndex rows) start end) ranges (rising (selects (variants.IncludeByIndex rows)) (end - start) start) e
+within_laws (variants.IncludeByIndex rows) start end ranges e = gathered_laws start (selected_rows (variants.IncludeByIndex rows) start end) ranges (rising_kept (selects (variants.IncludeByIndex rows)) (end - start) start) e
 within_laws (variants.ExcludeByIndex rows) start end ranges e = absurd (cc)
 
 split_laws : (selection : Selection) (range : Option (Range ℕ)) (ranges : List (Range ℕ)) → split_ranges selection range ≡ Some ranges → AreSplitRanges (rows_to_cover selection range) ranges

@@ -15,6 +15,12 @@ abbrev pub cuts_between : ℕ → ℕ → ℕ → List ℕ
 cuts_between max_span start end =
     map (λ part. start + part * step_of max_span (end - start)) (range_with_len 1 (parts_of max_span (end - start) - 1))
 
+-- how many cuts lie between all boundaries
+abbrev pub cut_count : ℕ → List ℕ → ℕ
+cut_count max_span [] = 0
+cut_count max_span (last ∷ []) = 0
+cut_count max_span (start ∷ end ∷ boundaries) = parts_of max_span (end - start) - 1 + cut_count max_span (end ∷ boundaries)
+
 -- the boundaries with those cuts between them
 abbrev pub subdivided : ℕ → List ℕ → List ℕ
 subdivided max_span [] = []

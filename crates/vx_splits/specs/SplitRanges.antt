@@ -4,19 +4,20 @@ use Rattle.std.specs.List.{All, Any, AllAdjacentBelow}
 use Rattle.std.specs.declared.ops.Range.{Range}
 use Rattle.vx_splits.specs.declared.selections.Selection.{Selection}
 use Rattle.vx_splits.specs.declared.selections.Selection.TheVariants as variants
+use Rattle.vx_splits.specs.Limits.{range_rows_limit, least_gap}
 use Rattle.vx_splits.specs.Taken.{selected_rows}
 
 abbrev pub range_of : ℕ → ℕ → Range ℕ
 range_of start end = record { start = start; end = end }
 
--- The ranges of an open one and the indices behind it. An index extends the open range while that keeps
--- fewer than 4000 rows; else it opens a range of its own where it lies 50000 rows further or more; else
--- there is no answer.
+-- The ranges of an open one and the indices behind it. An index extends the open range while that keeps few
+-- enough rows; else it opens a range of its own where it lies far enough behind the open one; else there is no
+-- answer.
 abbrev pub gathered : ℕ → ℕ → List ℕ → Option (List (Range ℕ))
 gathered start end [] = Some (range_of start end ∷ [])
 gathered start end (index ∷ indices) =
-    if nat_lt (index + 1 - start) 4000 then gathered start (index + 1) indices
-    else if nat_le 50000 (index + 1 - end) then option_map (λ ranges. range_of start end ∷ ranges) (gathered index (index + 1) indices)
+    if nat_lt (index + 1 - start) range_rows_limit then gathered start (index + 1) indices
+    else if nat_le least_gap (index + 1 - end) then option_map (λ ranges. range_of start end ∷ ranges) (gathered index (index + 1) indices)
     else None
 
 -- the ranges that ascending indices are gathered into: the first index opens one
@@ -45,9 +46,10 @@ split_ranges selection (Some range) = if nat_lt range.start range.end then split
 abbrev pub IsCovered : List (Range ℕ) → ℕ → Type 0
 IsCovered ranges row = Any (λ range. (range.start ≤ row) × (row < range.end)) ranges
 
--- The ranges ascend and are disjoint, none is empty, each has fewer than 4000 rows, and together they cover
--- the rows.
+-- The ranges ascend and are disjoint, each lies far enough behind the one before it, none is empty, each has few
+-- enough rows, and together they cover the rows.
 pub record AreSplitRanges (rows : List ℕ) (ranges : List (Range ℕ)) : Type 0 where
   pub ascend : AllAdjacentBelow (λ one two. one.end ≤ two.start) ranges (length ranges)
-  pub small : All (λ range. (range.start < range.end) × (range.end - range.start < 4000)) ranges
+  pub apart : AllAdjacentBelow (λ one two. least_gap ≤ two.start + 1 - one.end) ranges (length ranges)
+  pub small : All (λ range. (range.start < range.end) × (range.end - range.start < range_rows_limit)) ranges
   pub cover : All (IsCovered ranges) rows

@@ -1,6 +1,6 @@
 -- Which rows of a range a selection selects.
-use Rattle.std.specs.Prelude.{ℕ, ◌-◌, ◌<◌, ◌≤◌, min, Bool, true, not, List, length, take, Option, Some, None, slice_index_or}
-use Rattle.std.specs.List.{filter, range_with_len}
+use Rattle.std.specs.Prelude.{◌≡◌, ℕ, ◌-◌, ◌<◌, ◌≤◌, ◌↔◌, min, Bool, true, not, List, length, take, Option, Some, None, slice_index_or}
+use Rattle.std.specs.List.{Contains, filter, range_with_len}
 use Rattle.std.specs.declared.ops.Range.{Range}
 use Rattle.vx_base.specs.Masks.{is_among, Ascend}
 use Rattle.vx_splits.specs.declared.selections.Selection.{Selection}
@@ -27,6 +27,26 @@ selected_rows selection start end = filter (selects selection) (rows_between sta
 abbrev pub taken_rows : Selection → Option (Range ℕ) → ℕ → List ℕ
 taken_rows selection None row_count = selected_rows selection 0 row_count
 taken_rows selection (Some range) row_count = selected_rows selection range.start (min range.end row_count)
+
+-- a row of a range that is selected
+abbrev pub IsSelected : Selection → ℕ → ℕ → ℕ → Type 0
+IsSelected selection start end row = (start ≤ row) × (row < end) × (selects selection row ≡ true)
+
+-- a row of a scan: it is below the row count, it lies in the range, if one is given, and it is selected
+abbrev pub IsTaken : Selection → Option (Range ℕ) → ℕ → ℕ → Type 0
+IsTaken selection None row_count row = (row < row_count) × (selects selection row ≡ true)
+IsTaken selection (Some range) row_count row = (row < row_count) × IsSelected selection range.start range.end row
+
+-- These are the rows of which P holds, in order.
+pub record AreRowsWith (P : ℕ → Type 0) (rows : List ℕ) : Type 0 where
+  pub ascend : Ascend rows
+  pub each : (row : ℕ) → Contains rows row ↔ P row
+
+abbrev pub SelectsRows : Type 0
+SelectsRows = (selection : Selection) (start end : ℕ) → AreRowsWith (IsSelected selection start end) (selected_rows selection start end)
+
+abbrev pub TakesRows : Type 0
+TakesRows = (selection : Selection) (range : Option (Range ℕ)) (row_count : ℕ) → AreRowsWith (IsTaken selection range row_count) (taken_rows selection range row_count)
 
 -- The value at the place is the first that isn't greater than the one before it.
 pub record IsFirstUnsorted (values : List ℕ) (place : ℕ) : Type 0 where

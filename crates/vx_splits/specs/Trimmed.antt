@@ -1,5 +1,5 @@
 -- A scope of rows trimmed to what a selection selects of it.
-use Rattle.std.specs.Prelude.{◌≡◌, ℕ, ◌+◌, ◌-◌, ◌<◌, ◌≤◌, Bool, true, false, not, cond, List, length, map, Some, slice_get, slice_index_or}
+use Rattle.std.specs.Prelude.{◌≡◌, ℕ, ◌+◌, ◌-◌, ◌<◌, ◌≤◌, Bool, true, false, not, cond, List, [], length, map, Option, Some, None, slice_get, slice_index_or}
 use Rattle.vx_base.specs.Masks.{chosen, is_among}
 use Rattle.std.specs.declared.ops.Range.{Range}
 use Rattle.vx_splits.specs.declared.selections.Selection.{Selection}
@@ -14,6 +14,11 @@ selection_mask selection start end = map (selects selection) (rows_between start
 -- the rows that the mask chooses of the scope
 abbrev pub chosen_rows : SelectedRows → List ℕ
 chosen_rows chunk = chosen chunk.mask (rows_between chunk.scope.rows.start chunk.scope.rows.end)
+
+-- the rows of a chunk, if there is one
+abbrev pub rows_in_chunk : Option SelectedRows → List ℕ
+rows_in_chunk None = []
+rows_in_chunk (Some chunk) = chosen_rows chunk
 
 -- The scope cut down to its first and last selected row, with a truth value for each row that is left.
 pub record IsTrimmed (selection : Selection) (scope : WorkScope) (chunk : SelectedRows) : Type 0 where
@@ -57,3 +62,9 @@ pub record IsLeft (excluded : List ℕ) (start end : ℕ) (rows : Range ℕ) : T
   pub last : is_among excluded (rows.end - 1) ≡ false
   pub before : AllAmong excluded start rows.start
   pub after : AllAmong excluded rows.end end
+
+-- The row before the place lies less than the bound above its own place, and the row at the place does not.
+pub record IsPartedAt (rows : List ℕ) (bound place : ℕ) : Type 0 where
+  pub inside : place ≤ length rows
+  pub near : 0 < place → slice_index_or rows (place - 1) 0 < bound + (place - 1)
+  pub far : place < length rows → bound + place ≤ slice_index_or rows place 0

@@ -1,8 +1,9 @@
 //! Chunks: a range of rows cut at the multiples of a size.
 
-ghost use Rattle.std.specs.Prelude.{◌≡◌, ◌*◌, ◌%◌, ◌-◌, ◌^◌, ◌<◌, ◌≤◌, length, IfOk};
+ghost use Rattle.std.specs.Prelude.{◌≡◌, ◌*◌, ◌%◌, ◌-◌, ◌^◌, ◌<◌, ◌≤◌, true, length, IfOk};
 ghost use Rattle.std.specs.List.{sum_by};
-ghost use Rattle.vx_splits.specs.Chunks.{rows_per_chunk, clipped_chunk, row_chunks, Tile, CutsAtMultiples, ChunksJoin};
+ghost use Rattle.vx_splits.specs.Limits.{most_chunk_rows, block_rows};
+ghost use Rattle.vx_splits.specs.Chunks.{rows_per_chunk, chunk_size, clipped_chunk, row_chunks, Tile, CutsAtMultiples, ChunkSizes, ChunksJoin, ChunksTake, ChunksAreShared};
 
 use std::alloc::{AllocError, Global};
 use std::ops::Range;
@@ -23,9 +24,10 @@ const CHUNK_BYTES: u64 = 8_388_608;
 pub fn rows_per_chunk(row_count: u64, locations: &[SegmentLocation]) -> u64
     requires { length locations.now ≤ 2 ^ 32 - 1 }
     ensures rows { result ≡ rows_per_chunk row_count locations.now }
-    ensures multiple { result % 8192 ≡ 0 }
-    ensures at_least { 8192 ≤ result }
-    ensures at_most { result ≤ 65536 }
+    ensures root { result ≡ chunk_size true row_count locations.now }
+    ensures multiple { result % block_rows ≡ 0 }
+    ensures at_least { block_rows ≤ result }
+    ensures at_most { result ≤ most_chunk_rows }
 {
     if row_count <= MAX_ROWS {
         return MAX_ROWS;
@@ -76,7 +78,19 @@ fn clip(rows: &Range<u64>, size: u64, number: u64) -> Range<u64>
     rows.start.max(start)..rows.end.min(start.saturating_add(size))
 }
 
-/// What is selected of the chunks of a range, one after the other, is what is selected of the range.
+/// What is selected of the chunks of a range, one after the other, is what is selected of the range; and what is
+/// selected of the chunks of a scan's range below the row count are the rows of the scan.
 pub fn chunks_join()
-    ensures { ChunksJoin }
+    ensures selected { ChunksJoin }
+    ensures taken { ChunksTake }
+{}
+
+/// The chunks of a scan have whole blocks, whatever is read of its rows.
+pub fn chunks_have_blocks()
+    ensures { ChunkSizes }
+{}
+
+/// Two rows of a range lie in one of its chunks exactly where they share a chunk.
+pub fn chunks_are_shared()
+    ensures { ChunksAreShared }
 {}

@@ -1,9 +1,9 @@
 //! The selected rows of a piece of work: its scope, cut down to the first and last selected row, with a
 //! mask.
 
-ghost use Rattle.std.specs.Prelude.{◌≡◌, ◌↔◌, [], IfOk, IfSome, IsNone};
-ghost use Rattle.vx_splits.specs.Taken.{selected_rows};
-ghost use Rattle.vx_splits.specs.Trimmed.{IsTrimmed};
+ghost use Rattle.std.specs.Prelude.{◌≡◌, ◌↔◌, ◌≤◌, [], ℕ, Some, IfOk, IfSome, IsNone};
+ghost use Rattle.vx_splits.specs.Taken.{selected_rows, taken_rows};
+ghost use Rattle.vx_splits.specs.Trimmed.{IsTrimmed, rows_in_chunk};
 
 use crate::selections::Selection;
 use std::alloc::{AllocError, Global};
@@ -35,6 +35,8 @@ pub fn select_rows(
     ensures none { IfOk result (λ chunk. IsNone chunk
         ↔ (selected_rows selection.now scope.rows.start scope.rows.end ≡ [])) }
     ensures trimmed { IfOk result (λ chunk. IfSome chunk (λ chunk. IsTrimmed selection.now scope chunk)) }
+    ensures taken { IfOk result (λ chunk. (row_count : ℕ) → scope.rows.end ≤ row_count
+        → rows_in_chunk chunk ≡ taken_rows selection.now (Some scope.rows) row_count) }
 {
     let Some(rows) = selection.trim(&scope.rows) else {
         return Ok(None);

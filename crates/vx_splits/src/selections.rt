@@ -3,8 +3,8 @@
 ghost use Rattle.std.specs.Prelude.{◌≡◌, ◌<◌, ◌≤◌, ◌-◌, ◌↔◌, [], false, length, map, IfOk, IfSome, IsNone, IsTrue, MatchOption};
 ghost use Rattle.std.specs.List.{All, Any};
 ghost use Rattle.vx_base.specs.Masks.{Ascend, is_among};
-ghost use Rattle.vx_splits.specs.Taken.{rows_between, selected_rows};
-ghost use Rattle.vx_splits.specs.Trimmed.{selection_mask, marked_as, AllAmong, IsSpan, IsLeft, IsTrimmedRange};
+ghost use Rattle.vx_splits.specs.Taken.{rows_between, selected_rows, SelectsRows, TakesRows};
+ghost use Rattle.vx_splits.specs.Trimmed.{IsPartedAt, selection_mask, marked_as, AllAmong, IsSpan, IsLeft, IsTrimmedRange};
 
 use crate::sorted_indices::StrictSorted;
 use std::alloc::{AllocError, Global};
@@ -65,8 +65,8 @@ impl Selection {
         self.row_count_in_range(&beyond) > 0
     }
 
-    /// The range from the first to the last selected row of a range. None where none is selected. Its cost is
-    /// that of the indices in the range, never that of the rows.
+    /// The range from the first to the last selected row of a range. None where none is selected. It searches
+    /// the indices, and walks neither over them nor over the rows.
     pub(crate) fn trim(&self, rows: &Range<u64>) -> Option<Range<u64>>
         ensures none { IsNone result ↔ (selected_rows self.now rows.now.start rows.now.end ≡ []) }
         ensures some { IfSome result (λ trimmed. IsTrimmedRange self.now rows.now.start rows.now.end trimmed) }
@@ -108,11 +108,31 @@ fn spanned(indices: &[u64]) -> Option<Range<u64>>
     Some(*first..*last + 1)
 }
 
+/// How many of the rows lie less than `bound` above their places: they are the first ones, since no row lies
+/// further above its place than a later one. It is found by a binary search.
+#[tactic(auto, using(crate::proofs::Runs::parting_none, crate::proofs::Runs::parting_upper, crate::proofs::Runs::parting_lower, crate::proofs::Runs::parted, crate::proofs::Runs::place_below))]
+fn count_near(rows: &[u64], bound: u64) -> usize
+    requires ascending { Ascend rows.now }
+    ensures { IsPartedAt rows.now bound result }
+{
+    let mut low = 0;
+    let mut high = rows.len();
+    while low < high {
+        let middle = low + (high - low) / 2;
+        if rows[middle] - (middle as u64) < bound {
+            low = middle + 1;
+        } else {
+            high = middle;
+        }
+    }
+    low
+}
+
 /// The first row from `start` on that isn't one of the excluded rows, which lie from `start` to before
-/// `end`. It walks over the excluded rows.
-#[tactic(auto, using(crate::proofs::Runs::leading_none, crate::proofs::Runs::leading_more))]
+/// `end`. It searches the excluded rows.
+#[tactic(auto, using(crate::proofs::Runs::leading_inside, crate::proofs::Runs::leading_among, crate::proofs::Runs::leading_ends))]
 fn first_left(start: u64, end: u64, excluded: &[u64]) -> u64
-    requires forwards { start ≤ end }
+    requires forwards { start < end }
     requires ascending { Ascend excluded.now }
     requires from { All (λ row. start ≤ row) excluded.now }
     requires below { All (λ row. row < end) excluded.now }
@@ -121,19 +141,12 @@ fn first_left(start: u64, end: u64, excluded: &[u64]) -> u64
     ensures left { is_among excluded.now result ≡ false }
     ensures before { AllAmong excluded.now start result }
 {
-    let mut next = start;
-    for row in excluded {
-        if *row != next {
-            return next;
-        }
-        next += 1;
-    }
-    next
+    start + count_near(excluded, start + 1) as u64
 }
 
 /// The row after the last row before `end` that isn't one of the excluded rows, which lie before `end`;
-/// 0 where there is none. It walks over the excluded rows.
-#[tactic(auto, using(crate::proofs::Runs::trailing_none, crate::proofs::Runs::trailing_some, crate::proofs::Runs::trailing_more, crate::proofs::Runs::trailing_all))]
+/// 0 where there is none. It searches the excluded rows.
+#[tactic(auto, using(crate::proofs::Runs::as_many_below, crate::proofs::Runs::trailing_among, crate::proofs::Runs::trailing_ends))]
 fn end_left(end: u64, excluded: &[u64]) -> u64
     requires ascending { Ascend excluded.now }
     requires below { All (λ row. row < end) excluded.now }
@@ -141,16 +154,9 @@ fn end_left(end: u64, excluded: &[u64]) -> u64
     ensures left { 0 < result → is_among excluded.now (result - 1) ≡ false }
     ensures after { AllAmong excluded.now result end }
 {
-    let mut past = end;
-    let mut later = excluded.len();
-    while 0 < later {
-        if excluded[later - 1] != past - 1 {
-            return past;
-        }
-        past -= 1;
-        later -= 1;
-    }
-    past
+    let count = excluded.len();
+    let later = count_near(excluded, end - count as u64);
+    end - (count - later) as u64
 }
 
 /// The range from the first to the last row of a range that isn't excluded. None where there is none.
@@ -171,3 +177,10 @@ fn left_of(rows: &Range<u64>, excluded: &[u64]) -> Option<Range<u64>>
     }
     Some(start..end_left(rows.end, excluded))
 }
+
+/// The selected rows of a range, and the rows of a scan, one by one: they ascend, and they are exactly those that
+/// are selected.
+pub fn rows_are_selected()
+    ensures selected { SelectsRows }
+    ensures taken { TakesRows }
+{}

@@ -1,15 +1,14 @@
-use Rattle.std.proofs.Common.{arith}
-use Rattle.vx_splits.proofs.Runs.{leading_among, leading_ends, leading_all}
+use Rattle.std.proofs.Common.{◌+◌, ◌≤◌, arith}
+use Rattle.vx_splits.proofs.Runs.{leading_inside, leading_among}
 use Rattle.vx_splits.proofs.selections.first_left.Goals as goal
 
-pub returns-then-row-next-clause-left : goal.returns-then-row-next-clause-left
-returns-then-row-next-clause-left c = leading_ends c.args.excluded.now c.args.start c.args.end c.loop-row.next c.loop-row.row-index c.loop-row-test.true c.requires.ascending c.requires.from c.if-row-next.true c.loop-row.invariant
+pub overflow_add-result : goal.overflow_add-result
+overflow_add-result c =
+    let inside = leading_inside c.args.excluded.now c.args.start c.args.end c.count_near.result c.requires.forwards c.requires.ascending c.requires.from c.requires.below c.count_near.ensures in
+    omega arith
 
-pub returns-then-row-next-clause-before : goal.returns-then-row-next-clause-before
-returns-then-row-next-clause-before c = leading_among c.args.excluded.now c.args.start c.args.end c.loop-row.next c.loop-row.row-index (omega arith) c.loop-row.invariant
-
-pub returns-clause-left : goal.returns-clause-left
-returns-clause-left c = leading_all c.args.excluded.now c.args.start c.args.end c.loop-row.next c.loop-row.row-index (omega arith) c.loop-row.invariant
+pub returns-clause-inside : goal.returns-clause-inside
+returns-clause-inside c = leading_inside c.args.excluded.now c.args.start c.args.end c.count_near.result c.requires.forwards c.requires.ascending c.requires.from c.requires.below c.count_near.ensures
 
 pub returns-clause-before : goal.returns-clause-before
-returns-clause-before c = leading_among c.args.excluded.now c.args.start c.args.end c.loop-row.next c.loop-row.row-index (omega arith) c.loop-row.invariant
+returns-clause-before c = leading_among c.args.excluded.now c.args.start c.count_near.result c.requires.ascending c.requires.from c.count_near.ensures
