@@ -90,18 +90,6 @@ first_fault nodes rule node below found = record { rule = rule; number_is = refl
 pub no_nodes : (nodes : List Node) → length nodes ≡ 0 → IsFirstFault nodes 0 1
 no_nodes nodes none = record { rule = nonempty; number_is = refl; broken = λ h. absurd (omega arith); node_is = inl refl; earlier_nodes = λ n h. absurd (omega arith); earlier_rules = λ earlier h n lt. absurd (omega arith) }
 
-pub good_tree : (nodes : List Node) → 0 < length nodes → KeepsBelow nodes 10 → KeepsAll nodes row_counts → IsGoodTree nodes
-good_tree nodes some below all = record {
-  nonempty = some;
-  later_children = λ n h. below later_children (omega arith) n h;
-  child_once = λ n h. below child_once (omega arith) n h;
-  shallow = λ n h. below shallow (omega arith) n h;
-  few_rows = λ n h. below few_rows (omega arith) n h;
-  child_count = λ n h. below child_count (omega arith) n h;
-  fitting_types = λ n h. below fitting_types (omega arith) n h;
-  row_counts = all;
-}
-
 -- ---- as the search for each rule's first fault says it
 
 pub passed : (xs : List LayoutNode) (rule : ShapeRule) (found : Option ℕ) → found ≡ None → FindsFirst (Keeps rule (map node_data xs)) (length xs) found → KeepsAll (map node_data xs) rule

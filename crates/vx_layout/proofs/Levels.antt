@@ -11,6 +11,7 @@ use Rattle.vx_base.specs.declared.dtypes.Nullability.TheVariants.{NonNullable}
 use Rattle.vx_base.specs.Data.{bool_type}
 use Rattle.vx_layout.specs.declared.nodes.LayoutKind.TheVariants.{Chunked}
 use Rattle.vx_layout.specs.Nodes.{Node}
+use Rattle.vx_layout.proofs.Places.{Later, EachLater}
 use Rattle.vx_layout.specs.Shape.{parent_from, parent_of, depth_of, depth_within, HasLaterChildren}
 
 -- the depth of a node with that parent
@@ -47,12 +48,6 @@ parent_taken : (nodes : List Node) (i child : ℕ) → i < length nodes → pare
 parent_taken nodes i child lt = ap (λ (ns : List Node). parent_of ns child) (take_more nodes i some_node lt) ∙ parent_more 0 (take i nodes) (get_or nodes i some_node) child i (omega (arith, length_taken nodes i (omega arith)))
 
 -- ---- parents lie below
-
-abbrev pub EachLater : List Node → Type 0
-EachLater nodes = (n : ℕ) → n < length nodes → HasLaterChildren nodes n
-
-abbrev Later : ℕ → ℕ → Option Node → Type 0
-Later n count o = IfSome o (λ node. All (λ child. (n < child) × (child < count)) node.children)
 
 not_equal : (a b : ℕ) → a ≢ b → eqb a b ≡ false
 not_equal a b h = grind (arith, nat_tests)

@@ -14,8 +14,13 @@ found_data node = Some (node_data node)
 pub at_place : (xs : List LayoutNode) (n : ℕ) (node : LayoutNode) → n < length xs → node ≡ get_or xs n node → slice_get (map node_data xs) n ≡ Some (node_data node)
 at_place xs n node lt is = rw (slice_get-map node_data xs n, slice_get-get_or xs n node lt) (ap found_data (sym is))
 
-abbrev Later : ℕ → ℕ → Option Node → Type 0
+-- where children come later, those of one node
+abbrev pub Later : ℕ → ℕ → Option Node → Type 0
 Later n count o = IfSome o (λ node. All (λ child. (n < child) × (child < count)) node.children)
+
+-- the children of each node come later
+abbrev pub EachLater : List Node → Type 0
+EachLater nodes = (n : ℕ) → n < length nodes → HasLaterChildren nodes n
 
 -- the children of a node, where they come later
 pub children_later : (xs : List LayoutNode) (n : ℕ) (node : LayoutNode) → n < length xs → node ≡ get_or xs n node → HasLaterChildren (map node_data xs) n → All (λ child. (n < child) × (child < length xs)) node.children.items
@@ -31,13 +36,6 @@ children_below xs count n node same lt is later k d h =
 
 abbrev Few : Option Node → Type 0
 Few o = IfSome o (λ node. node.rows ≤ most_rows)
-
--- the rows of a node, where it has few
-pub rows_few : (xs : List LayoutNode) (n : ℕ) (node : LayoutNode) → n < length xs → node ≡ get_or xs n node → HasFewRows (map node_data xs) n → node.row_count ≤ most_rows
-rows_few xs n node lt is few = subst Few (at_place xs n node lt is) few
-
-pub rows_at_place : (xs : List LayoutNode) (n : ℕ) (node : LayoutNode) → n < length xs → node ≡ get_or xs n node → rows_of (map node_data xs) n ≡ node.row_count
-rows_at_place xs n node lt is = rw (at_place xs n node lt is) refl
 
 pub rows_given : (xs : List LayoutNode) (n : ℕ) (node : LayoutNode) → n < length xs → (get_or xs n node).row_count ≡ rows_of (map node_data xs) n
 rows_given xs n node lt = rw (slice_get-map node_data xs n, slice_get-get_or xs n node lt) refl

@@ -76,9 +76,6 @@ reached_leaf head segment kept some = some_read_of_leaf (Names segment) head seg
 
 -- ---- faults
 
-abbrev Gone : Leaves → Kept → Read → Type 0
-Gone leaves kept read = value leaves read.node kept read.row ≡ None
-
 abbrev IfLacks : Leaves → Read → Type 0
 IfLacks leaves read = LacksValues leaves read.node
 

@@ -15,12 +15,10 @@ use Rattle.vx_layout.specs.Nodes.{Node}
 use Rattle.vx_layout.specs.Shape.{HasLaterChildren, IsGoodTree, rows_of, AddsUp}
 use Rattle.vx_layout.specs.Trees.{Tree, missing, leaf, chunks, head_of, head_at, forest_of, grown_as, grown, grow, subtree}
 use Rattle.vx_layout.specs.Joined.{rows_in}
-
-abbrev pub EachLater : List Node → Type 0
-EachLater nodes = (n : ℕ) → n < length nodes → HasLaterChildren nodes n
+use Rattle.vx_layout.proofs.Places.{EachLater}
 
 -- also past the end, where there is no node
-later_at : (nodes : List Node) → EachLater nodes → (n : ℕ) → HasLaterChildren nodes n
+pub later_at : (nodes : List Node) → EachLater nodes → (n : ℕ) → HasLaterChildren nodes n
 later_at nodes later n = ⊎_elim (λ (h : n < length nodes). later n h) (λ (h : length nodes ≤ n). rw (slice_get_past nodes n h) tt) (cases_lt n (length nodes))
 
 if_some_weaker : {X : Type 0} (P Q : X → Type 0) → ((x : X) → P x → Q x) → (o : Option X) → IfSome o P → IfSome o Q
@@ -78,15 +76,6 @@ unfolds (node ∷ nodes) later n = grow_unfolds (node ∷ nodes) (length nodes) 
 -- the tree of a node of a good tree
 pub subtree_unfolds : (nodes : List Node) → IsGoodTree nodes → (n : ℕ) → subtree nodes n ≡ grown (subtree nodes) n (slice_get nodes n)
 subtree_unfolds nodes good n = unfolds nodes good.later_children n
-
-head_of_grown_as : (below : ℕ → Tree) (n : ℕ) (node : Node) (kind : LayoutKind) → head_of (grown_as below n node kind) ≡ head_at n node
-head_of_grown_as below n node (Flat segment) = refl
-head_of_grown_as below n node Chunked = refl
-
-pub head_of_subtree : (nodes : List Node) → IsGoodTree nodes → (n : ℕ) (node : Node) → slice_get nodes n ≡ Some node → head_of (subtree nodes n) ≡ head_at n node
-head_of_subtree nodes good n node at =
-    let unfolded : subtree nodes n ≡ grown_as (subtree nodes) n node node.kind = subtree_unfolds nodes good n ∙ ap (grown (subtree nodes) n) at in
-    ap head_of unfolded ∙ head_of_grown_as (subtree nodes) n node node.kind
 
 abbrev kind_grown : List Node → ℕ → Node → LayoutKind → Tree
 kind_grown nodes n node kind = grown_as (subtree nodes) n node kind

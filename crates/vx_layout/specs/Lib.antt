@@ -1,3 +1,4 @@
+pub mod ByHand
 pub mod Nodes
 pub mod Shape
 pub mod Trees

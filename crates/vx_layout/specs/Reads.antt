@@ -46,4 +46,4 @@ SomeRead P root kept = (row : ℕ) × (row < (head_of root).rows) × AnyOf P (re
 
 -- Some row of the tree reaches the segment.
 abbrev pub IsReached : Tree → Kept → ℕ → Type 0
-IsReached root kept segment = SomeRead (λ read. Names segment read.node) root kept
+IsReached root kept segment = (row : ℕ) × (row < (head_of root).rows) × Reaches root kept row segment

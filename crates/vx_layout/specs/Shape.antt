@@ -3,11 +3,16 @@ use Rattle.std.specs.Prelude.{◌≡◌, ℕ, zero, suc, ◌+◌, ◌<◌, ◌�
 use Rattle.std.specs.List.{flat_map, list_any, slice_get}
 use Rattle.std.specs.Option.{option_map_or}
 use Rattle.vx_base.specs.Data.{DataType, bool_type, int_type, utf8_type, struct_type, list_type, Members, no_members, member}
+use Rattle.vx_base.specs.Leaf.{IsLeaf}
 use Rattle.vx_layout.specs.declared.nodes.LayoutKind.{LayoutKind}
 use Rattle.vx_layout.specs.declared.nodes.LayoutKind.TheVariants.{Flat, Chunked}
 use Rattle.vx_layout.specs.declared.errors.LayoutError.{LayoutError}
 use Rattle.vx_layout.specs.declared.errors.LayoutError.TheVariants.{BadLayout, Memory}
 use Rattle.vx_layout.specs.Nodes.{Node}
+
+-- a list of nodes has fewer than this
+abbrev pub node_limit : ℕ
+node_limit = 1073741824
 
 -- a node has at most so many rows
 abbrev pub most_rows : ℕ
@@ -69,7 +74,7 @@ abbrev mutual
   members_depth no_members = 0
   members_depth (member name t ms) = max (dtype_depth t) (members_depth ms)
 
--- Neither the node nor its dtype is deeper than 64 levels.
+-- Neither the node nor its dtype has too many levels.
 abbrev pub IsShallow : List Node → ℕ → Type 0
 IsShallow nodes number = AtNode (λ node. (depth_of nodes number ≤ most_levels) × (dtype_depth node.dtype ≤ most_levels)) nodes number
 
@@ -86,20 +91,13 @@ CountsChildren node Chunked = Unit {0}
 abbrev pub HasChildCount : List Node → ℕ → Type 0
 HasChildCount nodes number = AtNode (λ node. CountsChildren node node.kind) nodes number
 
-abbrev pub IsLeafType : DataType → Type 0
-IsLeafType (bool_type n) = Unit {0}
-IsLeafType (int_type kind n) = Unit {0}
-IsLeafType (utf8_type n) = Unit {0}
-IsLeafType (struct_type ms n) = ⊥
-IsLeafType (list_type t n) = ⊥
-
 -- P of the child of that number
 abbrev pub ChildIs : List Node → (Node → Type 0) → ℕ → Type 0
 ChildIs nodes P child = IsSomeAnd (slice_get nodes child) P
 
 -- A flat node has a leaf dtype, and a chunk has the dtype of its parent.
 abbrev pub FitsKind : List Node → Node → LayoutKind → Type 0
-FitsKind nodes node (Flat segment) = IsLeafType node.dtype
+FitsKind nodes node (Flat segment) = IsLeaf node.dtype
 FitsKind nodes node Chunked = All (ChildIs nodes (λ child. child.dtype ≡ node.dtype)) node.children
 
 abbrev pub HasFittingTypes : List Node → ℕ → Type 0

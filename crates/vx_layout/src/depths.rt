@@ -1,10 +1,10 @@
 //! How deep each node lies, and how deep a dtype is.
 
-ghost use Rattle.std.specs.Prelude.{◌≡◌, ℕ, ◌+◌, ◌<◌, ◌≤◌, ◌^◌, ◌==◌, ◌&&◌, ◌↔◌, if◌then◌else◌, length, map, All, IfOk, IsTrue, slice_index};
+ghost use Rattle.std.specs.Prelude.{◌≡◌, ℕ, ◌+◌, ◌<◌, ◌≤◌, ◌==◌, ◌&&◌, ◌↔◌, if◌then◌else◌, length, map, All, IfOk, IsTrue, slice_index};
 ghost use Rattle.std.specs.List.{list_any};
 ghost use Rattle.vx_base.specs.Views.{data_type, members_of};
 ghost use Rattle.vx_layout.specs.Nodes.{node_data};
-ghost use Rattle.vx_layout.specs.Shape.{HasLaterChildren, depth_of, dtype_depth, members_depth};
+ghost use Rattle.vx_layout.specs.Shape.{node_limit, HasLaterChildren, depth_of, dtype_depth, members_depth};
 
 use crate::nodes::LayoutNode;
 use std::alloc::{AllocError, Global};
@@ -54,7 +54,7 @@ fn deepen(depths: &mut [u32], children: &[u32], depth: u32)
 
 /// The depth of each node. It takes four bytes for each node.
 pub fn depths_of(alloc: Global, nodes: &[LayoutNode]) -> Result<Vec<u32>, AllocError>
-    requires short { length nodes.now < 2 ^ 30 }
+    requires short { length nodes.now < node_limit }
     requires later { (n : ℕ) → n < length nodes.now → HasLaterChildren (map node_data nodes.now) n }
     ensures size { IfOk result (λ depths. length depths.items ≡ length nodes.now) }
     ensures depths { IfOk result (λ depths. (n : ℕ) → n < length nodes.now → slice_index depths.items n ≡ depth_of (map node_data nodes.now) n) }

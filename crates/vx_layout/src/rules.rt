@@ -1,9 +1,10 @@
 //! The rules of the shape, each of them at one node.
 
-ghost use Rattle.std.specs.Prelude.{◌≡◌, ◌<◌, ◌≤◌, ◌^◌, ◌↔◌, ℕ, length, map, sum_by, All, IsTrue, slice_index};
+ghost use Rattle.std.specs.Prelude.{◌≡◌, ◌<◌, ◌≤◌, ◌↔◌, ℕ, length, map, sum_by, All, IsTrue, slice_index};
+ghost use Rattle.vx_base.specs.Leaf.{IsLeaf};
 ghost use Rattle.vx_base.specs.Views.{data_type};
 ghost use Rattle.vx_layout.specs.Nodes.{node_data};
-ghost use Rattle.vx_layout.specs.Shape.{most_rows, depth_of, rows_of, ChildIs, HasLaterChildren, IsShallow, HasFewRows, HasChildCount, HasFittingTypes, HasRowCounts, IsLeafType};
+ghost use Rattle.vx_layout.specs.Shape.{node_limit, most_rows, depth_of, rows_of, ChildIs, HasLaterChildren, IsShallow, HasFewRows, HasChildCount, HasFittingTypes, HasRowCounts};
 
 use crate::depths::is_within;
 use crate::nodes::{LayoutKind, LayoutNode};
@@ -17,7 +18,7 @@ const MOST_LEVELS: u32 = 64;
 
 /// Rule 2: the children have greater numbers than the node, and are nodes themselves.
 pub fn has_later_children(nodes: &[LayoutNode], number: usize) -> bool
-    requires short { length nodes.now < 2 ^ 30 }
+    requires short { length nodes.now < node_limit }
     requires place { number < length nodes.now }
     ensures { IsTrue result ↔ HasLaterChildren (map node_data nodes.now) number }
 {
@@ -33,7 +34,7 @@ pub fn is_child_once(counts: &[u8], number: usize) -> bool
     number == 0 || counts[number] == 1
 }
 
-/// Rule 4: neither the node nor its dtype is deeper than 64 levels.
+/// Rule 4: neither the node nor its dtype has too many levels.
 pub fn is_shallow(nodes: &[LayoutNode], depths: &[u32], number: usize) -> bool
     requires place { number < length nodes.now }
     requires size { length depths.now ≡ length nodes.now }
@@ -65,7 +66,7 @@ pub fn has_child_count(nodes: &[LayoutNode], number: usize) -> bool
 
 /// Whether the dtype is that of a leaf.
 fn is_leaf_type(dtype: &DType) -> bool
-    ensures { IsTrue result ↔ IsLeafType (data_type dtype.now) }
+    ensures { IsTrue result ↔ IsLeaf (data_type dtype.now) }
 {
     matches!(dtype, DType::Bool(_) | DType::Int(_, _) | DType::Utf8(_))
 }

@@ -1,8 +1,8 @@
 //! The first node that breaks a rule, rule by rule, and the first of all faults.
 
-ghost use Rattle.std.specs.Prelude.{◌<◌, ◌^◌, ℕ, length, map, IfOk, OnOk, IfErr};
+ghost use Rattle.std.specs.Prelude.{◌<◌, ℕ, length, map, IfOk, OnOk, IfErr};
 ghost use Rattle.vx_layout.specs.Nodes.{node_data};
-ghost use Rattle.vx_layout.specs.Shape.{IsGoodTree, RefusedBy, FindsFirst, HasLaterChildren, IsChildOnce, IsShallow, HasFewRows, HasChildCount, HasFittingTypes, HasRowCounts};
+ghost use Rattle.vx_layout.specs.Shape.{node_limit, IsGoodTree, RefusedBy, FindsFirst, HasLaterChildren, IsChildOnce, IsShallow, HasFewRows, HasChildCount, HasFittingTypes, HasRowCounts};
 
 use crate::counts::count_parents;
 use crate::depths::depths_of;
@@ -16,7 +16,7 @@ use std::alloc::{AllocError, Global};
 
 /// The first node that breaks rule 2.
 fn first_without_later_children(nodes: &[LayoutNode]) -> Option<u32>
-    requires { length nodes.now < 2 ^ 30 }
+    requires { length nodes.now < node_limit }
     ensures { FindsFirst (HasLaterChildren (map node_data nodes.now)) (length nodes.now) result }
 {
     for number in 0..nodes.len() {
@@ -29,7 +29,7 @@ fn first_without_later_children(nodes: &[LayoutNode]) -> Option<u32>
 
 /// The first node that breaks rule 3.
 fn first_not_child_once(alloc: Global, nodes: &[LayoutNode]) -> Result<Option<u32>, AllocError>
-    requires short { length nodes.now < 2 ^ 30 }
+    requires short { length nodes.now < node_limit }
     requires later { (n : ℕ) → n < length nodes.now → HasLaterChildren (map node_data nodes.now) n }
     ensures { IfOk result (FindsFirst (IsChildOnce (map node_data nodes.now)) (length nodes.now)) }
 {
@@ -44,7 +44,7 @@ fn first_not_child_once(alloc: Global, nodes: &[LayoutNode]) -> Result<Option<u3
 
 /// The first node that breaks rule 4.
 fn first_not_shallow(alloc: Global, nodes: &[LayoutNode]) -> Result<Option<u32>, AllocError>
-    requires short { length nodes.now < 2 ^ 30 }
+    requires short { length nodes.now < node_limit }
     requires later { (n : ℕ) → n < length nodes.now → HasLaterChildren (map node_data nodes.now) n }
     ensures { IfOk result (FindsFirst (IsShallow (map node_data nodes.now)) (length nodes.now)) }
 {
@@ -59,7 +59,7 @@ fn first_not_shallow(alloc: Global, nodes: &[LayoutNode]) -> Result<Option<u32>,
 
 /// The first node that breaks rule 5.
 fn first_without_few_rows(nodes: &[LayoutNode]) -> Option<u32>
-    requires { length nodes.now < 2 ^ 30 }
+    requires { length nodes.now < node_limit }
     ensures { FindsFirst (HasFewRows (map node_data nodes.now)) (length nodes.now) result }
 {
     for number in 0..nodes.len() {
@@ -72,7 +72,7 @@ fn first_without_few_rows(nodes: &[LayoutNode]) -> Option<u32>
 
 /// The first node that breaks rule 6.
 fn first_without_child_count(nodes: &[LayoutNode]) -> Option<u32>
-    requires { length nodes.now < 2 ^ 30 }
+    requires { length nodes.now < node_limit }
     ensures { FindsFirst (HasChildCount (map node_data nodes.now)) (length nodes.now) result }
 {
     for number in 0..nodes.len() {
@@ -85,7 +85,7 @@ fn first_without_child_count(nodes: &[LayoutNode]) -> Option<u32>
 
 /// The first node that breaks rule 8.
 fn first_without_fitting_types(nodes: &[LayoutNode]) -> Option<u32>
-    requires short { length nodes.now < 2 ^ 30 }
+    requires short { length nodes.now < node_limit }
     requires later { (n : ℕ) → n < length nodes.now → HasLaterChildren (map node_data nodes.now) n }
     ensures { FindsFirst (HasFittingTypes (map node_data nodes.now)) (length nodes.now) result }
 {
@@ -99,7 +99,7 @@ fn first_without_fitting_types(nodes: &[LayoutNode]) -> Option<u32>
 
 /// The first node that breaks rule 10.
 fn first_without_row_counts(nodes: &[LayoutNode]) -> Option<u32>
-    requires short { length nodes.now < 2 ^ 30 }
+    requires short { length nodes.now < node_limit }
     requires later { (n : ℕ) → n < length nodes.now → HasLaterChildren (map node_data nodes.now) n }
     requires few { (n : ℕ) → n < length nodes.now → HasFewRows (map node_data nodes.now) n }
     ensures { FindsFirst (HasRowCounts (map node_data nodes.now)) (length nodes.now) result }
@@ -116,7 +116,7 @@ fn first_without_row_counts(nodes: &[LayoutNode]) -> Option<u32>
 /// nodes in ascending number; the error is the first fault. Time is linear in the nodes and their
 /// children but for the dtypes, which are compared whole.
 pub fn check(alloc: Global, nodes: &[LayoutNode]) -> Result<(), LayoutError>
-    requires { length nodes.now < 2 ^ 30 }
+    requires { length nodes.now < node_limit }
     ensures good { OnOk result (IsGoodTree (map node_data nodes.now)) }
     ensures refused { IfErr result (RefusedBy (map node_data nodes.now)) }
 {

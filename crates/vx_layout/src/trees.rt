@@ -1,9 +1,9 @@
 //! A checked layout tree.
 
-ghost use Rattle.std.specs.Prelude.{◌≡◌, ◌<◌, ◌^◌, length, map, IfOk, OnOk, IfErr, IsSomeAnd, Some, option_and_then, slice_get};
+ghost use Rattle.std.specs.Prelude.{◌≡◌, ◌<◌, length, map, IfOk, OnOk, IfErr, IfSome, IsSomeAnd, Some, option_and_then, slice_get};
 ghost use Rattle.vx_base.specs.Views.{data_type};
 ghost use Rattle.vx_layout.specs.Nodes.{node_data};
-ghost use Rattle.vx_layout.specs.Shape.{IsGoodTree, RefusedBy};
+ghost use Rattle.vx_layout.specs.Shape.{node_limit, IsGoodTree, RefusedBy};
 
 use crate::errors::LayoutError;
 use crate::nodes::LayoutNode;
@@ -27,20 +27,20 @@ impl Model for LayoutTree {
 
     ghost coded = { coded_nodes };
 
-    ghost use Rattle.std.specs.Prelude.{◌<◌, ◌^◌, length};
+    ghost use Rattle.std.specs.Prelude.{◌<◌, length};
     ghost use Rattle.vx_layout.specs.Nodes.{node_data};
-    ghost use Rattle.vx_layout.specs.Shape.{IsGoodTree};
+    ghost use Rattle.vx_layout.specs.Shape.{node_limit, IsGoodTree};
 
     ghost view = { λ a. map node_data a.nodes.items };
 
-    ghost invariant = { λ a. IsGoodTree (map node_data a.nodes.items) × (length a.nodes.items < 2 ^ 30) };
+    ghost invariant = { λ a. IsGoodTree (map node_data a.nodes.items) × (length a.nodes.items < node_limit) };
 }
 
 impl LayoutTree {
     /// The tree of these nodes, where they keep every rule of the shape. Rules are tried in their order,
     /// each over the nodes in ascending number; the first fault is the answer.
     pub fn try_new(alloc: Global, nodes: Vec<LayoutNode>) -> Result<LayoutTree, LayoutError>
-        requires { length nodes.items < 2 ^ 30 }
+        requires { length nodes.items < node_limit }
         ensures made { IfOk result (λ tree. tree ≡ map node_data nodes.items) }
         ensures good { OnOk result (IsGoodTree (map node_data nodes.items)) }
         ensures refused { IfErr result (RefusedBy (map node_data nodes.items)) }
@@ -49,10 +49,13 @@ impl LayoutTree {
         Ok(LayoutTree { nodes })
     }
 
-    /// The number of the root, which is 0.
+    /// The number of the root, which is 0; it is a node of the tree.
     pub fn root(&self) -> u32
-        ensures { result ≡ 0 }
+        ensures zero { result ≡ 0 }
+        ensures node { result < length self.now }
     {
+        let is_there = !self.nodes.is_empty();
+        prove!(is_there);
         0
     }
 
@@ -88,11 +91,21 @@ impl LayoutTree {
         &self.nodes[node as usize]
     }
 
-    /// The number of the child at a place, and `None` exactly where the node has no such place.
+    /// The number of the child at a place, and `None` exactly where the node has no such place. A child is a
+    /// later node of the tree.
     pub fn child(&self, node: u32, place: usize) -> Option<u32>
         requires { node < length self.now }
-        ensures { result ≡ option_and_then (λ node. slice_get node.children place) (slice_get self.now node) }
+        ensures at { result ≡ option_and_then (λ node. slice_get node.children place) (slice_get self.now node) }
+        ensures later { IfSome result (λ child. (node < child) × (child < length self.now)) }
     {
-        self.nodes[node as usize].children.get(place).copied()
+        child_at(self.nodes.as_slice(), node as usize, place)
     }
+}
+
+/// The number of the child of a node at a place.
+fn child_at(nodes: &[LayoutNode], node: usize, place: usize) -> Option<u32>
+    requires { node < length nodes.now }
+    ensures { result ≡ option_and_then (λ node. slice_get node.children place) (slice_get (map node_data nodes.now) node) }
+{
+    nodes[node].children.get(place).copied()
 }

@@ -34,10 +34,6 @@ some_selected selection start end rows h none =
     let long : length (selected_rows selection start end) ≡ 0 = ap length none in
     absurd (omega arith)
 
--- all rows
-pub all_trimmed : (start end : ℕ) (rows : Range ℕ) → start < end → rows.start ≡ start → rows.end ≡ end → IsTrimmedRange variants.All start end rows
-all_trimmed start end rows lt a b = trimmed variants.All start end rows (omega arith) (omega arith) (omega arith) refl refl (λ row low high. absurd (omega arith)) (λ row low high. absurd (omega arith))
-
 -- the rows with these numbers
 include_trimmed : (xs : List ℕ) (start end : ℕ) (rows : Range ℕ) → IsSpan (filter (is_among xs) (rows_between start end)) rows → IsTrimmedRange (variants.IncludeByIndex xs) start end rows
 include_trimmed xs start end rows h =

@@ -28,10 +28,3 @@ pub use selections::{Selection, rows_are_selected};
 pub use sorted_indices::{SortError, StrictSorted};
 pub use spans::{DEFAULT_MAX_SPLIT_ROWS, subdivide_large_spans};
 pub use split_ranges::{Splits, attempt_split_ranges};
-
-#[cfg(test)]
-mod chunk_tests;
-#[cfg(test)]
-mod selection_tests;
-#[cfg(test)]
-mod split_tests;

@@ -1,7 +1,7 @@
 //! The calls.
 
 use crate::words::{bits_text, number_of, numbers_of, numbers_text, range_of, ranges_text, selection_of};
-use anyhow::{Error, Result};
+use anyhow::{Context, Error, Result};
 use std::alloc::Global;
 use vx_base::SegmentLocation;
 use vx_splits::{
@@ -36,7 +36,8 @@ fn of_spans(alloc: Global, boundaries: &str, max_span: u64) -> Result<String> {
 fn of_lengths(alloc: Global, row_count: u64, lengths: &str) -> Result<String> {
     let mut locations = Vec::new(alloc);
     for length in numbers_of(alloc, lengths)? {
-        locations.push(SegmentLocation { offset: 0, length: length as u32, alignment: 0 })?;
+        let length = u32::try_from(length).context("a length")?;
+        locations.push(SegmentLocation { offset: 0, length, alignment: 0 })?;
     }
     if 1000 < locations.len() {
         return Err(Error::msg("few segments"));

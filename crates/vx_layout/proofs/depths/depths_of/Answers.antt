@@ -3,8 +3,8 @@ use Rattle.std.proofs.lemmas.List.{length-map, take_all}
 use Rattle.vx_layout.specs.declared.nodes.LayoutNode.{LayoutNode}
 use Rattle.vx_layout.specs.Nodes.{Node, node_data}
 use Rattle.vx_layout.specs.Shape.{parent_of, depth_of, HasLaterChildren}
-use Rattle.vx_layout.proofs.Places.{children_below, get_or-data}
-use Rattle.vx_layout.proofs.Levels.{depth_under, depth_known, depth_found, depth_bound, deepened, EachLater, some_node, get_same, taken, restored}
+use Rattle.vx_layout.proofs.Places.{EachLater, children_below, get_or-data}
+use Rattle.vx_layout.proofs.Levels.{depth_under, depth_known, depth_found, depth_bound, deepened, some_node, get_same, taken, restored}
 use Rattle.vx_layout.proofs.depths.depths_of.Goals as goal
 
 each_later : (xs : List LayoutNode) → ((n : ℕ) → n < length xs → HasLaterChildren (map node_data xs) n) → EachLater (map node_data xs)

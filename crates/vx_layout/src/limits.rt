@@ -1,0 +1,11 @@
+//! The limits of the code are the numbers that are promised.
+
+ghost use Rattle.std.specs.Prelude.{◌≡◌};
+ghost use Rattle.vx_layout.specs.declared.rules.TheConstants.{MOST_ROWS, MOST_LEVELS};
+ghost use Rattle.vx_layout.specs.Shape.{most_rows, most_levels};
+
+/// Each limit of the code is the number of that meaning.
+pub fn limits_are_promised()
+    ensures rows { MOST_ROWS ≡ most_rows }
+    ensures levels { MOST_LEVELS ≡ most_levels }
+{}
