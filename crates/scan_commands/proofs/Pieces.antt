@@ -1,0 +1,55 @@
+-- Reading a request piece by piece.
+use Rattle.std.proofs.Common.{◌≡◌, ℕ, ◌+◌, ◌<◌, ◌≤◌, List, [], ◌∷◌, ◌++◌, length, take, drop, All, Option, Some, None, option_map, refl, sym, ap, ◌∙◌, inl, append_assoc, length-append, arith}
+use Rattle.std.specs.Prelude.{IfSome}
+use Rattle.std.proofs.lemmas.List.{take-append-drop, append-nil}
+use Rattle.std.proofs.lemmas.List.Elements.{All-push}
+use Rattle.vx_base.specs.Streams.{ReadState, Gave}
+use Rattle.scan_commands.specs.Reading.{most_bytes, most_piece, IsFull, ReadsPieces}
+
+-- the source told all of its bytes as what was read so far and a rest
+abbrev pub TellsRest : List ℕ → Option (List ℕ) → Option (List ℕ) → Type 0
+TellsRest bytes None new = new ≡ None
+TellsRest bytes (Some whole) new = (rest : List ℕ) × (whole ≡ bytes ++ rest) × (new ≡ Some rest)
+
+-- so many full pieces were read, and these bytes
+pub record ReadsSoFar (turn : ℕ) (bytes : List ℕ) (old new : ReadState) : Type 0 where
+  pub full : List ℕ
+  pub pieces : new.pieces ≡ old.pieces ++ full
+  pub each : All IsFull full
+  pub count : length full ≡ turn
+  pub size : length bytes ≤ most_bytes
+  pub turns : turn ≤ length bytes
+  pub rest : TellsRest bytes old.rest new.rest
+  pub faults : new.faults ≡ old.faults
+
+tells_more : (bytes piece : List ℕ) (whole mid new : Option (List ℕ)) → TellsRest bytes whole mid → IfSome mid (λ rest. piece ≡ take (length piece) rest) → new ≡ option_map (drop (length piece)) mid → TellsRest (bytes ++ piece) whole new
+tells_more bytes piece None mid new tells next is = is ∙ ap (option_map (drop (length piece))) tells
+tells_more bytes piece (Some whole) mid new tells next is =
+    let rest = tells.0 in
+    let first : piece ≡ take (length piece) rest = rw tells.2 at next in
+    let split : rest ≡ piece ++ drop (length piece) rest = sym (take-append-drop (length piece) rest) ∙ ap (λ (front : List ℕ). front ++ drop (length piece) rest) (sym first) in
+    (drop (length piece) rest, tells.1 ∙ ap (λ (x : List ℕ). bytes ++ x) split ∙ sym (append_assoc bytes piece (drop (length piece) rest)), is ∙ ap (option_map (drop (length piece))) tells.2)
+
+-- one more piece, which isn't empty
+pub reads_more : (turn : ℕ) (bytes piece : List ℕ) (old mid new : ReadState) → ReadsSoFar turn bytes old mid → Gave most_piece piece mid new → 0 < length piece → length piece + length bytes ≤ most_bytes → ReadsSoFar (turn + 1) (bytes ++ piece) old new
+reads_more turn bytes piece old mid new so_far gave some fits = record {
+  full = so_far.full ++ length piece ∷ [];
+  pieces = gave.pieces ∙ ap (λ (x : List ℕ). x ++ length piece ∷ []) so_far.pieces ∙ append_assoc old.pieces so_far.full (length piece ∷ []);
+  each = All-push IsFull so_far.full (length piece) so_far.each (some, gave.size);
+  count = omega (arith, so_far.count, length-append so_far.full (length piece ∷ []));
+  size = omega (arith, fits, length-append bytes piece);
+  turns = omega (arith, so_far.turns, some, length-append bytes piece);
+  rest = tells_more bytes piece old.rest mid.rest new.rest so_far.rest gave.next gave.rest;
+  faults = gave.faults ∙ so_far.faults;
+}
+
+-- the pieces where the last one isn't empty
+pub pieces_of : (turn : ℕ) (bytes piece : List ℕ) (old mid new : ReadState) → ReadsSoFar turn bytes old mid → Gave most_piece piece mid new → 0 < length piece → ReadsPieces old new
+pieces_of turn bytes piece old mid new so_far gave some = record {
+  full = so_far.full ++ length piece ∷ [];
+  last = [];
+  pieces = gave.pieces ∙ ap (λ (x : List ℕ). x ++ length piece ∷ []) so_far.pieces ∙ append_assoc old.pieces so_far.full (length piece ∷ []) ∙ sym (append-nil (old.pieces ++ (so_far.full ++ length piece ∷ [])));
+  each = All-push IsFull so_far.full (length piece) so_far.each (some, gave.size);
+  end = inl refl;
+  count = omega (arith, so_far.count, so_far.turns, so_far.size, length-append so_far.full (length piece ∷ []));
+}

@@ -1,0 +1,27 @@
+use Rattle.std.proofs.Common.{◌≡◌, ◌+◌, ◌<◌, ◌≤◌, ◌++◌, length, arith, sym, ap, ◌∙◌, subst, List, ℕ}
+use Rattle.std.proofs.lemmas.Grind.{common_steps}
+use Rattle.scan_commands.proofs.Pieces.{pieces_of, reads_more, ReadsSoFar}
+use Rattle.scan_commands.proofs.requests.read_request.Goals as goal
+
+pub returns-then-len-clause-pieces : goal.returns-then-len-clause-pieces
+returns-then-len-clause-pieces g c =
+    let len = c.in-Ok.piece.ok in
+    let some : 0 < length c.in-Ok.piece.items = grind (arith, common_steps) in
+    pieces_of _ _ _ _ _ _ c.loop-turn.invariant c.in-Ok.ensures some
+
+pub returns-in_err-extend_from_slice-clause-pieces :
+    goal.returns-in_err-extend_from_slice-clause-pieces
+returns-in_err-extend_from_slice-clause-pieces g c =
+    let len = c.in-Ok.piece.ok in
+    let some : 0 < length c.in-Ok.piece.items = grind (arith, common_steps) in
+    pieces_of _ _ _ _ _ _ c.loop-turn.invariant c.in-Ok.ensures some
+
+pub loop-turn-preserved : goal.loop-turn-preserved
+loop-turn-preserved g c =
+    let len = c.in-Ok.piece.ok in
+    let same = c.deref.ensures.value in
+    let is : c.extend_from_slice.new.self.items ≡ c.loop-turn.bytes.items ++ c.in-Ok.piece.items = c.in_ok-extend_from_slice.ensures.items ∙ ap (λ (x : List ℕ). c.loop-turn.bytes.items ++ x) same in
+    let some : 0 < length c.in-Ok.piece.items = grind (arith, common_steps) in
+    let fits : length c.in-Ok.piece.items + length c.loop-turn.bytes.items ≤ 16777216 = grind (arith, common_steps) in
+    let more = reads_more _ _ _ _ _ _ c.loop-turn.invariant c.in-Ok.ensures some fits in
+    subst (λ (bytes : List ℕ). ReadsSoFar (c.loop-turn._turn + 1) bytes (g.Q.Source.state c.args.request.now) (g.Q.Source.state c.read.new.self)) (sym is) more

@@ -1,0 +1,11 @@
+pub mod Request
+pub mod Output
+pub mod Reading
+pub mod Writing
+pub mod Segments
+pub mod Words
+pub mod Form
+pub mod Walk
+pub mod Answer
+pub mod Run
+pub mod Statuses

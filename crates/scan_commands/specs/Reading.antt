@@ -1,0 +1,46 @@
+-- Reading a request to its end.
+use Rattle.std.specs.Prelude.{◌≡◌, ℕ, ◌+◌, ◌<◌, ◌≤◌, ◌⊎◌, List, [], ◌∷◌, ◌++◌, length, All, Some, IfSome, Result, Ok, Err}
+use Rattle.std.specs.Global.{Vec}
+use Rattle.vx_base.specs.Sources.{Rose}
+use Rattle.vx_base.specs.Streams.{ReadState}
+use Rattle.scan_commands.specs.declared.requests.ReadingError.{ReadingError}
+use Rattle.scan_commands.specs.declared.requests.ReadingError.TheVariants.{TooLarge, Failed, Memory}
+
+-- a request has at most so many bytes
+abbrev pub most_bytes : ℕ
+most_bytes = 16777216
+
+-- a piece of a request has at most so many bytes
+abbrev pub most_piece : ℕ
+most_piece = 65536
+
+-- the size of a piece that isn't empty
+abbrev pub IsFull : ℕ → Type 0
+IsFull size = (0 < size) × (size ≤ most_piece)
+
+-- At most 16777217 pieces were read, of at most 65536 bytes each, and each but an empty last one gave at
+-- least one byte.
+pub record ReadsPieces (old new : ReadState) : Type 0 where
+  pub full : List ℕ
+  pub last : List ℕ
+  pub pieces : new.pieces ≡ (old.pieces ++ full) ++ last
+  pub each : All IsFull full
+  pub end : (last ≡ []) ⊎ (last ≡ 0 ∷ [])
+  pub count : length full + length last ≤ most_bytes + 1
+
+-- the last piece that was read is the empty one, which is the end
+abbrev pub EndsInEmptyPiece : ReadState → ReadState → Type 0
+EndsInEmptyPiece old new = (full : List ℕ) × All IsFull full × (new.pieces ≡ (old.pieces ++ full) ++ 0 ∷ [])
+
+-- These are all bytes of the source, which was read to its end.
+pub record ReadsAll (bytes : List ℕ) (old new : ReadState) : Type 0 where
+  pub size : length bytes ≤ most_bytes
+  pub whole : IfSome old.rest (λ rest. (rest ≡ bytes) × (new.rest ≡ Some []))
+  pub last_piece : EndsInEmptyPiece old new
+  pub faults : new.faults ≡ old.faults
+
+abbrev pub ReadingGives : Result (Vec ℕ) ReadingError → ReadState → ReadState → Type 0
+ReadingGives (Ok bytes) old new = ReadsAll bytes.items old new
+ReadingGives (Err TooLarge) old new = IfSome old.rest (λ rest. most_bytes < length rest) × (new.faults ≡ old.faults)
+ReadingGives (Err Failed) old new = Rose old.faults new.faults
+ReadingGives (Err Memory) old new = new.faults ≡ old.faults

@@ -1,0 +1,21 @@
+//! Words, statuses and lines that were written by hand, on which the definitions are checked.
+
+ghost use Rattle.std.specs.Prelude.{◌≡◌, ◌∷◌, [], true, false, pos, negsuc, codes};
+ghost use Rattle.vx_base.specs.Data.{number};
+ghost use Rattle.scan_commands.specs.Output.{lines};
+ghost use Rattle.scan_commands.specs.Statuses.{text_of_status};
+ghost use Rattle.scan_commands.specs.Words.{at_fault};
+
+/// Words are three, the first of them `scan`, and no name begins with `-`. A status has its text, and each
+/// number its line.
+pub fn commands_by_hand()
+    ensures right { at_fault (codes "scan" ∷ codes "s" ∷ codes "r" ∷ []) ≡ false }
+    ensures no_names { at_fault (codes "scan" ∷ [] ∷ [] ∷ []) ≡ false }
+    ensures too_few { at_fault (codes "scan" ∷ codes "s" ∷ []) ≡ true }
+    ensures too_many { at_fault (codes "scan" ∷ codes "s" ∷ codes "r" ∷ codes "t" ∷ []) ≡ true }
+    ensures another_word { at_fault (codes "scans" ∷ codes "s" ∷ codes "r" ∷ []) ≡ true }
+    ensures option { at_fault (codes "scan" ∷ codes "s" ∷ codes "-r" ∷ []) ≡ true }
+    ensures text { text_of_status 17 ≡ codes "bad segment" }
+    ensures no_text { text_of_status 99 ≡ codes "unknown status" }
+    ensures two_lines { lines (number (pos 300) ∷ number (negsuc 0) ∷ []) ≡ 51 ∷ 48 ∷ 48 ∷ 10 ∷ 45 ∷ 49 ∷ 10 ∷ [] }
+{}
