@@ -11,7 +11,7 @@ use Rattle.vx_base.specs.declared.dtypes.Nullability.{Nullability}
 use Rattle.vx_base.specs.declared.dtypes.Nullability.TheVariants.{NonNullable, Nullable}
 use Rattle.vx_base.specs.declared.values.Value.{Value}
 use Rattle.vx_base.specs.Data.{DataType, bool_type, int_type, utf8_type, Datum, null, truth, number}
-use Rattle.vx_base.specs.Fits.{Fits, IsInside, TakesNull, nullability_of}
+use Rattle.vx_base.specs.Fits.{Fits, IsInside, nullability_of}
 use Rattle.vx_base.specs.Leaf.{IsLeaf, number_slot, length_slot, slot_bytes}
 use Rattle.vx_base.specs.Parts.{AreBits, IsPadded, IsValidity, valid_bits}
 use Rattle.vx_base.specs.Segment.{Spells, IsShort, is_value, truth_in, number_in, text_in, number_bytes, validity_bytes, packed}

@@ -1,14 +1,10 @@
 -- The bits of a segment: what is behind the last row, and the front where they stand.
-use Rattle.std.proofs.Common.{◌≡◌, ℕ, pos, ◌+◌, ◌*◌, ◌/◌, ◌%◌, ◌^◌, ◌<◌, ◌≤◌, true, false, List, [], ◌++◌, length, get_or, refl, sym, ap, subst, ◌∙◌, arith}
-use Rattle.std.specs.Str.{IsUtf8}
-use Rattle.std.proofs.lemmas.List.{get_or_past, take_at}
+use Rattle.std.proofs.Common.{◌≡◌, ℕ, ◌+◌, ◌*◌, ◌/◌, ◌%◌, ◌^◌, ◌<◌, ◌≤◌, List, ◌++◌, length, sym, ap, subst, ◌∙◌, arith}
+use Rattle.std.proofs.lemmas.List.{take_at}
 use Rattle.std.proofs.lemmas.Nat.{shr_split, mod_below, div_below, pow_pos}
-use Rattle.vx_base.specs.declared.dtypes.IntKind.{IntKind}
-use Rattle.vx_base.specs.declared.dtypes.Nullability.{Nullability}
-use Rattle.vx_base.specs.Data.{bool_type, int_type, utf8_type, Datum, null, truth, number, text, structure}
-use Rattle.vx_base.specs.Fits.{Fits}
+use Rattle.vx_base.specs.Data.{Datum}
 use Rattle.vx_base.specs.Parts.{IsPadded, AreBits}
-use Rattle.vx_base.specs.Segment.{is_value, truth_in, number_in, text_in, packed}
+use Rattle.vx_base.specs.Segment.{is_value, packed}
 use Rattle.vx_base.specs.Reading.{packed_len}
 use Rattle.vx_base.proofs.Bits.{packed_padded}
 use Rattle.vx_base.proofs.Leaves.{validity_len}
