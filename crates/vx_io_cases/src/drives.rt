@@ -1,0 +1,105 @@
+//! Lists of commands.
+
+ghost use Rattle.std.specs.Prelude.{◌≡◌, OnOk, IfOk};
+ghost use Rattle.vx_io.specs.Drive.{fetches_in, AreDistinct};
+
+use crate::batches::{OWNER, fetch, request, write_completion, write_poll_error};
+use crate::fields::{place_of, ranges_of};
+use crate::sources::{source_of, write_notes};
+use anyhow::{Context, Result};
+use std::alloc::Global;
+use std::fmt::Write;
+use vx_base::SegmentLocation;
+use vx_io::{DriveError, IoCommand, IoIntent, SegmentIoSource, drive};
+
+/// Polls behind the commands.
+fn push_polls(commands: &mut Vec<IoCommand>, count: u8) -> Result<()>
+    ensures { OnOk result (fetches_in commands.new.items ≡ fetches_in commands.old.items) }
+{
+    for _poll in 0..count {
+        commands.push(IoCommand::Poll)?;
+    }
+    Ok(())
+}
+
+/// A fetch of number 0, some polls, fetches of number 1 and 2 in one batch, and some polls.
+fn commands_of(
+    alloc: Global,
+    places: [SegmentLocation; 3],
+    between: u8,
+    behind: u8,
+) -> Result<Vec<IoCommand>>
+    ensures { IfOk result (λ commands. AreDistinct (fetches_in commands.items)) }
+{
+    let mut commands = Vec::new(alloc);
+    let batch = vec![in alloc; fetch(0, places[0])]?;
+    commands.push(IoCommand::Submit(OWNER, batch))?;
+    push_polls(&mut commands, between)?;
+    let batch = vec![in alloc; fetch(1, places[1]), fetch(2, places[2])]?;
+    commands.push(IoCommand::Submit(OWNER, batch))?;
+    push_polls(&mut commands, behind)?;
+    Ok(commands)
+}
+
+/// One batch of an announcement of a range, and a poll.
+fn announcing(alloc: Global, place: SegmentLocation) -> Result<Vec<IoCommand>>
+    ensures { IfOk result (λ commands. AreDistinct (fetches_in commands.items)) }
+{
+    let mut commands = Vec::new(alloc);
+    let batch = vec![in alloc; request(IoIntent::Announce, 0, place)]?;
+    commands.push(IoCommand::Submit(OWNER, batch))?;
+    push_polls(&mut commands, 1)?;
+    Ok(commands)
+}
+
+/// How many commands succeeded, the completions, the error, and what the source was asked.
+fn driven(
+    alloc: Global,
+    script: &str,
+    ranges: &str,
+    commands: Vec<IoCommand>,
+) -> Result<String>
+    requires { AreDistinct (fetches_in commands.items) }
+{
+    let mut source = source_of(alloc, script)?;
+    let ranges = ranges_of(alloc, ranges)?;
+    let mut session = SegmentIoSource::new(alloc, &mut source, &ranges);
+    let driven = drive(alloc, &mut session, commands);
+    let mut out = format!(in alloc; "{} done; ", driven.done)?;
+    for completion in driven.completions.as_slice() {
+        write_completion(completion, &mut out)?;
+        out.push_str("; ")?;
+    }
+    match driven.error {
+        Some(DriveError::Poll(error)) => write_poll_error(error, &mut out)?,
+        Some(DriveError::Submit(error)) => write!(out, "{error}")?,
+        Some(DriveError::Memory) => write!(out, "{}", DriveError::Memory)?,
+        None => out.push_str("no error")?,
+    }
+    out.push_str("; ")?;
+    write_notes(session.into_source(), &mut out)?;
+    Ok(out)
+}
+
+/// The answer to `drive SCRIPT | RANGES | BETWEEN BEHIND RANGE RANGE RANGE`.
+pub(crate) fn drive_three(
+    alloc: Global,
+    script: &str,
+    ranges: &str,
+    words: &str,
+) -> Result<String> {
+    let mut words = words.split_whitespace();
+    let between = words.next().unwrap_or("").parse::<u8>().context("a count")?;
+    let behind = words.next().unwrap_or("").parse::<u8>().context("a count")?;
+    let places = [
+        place_of(words.next().unwrap_or(""))?,
+        place_of(words.next().unwrap_or(""))?,
+        place_of(words.next().unwrap_or(""))?,
+    ];
+    driven(alloc, script, ranges, commands_of(alloc, places, between, behind)?)
+}
+
+/// The answer to `announced SCRIPT | RANGES | RANGE`.
+pub(crate) fn announced(alloc: Global, script: &str, ranges: &str, word: &str) -> Result<String> {
+    driven(alloc, script, ranges, announcing(alloc, place_of(word)?)?)
+}

@@ -1,0 +1,68 @@
+//! A session, command by command.
+
+use crate::batches::{OWNER, batch_of, write_completion, write_poll_error};
+use crate::fields::{place_of, ranges_of};
+use crate::sources::{Noting, source_of, write_notes};
+use anyhow::{Context, Result};
+use std::alloc::Global;
+use std::fmt::Write;
+use vx_io::{Completion, PollError, SegmentIoSource};
+
+/// What a poll answered.
+fn write_polled(polled: Result<Option<Completion>, PollError>, out: &mut String) -> Result<()> {
+    match polled {
+        Ok(Some(completion)) => write_completion(&completion, out),
+        Ok(None) => write!(out, "nothing").context("room"),
+        Err(error) => write_poll_error(error, out),
+    }
+}
+
+/// Does a command, and writes what it answered.
+fn turn(
+    alloc: Global,
+    session: &mut SegmentIoSource<'_, Noting>,
+    word: &str,
+    out: &mut String,
+) -> Result<()> {
+    match word {
+        "poll" => write_polled(session.poll(), out),
+        "poll_completion" => write_polled(session.poll_completion(), out),
+        "in_flight" => write!(out, "{}", session.in_flight()).context("room"),
+        "clear" => {
+            session.clear();
+            write!(out, "done").context("room")
+        }
+        "release" => {
+            session.release(OWNER);
+            write!(out, "done").context("room")
+        }
+        _ => match session.submit(OWNER, batch_of(alloc, word)?) {
+            Ok(()) => write!(out, "taken").context("room"),
+            Err(error) => write!(out, "{error}").context("room"),
+        },
+    }
+}
+
+/// The answer to `session SCRIPT | RANGES | COMMANDS`: what each command answered, and what the source was asked.
+pub(crate) fn session(alloc: Global, script: &str, ranges: &str, words: &str) -> Result<String> {
+    let mut out = String::new(alloc);
+    let mut source = source_of(alloc, script)?;
+    let ranges = ranges_of(alloc, ranges)?;
+    let mut session = SegmentIoSource::new(alloc, &mut source, &ranges);
+    for word in words.split_whitespace() {
+        turn(alloc, &mut session, word, &mut out)?;
+        out.push_str("; ")?;
+    }
+    write_notes(session.into_source(), &mut out)?;
+    Ok(out)
+}
+
+/// The answer to `find | RANGES | RANGE`: the segment that has the range.
+pub(crate) fn find(alloc: Global, ranges: &str, word: &str) -> Result<String> {
+    let ranges = ranges_of(alloc, ranges)?;
+    let at = place_of(word)?;
+    match ranges.find(at.offset, at.length) {
+        Some(segment) => Ok(format!(in alloc; "{segment}")?),
+        None => Ok(String::from_str(alloc, "none")?),
+    }
+}

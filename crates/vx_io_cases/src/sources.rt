@@ -1,0 +1,66 @@
+//! A source that keeps to a script and notes what it is asked.
+
+use crate::fields::numbers_of;
+use anyhow::{Context, Result};
+use std::alloc::Global;
+use std::fmt::Write;
+use vx_base::{Script, ScriptSource, SegmentLocation, SegmentSource, SourceError};
+
+/// A scripted source of eight bytes from 10 on, which notes by which number and for which location it is asked.
+#[derive(Drop)]
+pub(crate) struct Noting {
+    script: ScriptSource,
+    asked: Vec<(u32, SegmentLocation)>,
+}
+
+impl SegmentSource for Noting {
+    ghost use Rattle.vx_base.specs.ScriptSources.{script_state};
+
+    ghost state = { λ source. script_state source.script };
+
+    fn request(&mut self, id: u32, at: SegmentLocation) -> Result<u64, SourceError> {
+        if self.asked.push((id, at)).is_err() {
+            return Err(SourceError::Memory);
+        }
+        self.script.request(id, at)
+    }
+
+    fn poll(&mut self, ticket: u64) -> Result<Option<Vec<u8>>, SourceError> {
+        self.script.poll(ticket)
+    }
+
+    fn clear(&mut self) {
+        self.script.clear();
+    }
+}
+
+/// The source of a script: the requests that fail, the polls that fail, the waits and the order.
+pub(crate) fn source_of(alloc: Global, words: &str) -> Result<Noting> {
+    let mut words = words.split_whitespace();
+    let script = Script {
+        fail_requests: numbers_of(alloc, words.next().unwrap_or("-"))?,
+        fail_polls: numbers_of(alloc, words.next().unwrap_or("-"))?,
+        waits: numbers_of(alloc, words.next().unwrap_or("-"))?,
+        order: numbers_of(alloc, words.next().unwrap_or("-"))?,
+    };
+    let file = [10, 11, 12, 13, 14, 15, 16, 17].to_vec(alloc)?;
+    Ok(Noting {
+        script: ScriptSource::new(alloc, file, script),
+        asked: Vec::new(alloc),
+    })
+}
+
+/// What the source was asked, each as its number and its location, and what it counted.
+pub(crate) fn write_notes(source: &Noting, out: &mut String) -> Result<()> {
+    write!(out, "asked")?;
+    for (id, at) in source.asked.as_slice() {
+        let SegmentLocation {
+            offset,
+            length,
+            alignment,
+        } = *at;
+        write!(out, " {id}:{offset}+{length}/{alignment}")?;
+    }
+    let (faults, idle) = (source.script.faults(), source.script.idle());
+    write!(out, ", {faults} faults, {idle} idle").context("room for the notes")
+}
