@@ -20,9 +20,9 @@ use Rattle.vx_io.specs.Session.{Table, Flight, SessionState, requests_in}
 use Rattle.vx_io.specs.Sound.{HasWhatIsInFlight}
 use Rattle.vx_io.specs.Submits.{owned, Submitted, IsKnown, SubmitGives}
 use Rattle.vx_io.specs.Polls.{AllGoOn, EndsAt, HasBytes}
-use Rattle.vx_io.specs.Drive.{Wanted, wanted_by, wanted_of, fetches_in, requests_of_command, requests_of, is_pair, times_wanted, times_in_flight, times_completed, completions_due, IsCompletionOf, DidCommands, EachGives, CommandGives, AreDistinct, Refused, EndsWith, Drives}
+use Rattle.vx_io.specs.Drive.{Wanted, wanted_in, wanted_of, IsFlightOf, IsAmong, fetches_in, requests_of_command, requests_of, is_pair, times_wanted, times_in_flight, times_completed, completions_due, IsCompletionOf, DidCommands, EachGives, CommandGives, AreDistinct, Refused, EndsWith, Drives}
 use Rattle.vx_io.proofs.Anys.{any_before, any_behind, any_map, all_map, all_none}
-use Rattle.vx_io.proofs.MoreFetches.{IsOf, IsAmongWanted, Adds, wanted_in, adds_in_steps, known_owned, wanted_owned, times_append_flying}
+use Rattle.vx_io.proofs.MoreFetches.{more_of, no_wanted, Adds, adds_in_steps, known_owned, times_append_flying}
 use Rattle.vx_io.proofs.DueFetches.{left, due_or_left, due_more, due_submit, due_poll_none, due_poll_some}
 use Rattle.vx_io.proofs.Running.{did_then, did_nothing, did_end, did_submitted}
 use Rattle.vx_io.proofs.Places.{stands_at, all_got, all_removed, size_removed}
@@ -34,20 +34,16 @@ pub record Driving (ranges : RangeTable) (commands : List IoCommand) (completion
 
 -- ---- one command behind the others
 
-more_of : {X : Type 0} (f : IoCommand → List X) (commands : List IoCommand) (command : IoCommand) → flat_map f (commands ++ command ∷ []) ≡ flat_map f commands ++ f command
-more_of f commands command =
-    flat_map-append f commands (command ∷ []) ∙ ap (λ xs. flat_map f commands ++ xs) (flat_map-cons f command [] ∙ append-nil (f command))
-
 -- what is known of a list of commands stays true of a longer one
 still_named : (file : Option (List ℕ)) (commands : List IoCommand) (command : IoCommand) (completions : List Completion) → All (λ (completion : Completion). Any (IsCompletionOf file completion) (fetches_in commands)) completions → All (λ (completion : Completion). Any (IsCompletionOf file completion) (fetches_in (commands ++ command ∷ []))) completions
 still_named file commands command completions all =
     all_map (λ (completion : Completion). Any (IsCompletionOf file completion) (fetches_in commands)) (λ (completion : Completion). Any (IsCompletionOf file completion) (fetches_in (commands ++ command ∷ []))) completions
     (λ completion some. rw (more_of wanted_of commands command) (any_before (IsCompletionOf file completion) (fetches_in commands) (wanted_of command) some)) all
 
-still_wanted : (commands : List IoCommand) (command : IoCommand) (fetches : List Flight) → All (IsAmongWanted (fetches_in commands)) fetches → All (IsAmongWanted (fetches_in (commands ++ command ∷ []))) fetches
+still_wanted : (commands : List IoCommand) (command : IoCommand) (fetches : List Flight) → All (IsAmong (fetches_in commands)) fetches → All (IsAmong (fetches_in (commands ++ command ∷ []))) fetches
 still_wanted commands command fetches all =
-    all_map (IsAmongWanted (fetches_in commands)) (IsAmongWanted (fetches_in (commands ++ command ∷ []))) fetches
-    (λ fetch some. rw (more_of wanted_of commands command) (any_before (IsOf fetch) (fetches_in commands) (wanted_of command) some)) all
+    all_map (IsAmong (fetches_in commands)) (IsAmong (fetches_in (commands ++ command ∷ []))) fetches
+    (λ fetch some. rw (more_of wanted_of commands command) (any_before (IsFlightOf fetch) (fetches_in commands) (wanted_of command) some)) all
 
 times_more : (owner request : ℕ) (commands : List IoCommand) (command : IoCommand) → times_wanted owner request (fetches_in (commands ++ command ∷ [])) ≡ times_wanted owner request (fetches_in commands) + times_wanted owner request (wanted_of command)
 times_more owner request commands command =
@@ -96,11 +92,10 @@ each_more ranges commands command completions more old middle new each gives =
 
 -- ---- a batch
 
-fetches_added : (ranges : RangeTable) (owner : IoOwnerId) (batch : List IoRequest) (old new : SessionState) → All (IsKnown ranges) batch → Submitted ranges (owned owner batch) old new → Adds (flat_map (λ (request : IoRequest). wanted_by request.intent owner request) batch) old.table.fetches new.table.fetches
+fetches_added : (ranges : RangeTable) (owner : IoOwnerId) (batch : List IoRequest) (old new : SessionState) → All (IsKnown ranges) batch → Submitted ranges (owned owner batch) old new → Adds (wanted_in (owned owner batch)) old.table.fetches new.table.fetches
 fetches_added ranges owner batch old new known did =
     let added = adds_in_steps ranges old.table did.ran.steps did.ran.fetches_ended (rw did.ran.requests_done (known_owned ranges owner batch known)) in
-    let wanted : wanted_in (requests_in did.ran.steps) ≡ flat_map (λ (request : IoRequest). wanted_by request.intent owner request) batch = ap wanted_in did.ran.requests_done ∙ wanted_owned owner batch in
-    rw (did.ran.table, wanted) at added
+    rw (did.ran.table, did.ran.requests_done) at added
 
 pub drive_submit : (ranges : RangeTable) (commands : List IoCommand) (completions : List Completion) (owner : IoOwnerId) (batch : Vec IoRequest Global) (old middle new : SessionState) →
     Driving ranges commands completions old middle → SubmitGives ranges owner batch.items (Ok tt) middle new → Driving ranges (commands ++ Submit owner batch ∷ []) completions old new
@@ -121,10 +116,10 @@ drive_submit ranges commands completions owner batch old middle new so_far gives
             let s = ap (times_in_flight o r) added.behind ∙ times_append_flying o r middle.table.fetches added.more in
             let t = added.times o r in
             omega (arith, p, q, s, t);
-        submitted = rw added.behind (All-append (IsAmongWanted (fetches_in (commands ++ Submit owner batch ∷ []))) middle.table.fetches added.more
+        submitted = rw added.behind (All-append (IsAmong (fetches_in (commands ++ Submit owner batch ∷ []))) middle.table.fetches added.more
             (still_wanted commands (Submit owner batch) middle.table.fetches done.submitted)
-            (all_map (IsAmongWanted wanted) (IsAmongWanted (fetches_in (commands ++ Submit owner batch ∷ []))) added.more
-            (λ fetch some. rw (more_of wanted_of commands (Submit owner batch)) (any_behind (IsOf fetch) (fetches_in commands) wanted some)) added.among));
+            (all_map (IsAmong wanted) (IsAmong (fetches_in (commands ++ Submit owner batch ∷ []))) added.more
+            (λ fetch some. rw (more_of wanted_of commands (Submit owner batch)) (any_behind (IsFlightOf fetch) (fetches_in commands) wanted some)) added.among));
         counted = λ same below.
             let idle : middle.source.idle ≡ old.source.idle = sym gives.2.idle ∙ same in
             let due = done.counted idle below in
@@ -144,9 +139,6 @@ drive_submit ranges commands completions owner batch old middle new so_far gives
     }
 
 -- ---- a poll that found nothing
-
-no_wanted : (commands : List IoCommand) → fetches_in (commands ++ Poll ∷ []) ≡ fetches_in commands
-no_wanted commands = more_of wanted_of commands Poll ∙ append-nil (fetches_in commands)
 
 no_requests : (commands : List IoCommand) → requests_of (commands ++ Poll ∷ []) ≡ requests_of commands
 no_requests commands = more_of requests_of_command commands Poll ∙ append-nil (requests_of commands)
@@ -185,9 +177,9 @@ drive_idle ranges commands completions old middle new so_far polled =
 
 -- ---- a poll that ended a fetch
 
-completed_wanted : (file : Option (List ℕ)) (completion : Completion) (fetch : Flight) (wanted : List Wanted) → fetch.owner ≡ completion.owner → fetch.request ≡ completion.request → IsSegment file fetch.at completion.bytes.items → IsAmongWanted wanted fetch → Any (IsCompletionOf file completion) wanted
+completed_wanted : (file : Option (List ℕ)) (completion : Completion) (fetch : Flight) (wanted : List Wanted) → fetch.owner ≡ completion.owner → fetch.request ≡ completion.request → IsSegment file fetch.at completion.bytes.items → IsAmong wanted fetch → Any (IsCompletionOf file completion) wanted
 completed_wanted file completion fetch wanted owner request segment some =
-    any_map (IsOf fetch) (IsCompletionOf file completion) wanted
+    any_map (IsFlightOf fetch) (IsCompletionOf file completion) wanted
     (λ one is. (sym owner ∙ is.0, sym request ∙ is.1, rw is.2 at segment)) some
 
 -- the fetch at a place, with what is told of it
@@ -211,7 +203,7 @@ drive_ended ranges commands completions completion place old middle new so_far e
     let one = at_place place middle completion (slice_get middle.table.fetches place) refl ends.named has in
     let gone : new.table.fetches ≡ remove middle.table.fetches place = ap (λ (t : Table). t.fetches) ends.table in
     let named : Any (IsCompletionOf old.source.file completion) (fetches_in commands) =
-    completed_wanted old.source.file completion one.fetch (fetches_in commands) one.owner one.request (subst (λ (f : Option (List ℕ)). IsSegment f one.fetch.at completion.bytes.items) done.file one.segment) (all_got (IsAmongWanted (fetches_in commands)) middle.table.fetches place one.fetch done.submitted one.here) in
+    completed_wanted old.source.file completion one.fetch (fetches_in commands) one.owner one.request (subst (λ (f : Option (List ℕ)). IsSegment f one.fetch.at completion.bytes.items) done.file one.segment) (all_got (IsAmong (fetches_in commands)) middle.table.fetches place one.fetch done.submitted one.here) in
     let count = length-append completions (completion ∷ []) in
     record {
       did = record {
@@ -229,7 +221,7 @@ drive_ended ranges commands completions completion place old middle new so_far e
             let t : cond {A = ℕ} (is_pair o r (slice_index_or middle.table.fetches place one.fetch).owner (slice_index_or middle.table.fetches place one.fetch).request) 1 0 ≡ cond {A = ℕ} (is_pair o r completion.owner completion.request) 1 0 =
             rw (stands_at middle.table.fetches place one.fetch one.fetch one.here, one.owner, one.request) refl in
             rw (no_wanted commands, gone) (omega (arith, p, q, s, t));
-        submitted = rw gone (all_removed (IsAmongWanted (fetches_in (commands ++ Poll ∷ []))) middle.table.fetches place (still_wanted commands Poll middle.table.fetches done.submitted));
+        submitted = rw gone (all_removed (IsAmong (fetches_in (commands ++ Poll ∷ []))) middle.table.fetches place (still_wanted commands Poll middle.table.fetches done.submitted));
         counted = λ same below.
             let p = done.idle in
             let k = ends.waited.kept in

@@ -20,8 +20,8 @@ use Rattle.vx_io.specs.Ranges.{RangeTable, segment_of, has_range, last_with, IsT
 use Rattle.vx_io.specs.Session.{Waiting, Flight, Table, SessionState, Step, requested, ended, nothing_waits, asks, waiting_after, put_at, if_fetch, fetch_of, requested_at, starts_at, table_after, started_by, session_after, starts_of, requests_in, ends_in, location_of_target, range_of_target}
 use Rattle.vx_io.specs.Submits.{IsKnown, AsksIn, owned, asked_with, StoppedAt, SubmitGives}
 use Rattle.vx_io.specs.Polls.{SessionPollGives}
-use Rattle.vx_io.specs.Drive.{Wanted}
-use Rattle.vx_io.specs.Fetches.{fetch_in_flight, fetches_of, NothingWaits, place_of, fetch_for, AllFetch, asked_for, FetchedSome, FetchesGive, FetchEnded}
+use Rattle.vx_io.specs.Drive.{Wanted, fetch_for}
+use Rattle.vx_io.specs.Fetches.{fetch_in_flight, fetches_of, NothingWaits, place_of, AllFetch, asked_for, FetchedSome, FetchesGive, FetchEnded}
 use Rattle.vx_io.proofs.Running.{take_next}
 
 -- ---- one fetch where nothing waits

@@ -5,7 +5,7 @@ mod DueFetches
 pub mod Fetches
 mod InFlightReads
 mod KnownRanges
-mod MoreFetches
+pub mod MoreFetches
 mod Places
 mod PolledFetches
 mod RangeTables

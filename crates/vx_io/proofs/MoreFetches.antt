@@ -4,28 +4,32 @@ use Rattle.std.specs.Prelude.{IsSome}
 use Rattle.std.specs.List.{All, Any, flat_map}
 use Rattle.std.proofs.lemmas.List.{append_assoc, append-nil, length-append}
 use Rattle.std.proofs.lemmas.List.Concat.{flat_map-cons}
+use Rattle.std.proofs.lemmas.Grind.{flat_map-append}
 use Rattle.std.proofs.lemmas.List.Elements.{All-head, All-tail, All-cons, All-append}
 use Rattle.std.proofs.lemmas.List.Sums.{sum_by-append}
 use Rattle.vx_io.specs.declared.requests.IoIntent.{IoIntent}
 use Rattle.vx_io.specs.declared.requests.IoIntent.TheVariants.{Announce, Prefetch, Fetch}
 use Rattle.vx_io.specs.declared.requests.IoOwnerId.{IoOwnerId}
 use Rattle.vx_io.specs.declared.requests.IoRequest.{IoRequest}
+use Rattle.vx_io.specs.declared.commands.IoCommand.{IoCommand}
+use Rattle.vx_io.specs.declared.commands.IoCommand.TheVariants.{Poll}
 use Rattle.vx_io.specs.Ranges.{RangeTable, segment_of}
 use Rattle.vx_io.specs.Session.{Table, Flight, Step, requested, ended, requested_at, table_after, session_after, requests_in, ends_in, if_fetch, fetch_of, location_of_target, range_of_target}
 use Rattle.vx_io.specs.Submits.{IsKnown, owned}
-use Rattle.vx_io.specs.Drive.{Wanted, wanted_by, is_pair, times_wanted, times_in_flight}
+use Rattle.vx_io.specs.Drive.{Wanted, wanted_by, wanted_in, wanted_of, fetches_in, IsFlightOf, IsAmong, is_pair, times_wanted, times_in_flight}
 use Rattle.vx_io.proofs.Anys.{any_here, any_behind, any_before, all_map, all_none}
 
--- the fetches that a list of requests wants
-abbrev pub wanted_in : List (IoOwnerId × IoRequest) → List Wanted
-wanted_in requests = flat_map (λ (one : IoOwnerId × IoRequest). wanted_by one.1.intent one.0 one.1) requests
+-- ---- one command behind the others
 
--- a fetch in flight is one of the wanted ones
-abbrev pub IsOf : Flight → Wanted → Type 0
-IsOf fetch wanted = (fetch.owner ≡ wanted.owner) × (fetch.request ≡ wanted.request) × (fetch.at ≡ wanted.at)
+pub more_of : {X : Type 0} (f : IoCommand → List X) (commands : List IoCommand) (command : IoCommand) → flat_map f (commands ++ command ∷ []) ≡ flat_map f commands ++ f command
+more_of f commands command =
+    flat_map-append f commands (command ∷ []) ∙ ap (λ xs. flat_map f commands ++ xs) (flat_map-cons f command [] ∙ append-nil (f command))
 
-abbrev pub IsAmongWanted : List Wanted → Flight → Type 0
-IsAmongWanted wanted fetch = Any (IsOf fetch) wanted
+-- a poll wants no fetch
+pub no_wanted : (commands : List IoCommand) → fetches_in (commands ++ Poll ∷ []) ≡ fetches_in commands
+no_wanted commands = more_of wanted_of commands Poll ∙ append-nil (fetches_in commands)
+
+-- ---- what a request adds
 
 -- these fetches came behind the others, and they are the wanted ones
 pub record Adds (wanted : List Wanted) (old new : List Flight) : Type 0 where
@@ -33,14 +37,14 @@ pub record Adds (wanted : List Wanted) (old new : List Flight) : Type 0 where
   pub behind : new ≡ old ++ more
   pub times : (owner request : ℕ) → times_in_flight owner request more ≡ times_wanted owner request wanted
   pub size : length more ≡ length wanted
-  pub among : All (IsAmongWanted wanted) more
+  pub among : All (IsAmong wanted) more
 
 adds_nothing : (fetches : List Flight) → Adds [] fetches fetches
-adds_nothing fetches = record { more = []; behind = sym (append-nil fetches); times = λ owner request. refl; size = refl; among = all_none (IsAmongWanted []) }
+adds_nothing fetches = record { more = []; behind = sym (append-nil fetches); times = λ owner request. refl; size = refl; among = all_none (IsAmong []) }
 
 one_wanted : (intent : IoIntent) (owner : IoOwnerId) (request : IoRequest) (ticket : ℕ) (old : List Flight) → Adds (wanted_by intent owner request) old (old ++ if_fetch intent (record { owner = owner; request = request.request; at = location_of_target request.target; ticket = ticket }))
-one_wanted Announce owner request ticket old = record { more = []; behind = refl; times = λ o r. refl; size = refl; among = all_none (IsAmongWanted []) }
-one_wanted Prefetch owner request ticket old = record { more = []; behind = refl; times = λ o r. refl; size = refl; among = all_none (IsAmongWanted []) }
+one_wanted Announce owner request ticket old = record { more = []; behind = refl; times = λ o r. refl; size = refl; among = all_none (IsAmong []) }
+one_wanted Prefetch owner request ticket old = record { more = []; behind = refl; times = λ o r. refl; size = refl; among = all_none (IsAmong []) }
 one_wanted Fetch owner request ticket old =
     let fetch : Flight = record { owner = owner; request = request.request; at = location_of_target request.target; ticket = ticket } in
     let wanted : Wanted = record { owner = owner; request = request.request; at = location_of_target request.target } in
@@ -49,7 +53,7 @@ one_wanted Fetch owner request ticket old =
       behind = refl;
       times = λ o r. refl;
       size = refl;
-      among = All-cons (IsAmongWanted (wanted ∷ [])) fetch [] (any_here (IsOf fetch) wanted [] (refl, refl, refl)) (all_none (IsAmongWanted (wanted ∷ [])));
+      among = All-cons (IsAmong (wanted ∷ [])) fetch [] (any_here (IsFlightOf fetch) wanted [] (refl, refl, refl)) (all_none (IsAmong (wanted ∷ [])));
     }
 
 one_request : (found : Option ℕ) (owner : IoOwnerId) (request : IoRequest) (new : ℕ) (table : Table) → IsSome found → Adds (wanted_by request.intent owner request) table.fetches (requested_at found owner request new table).fetches
@@ -73,9 +77,9 @@ adds_then ones twos old middle new one two = record {
       let s = two.times owner request in
       omega (arith, p, q, r, s);
   size = let p = one.size in let q = two.size in let r = length-append one.more two.more in let s = length-append ones twos in omega (arith, p, q, r, s);
-  among = All-append (IsAmongWanted (ones ++ twos)) one.more two.more
-      (all_map (IsAmongWanted ones) (IsAmongWanted (ones ++ twos)) one.more (λ fetch some. any_before (IsOf fetch) ones twos some) one.among)
-      (all_map (IsAmongWanted twos) (IsAmongWanted (ones ++ twos)) two.more (λ fetch some. any_behind (IsOf fetch) ones twos some) two.among);
+  among = All-append (IsAmong (ones ++ twos)) one.more two.more
+      (all_map (IsAmong ones) (IsAmong (ones ++ twos)) one.more (λ fetch some. any_before (IsFlightOf fetch) ones twos some) one.among)
+      (all_map (IsAmong twos) (IsAmong (ones ++ twos)) two.more (λ fetch some. any_behind (IsFlightOf fetch) ones twos some) two.among);
 }
 
 -- what the steps of requests add
@@ -93,10 +97,3 @@ adds_in_steps ranges table (ended place ∷ steps) none known = absurd (omega (a
 pub known_owned : (ranges : RangeTable) (owner : IoOwnerId) (batch : List IoRequest) → All (IsKnown ranges) batch → All (λ (one : IoOwnerId × IoRequest). IsKnown ranges one.1) (owned owner batch)
 known_owned ranges owner [] known = all_none (λ (one : IoOwnerId × IoRequest). IsKnown ranges one.1)
 known_owned ranges owner (request ∷ batch) known = All-cons (λ (one : IoOwnerId × IoRequest). IsKnown ranges one.1) (owner, request) (owned owner batch) (All-head (IsKnown ranges) request batch known) (known_owned ranges owner batch (All-tail (IsKnown ranges) request batch known))
-
-pub wanted_owned : (owner : IoOwnerId) (batch : List IoRequest) → wanted_in (owned owner batch) ≡ flat_map (λ (request : IoRequest). wanted_by request.intent owner request) batch
-wanted_owned owner [] = refl
-wanted_owned owner (request ∷ batch) =
-    flat_map-cons (λ (one : IoOwnerId × IoRequest). wanted_by one.1.intent one.0 one.1) (owner, request) (owned owner batch)
-    ∙ ap (λ (w : List Wanted). wanted_by request.intent owner request ++ w) (wanted_owned owner batch)
-    ∙ sym (flat_map-cons (λ (one : IoRequest). wanted_by one.intent owner one) request batch)

@@ -6,10 +6,9 @@ use Rattle.vx_base.specs.declared.locations.AskedRange.{AskedRange}
 use Rattle.vx_base.specs.Sources.{SourceState, Ended, IsSegment, bytes_at, location_of, range_of}
 use Rattle.vx_io.specs.Ranges.{RangeTable}
 use Rattle.vx_io.specs.Session.{Flight, Waiting, SessionState, state_in}
-use Rattle.vx_io.specs.Sound.{IsSound}
+use Rattle.vx_io.specs.Sound.{IsSound, IsFetchRead}
 use Rattle.vx_io.specs.Polls.{EndsHere, HasBytes}
 use Rattle.vx_io.proofs.Places.{got}
-use Rattle.vx_io.proofs.SoundSteps.{IsFetchRead}
 
 -- the fetch at a place is got there
 got_here : (fetches : List Flight) (place : ℕ) (fetch : Flight) → place < length fetches → fetch ≡ slice_index_or fetches place fetch → slice_get fetches place ≡ Some fetch

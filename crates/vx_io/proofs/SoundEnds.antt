@@ -11,10 +11,9 @@ use Rattle.vx_base.specs.declared.locations.AskedRange.{AskedRange}
 use Rattle.vx_base.specs.Sources.{SourceState, without, location_of, range_of}
 use Rattle.vx_io.specs.Ranges.{RangeTable, segment_of}
 use Rattle.vx_io.specs.Session.{Table, Flight, SessionState, state_in}
-use Rattle.vx_io.specs.Sound.{IsSound, times_waiting, times_fetched, times_kept, HasRead, HasWhatIsInFlight}
+use Rattle.vx_io.specs.Sound.{IsSound, IsFetchRead, times_waiting, times_fetched, times_kept, HasRead, HasWhatIsInFlight}
 use Rattle.vx_io.proofs.InFlightReads.{located_without, gone_without}
 use Rattle.vx_io.proofs.Places.{all_removed}
-use Rattle.vx_io.proofs.SoundSteps.{IsFetchRead}
 
 -- the same reads are in flight, and the same table holds them
 pub sound_same : (ranges : RangeTable) (old new : SessionState) → IsSound ranges old → new.table ≡ old.table → new.source.in_flight ≡ old.source.in_flight → IsSound ranges new

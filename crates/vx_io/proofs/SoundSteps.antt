@@ -17,7 +17,7 @@ use Rattle.vx_base.specs.declared.locations.AskedRange.{AskedRange}
 use Rattle.vx_io.specs.declared.requests.IoRequest.{IoRequest}
 use Rattle.vx_io.specs.Ranges.{RangeTable, segment_of, range_at, AreApart}
 use Rattle.vx_io.specs.Session.{Waiting, Table, Flight, SessionState, has_none, asks, waiting_after, fetched_read, if_fetch, fetch_of, put_at, requested_at, location_of_target, range_of_target}
-use Rattle.vx_io.specs.Sound.{IsSound, times, times_waiting, times_fetched, times_kept}
+use Rattle.vx_io.specs.Sound.{IsSound, IsFetchRead, times, times_waiting, times_fetched, times_kept}
 use Rattle.vx_io.specs.Waits.{AsksWhere}
 use Rattle.vx_io.proofs.InFlightReads.{asks_keep, map_kept, found_last}
 use Rattle.vx_io.proofs.Anys.{all_none}
@@ -168,9 +168,6 @@ same_range ranges apart (Some at) range segment known is =
     ap Some (apart (range_of at) range segment here known)
 
 -- ---- a session after a request
-
-abbrev pub IsFetchRead : SourceState → Flight → Type 0
-IsFetchRead source fetch = option_map (λ (at : SegmentLocation). range_of at) (location_of fetch.ticket source.in_flight) ≡ Some (range_of fetch.at)
 
 new_fetch_read : (ranges : RangeTable) (table : Table) (before after : SourceState) (owner : IoOwnerId) (request : IoRequest) (segment new : ℕ) → IsSound ranges (both table before) → segment_of ranges (range_of_target request.target) ≡ Some segment →
     AsksWhere (has_none (table.waiting segment).prefetched (table.waiting segment).announced) (location_of_target request.target) new before after → IsFetchRead after (fetch_of owner request (table.waiting segment) new)

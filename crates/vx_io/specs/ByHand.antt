@@ -15,7 +15,8 @@ one_range = (range_at 0 4, 0) ∷ []
 
 -- a request for them by owner 7, and the ticket that an ask of it gives
 abbrev pub asked_by : IoIntent → ℕ → ℕ → Step
-asked_by intent number ticket = requested (record { 0 = 7 }) (record { intent = intent; request = record { 0 = number }; target = Range 0 4 8 }) ticket
+asked_by intent number ticket =
+    requested (record { 0 = 7 }) (record { intent = intent; request = record { 0 = number }; target = Range 0 4 8 }) ticket
 
 abbrev pub waiting_of : List ℕ → Option ℕ → Waiting
 waiting_of announced prefetched = record { announced = announced; prefetched = prefetched }

@@ -29,25 +29,38 @@ pub record Wanted : Type 0 where
   pub request : IoRequestId
   pub at : SegmentLocation
 
+abbrev pub fetch_for : IoOwnerId → IoRequest → Wanted
+fetch_for owner request = record { owner = owner; request = request.request; at = location_of_target request.target }
+
 abbrev pub wanted_by : IoIntent → IoOwnerId → IoRequest → List Wanted
 wanted_by Announce owner request = []
 wanted_by Prefetch owner request = []
-wanted_by Fetch owner request = record { owner = owner; request = request.request; at = location_of_target request.target } ∷ []
+wanted_by Fetch owner request = fetch_for owner request ∷ []
 
-abbrev pub wanted_of : IoCommand → List Wanted
-wanted_of (Submit owner batch) = flat_map (λ (request : IoRequest). wanted_by request.intent owner request) batch.items
-wanted_of Poll = []
+-- the fetches among requests, each with its owner
+abbrev pub wanted_in : List (IoOwnerId × IoRequest) → List Wanted
+wanted_in requests = flat_map (λ (one : IoOwnerId × IoRequest). wanted_by one.1.intent one.0 one.1) requests
 
-abbrev pub fetches_in : List IoCommand → List Wanted
-fetches_in commands = flat_map wanted_of commands
-
--- the requests of a list of commands, each with its owner
+-- the requests of a list of commands, and the fetches among them
 abbrev pub requests_of_command : IoCommand → List (IoOwnerId × IoRequest)
 requests_of_command (Submit owner batch) = owned owner batch.items
 requests_of_command Poll = []
 
+abbrev pub wanted_of : IoCommand → List Wanted
+wanted_of command = wanted_in (requests_of_command command)
+
 abbrev pub requests_of : List IoCommand → List (IoOwnerId × IoRequest)
 requests_of commands = flat_map requests_of_command commands
+
+abbrev pub fetches_in : List IoCommand → List Wanted
+fetches_in commands = flat_map wanted_of commands
+
+-- a fetch in flight is one of these
+abbrev pub IsFlightOf : Flight → Wanted → Type 0
+IsFlightOf fetch wanted = (fetch.owner ≡ wanted.owner) × (fetch.request ≡ wanted.request) × (fetch.at ≡ wanted.at)
+
+abbrev pub IsAmong : List Wanted → Flight → Type 0
+IsAmong wanted fetch = Any (IsFlightOf fetch) wanted
 
 -- ---- each at most once
 
@@ -132,7 +145,7 @@ pub record DidCommands (ranges : RangeTable) (commands : List IoCommand) (comple
   pub balance : (owner request : ℕ) →
       times_completed owner request completions + times_in_flight owner request new.table.fetches ≡ times_wanted owner request (fetches_in commands)
   -- each fetch in flight was submitted
-  pub submitted : All (λ (fetch : Flight). Any (λ (wanted : Wanted). (fetch.owner ≡ wanted.owner) × (fetch.request ≡ wanted.request) × (fetch.at ≡ wanted.at)) (fetches_in commands)) new.table.fetches
+  pub submitted : All (IsAmong (fetches_in commands)) new.table.fetches
   -- where no poll found nothing, each poll with a fetch in flight completed one
   pub counted : new.source.idle ≡ old.source.idle → old.source.idle < 2 ^ 64 - 1 → length completions ≡ completions_due 0 commands
   pub file : new.source.file ≡ old.source.file

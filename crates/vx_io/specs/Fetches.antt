@@ -12,7 +12,7 @@ use Rattle.vx_io.specs.declared.requests.Completion.{Completion}
 use Rattle.vx_io.specs.declared.requests.SubmitError.{SubmitError}
 use Rattle.vx_io.specs.declared.requests.SubmitError.TheVariants.{UnknownRange, Source, Memory}
 use Rattle.vx_io.specs.Session.{Flight, Table, SessionState, nothing_waits, location_of_target}
-use Rattle.vx_io.specs.Drive.{Wanted}
+use Rattle.vx_io.specs.Drive.{Wanted, fetch_for}
 
 -- ---- the table
 
@@ -31,9 +31,6 @@ NothingWaits table = (segment : ℕ) → table.waiting segment ≡ nothing_waits
 
 abbrev pub place_of : IoRequest → SegmentLocation
 place_of request = location_of_target request.target
-
-abbrev pub fetch_for : IoOwnerId → IoRequest → Wanted
-fetch_for owner request = record { owner = owner; request = request.request; at = place_of request }
 
 abbrev pub AllFetch : List IoRequest → Type 0
 AllFetch batch = All (λ (request : IoRequest). request.intent ≡ Fetch) batch

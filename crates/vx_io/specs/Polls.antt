@@ -21,7 +21,8 @@ pub record KeepsAsks (before after : SourceState) : Type 0 where
 
 -- the read of the fetch at the place is no longer in flight at the source, and nothing else changed there
 abbrev pub EndsReadOf : ℕ → SessionState → SessionState → Type 0
-EndsReadOf place old new = IsSomeAnd (slice_get old.table.fetches place) (λ fetch. new.source.in_flight ≡ without fetch.ticket old.source.in_flight)
+EndsReadOf place old new =
+    IsSomeAnd (slice_get old.table.fetches place) (λ fetch. new.source.in_flight ≡ without fetch.ticket old.source.in_flight)
 
 -- The fetch at a place ended; those before it were polled and go on.
 pub record EndsAt (place : ℕ) (owner : IoOwnerId) (request : IoRequestId) (ranges : RangeTable) (old new : SessionState) : Type 0 where

@@ -32,7 +32,8 @@ asked_with started asked = option_map (λ ranges. ranges ++ map (λ read. range_
 
 -- the request asks the source: some segment has its range, and no read waits there that it takes
 abbrev pub AsksIn : RangeTable → Table → IoRequest → Type 0
-AsksIn ranges table request = IsSomeAnd (segment_of ranges (range_of_target request.target)) (λ segment. IsTrue (asks request.intent (table.waiting segment)))
+AsksIn ranges table request =
+    IsSomeAnd (segment_of ranges (range_of_target request.target)) (λ segment. IsTrue (asks request.intent (table.waiting segment)))
 
 -- the file and the idle count stay
 pub record Stays (old new : SourceState) : Type 0 where
@@ -67,14 +68,17 @@ pub record StoppedAt (ranges : RangeTable) (owner : IoOwnerId) (batch : List IoR
 -- The source fails only at a request that asks it.
 abbrev pub SubmitGives : RangeTable → IoOwnerId → List IoRequest → Result (Unit {0}) SubmitError → SessionState → SessionState → Type 0
 SubmitGives ranges owner batch (Ok done) old new =
-    All (IsKnown ranges) batch × Submitted ranges (owned owner batch) old new × Stays old.source new.source × (new.source.faults ≡ old.source.faults)
+    All (IsKnown ranges) batch × Submitted ranges (owned owner batch) old new
+    × Stays old.source new.source × (new.source.faults ≡ old.source.faults)
 SubmitGives ranges owner batch (Err (UnknownRange place)) old new =
     IsFirstUnknown ranges batch place × (new ≡ old)
 SubmitGives ranges owner batch (Err (Source taken)) old new =
-    All (IsKnown ranges) batch × StoppedAt ranges owner batch taken old new × Stays old.source new.source × Rose old.source.faults new.source.faults
+    All (IsKnown ranges) batch × StoppedAt ranges owner batch taken old new
+    × Stays old.source new.source × Rose old.source.faults new.source.faults
     × IsSomeAnd (slice_get batch taken) (AsksIn ranges new.table)
 SubmitGives ranges owner batch (Err (Memory taken)) old new =
-    All (IsKnown ranges) batch × StoppedAt ranges owner batch taken old new × Stays old.source new.source × (new.source.faults ≡ old.source.faults)
+    All (IsKnown ranges) batch × StoppedAt ranges owner batch taken old new
+    × Stays old.source new.source × (new.source.faults ≡ old.source.faults)
 
 -- ---- one request
 
@@ -89,7 +93,8 @@ pub record DidOne (ranges : RangeTable) (owner : IoOwnerId) (request : IoRequest
 pub record DidNone (ranges : RangeTable) (request : IoRequest) (error : SourceError) (old new : SessionState) : Type 0 where
   pub table : new.table ≡ old.table
   pub refused : IsSomeAnd (segment_of ranges (range_of_target request.target))
-      (λ segment. RefusedWhere (asks request.intent (old.table.waiting segment)) error (location_of_target request.target) old.source new.source)
+      (λ segment. RefusedWhere (asks request.intent (old.table.waiting segment)) error (location_of_target request.target)
+      old.source new.source)
 
 abbrev pub StartGives : RangeTable → IoOwnerId → IoRequest → Result (Unit {0}) SourceError → SessionState → SessionState → Type 0
 StartGives ranges owner request (Ok done) old new =

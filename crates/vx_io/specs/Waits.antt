@@ -28,7 +28,8 @@ TakesRequest intent at (Err error) old before new after = (new ≡ old) × Refus
 -- A fetch, which is given its read.
 abbrev pub TakesFetch : SegmentLocation → Result ℕ SourceError → Waiting → SourceState → Waiting → SourceState → Type 0
 TakesFetch at (Ok read) old before new after =
-    (ticket : ℕ) × AsksWhere (asks Fetch old) at ticket before after × (read ≡ fetched_read old.prefetched old.announced ticket) × (new ≡ waiting_after Fetch old ticket)
+    (ticket : ℕ) × AsksWhere (asks Fetch old) at ticket before after
+    × (read ≡ fetched_read old.prefetched old.announced ticket) × (new ≡ waiting_after Fetch old ticket)
 TakesFetch at (Err error) old before new after = (new ≡ old) × RefusedWhere (asks Fetch old) error at before after
 
 -- The oldest of the announced reads, or a new one where there is none.
@@ -37,7 +38,8 @@ TakesOldest at [] read before left after = (left ≡ []) × Started at read befo
 TakesOldest at (oldest ∷ announced) read before left after = (read ≡ oldest) × (left ≡ announced) × (after ≡ before)
 
 abbrev pub TakesAnnounced : SegmentLocation → Result ℕ SourceError → Waiting → SourceState → Waiting → SourceState → Type 0
-TakesAnnounced at (Ok read) old before new after = TakesOldest at old.announced read before new.announced after × (new.prefetched ≡ old.prefetched)
+TakesAnnounced at (Ok read) old before new after =
+    TakesOldest at old.announced read before new.announced after × (new.prefetched ≡ old.prefetched)
 TakesAnnounced at (Err error) old before new after = (old.announced ≡ []) × (new ≡ old) × RequestGives (Err error) at before after
 
 -- what is given is the read that a fetch takes
@@ -49,7 +51,8 @@ IsReadOf Fetch read waiting new = read ≡ Some (fetched_read waiting.prefetched
 -- Any request at its segment.
 abbrev pub Takes : IoIntent → SegmentLocation → Result (Option ℕ) SourceError → Waiting → SourceState → Waiting → SourceState → Type 0
 Takes intent at (Ok read) old before new after =
-    (ticket : ℕ) × AsksWhere (asks intent old) at ticket before after × IsReadOf intent read old ticket × (new ≡ waiting_after intent old ticket)
+    (ticket : ℕ) × AsksWhere (asks intent old) at ticket before after × IsReadOf intent read old ticket
+    × (new ≡ waiting_after intent old ticket)
 Takes intent at (Err error) old before new after = (new ≡ old) × RefusedWhere (asks intent old) error at before after
 
 -- The same over what waits at all segments.
@@ -57,4 +60,5 @@ abbrev pub TakesAt : IoIntent → ℕ → SegmentLocation → Result (Option ℕ
 TakesAt intent segment at (Ok read) old before new after =
     (ticket : ℕ) × AsksWhere (asks intent (old segment)) at ticket before after × IsReadOf intent read (old segment) ticket
     × ((other : ℕ) → new other ≡ put_at old segment (waiting_after intent (old segment) ticket) other)
-TakesAt intent segment at (Err error) old before new after = ((other : ℕ) → new other ≡ old other) × RefusedWhere (asks intent (old segment)) error at before after
+TakesAt intent segment at (Err error) old before new after =
+    ((other : ℕ) → new other ≡ old other) × RefusedWhere (asks intent (old segment)) error at before after

@@ -18,7 +18,9 @@ impl Model for FetchInFlight {
 
     ghost Value = { Flight };
 
-    ghost view = { λ fetch. record { owner = fetch.owner; request = fetch.request; at = fetch.at; ticket = fetch.ticket } };
+    ghost view = { λ fetch.
+        record { owner = fetch.owner; request = fetch.request; at = fetch.at; ticket = fetch.ticket } };
 
-    ghost inverse = { λ flight. record { owner = flight.owner; request = flight.request; at = flight.at; ticket = flight.ticket } };
+    ghost inverse = { λ flight.
+        record { owner = flight.owner; request = flight.request; at = flight.at; ticket = flight.ticket } };
 }

@@ -5,7 +5,7 @@ ghost use Rattle.std.specs.List.{All};
 ghost use Rattle.std.specs.VecDeque.{deque_len, deque_capacity};
 ghost use Rattle.vx_base.specs.Sources.{Cleared};
 ghost use Rattle.vx_io.specs.Session.{waits, state_in, fetch_with, empty_table, RequestsTellAsks};
-ghost use Rattle.vx_io.specs.Sound.{IsSound};
+ghost use Rattle.vx_io.specs.Sound.{IsSound, HasWhatIsInFlight};
 ghost use Rattle.vx_io.specs.Submits.{IsKnown, IsFirstUnknown, SubmitGives, StartGives};
 ghost use Rattle.vx_io.specs.Polls.{SessionPollGives, CompletionGives, PollsAt};
 
@@ -103,10 +103,7 @@ impl<'a, S: SegmentSource> SegmentIoSource<'a, S> {
         if self.fetches.reserve(1).is_err() {
             return Err(SourceError::Memory);
         }
-        match self
-            .waiting
-            .take(self.source, request.intent, segment, at)
-        {
+        match self.waiting.take(self.source, request.intent, segment, at) {
             Ok(taken) => {
                 add_fetch(&mut self.fetches, owner, request.request, at, taken);
                 Ok(())
@@ -147,7 +144,8 @@ impl<'a, S: SegmentSource> SegmentIoSource<'a, S> {
     /// nothing; after another refusal the first `taken` requests took effect, and no later one.
     pub fn submit(&mut self, owner: IoOwnerId, batch: Vec<IoRequest>) -> Result<(), SubmitError>
         ensures loans { KeepsLoans self.old self.new }
-        ensures gives { SubmitGives self.old.ranges.now owner batch.items result (session_state self.old) (session_state self.new) }
+        ensures gives { SubmitGives self.old.ranges.now owner batch.items result
+            (session_state self.old) (session_state self.new) }
     {
         if let Some(place) = first_unknown(self.ranges, batch.as_slice()) {
             return Err(SubmitError::UnknownRange(place as u64));
@@ -190,9 +188,11 @@ impl<'a, S: SegmentSource> SegmentIoSource<'a, S> {
         self.poll()
     }
 
-    /// How many fetches are in flight. It takes no memory.
+    /// How many fetches are in flight. What is in flight at the source is exactly what the table has. It takes no
+    /// memory.
     pub fn in_flight(&self) -> u64
-        ensures { result ≡ length (session_state self.now).table.fetches }
+        ensures count { result ≡ length (session_state self.now).table.fetches }
+        ensures reads { HasWhatIsInFlight (session_state self.now) }
     {
         self.fetches.len() as u64
     }

@@ -170,7 +170,8 @@ impl WaitingTable {
         requires { IsSome (get nat_cmp self.old.segments segment) }
         ensures here { Takes intent at result
             (waits self.old.segments segment) (S.state source.old) (waits self.new.segments segment) (S.state source.new) }
-        ensures others { (other : ℕ) → other ≢ segment → get nat_cmp self.new.segments other ≡ get nat_cmp self.old.segments other }
+        ensures others { (other : ℕ) → other ≢ segment →
+            get nat_cmp self.new.segments other ≡ get nat_cmp self.old.segments other }
     {
         let reads = self.segments.get_mut(&segment).unwrap();
         reads.take(source, intent, segment, at)
