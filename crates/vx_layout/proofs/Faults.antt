@@ -4,7 +4,7 @@ use Rattle.std.proofs.lemmas.Bool.Decides.{nat_tests}
 use Rattle.std.proofs.lemmas.List.{length-map}
 use Rattle.vx_layout.specs.declared.nodes.LayoutNode.{LayoutNode}
 use Rattle.vx_layout.specs.Nodes.{Node, node_data}
-use Rattle.vx_layout.specs.Shape.{FindsFirst, IsGoodTree, IsFirstFault, ShapeRule, nonempty, later_children, child_once, shallow, few_rows, child_count, fitting_types, row_counts, number_of, Keeps}
+use Rattle.vx_layout.specs.Shape.{FindsFirst, IsFirstFault, ShapeRule, nonempty, later_children, child_once, shallow, few_rows, child_count, fitting_types, row_counts, number_of, Keeps}
 
 -- each node keeps each rule with a lesser number
 abbrev pub KeepsBelow : List Node → ℕ → Type 0

@@ -1,6 +1,5 @@
 -- The depths of nodes: where children come later, as many steps as the node's number are enough.
 use Rattle.std.proofs.Common.{◌≡◌, ℕ, zero, suc, ◌+◌, ◌-◌, ◌<◌, ◌≤◌, ◌≢◌, Bool, true, false, cond, eqb, ◌&&◌, List, [], ◌∷◌, ◌++◌, Some, None, Option, length, map, get_or, take, drop, refl, sym, ap, ◌∙◌, subst, arith}
-use Rattle.std.specs.Prelude.{IfSome}
 use Rattle.std.specs.List.{list_any, All}
 use Rattle.std.specs.Option.{option_map_or}
 use Rattle.std.proofs.lemmas.Bool.Decides.{nat_tests}
@@ -12,7 +11,7 @@ use Rattle.vx_base.specs.Data.{bool_type}
 use Rattle.vx_layout.specs.declared.nodes.LayoutKind.TheVariants.{Chunked}
 use Rattle.vx_layout.specs.Nodes.{Node}
 use Rattle.vx_layout.proofs.Places.{Later, EachLater}
-use Rattle.vx_layout.specs.Shape.{parent_from, parent_of, depth_of, depth_within, HasLaterChildren}
+use Rattle.vx_layout.specs.Shape.{parent_from, parent_of, depth_of, depth_within}
 
 -- the depth of a node with that parent
 abbrev pub depth_under : List Node → Option ℕ → ℕ

@@ -19,7 +19,9 @@ pub fn trees_by_hand()
     ensures depth { depth_of (chunked_node 0 (1 ∷ []) ∷ chunked_node 0 (2 ∷ []) ∷ flat_node 0 0 ∷ []) 2 ≡ 3 }
     ensures dtype { dtype_depth (list_type (bool_type Nullable) NonNullable) ≡ 2 }
     ensures grown { subtree two_chunks 0
-        ≡ chunks (head_at 0 (chunked_node 3 (1 ∷ 2 ∷ []))) (tree (leaf (head_at 1 (flat_node 0 1)) 0) (tree (leaf (head_at 2 (flat_node 1 2)) 1) no_trees)) }
-    ensures second { value (λ _ _ _. Some (truth true ∷ truth false ∷ [])) (subtree two_chunks 0) all 2 ≡ Some (truth false) }
+        ≡ chunks (head_at 0 (chunked_node 3 (1 ∷ 2 ∷ [])))
+        (tree (leaf (head_at 1 (flat_node 0 1)) 0) (tree (leaf (head_at 2 (flat_node 1 2)) 1) no_trees)) }
+    ensures second { value (λ _ _ _. Some (truth true ∷ truth false ∷ [])) (subtree two_chunks 0) all 2
+        ≡ Some (truth false) }
     ensures behind { value (λ _ _ _. Some (truth true ∷ truth false ∷ [])) (subtree two_chunks 0) all 3 ≡ None }
 {}

@@ -42,7 +42,9 @@ fn are_within(fields: &[Field], levels: u32) -> bool
 fn deepen(depths: &mut [u32], children: &[u32], depth: u32)
     requires below { All (λ child. child < length depths.old) children.now }
     requires deeper { 1 < depth }
-    ensures { (k : ℕ) → k < length depths.old → slice_index depths.new k ≡ (if (slice_index depths.old k == 1) && list_any (λ child. child == k) children.now then depth else slice_index depths.old k) }
+    ensures { (k : ℕ) → k < length depths.old
+        → slice_index depths.new k ≡ (if (slice_index depths.old k == 1) && list_any (λ child. child == k) children.now
+        then depth else slice_index depths.old k) }
 {
     for child in children {
         let place = *child as usize;
@@ -57,7 +59,8 @@ pub fn depths_of(alloc: Global, nodes: &[LayoutNode]) -> Result<Vec<u32>, AllocE
     requires short { length nodes.now < node_limit }
     requires later { (n : ℕ) → n < length nodes.now → HasLaterChildren (map node_data nodes.now) n }
     ensures size { IfOk result (λ depths. length depths.items ≡ length nodes.now) }
-    ensures depths { IfOk result (λ depths. (n : ℕ) → n < length nodes.now → slice_index depths.items n ≡ depth_of (map node_data nodes.now) n) }
+    ensures depths { IfOk result (λ depths. (n : ℕ) → n < length nodes.now
+        → slice_index depths.items n ≡ depth_of (map node_data nodes.now) n) }
 {
     let mut depths = vec![in alloc; 1; nodes.len()]?;
     for (number, node) in nodes.iter().enumerate() {

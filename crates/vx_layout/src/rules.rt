@@ -74,7 +74,8 @@ fn is_leaf_type(dtype: &DType) -> bool
 /// Whether each of these nodes has the dtype.
 fn have_dtype(nodes: &[LayoutNode], children: &[u32], dtype: &DType) -> bool
     requires { All (λ child. child < length nodes.now) children.now }
-    ensures { IsTrue result ↔ All (ChildIs (map node_data nodes.now) (λ child. child.dtype ≡ data_type dtype.now)) children.now }
+    ensures { IsTrue result
+        ↔ All (ChildIs (map node_data nodes.now) (λ child. child.dtype ≡ data_type dtype.now)) children.now }
 {
     for child in children {
         if !nodes[*child as usize].dtype.same(dtype) {

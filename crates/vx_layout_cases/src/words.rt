@@ -1,5 +1,7 @@
 //! Words of nodes: `flat.7:5` and `chunked:6:1,2`, with a dtype behind `@`.
 
+ghost use Rattle.std.specs.Prelude.{◌≤◌, length, IfOk};
+
 use anyhow::{Context, Error, Result};
 use std::alloc::Global;
 use vx_base::{DType, Element, Nullability};
@@ -36,7 +38,12 @@ fn node_of(alloc: Global, kind: LayoutKind, words: &str, dtype: DType) -> Result
     let (rows, children) = words.split_once(':').unwrap_or((words, "-"));
     let children = children_of(alloc, children)?;
     let row_count = rows.parse::<u64>().context("rows")?;
-    Ok(LayoutNode { kind, dtype, row_count, children })
+    Ok(LayoutNode {
+        kind,
+        dtype,
+        row_count,
+        children,
+    })
 }
 
 /// Adds the node of a word; `chain*3` adds three chunked nodes, each the child of the one before it.
@@ -48,7 +55,9 @@ fn push_node(alloc: Global, nodes: &mut Vec<LayoutNode>, word: &str) -> Result<(
     };
     let (kind, words) = node.split_once(':').context("a kind and its rows")?;
     let kind = match kind.strip_prefix("flat.") {
-        Some(segment) => LayoutKind::Flat { segment: number_of(segment)? },
+        Some(segment) => LayoutKind::Flat {
+            segment: number_of(segment)?,
+        },
         None => LayoutKind::Chunked,
     };
     nodes.push(node_of(alloc, kind, words, dtype)?)?;
@@ -63,13 +72,20 @@ fn push_chain(alloc: Global, nodes: &mut Vec<LayoutNode>, count: u32) -> Result<
             children.push(number + 1)?;
         }
         let dtype = DType::Bool(Nullability::Nullable);
-        nodes.push(LayoutNode { kind: LayoutKind::Chunked, dtype, row_count: 0, children })?;
+        nodes.push(LayoutNode {
+            kind: LayoutKind::Chunked,
+            dtype,
+            row_count: 0,
+            children,
+        })?;
     }
     Ok(())
 }
 
 /// The nodes between blanks. `chain*3` is three chunked nodes, each the child of the one before it.
-pub(crate) fn nodes_of(alloc: Global, text: &str) -> Result<Vec<LayoutNode>> {
+pub(crate) fn nodes_of(alloc: Global, text: &str) -> Result<Vec<LayoutNode>>
+    ensures { IfOk result (λ nodes. length nodes.items ≤ 1000) }
+{
     let mut nodes = Vec::new(alloc);
     for word in text.split_whitespace() {
         match word.strip_prefix("chain*") {

@@ -1,5 +1,5 @@
 -- Runs at the ends of rows that ascend, and the first place at which values don't ascend.
-use Rattle.std.proofs.Common.{inl, inr, ◌≡◌, ℕ, zero, suc, ◌+◌, ◌-◌, ◌<◌, ◌≤◌, true, false, ◌==◌, List, length, get_or, All, sym, ap, ◌∙◌, arith, eq-eqb, ne_eqb, get_or-take, length-take, true≢false}
+use Rattle.std.proofs.Common.{inl, inr, ◌≡◌, ℕ, zero, suc, ◌+◌, ◌-◌, ◌<◌, ◌≤◌, true, false, ◌==◌, List, length, get_or, All, sym, ◌∙◌, arith, eq-eqb, ne_eqb, get_or-take, length-take, true≢false}
 use Rattle.std.specs.List.{AllAdjacentBelow}
 use Rattle.std.proofs.lemmas.Bool.{cases_eq, cases_lt}
 use Rattle.std.proofs.lemmas.List.{get_or_default}

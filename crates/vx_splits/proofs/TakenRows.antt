@@ -1,13 +1,11 @@
 -- The selected rows of a range and the rows of a scan, one by one.
-use Rattle.std.proofs.Common.{inl, inr, ◌≡◌, ℕ, zero, suc, ◌<◌, ◌≤◌, min, Bool, true, List, [], ◌∷◌, length, get_or, filter, Option, Some, None, refl, sym, ap, ◌∙◌, arith, ne_eqb}
-use Rattle.std.specs.Prelude.{◌↔◌}
+use Rattle.std.proofs.Common.{inl, inr, ◌≡◌, ℕ, suc, min, true, List, [], ◌∷◌, Some, None, sym, ap, ◌∙◌, arith, ne_eqb}
 use Rattle.std.specs.List.{Contains}
-use Rattle.std.specs.declared.ops.Range.{Range}
 use Rattle.std.proofs.lemmas.Bool.{cases_eq}
 use Rattle.std.proofs.lemmas.List.Elements.{filter_passes}
 use Rattle.vx_base.specs.Masks.{is_among}
 use Rattle.vx_splits.specs.declared.selections.Selection.{Selection}
-use Rattle.vx_splits.specs.Taken.{rows_between, selects, selected_rows, taken_rows, IsSelected, IsTaken, AreRowsWith, SelectsRows, TakesRows}
+use Rattle.vx_splits.specs.Taken.{rows_between, selects, selected_rows, IsSelected, AreRowsWith, SelectsRows, TakesRows}
 use Rattle.vx_splits.proofs.Between.{all_from, all_below, among_kept, ascend_kept, or_false}
 
 among_contains : (rows : List ℕ) (row : ℕ) → is_among rows row ≡ true → Contains rows row

@@ -34,7 +34,8 @@ pub record IsChunkSize (size : ℕ) : Type 0 where
 
 -- each chunk of a scan is such
 abbrev pub ChunkSizes : Type 0
-ChunkSizes = (is_root : Bool) (row_count : ℕ) (locations : List SegmentLocation) → IsChunkSize (chunk_size is_root row_count locations)
+ChunkSizes = (is_root : Bool) (row_count : ℕ) (locations : List SegmentLocation) →
+    IsChunkSize (chunk_size is_root row_count locations)
 
 -- two rows lie in one chunk
 abbrev pub SharesChunk : ℕ → ℕ → ℕ → Type 0
@@ -70,11 +71,13 @@ ChunksJoin = (selection : Selection) (size start end : ℕ) → 0 < size →
 -- the same of the rows of a scan: they are those that are selected of the chunks of its range below the row count
 abbrev pub ChunksTake : Type 0
 ChunksTake = (selection : Selection) (range : Range ℕ) (size row_count : ℕ) → 0 < size →
-    flat_map (λ chunk. selected_rows selection chunk.start chunk.end) (row_chunks size range.start (min range.end row_count)) ≡ taken_rows selection (Some range) row_count
+    flat_map (λ chunk. selected_rows selection chunk.start chunk.end) (row_chunks size range.start (min range.end row_count))
+    ≡ taken_rows selection (Some range) row_count
 
 -- one of the pieces has both rows
 abbrev pub LieInOne : List (Range ℕ) → ℕ → ℕ → Type 0
-LieInOne pieces row other = Any (λ piece. (piece.start ≤ row) × (row < piece.end) × (piece.start ≤ other) × (other < piece.end)) pieces
+LieInOne pieces row other =
+    Any (λ piece. (piece.start ≤ row) × (row < piece.end) × (piece.start ≤ other) × (other < piece.end)) pieces
 
 -- two rows of a range lie in one of its chunks exactly where they share a chunk
 abbrev pub ChunksAreShared : Type 0

@@ -17,7 +17,8 @@ abbrev pub gathered : ℕ → ℕ → List ℕ → Option (List (Range ℕ))
 gathered start end [] = Some (range_of start end ∷ [])
 gathered start end (index ∷ indices) =
     if nat_lt (index + 1 - start) range_rows_limit then gathered start (index + 1) indices
-    else if nat_le least_gap (index + 1 - end) then option_map (λ ranges. range_of start end ∷ ranges) (gathered index (index + 1) indices)
+    else if nat_le least_gap (index + 1 - end)
+    then option_map (λ ranges. range_of start end ∷ ranges) (gathered index (index + 1) indices)
     else None
 
 -- the ranges that ascending indices are gathered into: the first index opens one

@@ -43,10 +43,12 @@ pub record AreRowsWith (P : ℕ → Type 0) (rows : List ℕ) : Type 0 where
   pub each : (row : ℕ) → Contains rows row ↔ P row
 
 abbrev pub SelectsRows : Type 0
-SelectsRows = (selection : Selection) (start end : ℕ) → AreRowsWith (IsSelected selection start end) (selected_rows selection start end)
+SelectsRows = (selection : Selection) (start end : ℕ) →
+    AreRowsWith (IsSelected selection start end) (selected_rows selection start end)
 
 abbrev pub TakesRows : Type 0
-TakesRows = (selection : Selection) (range : Option (Range ℕ)) (row_count : ℕ) → AreRowsWith (IsTaken selection range row_count) (taken_rows selection range row_count)
+TakesRows = (selection : Selection) (range : Option (Range ℕ)) (row_count : ℕ) →
+    AreRowsWith (IsTaken selection range row_count) (taken_rows selection range row_count)
 
 -- The value at the place is the first that isn't greater than the one before it.
 pub record IsFirstUnsorted (values : List ℕ) (place : ℕ) : Type 0 where

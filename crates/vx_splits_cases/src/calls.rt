@@ -1,6 +1,8 @@
 //! The calls.
 
-use crate::words::{bits_text, number_of, numbers_of, numbers_text, range_of, ranges_text, selection_of};
+use crate::words::{
+    bits_text, number_of, numbers_of, numbers_text, range_of, ranges_text, selection_of,
+};
 use anyhow::{Context, Error, Result};
 use std::alloc::Global;
 use vx_base::SegmentLocation;
@@ -37,7 +39,11 @@ fn of_lengths(alloc: Global, row_count: u64, lengths: &str) -> Result<String> {
     let mut locations = Vec::new(alloc);
     for length in numbers_of(alloc, lengths)? {
         let length = u32::try_from(length).context("a length")?;
-        locations.push(SegmentLocation { offset: 0, length, alignment: 0 })?;
+        locations.push(SegmentLocation {
+            offset: 0,
+            length,
+            alignment: 0,
+        })?;
     }
     if 1000 < locations.len() {
         return Err(Error::msg("few segments"));
@@ -57,11 +63,18 @@ fn of_chunks(alloc: Global, rows: &str, size: u64) -> Result<String> {
 /// What is left of the scope of file 7: its rows, how many of them are chosen, and the mask of a short one.
 fn of_scope(alloc: Global, selection: &str, rows: &str) -> Result<String> {
     let selection = selection_of(alloc, selection)?;
-    let scope = WorkScope { file_ordinal: 7, rows: range_of(rows)? };
+    let scope = WorkScope {
+        file_ordinal: 7,
+        rows: range_of(rows)?,
+    };
     let Some(left) = select_rows(alloc, scope, &selection)? else {
         return Ok(String::from_str(alloc, "none")?);
     };
-    let (file, rows, count) = (left.scope.file_ordinal, left.scope.rows, left.mask.true_count());
+    let (file, rows, count) = (
+        left.scope.file_ordinal,
+        left.scope.rows,
+        left.mask.true_count(),
+    );
     let (start, end) = (rows.start, rows.end);
     if 64 < left.mask.len() {
         return Ok(format!(in alloc; "file {file} rows {start}..{end} chosen {count}")?);

@@ -44,12 +44,20 @@ pub(crate) fn range_of(word: &str) -> Result<Range<u64>> {
 /// A selection, as `all`, `default`, `only:0,7` or `but:5,6`.
 pub(crate) fn selection_of(alloc: Global, word: &str) -> Result<Selection> {
     let Some((kind, rows)) = word.split_once(':') else {
-        return Ok(if word == "all" { Selection::All } else { Selection::default() });
+        return Ok(if word == "all" {
+            Selection::All
+        } else {
+            Selection::default()
+        });
     };
     let Ok(rows) = StrictSorted::try_new(numbers_of(alloc, rows)?) else {
         return Err(Error::msg("rows that ascend"));
     };
-    Ok(if kind == "only" { Selection::IncludeByIndex(rows) } else { Selection::ExcludeByIndex(rows) })
+    Ok(if kind == "only" {
+        Selection::IncludeByIndex(rows)
+    } else {
+        Selection::ExcludeByIndex(rows)
+    })
 }
 
 /// The numbers between commas; none is `-`.
@@ -59,7 +67,11 @@ pub(crate) fn numbers_text(alloc: Global, numbers: &[u64]) -> Result<String> {
         let comma = if text.is_empty() { "" } else { "," };
         write!(text, "{comma}{number}")?;
     }
-    Ok(if numbers.is_empty() { String::from_str(alloc, "-")? } else { text })
+    Ok(if numbers.is_empty() {
+        String::from_str(alloc, "-")?
+    } else {
+        text
+    })
 }
 
 /// The ranges between blanks; none is `-`.
@@ -70,7 +82,11 @@ pub(crate) fn ranges_text(alloc: Global, ranges: &[Range<u64>]) -> Result<String
         let (start, end) = (range.start, range.end);
         write!(text, "{blank}{start}..{end}")?;
     }
-    Ok(if ranges.is_empty() { String::from_str(alloc, "-")? } else { text })
+    Ok(if ranges.is_empty() {
+        String::from_str(alloc, "-")?
+    } else {
+        text
+    })
 }
 
 /// The bits as `101`; none is `-`.
@@ -79,5 +95,9 @@ pub(crate) fn bits_text(alloc: Global, bits: &[bool]) -> Result<String> {
     for bit in bits {
         text.push(if *bit { '1' } else { '0' })?;
     }
-    Ok(if bits.is_empty() { String::from_str(alloc, "-")? } else { text })
+    Ok(if bits.is_empty() {
+        String::from_str(alloc, "-")?
+    } else {
+        text
+    })
 }

@@ -1,4 +1,4 @@
-use Rattle.std.proofs.Common.{◌+◌, ◌≤◌, arith}
+use Rattle.std.proofs.Common.{arith}
 use Rattle.vx_splits.proofs.Runs.{leading_inside, leading_among}
 use Rattle.vx_splits.proofs.selections.first_left.Goals as goal
 

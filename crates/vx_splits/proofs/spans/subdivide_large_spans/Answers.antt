@@ -1,4 +1,4 @@
-use Rattle.std.proofs.Common.{◌≡◌, ◌∙◌, sym, ap, List, ℕ, Vec, Global, IfOk}
+use Rattle.std.proofs.Common.{◌≡◌, ◌∙◌, sym, ap, List, ℕ, Vec, Global}
 use Rattle.std.specs.List.{All, Contains}
 use Rattle.vx_base.specs.Masks.{Ascend}
 use Rattle.vx_splits.specs.Spans.{cut_count, subdivided, NoGapAbove}
