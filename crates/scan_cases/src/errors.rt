@@ -1,29 +1,30 @@
 //! The texts of the errors.
 
-use anyhow::Result;
 use scan_commands::{ReadingError, Refusal, ScanFault};
-use std::alloc::Global;
+use std::alloc::{AllocError, Global};
 
 /// The text of each error, one after the other.
-pub(crate) fn error_texts(alloc: Global) -> Result<String> {
+pub(crate) fn error_texts(alloc: Global) -> Option<String> {
     let mut texts = String::new(alloc);
-    for error in [
+    push_texts(&mut texts).ok()?;
+    Some(texts)
+}
+
+/// Appends the text of each error, those of the faults of a scan also as refusals.
+fn push_texts(texts: &mut String) -> Result<(), AllocError> {
+    let [large, failed, memory] = [
         ReadingError::TooLarge,
         ReadingError::Failed,
         ReadingError::Memory,
-    ] {
-        write!(texts, "{error}; ")?;
-    }
+    ];
+    write!(texts, "{large}; {failed}; {memory}; {}", Refusal::NotYet)?;
     for fault in [
         ScanFault::BadSegment,
         ScanFault::ReadFault,
         ScanFault::Stalled,
         ScanFault::Memory,
     ] {
-        let refusal = Refusal::Fault(fault);
-        write!(texts, "{fault}: {refusal}; ")?;
+        write!(texts, "; {fault}; {}", Refusal::Fault(fault))?;
     }
-    let refusal = Refusal::NotYet;
-    write!(texts, "{refusal}")?;
-    Ok(texts)
+    Ok(())
 }

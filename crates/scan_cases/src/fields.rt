@@ -1,58 +1,52 @@
 //! The parts of a line: numbers, words and bytes.
 
-use anyhow::{Context, Result};
 use std::alloc::Global;
 
 /// The number that is written so.
-pub(crate) fn number_of(word: &str) -> Result<u64> {
-    word.parse::<u64>().context("a number")
+pub(crate) fn number_of(word: &str) -> Option<u64> {
+    word.parse::<u64>().ok()
 }
 
 /// The numbers between commas.
-pub(crate) fn numbers_of(alloc: Global, text: &str) -> Result<Vec<u64>> {
+pub(crate) fn numbers_of(alloc: Global, text: &str) -> Option<Vec<u64>> {
     let mut numbers = Vec::new(alloc);
     for word in text.split(',') {
-        let number = number_of(word)?;
-        numbers.push(number)?;
+        numbers.push(number_of(word)?).ok()?;
     }
-    Ok(numbers)
+    Some(numbers)
 }
 
 /// The words between commas; an empty text is none.
-pub(crate) fn words_of(alloc: Global, text: &str) -> Result<Vec<String>> {
+pub(crate) fn words_of(alloc: Global, text: &str) -> Option<Vec<String>> {
     let mut words = Vec::new(alloc);
     if text.is_empty() {
-        return Ok(words);
+        return Some(words);
     }
     for word in text.split(',') {
-        let word = String::from_str(alloc, word)?;
-        words.push(word)?;
+        let word = String::from_str(alloc, word).ok()?;
+        words.push(word).ok()?;
     }
-    Ok(words)
+    Some(words)
 }
 
-/// The bytes of these pairs of hexadecimal digits.
-pub(crate) fn bytes_of(alloc: Global, words: &str) -> Result<Vec<u8>> {
-    let mut bytes = Vec::new(alloc);
-    for word in words.split_whitespace() {
-        let byte = u8::from_str_radix(word, 16).context("a byte")?;
-        bytes.push(byte)?;
-    }
-    Ok(bytes)
+/// The byte that two hexadecimal digits are, and what follows them.
+fn byte_of(text: &str) -> Option<(u8, &str)> {
+    let (digits, rest) = text.split_at_checked(2)?;
+    let byte = u8::from_str_radix(digits, 16).ok()?;
+    Some((byte, rest))
 }
 
-/// Appends the bytes of a text, in which `%` and two hexadecimal digits are one byte.
-pub(crate) fn push_text(bytes: &mut Vec<u8>, text: &str) -> Result<()> {
+/// The bytes of a text, in which `%` and two hexadecimal digits are one byte.
+pub(crate) fn bytes_of(alloc: Global, text: &str) -> Option<Vec<u8>> {
     let (front, rest) = text.split_once('%').unwrap_or((text, ""));
-    bytes.extend_from_slice(front.as_bytes())?;
+    let mut bytes = front.as_bytes().to_vec(alloc).ok()?;
     if rest.is_empty() {
-        return Ok(());
+        return Some(bytes);
     }
     for part in rest.split('%') {
-        let (digits, more) = part.split_at_checked(2).context("two digits")?;
-        let byte = u8::from_str_radix(digits, 16).context("a byte")?;
-        bytes.push(byte)?;
-        bytes.extend_from_slice(more.as_bytes())?;
+        let (byte, more) = byte_of(part)?;
+        bytes.push(byte).ok()?;
+        bytes.extend_from_slice(more.as_bytes()).ok()?;
     }
-    Ok(())
+    Some(bytes)
 }

@@ -1,77 +1,67 @@
 //! A run over memory, and what it left behind.
 
-use crate::setups::{Setup, no_script};
-use anyhow::{Error, Result};
+use crate::fields::words_of;
+use crate::options::{are_options, option};
+use crate::streams::{request_of, sink_of, sources_of};
 use scan_commands::{run, status_text};
-use std::alloc::Global;
-use vx_base::{BytesSink, BytesSource, Script, ScriptSource};
+use std::alloc::{AllocError, Global};
+use vx_base::{BytesSink, BytesSource, ScriptSource};
 
-/// So many sources of the file, the first of which keeps to the script.
-fn sources_of(
-    alloc: Global,
-    file: &[u8],
-    script: Script,
-    count: usize,
-) -> Result<Vec<ScriptSource>> {
-    let mut sources = vec![in alloc; ScriptSource::new(alloc, file.to_vec(alloc)?, script)]?;
-    for _other in 1..count {
-        let other = ScriptSource::new(alloc, file.to_vec(alloc)?, no_script(alloc));
-        sources.push(other)?;
+/// Runs a request over a file, and says what came of it.
+pub(crate) fn outcome<R: AllocGlobal>(
+    rt: &R,
+    file: &str,
+    request: &str,
+    options: &str,
+) -> Option<String> {
+    if !are_options(options) {
+        return None;
     }
-    Ok(sources)
-}
-
-/// Runs the setup over a file, and says what came of it.
-pub(crate) fn outcome<R: AllocGlobal>(rt: &R, file: &[u8], setup: Setup) -> Result<String> {
     let alloc = rt.alloc();
-    let Setup {
-        words,
-        request,
-        reads,
-        writes,
-        read_fails,
-        write_fails,
-        script,
-        sources,
-        ..
-    } = setup;
-    if reads == 0 || writes == 0 {
-        return Err(Error::msg("pieces of some bytes"));
-    }
-    let mut request = BytesSource::new(alloc, request, reads, read_fails);
-    let mut out = BytesSink::new(alloc, writes, write_fails);
-    let mut sources = sources_of(alloc, file, script, sources)?;
+    let mut request = request_of(alloc, request, options)?;
+    let mut out = sink_of(alloc, options)?;
+    let mut sources = sources_of(alloc, file, options)?;
+    let words = words_of(alloc, option(options, "words").unwrap_or("scan,s,r"))?;
     if sources.is_empty() || sources.len() > 64 {
-        return Err(Error::msg("from 1 to 64 sources"));
+        return None;
     }
     let status = run(rt, &words, &mut request, sources.as_mut_slice(), &mut out);
+    let report = report_of(alloc, status, &request, &sources, &out);
+    report.ok()
+}
+
+/// The status, what was written, the ranges that the first source was asked for, the faults of the request, of
+/// that source and of the sink, and how often a poll found nothing. Other sources are told only where they were
+/// asked.
+fn report_of(
+    alloc: Global,
+    status: u8,
+    request: &BytesSource,
+    sources: &[ScriptSource],
+    out: &BytesSink,
+) -> Result<String, AllocError> {
     let text = status_text(status);
-    let lines = str::from_utf8(out.written())?;
-    let failed = (request.faults(), out.faults());
+    let lines = str::from_utf8(out.written()).unwrap_or("no text");
     let mut report = format!(in alloc; "{status} {text}, wrote {lines:?}")?;
-    push_sources(&mut report, &sources, failed)?;
+    let mut who = "";
+    let (mut failed, mut idle) = (0, 0);
+    for source in sources {
+        push_ranges(&mut report, who, source)?;
+        if who.is_empty() {
+            failed = source.faults();
+            idle = source.idle();
+        }
+        who = "another ";
+    }
+    let (read, written) = (request.faults(), out.faults());
+    write!(report, ", faults {read} {failed} {written}, idle {idle}")?;
     Ok(report)
 }
 
-/// Appends what the first source was asked for, the faults of the request, of the source and of the sink, and
-/// how often a poll found nothing. No other source is asked for anything.
-fn push_sources(
-    report: &mut String,
-    sources: &[ScriptSource],
-    failed: (u64, u64),
-) -> Result<()> {
-    let [source, others @ ..] = sources else {
-        return Err(Error::msg("a source"));
-    };
-    if others.iter().any(|other| !other.asked().is_empty()) {
-        return Err(Error::msg("only the first source is asked"));
-    }
-    report.push_str(", asked")?;
+/// Appends the ranges that a source was asked for.
+fn push_ranges(report: &mut String, who: &str, source: &ScriptSource) -> Result<(), AllocError> {
     for range in source.asked() {
-        write!(report, " {}:{}", range.offset, range.length)?;
+        write!(report, ", {who}asked {}:{}", range.offset, range.length)?;
     }
-    let (read, written) = failed;
-    let (found, idle) = (source.faults(), source.idle());
-    write!(report, ", faults {read} {found} {written}, idle {idle}")?;
     Ok(())
 }

@@ -80,10 +80,14 @@ fn answered<Q: Source, S: SegmentSource + Send, K: Sink>(
     requires few { length sources.old ≤ 64 }
 
     // Words at fault: nothing is read, asked or written.
-    ensures faulty_words { IsTrue (at_fault (map string_bytes words.now)) → (exit_status result ≡ not_yet_status) × IsUntouched (Q.state request.old) (Q.state request.new) (map S.state sources.old) (map S.state sources.new) (K.state out.old) (K.state out.new) }
+    ensures faulty_words { IsTrue (at_fault (map string_bytes words.now)) → (exit_status result ≡ not_yet_status) × IsUntouched
+        (Q.state request.old) (Q.state request.new) (map S.state sources.old) (map S.state sources.new)
+        (K.state out.old) (K.state out.new) }
 
     // Other words: the request is served from the first source.
-    ensures served { at_fault (map string_bytes words.now) ≡ false → FirstOf (λ old new. Serves (exit_status result) (Q.state request.old) (Q.state request.new) old new (K.state out.old) (K.state out.new)) (map S.state sources.old) (map S.state sources.new) }
+    ensures served { at_fault (map string_bytes words.now) ≡ false → FirstOf (λ old new. Serves (exit_status result)
+        (Q.state request.old) (Q.state request.new) old new (K.state out.old) (K.state out.new))
+        (map S.state sources.old) (map S.state sources.new) }
 {
     ended(rt, run(rt, words, request, sources, out))
 }

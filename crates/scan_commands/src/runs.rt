@@ -3,6 +3,7 @@
 ghost use Rattle.std.specs.Prelude.{◌≡◌, ◌<◌, ◌≤◌, IsTrue, false, length, drop, map, string_bytes};
 ghost use Rattle.scan_commands.specs.Words.{at_fault};
 ghost use Rattle.scan_commands.specs.Run.{FirstOf, IsComplete, IsUntouched, Serves, refusal_status};
+ghost use Rattle.scan_commands.specs.Statuses.{not_yet_status};
 
 use crate::answers::{Refusal, answer};
 use crate::faults::ScanFault;
@@ -29,13 +30,19 @@ pub fn run<R: AllocGlobal, Q: Source, S: SegmentSource + Send, K: Sink>(
     requires few { length sources.old ≤ 64 }
 
     // Words at fault: nothing is read, asked or written.
-    ensures faulty_words { IsTrue (at_fault (map string_bytes words.now)) → (result ≡ NOT_YET) × IsUntouched (Q.state request.old) (Q.state request.new) (map S.state sources.old) (map S.state sources.new) (K.state out.old) (K.state out.new) }
+    ensures faulty_words { IsTrue (at_fault (map string_bytes words.now)) → (result ≡ not_yet_status) × IsUntouched
+        (Q.state request.old) (Q.state request.new) (map S.state sources.old) (map S.state sources.new)
+        (K.state out.old) (K.state out.new) }
 
     // Other words: the request is served from the first source.
-    ensures served { at_fault (map string_bytes words.now) ≡ false → FirstOf (λ old new. Serves result (Q.state request.old) (Q.state request.new) old new (K.state out.old) (K.state out.new)) (map S.state sources.old) (map S.state sources.new) }
+    ensures served { at_fault (map string_bytes words.now) ≡ false → FirstOf (λ old new. Serves result
+        (Q.state request.old) (Q.state request.new) old new (K.state out.old) (K.state out.new))
+        (map S.state sources.old) (map S.state sources.new) }
 
     // Valid input without fault or stall is answered, or memory runs out.
-    ensures complete { at_fault (map string_bytes words.now) ≡ false → FirstOf (λ old new. IsComplete result (Q.state request.old) (Q.state request.new) old new (K.state out.old) (K.state out.new)) (map S.state sources.old) (map S.state sources.new) }
+    ensures complete { at_fault (map string_bytes words.now) ≡ false → FirstOf (λ old new. IsComplete result
+        (Q.state request.old) (Q.state request.new) old new (K.state out.old) (K.state out.new))
+        (map S.state sources.old) (map S.state sources.new) }
 
     // The other sources are left alone.
     ensures others { drop 1 (map S.state sources.new) ≡ drop 1 (map S.state sources.old) }
@@ -54,7 +61,8 @@ fn serve<Q: Source, S: SegmentSource, K: Sink>(
     source: &mut S,
     out: &mut K,
 ) -> u8
-    ensures { Serves result (Q.state request.old) (Q.state request.new) (S.state source.old) (S.state source.new) (K.state out.old) (K.state out.new) }
+    ensures { Serves result (Q.state request.old) (Q.state request.new) (S.state source.old)
+        (S.state source.new) (K.state out.old) (K.state out.new) }
 {
     let bytes = match read_request(alloc, request) {
         Ok(bytes) => bytes,

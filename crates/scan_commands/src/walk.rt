@@ -36,7 +36,8 @@ pub fn append_rows<S: SegmentSource>(
     requires i64_alone { AllByRecursion (λ node. node.dtype ≡ int_type I64 NonNullable) tree.now }
     ensures asks { AsksOnly (IsRangeIn locations.now (subtree tree.now number)) (S.state source.old) (S.state source.new) }
     ensures ended { OnOk result ((S.state source.new).in_flight ≡ (S.state source.old).in_flight) }
-    ensures rows { WalkGives result locations.now (subtree tree.now number) (S.state source.old) (S.state source.new) (string_bytes text.old) (string_bytes text.new) }
+    ensures rows { WalkGives result locations.now (subtree tree.now number) (S.state source.old)
+        (S.state source.new) (string_bytes text.old) (string_bytes text.new) }
 {
     let node = tree.node(number);
     match node.kind {
@@ -61,9 +62,13 @@ fn append_leaf<S: SegmentSource>(
 ) -> Result<(), ScanFault>
     requires located { segment < length locations.now }
     requires i64_alone { data_type node.now.dtype ≡ int_type I64 NonNullable }
-    ensures asks { (number : ℕ) → AsksOnly (IsRangeIn locations.now (leaf (record { number = number; dtype = data_type node.now.dtype; rows = node.now.row_count }) segment)) (S.state source.old) (S.state source.new) }
+    ensures asks { (number : ℕ) → AsksOnly (IsRangeIn locations.now
+        (leaf (record { number = number; dtype = data_type node.now.dtype; rows = node.now.row_count }) segment))
+        (S.state source.old) (S.state source.new) }
     ensures ended { OnOk result ((S.state source.new).in_flight ≡ (S.state source.old).in_flight) }
-    ensures rows { (number : ℕ) → WalkGives result locations.now (leaf (record { number = number; dtype = data_type node.now.dtype; rows = node.now.row_count }) segment) (S.state source.old) (S.state source.new) (string_bytes text.old) (string_bytes text.new) }
+    ensures rows { (number : ℕ) → WalkGives result locations.now
+        (leaf (record { number = number; dtype = data_type node.now.dtype; rows = node.now.row_count }) segment)
+        (S.state source.old) (S.state source.new) (string_bytes text.old) (string_bytes text.new) }
 {
     if node.row_count == 0 {
         return Ok(());
