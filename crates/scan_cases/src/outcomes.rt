@@ -1,67 +1,98 @@
 //! A run over memory, and what it left behind.
 
-use crate::fields::words_of;
-use crate::options::{are_options, option};
-use crate::streams::{request_of, sink_of, sources_of};
+ghost use Rattle.std.specs.Prelude.{◌<◌, ◌≤◌, length};
+
+use crate::fields::{bytes_of, list, number, option, words_of};
 use scan_commands::{run, status_text};
 use std::alloc::{AllocError, Global};
-use vx_base::{BytesSink, BytesSource, ScriptSource};
+use vx_base::{BytesSink, BytesSource, Script, ScriptSource};
 
-/// Runs a request over a file, and says what came of it.
+/// The bytes of a request: what stands behind a `~` is repeated.
+fn request_bytes(alloc: Global, text: &str, times: usize) -> Option<Vec<u8>> {
+    let (front, again) = text.split_once('~').unwrap_or((text, ""));
+    let mut bytes = bytes_of(alloc, front)?;
+    let again = bytes_of(alloc, again)?;
+    for _time in 0..times {
+        bytes.extend_from_slice(&again).ok()?;
+    }
+    Some(bytes)
+}
+
+/// A source of the file that keeps to the script of the options.
+fn source_of(alloc: Global, file: &str, options: &str) -> Option<ScriptSource> {
+    let fail_requests = list(alloc, options, "request_fails")?;
+    let fail_polls = list(alloc, options, "poll_fails")?;
+    let waits = list(alloc, options, "waits")?;
+    let order = list(alloc, options, "order")?;
+    let script = Script {
+        fail_requests,
+        fail_polls,
+        waits,
+        order,
+    };
+    let (_, text) = file.split_once(' ').unwrap_or((file, ""));
+    let bytes = bytes_of(alloc, text)?;
+    Some(ScriptSource::new(alloc, bytes, script))
+}
+
+/// Runs a request over sources of a file, and says what came of it.
 pub(crate) fn outcome<R: AllocGlobal>(
     rt: &R,
     file: &str,
-    request: &str,
     options: &str,
+    request: &str,
 ) -> Option<String> {
-    if !are_options(options) {
-        return None;
-    }
     let alloc = rt.alloc();
-    let mut request = request_of(alloc, request, options)?;
-    let mut out = sink_of(alloc, options)?;
-    let mut sources = sources_of(alloc, file, options)?;
-    let words = words_of(alloc, option(options, "words").unwrap_or("scan,s,r"))?;
+    let mut sources = Vec::new(alloc);
+    for _source in 0..number(options, "sources", 1) {
+        let source = source_of(alloc, file, options)?;
+        sources.push(source).ok()?;
+    }
     if sources.is_empty() || sources.len() > 64 {
         return None;
     }
-    let status = run(rt, &words, &mut request, sources.as_mut_slice(), &mut out);
-    let report = report_of(alloc, status, &request, &sources, &out);
-    report.ok()
+    ran(rt, sources.as_mut_slice(), options, request)
 }
 
-/// The status, what was written, the ranges that the first source was asked for, the faults of the request, of
-/// that source and of the sink, and how often a poll found nothing. Other sources are told only where they were
-/// asked.
+/// Runs a request over sources, and says what came of it.
+fn ran<R: AllocGlobal>(
+    rt: &R,
+    sources: &mut [ScriptSource],
+    options: &str,
+    request: &str,
+) -> Option<String>
+    requires some { 0 < length sources.old }
+    requires few { length sources.old ≤ 64 }
+{
+    let alloc = rt.alloc();
+    let words = words_of(alloc, option(options, "words").unwrap_or("scan,s,r"))?;
+    let bytes = request_bytes(alloc, request, number(options, "times", 0))?;
+    let reads = number(options, "reads", usize::MAX).max(1);
+    let fails = list(alloc, options, "read_fails")?;
+    let mut request = BytesSource::new(alloc, bytes, reads, fails);
+    let writes = number(options, "writes", usize::MAX).max(1);
+    let fails = list(alloc, options, "write_fails")?;
+    let mut out = BytesSink::new(alloc, writes, fails);
+    let status = run(rt, &words, &mut request, sources, &mut out);
+    report_of(alloc, status, request.faults(), sources, &out).ok()
+}
+
+/// The status, what was written, the faults of the request and of the sink, and of each source the ranges that
+/// it was asked for, its faults, and how often a poll found nothing.
 fn report_of(
     alloc: Global,
     status: u8,
-    request: &BytesSource,
+    faults: u64,
     sources: &[ScriptSource],
     out: &BytesSink,
 ) -> Result<String, AllocError> {
     let text = status_text(status);
     let lines = str::from_utf8(out.written()).unwrap_or("no text");
-    let mut report = format!(in alloc; "{status} {text}, wrote {lines:?}")?;
-    let mut who = "";
-    let (mut failed, mut idle) = (0, 0);
+    let more = out.faults();
+    let mut report = format!(in alloc; "{status} {text}, wrote {lines:?}, faults {faults} {more}")?;
     for source in sources {
-        push_ranges(&mut report, who, source)?;
-        if who.is_empty() {
-            failed = source.faults();
-            idle = source.idle();
-        }
-        who = "another ";
+        let (asked, faults, idle) = (source.asked(), source.faults(), source.idle());
+        write!(report, "; asked {asked:?}, faults {faults}, idle {idle}")?;
     }
-    let (read, written) = (request.faults(), out.faults());
-    write!(report, ", faults {read} {failed} {written}, idle {idle}")?;
     Ok(report)
-}
-
-/// Appends the ranges that a source was asked for.
-fn push_ranges(report: &mut String, who: &str, source: &ScriptSource) -> Result<(), AllocError> {
-    for range in source.asked() {
-        write!(report, ", {who}asked {}:{}", range.offset, range.length)?;
-    }
-    Ok(())
 }

@@ -9,16 +9,15 @@ use crate::faults::ScanFault;
 use crate::form::{Request, request_of};
 use crate::walk::append_rows;
 use std::alloc::{AllocError, Global};
-use thiserror::Error;
 use vx_base::SegmentSource;
 use vx_layout::{LayoutError, LayoutKind, LayoutNode, LayoutTree};
 
 /// Why a request has no answer.
-#[derive(Clone, Copy, Debug, PartialEq, Eq, Error)]
+#[derive(Clone, Copy, Debug, PartialEq, Eq)]
 pub enum Refusal {
-    #[error("the request asks for what the program does not do")]
+    /// The request asks for what the program does not do.
     NotYet,
-    #[error("{0}")]
+    /// The scan gave no rows.
     Fault(ScanFault),
 }
 

@@ -4,18 +4,17 @@ ghost use Rattle.std.specs.Prelude.{◌≡◌};
 ghost use Rattle.scan_commands.specs.declared.faults.ScanFault.TheVariants.{Memory};
 
 use std::alloc::{AllocError, AllocFailed};
-use thiserror::Error;
 
 /// Why a scan gave no rows.
-#[derive(Clone, Copy, Debug, PartialEq, Eq, Error)]
+#[derive(Clone, Copy, Debug, PartialEq, Eq)]
 pub enum ScanFault {
-    #[error("a segment spells no values")]
+    /// A segment spells no values.
     BadSegment,
-    #[error("a read failed")]
+    /// A read failed.
     ReadFault,
-    #[error("a read made no progress")]
+    /// A read made no progress.
     Stalled,
-    #[error("out of memory")]
+    /// Memory ran out.
     Memory,
 }
 

@@ -3,7 +3,6 @@
 //! - [`run`] runs the words of a command line. It carries the scan theorem.
 //! - The statuses from [`DONE`] to [`OUT_OF_MEMORY`], and the text of each, [`status_text`].
 //! - [`are_at_fault`] tells words that no command has.
-//! - Why a request is not read or has no answer: [`ReadingError`], [`Refusal`] with [`ScanFault`].
 //! - [`numbers_are_promised`] holds the constants of the code to the numbers of the promises, and
 //!   [`commands_by_hand`] checks the definitions on literals.
 #![tactic(auto)]
@@ -21,11 +20,8 @@ mod walk;
 mod words;
 mod writing;
 
-pub use answers::Refusal;
 pub use by_hand::commands_by_hand;
-pub use faults::ScanFault;
 pub use numbers::numbers_are_promised;
-pub use requests::ReadingError;
 pub use runs::run;
 pub use statuses::{
     BAD_SEGMENT, DONE, NOT_YET, OUT_OF_MEMORY, READ_FAULT, REQUEST_FAULT, STALLED, WRITE_FAULT,

@@ -5,7 +5,6 @@ ghost use Rattle.scan_commands.specs.Reading.{ReadingGives, ReadsPieces};
 ghost use Rattle.scan_commands.specs.declared.requests.ReadingError.TheVariants.{Memory};
 
 use std::alloc::{AllocError, Global};
-use thiserror::Error;
 use vx_base::{Source, StreamError};
 
 /// A request has at most so many bytes.
@@ -15,13 +14,13 @@ pub(crate) const MOST_BYTES: usize = 16777216;
 pub(crate) const PIECE_BYTES: usize = 65536;
 
 /// Why a request was not read.
-#[derive(Clone, Copy, Debug, PartialEq, Eq, Error)]
+#[derive(Clone, Copy, Debug, PartialEq, Eq)]
 pub enum ReadingError {
-    #[error("the request has more than 16777216 bytes")]
+    /// The request has more than 16777216 bytes.
     TooLarge,
-    #[error("reading the request failed")]
+    /// A read failed.
     Failed,
-    #[error("out of memory")]
+    /// Memory ran out.
     Memory,
 }
 
