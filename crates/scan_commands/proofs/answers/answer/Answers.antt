@@ -24,11 +24,11 @@ returns-in-Ok-append_rows-clause-asks g c =
     let asked = asked_of c.in-Some.request in
     let form : Some asked ≡ requested c.args.bytes.now = rw c.in-Some.is at c.in_ok-request.ensures in
     let accepted : IsAccepted c.args.bytes.now asked = record { form = sym form; good = c.in-Ok.ensures.good; located = grind (arith, common_steps) } in
-    asks_less (IsRangeIn asked.locations (root_of asked)) (IsReachedRange c.args.bytes.now) (λ range. λ r. (asked, accepted, r)) _ _ (rw (c.deref-2.ensures.value, c.in-Ok.ensures.made, c.root.ensures) at c.append_rows.ensures.asks)
+    asks_less (IsRangeIn asked.locations (root_of asked)) (IsReachedRange c.args.bytes.now) (λ range. λ r. (asked, accepted, r)) _ _ (rw (c.deref-2.ensures.value, c.in-Ok.ensures.made, c.root.ensures.zero) at c.append_rows.ensures.asks)
 
 pub returns-clause-asks : goal.returns-clause-asks
 returns-clause-asks g c =
     let asked = asked_of c.in-Some.request in
     let form : Some asked ≡ requested c.args.bytes.now = rw c.in-Some.is at c.in_ok-request.ensures in
     let accepted : IsAccepted c.args.bytes.now asked = record { form = sym form; good = c.in-Ok.ensures.good; located = grind (arith, common_steps) } in
-    asks_cleared (IsReachedRange c.args.bytes.now) _ _ _ (asks_less (IsRangeIn asked.locations (root_of asked)) (IsReachedRange c.args.bytes.now) (λ range. λ r. (asked, accepted, r)) _ _ (rw (c.deref-2.ensures.value, c.in-Ok.ensures.made, c.root.ensures) at c.append_rows.ensures.asks)) c.clear.ensures
+    asks_cleared (IsReachedRange c.args.bytes.now) _ _ _ (asks_less (IsRangeIn asked.locations (root_of asked)) (IsReachedRange c.args.bytes.now) (λ range. λ r. (asked, accepted, r)) _ _ (rw (c.deref-2.ensures.value, c.in-Ok.ensures.made, c.root.ensures.zero) at c.append_rows.ensures.asks)) c.clear.ensures
