@@ -63,9 +63,8 @@ pub(crate) fn write_completion(completion: &Completion, out: &mut String) -> Res
 /// The text of an error, with the fetch that it ended.
 pub(crate) fn write_poll_error(error: PollError, out: &mut String) -> Result<()> {
     match error {
-        PollError::Source { owner, request } => {
-            write!(out, "{}.{} {error}", owner.0, request.0).context("room")
-        }
-        _ => write!(out, "{error}").context("room"),
+        PollError::Source { owner, request } => write!(out, "{}.{} {error}", owner.0, request.0)?,
+        _ => write!(out, "{error}")?,
     }
+    Ok(())
 }

@@ -10,7 +10,7 @@ use anyhow::{Context, Result};
 use std::alloc::Global;
 use std::fmt::Write;
 use vx_base::SegmentLocation;
-use vx_io::{DriveError, IoCommand, IoIntent, SegmentIoSource, drive};
+use vx_io::{DriveError, Driven, IoCommand, IoIntent, SegmentIoSource, drive};
 
 /// Polls behind the commands.
 fn push_polls(commands: &mut Vec<IoCommand>, count: u8) -> Result<()>
@@ -52,31 +52,32 @@ fn announcing(alloc: Global, place: SegmentLocation) -> Result<Vec<IoCommand>>
     Ok(commands)
 }
 
-/// How many commands succeeded, the completions, the error, and what the source was asked.
-fn driven(
-    alloc: Global,
-    script: &str,
-    ranges: &str,
-    commands: Vec<IoCommand>,
-) -> Result<String>
-    requires { AreDistinct (fetches_in commands.items) }
-{
-    let mut source = source_of(alloc, script)?;
-    let ranges = ranges_of(alloc, ranges)?;
-    let mut session = SegmentIoSource::new(alloc, &mut source, &ranges);
-    let driven = drive(alloc, &mut session, commands);
-    let mut out = format!(in alloc; "{} done; ", driven.done)?;
+/// How many commands succeeded, the completions, and the error.
+fn write_driven(driven: &Driven, out: &mut String) -> Result<()> {
+    write!(out, "{} done; ", driven.done)?;
     for completion in driven.completions.as_slice() {
-        write_completion(completion, &mut out)?;
+        write_completion(completion, out)?;
         out.push_str("; ")?;
     }
     match driven.error {
-        Some(DriveError::Poll(error)) => write_poll_error(error, &mut out)?,
+        Some(DriveError::Poll(error)) => write_poll_error(error, out)?,
         Some(DriveError::Submit(error)) => write!(out, "{error}")?,
         Some(DriveError::Memory) => write!(out, "{}", DriveError::Memory)?,
         None => out.push_str("no error")?,
     }
     out.push_str("; ")?;
+    Ok(())
+}
+
+/// What the commands gave, and what the source was asked.
+fn driven(alloc: Global, script: &str, ranges: &str, commands: Vec<IoCommand>) -> Result<String>
+    requires { AreDistinct (fetches_in commands.items) }
+{
+    let mut source = source_of(alloc, script)?;
+    let ranges = ranges_of(alloc, ranges)?;
+    let mut out = String::new(alloc);
+    let mut session = SegmentIoSource::new(alloc, &mut source, &ranges);
+    write_driven(&drive(alloc, &mut session, commands), &mut out)?;
     write_notes(session.into_source(), &mut out)?;
     Ok(out)
 }
@@ -96,7 +97,12 @@ pub(crate) fn drive_three(
         place_of(words.next().unwrap_or(""))?,
         place_of(words.next().unwrap_or(""))?,
     ];
-    driven(alloc, script, ranges, commands_of(alloc, places, between, behind)?)
+    driven(
+        alloc,
+        script,
+        ranges,
+        commands_of(alloc, places, between, behind)?,
+    )
 }
 
 /// The answer to `announced SCRIPT | RANGES | RANGE`.

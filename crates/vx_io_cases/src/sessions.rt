@@ -3,7 +3,7 @@
 use crate::batches::{OWNER, batch_of, write_completion, write_poll_error};
 use crate::fields::{place_of, ranges_of};
 use crate::sources::{Noting, source_of, write_notes};
-use anyhow::{Context, Result};
+use anyhow::Result;
 use std::alloc::Global;
 use std::fmt::Write;
 use vx_io::{Completion, PollError, SegmentIoSource};
@@ -12,7 +12,7 @@ use vx_io::{Completion, PollError, SegmentIoSource};
 fn write_polled(polled: Result<Option<Completion>, PollError>, out: &mut String) -> Result<()> {
     match polled {
         Ok(Some(completion)) => write_completion(&completion, out),
-        Ok(None) => write!(out, "nothing").context("room"),
+        Ok(None) => Ok(out.push_str("nothing")?),
         Err(error) => write_poll_error(error, out),
     }
 }
@@ -25,33 +25,34 @@ fn turn(
     out: &mut String,
 ) -> Result<()> {
     match word {
-        "poll" => write_polled(session.poll(), out),
-        "poll_completion" => write_polled(session.poll_completion(), out),
-        "in_flight" => write!(out, "{}", session.in_flight()).context("room"),
+        "poll" => write_polled(session.poll(), out)?,
+        "poll_completion" => write_polled(session.poll_completion(), out)?,
+        "in_flight" => write!(out, "{}", session.in_flight())?,
         "clear" => {
             session.clear();
-            write!(out, "done").context("room")
+            out.push_str("done")?;
         }
         "release" => {
             session.release(OWNER);
-            write!(out, "done").context("room")
+            out.push_str("done")?;
         }
         _ => match session.submit(OWNER, batch_of(alloc, word)?) {
-            Ok(()) => write!(out, "taken").context("room"),
-            Err(error) => write!(out, "{error}").context("room"),
+            Ok(()) => out.push_str("taken")?,
+            Err(error) => write!(out, "{error}")?,
         },
     }
+    out.push_str("; ")?;
+    Ok(())
 }
 
 /// The answer to `session SCRIPT | RANGES | COMMANDS`: what each command answered, and what the source was asked.
 pub(crate) fn session(alloc: Global, script: &str, ranges: &str, words: &str) -> Result<String> {
-    let mut out = String::new(alloc);
     let mut source = source_of(alloc, script)?;
     let ranges = ranges_of(alloc, ranges)?;
+    let mut out = String::new(alloc);
     let mut session = SegmentIoSource::new(alloc, &mut source, &ranges);
     for word in words.split_whitespace() {
         turn(alloc, &mut session, word, &mut out)?;
-        out.push_str("; ")?;
     }
     write_notes(session.into_source(), &mut out)?;
     Ok(out)

@@ -1,12 +1,12 @@
 //! A source that keeps to a script and notes what it is asked.
 
 use crate::fields::numbers_of;
-use anyhow::{Context, Result};
+use anyhow::Result;
 use std::alloc::Global;
 use std::fmt::Write;
 use vx_base::{Script, ScriptSource, SegmentLocation, SegmentSource, SourceError};
 
-/// A scripted source of eight bytes from 10 on, which notes by which number and for which location it is asked.
+/// A scripted source that notes by which number and for which location it is asked.
 #[derive(Drop)]
 pub(crate) struct Noting {
     script: ScriptSource,
@@ -34,20 +34,40 @@ impl SegmentSource for Noting {
     }
 }
 
+impl Noting {
+    /// The source of a file and a script, of which nothing was asked.
+    pub(crate) fn new(alloc: Global, file: Vec<u8>, script: Script) -> Noting {
+        Noting {
+            script: ScriptSource::new(alloc, file, script),
+            asked: Vec::new(alloc),
+        }
+    }
+}
+
+/// A script that lets each read end at its first poll.
+pub(crate) fn quiet(alloc: Global) -> Script {
+    Script {
+        fail_requests: Vec::new(alloc),
+        fail_polls: Vec::new(alloc),
+        waits: Vec::new(alloc),
+        order: Vec::new(alloc),
+    }
+}
+
 /// The source of a script: the requests that fail, the polls that fail, the waits and the order.
 pub(crate) fn source_of(alloc: Global, words: &str) -> Result<Noting> {
-    let mut words = words.split_whitespace();
-    let script = Script {
-        fail_requests: numbers_of(alloc, words.next().unwrap_or("-"))?,
-        fail_polls: numbers_of(alloc, words.next().unwrap_or("-"))?,
-        waits: numbers_of(alloc, words.next().unwrap_or("-"))?,
-        order: numbers_of(alloc, words.next().unwrap_or("-"))?,
-    };
+    let mut script = quiet(alloc);
+    for (place, word) in words.split_whitespace().enumerate() {
+        let numbers = numbers_of(alloc, word)?;
+        match place {
+            0 => script.fail_requests = numbers,
+            1 => script.fail_polls = numbers,
+            2 => script.waits = numbers,
+            _ => script.order = numbers,
+        }
+    }
     let file = [10, 11, 12, 13, 14, 15, 16, 17].to_vec(alloc)?;
-    Ok(Noting {
-        script: ScriptSource::new(alloc, file, script),
-        asked: Vec::new(alloc),
-    })
+    Ok(Noting::new(alloc, file, script))
 }
 
 /// What the source was asked, each as its number and its location, and what it counted.
@@ -62,5 +82,6 @@ pub(crate) fn write_notes(source: &Noting, out: &mut String) -> Result<()> {
         write!(out, " {id}:{offset}+{length}/{alignment}")?;
     }
     let (faults, idle) = (source.script.faults(), source.script.idle());
-    write!(out, ", {faults} faults, {idle} idle").context("room for the notes")
+    write!(out, ", {faults} faults, {idle} idle")?;
+    Ok(())
 }
