@@ -1,5 +1,5 @@
 -- Walking the chunks of a node: what was asked and gathered so far.
-use Rattle.std.proofs.Common.{◌≡◌, ℕ, ◌+◌, ◌<◌, ◌≤◌, List, [], ◌∷◌, ◌++◌, length, Option, Some, None, IfSome, refl, sym, ap, subst, ◌∙◌, inl, inr, append_assoc, arith, get_or, IsSomeAnd, option_and_then, Err}
+use Rattle.std.proofs.Common.{◌≡◌, ℕ, ◌+◌, ◌<◌, ◌≤◌, List, [], ◌∷◌, ◌++◌, length, Option, Some, None, IfSome, refl, sym, ap, subst, ◌∙◌, inl, inr, append_assoc, arith, get_or, IsSomeAnd, option_and_then}
 use Rattle.std.specs.List.{AllByRecursion, slice_get}
 use Rattle.std.proofs.lemmas.List.{append-nil}
 use Rattle.std.proofs.lemmas.Option.{slice_get-get_or}
@@ -17,13 +17,13 @@ use Rattle.vx_layout.specs.Trees.{leaf, Head, forest_of, subtree}
 use Rattle.vx_layout.specs.Kept.{all}
 use Rattle.vx_layout.specs.Value.{leaves_of, IsTorn}
 use Rattle.vx_layout.specs.Joined.{AreForestValues}
-use Rattle.vx_layout.proofs.Forests.{Continues, continue_none, continue_more, continue_all, chunked_values, leaf_values}
-use Rattle.vx_layout.proofs.Reaching.{some_read_of_child, reached_of_child, reached_leaf, some_read_of_leaf}
+use Rattle.vx_layout.proofs.Forests.{Continues, continue_more, continue_all, chunked_values, leaf_values}
+use Rattle.vx_layout.proofs.Reaching.{some_read_of_child, reached_of_child, reached_leaf}
 use Rattle.scan_commands.specs.declared.faults.ScanFault.{ScanFault}
 use Rattle.scan_commands.specs.declared.faults.ScanFault.TheVariants.{BadSegment, ReadFault, Stalled, Memory}
 use Rattle.scan_commands.specs.Output.{line, lines}
 use Rattle.scan_commands.specs.Segments.{Asks, RoseBy, idle_limit}
-use Rattle.scan_commands.specs.Walk.{AsksOnly, IsRangeIn, HasTornLeaf, HasScanCause, GainsLines, LeafGives}
+use Rattle.scan_commands.specs.Walk.{AsksOnly, IsRangeIn, HasTornLeaf, HasScanCause, GainsLines}
 
 -- ---- counts
 
