@@ -11,7 +11,8 @@ use std::collections::BTreeMap;
 use std::marker::Model;
 
 /// The reads in flight, each a ticket and the location that it reads. Tickets are numbered from 0
-/// on, and none is ever given twice.
+/// on, and none is ever given twice. They are kept in order, so that a read ends in log n steps wherever it
+/// stands.
 #[derive(Drop)]
 pub(crate) struct InFlight {
     reads: BTreeMap<u64, SegmentLocation>,

@@ -220,7 +220,9 @@ impl SegmentSource for ScriptSource {
     }
 
     /// Asks how a read goes. `Failed` says that the script lists this poll, or that the read's range does
-    /// not lie inside the file; `None` that by the script the read still waits.
+    /// not lie inside the file, which it says at once, also where the script lets the read wait; `None` that by
+    /// the script the read still waits. Every poll of a ticket counts towards its wait, also one that found
+    /// nothing because of the order.
     fn poll(&mut self, ticket: u64) -> Result<Option<Vec<u8>>, SourceError>
         requires { IsSome (location_of ticket (script_state self.old).in_flight) }
         ensures gives { PollGives result ticket (script_state self.old) (script_state self.new) }

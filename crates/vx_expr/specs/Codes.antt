@@ -1,7 +1,7 @@
 -- Each expression as a tree of numbers, one to one: what a struct's model asks of its value.
-use Rattle.std.proofs.Common.{◌≡◌, ℕ, zero, suc, List, refl, sym, ap, ◌∙◌}
-use base.Stored.{Gv, gnil, gnum, gcons, Coded, coded_ℕ, coded_list}
-use Rattle.vx_base.specs.Codes.{coded_type, coded_datum}
+use Rattle.std.proofs.Common.{◌≡◌, ℕ, zero, suc, refl, sym, ap, ◌∙◌}
+use base.Stored.{Gv, gnil, gnum, gcons, Coded}
+use Rattle.vx_base.specs.Codes.{coded_name, coded_type, coded_datum}
 use Rattle.vx_expr.specs.declared.operators.CompareOp.{CompareOp}
 use Rattle.vx_expr.specs.declared.operators.CompareOp.TheVariants.{Eq, Ne, Lt, Le, Gt, Ge}
 use Rattle.vx_expr.specs.declared.operators.ArithOp.{ArithOp}
@@ -56,9 +56,6 @@ arith_back Div = refl
 
 arith_same : (a b : ArithOp) → number_of_arith a ≡ number_of_arith b → a ≡ b
 arith_same a b e = sym (arith_back a) ∙ ap arith_at e ∙ arith_back b
-
-abbrev pub coded_name : Coded (List ℕ)
-coded_name = coded_list coded_ℕ
 
 -- the two parts of a form's number
 abbrev tag : ℕ → ℕ → Gv

@@ -6,11 +6,11 @@ use Rattle.std.specs.Prelude.{◌-◌, ◌/◌, ◌^◌, ◌==◌, ◌≢◌, na
 use Rattle.std.specs.List.{AllByRecursion, list_all, range_with_len}
 use Rattle.std.specs.List.Sorted.{IsSortedByKey, IsStableByKey, IsNonDecreasing}
 use Rattle.std.specs.Ordering.{nat_cmp}
+use Rattle.vx_base.specs.Codes.{coded_name}
 use Rattle.vx_base.specs.ColumnCalls.{IsBool}
 use Rattle.vx_base.specs.Data.{DataType}
 use Rattle.vx_expr.specs.Types.{type_of}
 use Rattle.vx_expr.specs.Bound.{Bound, coded_bound}
-use Rattle.vx_expr.specs.Codes.{coded_name}
 use Rattle.vx_expr.specs.Terms.{Term, conjunction}
 
 -- the parts of conjunctions, from left to right

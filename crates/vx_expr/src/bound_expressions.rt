@@ -242,7 +242,7 @@ impl BoundExpression {
         Ok(BoundExpression { expr, root, dtype })
     }
 
-    /// The printed form of the expression.
+    /// The printed form of the expression. No struct literal is printed: a literal has a leaf dtype.
     pub fn text(&self, alloc: Global) -> Result<Vec<u8>, AllocError>
         ensures { IfOk result (λ text. text.items ≡ term_text self.now.term) }
     {

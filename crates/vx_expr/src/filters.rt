@@ -224,7 +224,9 @@ impl FilterExpr {
 
     /// Takes in which share of the rows a conjunct selected, in permille. Once each conjunct has a report,
     /// the ordering is sorted by the report at a tenth of each conjunct's ascending reports; conjuncts of
-    /// equal reports keep their order. A conjunct that has `u64::MAX` reports takes no more.
+    /// equal reports keep their order. A conjunct that has `u64::MAX` reports takes no more. Reports are kept
+    /// ascending, so that one is put in its place and none is sorted again; where the ordering can't be sorted
+    /// for want of memory, the report is taken back.
     pub fn report_selectivity(&mut self, conjunct: usize, permille: u64) -> Result<(), AllocError>
         requires { conjunct < length self.old.conjuncts }
         ensures taken { OnOk result (TakesReport self.old conjunct permille self.new) }

@@ -9,7 +9,7 @@ use std::marker::Model;
 use std::ops::Range;
 use thiserror::Error;
 
-/// Why values are no ascending indices.
+/// Why values are no ascending indices. Want of memory is no cause: making sorted indices takes none.
 #[derive(Clone, Copy, Debug, PartialEq, Eq, Error)]
 pub enum SortError {
     /// The first place, counted from 0, whose value isn't greater than the one before it.
