@@ -2,6 +2,7 @@
 
 use anyhow::{Error, Result};
 use std::alloc::Global;
+use vx_base::Text;
 use vx_expr::{ApplyError, BindError};
 use vx_notation::text_of;
 
@@ -15,21 +16,24 @@ pub(crate) fn refusal(alloc: Global, error: BindError) -> Result<String> {
     }
 }
 
-/// The error of that name. The field is `a b`, and the place is 3.
-fn bind_error(alloc: Global, name: &str) -> Result<BindError> {
+/// The error of that name.
+fn bind_error(name: &str, field: Text) -> BindError {
     match name {
-        "no_field" => Ok(BindError::NoField(text_of(alloc, "a b")?)),
-        "mismatch" => Ok(BindError::TypeMismatch(3)),
-        "too_deep" => Ok(BindError::TooDeep),
-        _ => Ok(BindError::Memory),
+        "no_field" => BindError::NoField(field),
+        "mismatch" => BindError::TypeMismatch(3),
+        "too_deep" => BindError::TooDeep,
+        _ => BindError::Memory,
     }
 }
 
-/// The text of the error of that name.
+/// The text of the error of that name. The field is `a b`, the part is 3, and the row is 7.
 pub(crate) fn error_text(alloc: Global, name: &str) -> Result<String> {
     match name {
         "fault" => Ok(format!(in alloc; "{}", ApplyError::EvalFault(7))?),
         "apply_memory" => Ok(format!(in alloc; "{}", ApplyError::Memory)?),
-        _ => Ok(format!(in alloc; "{}", bind_error(alloc, name)?)?),
+        _ => {
+            let field = text_of(alloc, "a b")?;
+            Ok(format!(in alloc; "{}", bind_error(name, field))?)
+        }
     }
 }

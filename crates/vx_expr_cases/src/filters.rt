@@ -6,7 +6,7 @@ ghost use Rattle.vx_base.specs.Views.{data_type};
 
 use crate::desks::Desk;
 use crate::queries::shown;
-use crate::words::{repeated, spelled};
+use crate::words::{counted, spelled};
 use anyhow::{Context, Error, Result};
 use std::alloc::Global;
 use std::fmt::Write;
@@ -34,7 +34,8 @@ fn filter_of(alloc: Global, root: &DType, words: &str) -> Option<FilterExpr> {
 /// Reports to a conjunct, as the number of it and the permille, `0:900`, or so many times the same,
 /// `0:900^10`. None where there is no such conjunct.
 fn report(filter: &mut FilterExpr, word: &str) -> Option<()> {
-    let (word, times) = repeated(word)?;
+    let (word, times) = counted(word);
+    let times = times.parse::<u64>().ok()?;
     let (conjunct, permille) = word.split_once(':')?;
     let conjunct = conjunct.parse::<usize>().ok()?;
     let permille = permille.parse::<u64>().ok()?;

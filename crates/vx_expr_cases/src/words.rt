@@ -106,20 +106,17 @@ fn made_of(alloc: Global, word: &str, parts: &mut Vec<Expr>) -> Option<Expr> {
     }
 }
 
-/// The word without its count, and how often it is meant: `not^3` is `not not not`.
-pub(crate) fn repeated(word: &str) -> Option<(&str, u64)> {
-    match word.split_once('^') {
-        Some((word, times)) => Some((word, times.parse::<u64>().ok()?)),
-        None => Some((word, 1)),
-    }
+/// The word without its count, and how often it is meant, as a number: `not^3` is `not not not`.
+pub(crate) fn counted(word: &str) -> (&str, &str) {
+    word.split_once('^').unwrap_or((word, "1"))
 }
 
 /// The expression that the words spell. None where they spell none, or memory runs out.
 pub(crate) fn spelled(alloc: Global, words: &str) -> Option<Expr> {
     let mut parts = Vec::new(alloc);
     for word in words.split_whitespace() {
-        let (word, times) = repeated(word)?;
-        for _time in 0..times {
+        let (word, times) = counted(word);
+        for _time in 0..times.parse::<u64>().ok()? {
             let made = made_of(alloc, word, &mut parts)?;
             parts.push(made).ok()?;
         }
