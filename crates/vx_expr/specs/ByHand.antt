@@ -1,5 +1,5 @@
 -- Expressions and rows that were written by hand, on which the definitions are checked.
-use Rattle.std.specs.Prelude.{codes, ℤ, pos, negsuc, true, false, List, [], ◌∷◌}
+use Rattle.std.specs.Prelude.{codes, ℤ, pos, negsuc, false}
 use Rattle.vx_base.specs.declared.dtypes.IntKind.TheVariants.{I64}
 use Rattle.vx_base.specs.declared.dtypes.Nullability.TheVariants.{NonNullable, Nullable}
 use Rattle.vx_base.specs.Data.{DataType, bool_type, int_type, struct_type, no_members, member, Datum, null, truth, number, structure, no_items, item}
