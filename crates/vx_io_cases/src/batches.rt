@@ -26,12 +26,6 @@ pub(crate) fn request(intent: IoIntent, number: u32, at: SegmentLocation) -> IoR
     }
 }
 
-pub(crate) fn fetch(number: u32, at: SegmentLocation) -> IoRequest
-    ensures { result.request.0 ≡ number }
-{
-    request(IoIntent::Fetch, number, at)
-}
-
 /// The batch of these requests between commas, as `announce:0@4+2,fetch:1@0+2`.
 pub(crate) fn batch_of(alloc: Global, word: &str) -> Result<Vec<IoRequest>> {
     let mut batch = Vec::new(alloc);
@@ -60,11 +54,20 @@ pub(crate) fn write_completion(completion: &Completion, out: &mut String) -> Res
     Ok(())
 }
 
-/// The text of an error, with the fetch that it ended.
-pub(crate) fn write_poll_error(error: PollError, out: &mut String) -> Result<()> {
-    match error {
-        PollError::Source { owner, request } => write!(out, "{}.{} {error}", owner.0, request.0)?,
-        _ => write!(out, "{error}")?,
+/// What a poll answered; an error with the fetch that it ended.
+pub(crate) fn write_polled(
+    polled: Result<Option<Completion>, PollError>,
+    out: &mut String,
+) -> Result<()> {
+    match polled {
+        Ok(Some(completion)) => write_completion(&completion, out)?,
+        Ok(None) => out.push_str("nothing")?,
+        Err(error) => {
+            if let PollError::Source { owner, request } = error {
+                write!(out, "{}.{} ", owner.0, request.0)?;
+            }
+            write!(out, "{error}")?;
+        }
     }
     Ok(())
 }

@@ -3,7 +3,7 @@
 ghost use Rattle.std.specs.Prelude.{◌≡◌, OnOk, IfOk};
 ghost use Rattle.vx_io.specs.Drive.{fetches_in, AreDistinct};
 
-use crate::batches::{OWNER, fetch, request, write_completion, write_poll_error};
+use crate::batches::{OWNER, request, write_completion, write_polled};
 use crate::fields::{place_of, ranges_of};
 use crate::sources::{source_of, write_notes};
 use anyhow::{Context, Result};
@@ -32,10 +32,13 @@ fn commands_of(
     ensures { IfOk result (λ commands. AreDistinct (fetches_in commands.items)) }
 {
     let mut commands = Vec::new(alloc);
-    let batch = vec![in alloc; fetch(0, places[0])]?;
+    let batch = vec![in alloc; request(IoIntent::Fetch, 0, places[0])]?;
     commands.push(IoCommand::Submit(OWNER, batch))?;
     push_polls(&mut commands, between)?;
-    let batch = vec![in alloc; fetch(1, places[1]), fetch(2, places[2])]?;
+    let batch = vec![in alloc;
+        request(IoIntent::Fetch, 1, places[1]),
+        request(IoIntent::Fetch, 2, places[2]),
+    ]?;
     commands.push(IoCommand::Submit(OWNER, batch))?;
     push_polls(&mut commands, behind)?;
     Ok(commands)
@@ -60,7 +63,7 @@ fn write_driven(driven: &Driven, out: &mut String) -> Result<()> {
         out.push_str("; ")?;
     }
     match driven.error {
-        Some(DriveError::Poll(error)) => write_poll_error(error, out)?,
+        Some(DriveError::Poll(error)) => write_polled(Err(error), out)?,
         Some(DriveError::Submit(error)) => write!(out, "{error}")?,
         Some(DriveError::Memory) => write!(out, "{}", DriveError::Memory)?,
         None => out.push_str("no error")?,

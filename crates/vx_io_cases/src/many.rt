@@ -1,20 +1,11 @@
 //! A batch of many fetches.
 
-use crate::batches::{OWNER, fetch};
+use crate::batches::{OWNER, request};
 use crate::sources::{Noting, quiet};
 use anyhow::{Context, Error, Result};
 use std::alloc::Global;
 use vx_base::{Script, SegmentLocation};
-use vx_io::{Completion, IoRequest, SegmentIoSource, segment_ranges};
-
-/// Where the byte of a number lies.
-fn byte_at(number: u16) -> SegmentLocation {
-    SegmentLocation {
-        offset: number as u64,
-        length: 1,
-        alignment: 1,
-    }
-}
+use vx_io::{IoIntent, IoRequest, SegmentIoSource, segment_ranges};
 
 /// A file of so many bytes, and the location of each.
 fn file_of(alloc: Global, count: u16) -> Result<(Vec<u8>, Vec<SegmentLocation>)> {
@@ -22,29 +13,29 @@ fn file_of(alloc: Global, count: u16) -> Result<(Vec<u8>, Vec<SegmentLocation>)>
     let mut places = Vec::new(alloc);
     for number in 0..count {
         file.push((number % 251) as u8)?;
-        places.push(byte_at(number))?;
+        places.push(SegmentLocation {
+            offset: number as u64,
+            length: 1,
+            alignment: 1,
+        })?;
     }
     Ok((file, places))
 }
 
-/// A script by which the read of number `n` waits `7 n` polls modulo 5, and a batch of so many fetches.
+/// A script by which the read of number `n` waits `7 n` polls modulo 5, and a batch of so many fetches of a byte.
 fn batch_of(alloc: Global, count: u16) -> Result<(Script, Vec<IoRequest>)> {
     let mut script = quiet(alloc);
     let mut batch = Vec::new(alloc);
     for number in 0..count {
         script.waits.push(number as u64 * 7 % 5)?;
-        batch.push(fetch(number as u32, byte_at(number)))?;
+        let at = SegmentLocation {
+            offset: number as u64,
+            length: 1,
+            alignment: 1,
+        };
+        batch.push(request(IoIntent::Fetch, number as u32, at))?;
     }
     Ok((script, batch))
-}
-
-/// The number of a completion that has the byte of its number.
-fn number_of(completion: &Completion) -> Result<u64> {
-    let number = completion.request.0 as u64;
-    if completion.bytes.as_slice() == [(number % 251) as u8].as_slice() {
-        return Ok(number);
-    }
-    Err(Error::msg("the bytes of the fetch"))
 }
 
 /// How many fetches ended in so many polls, and their numbers in the order of their end, each as a digit in base
@@ -53,7 +44,11 @@ fn drain(session: &mut SegmentIoSource<'_, Noting>, polls: u32) -> Result<(u64, 
     let (mut ended, mut order) = (0u64, 0u64);
     for _poll in 0..polls {
         if let Some(completion) = session.poll()? {
-            order = order.wrapping_mul(31).wrapping_add(number_of(&completion)?);
+            let number = completion.request.0 as u64;
+            if completion.bytes.as_slice() != [(number % 251) as u8].as_slice() {
+                return Err(Error::msg("the bytes of the fetch"));
+            }
+            order = order.wrapping_mul(31).wrapping_add(number);
             ended = ended.wrapping_add(1);
         }
     }

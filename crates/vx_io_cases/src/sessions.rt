@@ -1,21 +1,12 @@
 //! A session, command by command.
 
-use crate::batches::{OWNER, batch_of, write_completion, write_poll_error};
+use crate::batches::{OWNER, batch_of, write_polled};
 use crate::fields::{place_of, ranges_of};
 use crate::sources::{Noting, source_of, write_notes};
 use anyhow::Result;
 use std::alloc::Global;
 use std::fmt::Write;
-use vx_io::{Completion, PollError, SegmentIoSource};
-
-/// What a poll answered.
-fn write_polled(polled: Result<Option<Completion>, PollError>, out: &mut String) -> Result<()> {
-    match polled {
-        Ok(Some(completion)) => write_completion(&completion, out),
-        Ok(None) => Ok(out.push_str("nothing")?),
-        Err(error) => write_poll_error(error, out),
-    }
-}
+use vx_io::SegmentIoSource;
 
 /// Does a command, and writes what it answered.
 fn turn(
