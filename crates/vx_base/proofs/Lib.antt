@@ -4,6 +4,7 @@ pub mod Decoded
 pub mod Encoded
 pub mod BuiltRows
 pub mod ColumnRows
+pub mod FieldNames
 pub mod FieldTexts
 pub mod Items
 pub mod KindNumbers

@@ -13,6 +13,7 @@ pub mod Leaf
 pub mod Masks
 pub mod MemorySources
 pub mod MemoryStreams
+pub mod Names
 pub mod Parts
 pub mod Reading
 pub mod ScriptSources

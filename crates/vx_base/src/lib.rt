@@ -2,7 +2,7 @@
 //! outside world as three traits with their sources and sinks.
 //!
 //! - Dtypes and their parts: [`DType`], [`IntKind`], [`Nullability`], [`Fields`], [`Field`], [`Element`],
-//!   [`Text`].
+//!   [`Text`]; what is asked of one: [`is_leaf`], [`is_unsigned`], [`has_distinct_names`].
 //! - Values and columns: [`Value`], [`Values`], [`fits`], [`Column`], [`ColumnError`].
 //! - Which rows are chosen: [`Mask`], with its law, [`masks_choose_twice`].
 //! - Segments: [`encode`], [`decode`] with [`DecodeError`], and the laws of the codec, [`one_spelling`],
@@ -20,9 +20,11 @@ mod by_hand;
 mod column_calls;
 mod columns;
 mod decoding;
+mod dtype_kinds;
 mod dtype_texts;
 mod dtypes;
 mod encoding;
+mod field_names;
 mod file_sources;
 mod in_flight;
 mod locations;
@@ -40,8 +42,10 @@ pub use adapters::{ReadSource, WriteSink};
 pub use by_hand::segments_by_hand;
 pub use columns::{Column, ColumnError};
 pub use decoding::{DecodeError, decode};
+pub use dtype_kinds::{is_leaf, is_unsigned};
 pub use dtypes::{DType, Element, Field, Fields, IntKind, Nullability};
 pub use encoding::encode;
+pub use field_names::has_distinct_names;
 pub use file_sources::FileSource;
 pub use locations::{AskedRange, SegmentLocation};
 pub use masks::{Mask, masks_choose_twice};
