@@ -5,6 +5,7 @@ pub mod Typing
 pub mod TermText
 pub mod Rewritten
 pub mod Collected
+pub mod StatisticCodes
 pub mod Steps
 pub mod Rows
 pub mod Meaning

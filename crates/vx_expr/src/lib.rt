@@ -5,6 +5,7 @@
 //! - Binding: [`bind`] with [`BindError`], and [`BoundExpression`].
 //! - Meaning row by row: [`apply`] with [`ApplyError`].
 //! - Filters: [`FilterExpr`].
+//! - What is told of a zone of rows: [`Statistic`], [`Statistics`].
 //! - The laws: [`meaning_fits`], [`strict_is_null`], [`conjuncts_tell`], [`rewriting_keeps`] and
 //!   [`expressions_by_hand`].
 #![tactic(auto)]
@@ -25,6 +26,7 @@ mod mentions;
 mod operators;
 mod rewriting;
 mod root_fields;
+mod statistics;
 mod steps;
 mod typing;
 
@@ -36,3 +38,4 @@ pub use expressions::{Expr, NamedExprs, Operand};
 pub use filters::FilterExpr;
 pub use laws::{conjuncts_tell, meaning_fits, rewriting_keeps, strict_is_null};
 pub use operators::{ArithOp, CompareOp};
+pub use statistics::{Statistic, Statistics};

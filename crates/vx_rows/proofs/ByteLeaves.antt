@@ -1,0 +1,54 @@
+-- The leaves of bytes: how many values they have, which fit, and why they may have none.
+use Rattle.std.proofs.Common.{◌≡◌, ℕ, ◌⊎◌, inl, inr, List, [], ◌∷◌, Option, Some, None, length, refl, ap}
+use Rattle.std.specs.Prelude.{option_and_then, IfSome, IsSomeAnd}
+use Rattle.std.specs.List.{AllByRecursion}
+use Rattle.vx_base.specs.Data.{DataType, Datum}
+use Rattle.vx_base.specs.Fits.{Fits}
+use Rattle.vx_base.specs.Segment.{Spells}
+use Rattle.vx_base.specs.Reading.{decoded}
+use Rattle.vx_base.proofs.Spelled.{reads_spelled}
+use Rattle.vx_rows.specs.Reads.{Found, a_cell, a_code, a_list_row, Read, FindsOnly, LacksValues}
+use Rattle.vx_rows.specs.SegmentLeaves.{Bytes, leaves_of, LacksBytes, IsTorn, SameBytesFor}
+use Rattle.vx_rows.specs.Whole.{GiveEachRow, GiveFitting, AgreeOn}
+
+-- what spelled values have, read values have
+read_have : (P : List Datum → Type 0) (t : DataType) (rows : ℕ) (bytes : List ℕ) (read : Option (List Datum)) → decoded t rows bytes ≡ read → ((values : List Datum) → Spells t rows bytes values → P values) → IfSome read P
+read_have P t rows bytes None e f = tt
+read_have P t rows bytes (Some values) e f = f values (reads_spelled t rows bytes values e)
+
+leaf_has : (P : List Datum → Type 0) (t : DataType) (rows : ℕ) (bytes : Option (List ℕ)) → ((found : List ℕ) (values : List Datum) → Spells t rows found values → P values) → IfSome (option_and_then (decoded t rows) bytes) P
+leaf_has P t rows None f = tt
+leaf_has P t rows (Some bytes) f = read_have P t rows bytes (decoded t rows bytes) refl (f bytes)
+
+pub give_each_row : (bytes : Bytes) → GiveEachRow (leaves_of bytes)
+give_each_row bytes t rows segment = leaf_has (λ values. length values ≡ rows) t rows (bytes segment) (λ found values spelled. spelled.count)
+
+pub give_fitting : (bytes : Bytes) → GiveFitting (leaves_of bytes)
+give_fitting bytes t rows segment = leaf_has (AllByRecursion (Fits t)) t rows (bytes segment) (λ found values spelled. spelled.fit)
+
+cause_by : (t : DataType) (rows : ℕ) (bytes : Option (List ℕ)) → option_and_then (decoded t rows) bytes ≡ None → (bytes ≡ None) ⊎ IsSomeAnd bytes (λ found. decoded t rows found ≡ None)
+cause_by t rows None e = inl refl
+cause_by t rows (Some bytes) e = inr e
+
+pub lacking_caused : (bytes : Bytes) (found : Found) → LacksValues (leaves_of bytes) found → LacksBytes bytes found ⊎ IsTorn bytes found
+lacking_caused bytes (a_cell at) lacks = cause_by at.dtype at.rows (bytes at.segment) lacks
+lacking_caused bytes (a_code at) lacks = absurd lacks
+lacking_caused bytes (a_list_row list row) lacks = absurd lacks
+
+torn_by : (t : DataType) (rows : ℕ) (bytes : Option (List ℕ)) → IsSomeAnd bytes (λ found. decoded t rows found ≡ None) → option_and_then (decoded t rows) bytes ≡ None
+torn_by t rows None torn = absurd torn
+torn_by t rows (Some bytes) torn = torn
+
+pub torn_lacks : (bytes : Bytes) (found : Found) → IsTorn bytes found → LacksValues (leaves_of bytes) found
+torn_lacks bytes (a_cell at) torn = torn_by at.dtype at.rows (bytes at.segment) torn
+torn_lacks bytes (a_code at) torn = absurd torn
+torn_lacks bytes (a_list_row list row) torn = absurd torn
+
+bytes_agree : (ones others : Bytes) (found : Found) → SameBytesFor ones others found → AgreeOn (leaves_of ones) (leaves_of others) found
+bytes_agree ones others (a_cell at) same = ap (option_and_then (decoded at.dtype at.rows)) same
+bytes_agree ones others (a_code at) same = tt
+bytes_agree ones others (a_list_row list row) same = tt
+
+pub all_agree : (ones others : Bytes) (xs : List Read) → FindsOnly (SameBytesFor ones others) xs → FindsOnly (AgreeOn (leaves_of ones) (leaves_of others)) xs
+all_agree ones others [] each = tt
+all_agree ones others (x ∷ xs) each = (bytes_agree ones others x.found each.0, all_agree ones others xs each.1)

@@ -1,0 +1,4 @@
+pub mod ReadRows
+pub mod ByteLeaves
+pub mod Renumbering
+pub mod Givens

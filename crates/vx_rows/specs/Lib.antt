@@ -1,0 +1,7 @@
+pub mod Derivations
+pub mod Reads
+pub mod SegmentLeaves
+pub mod Whole
+pub mod Renumbered
+pub mod Given
+pub mod Laws

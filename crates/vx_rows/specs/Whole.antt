@@ -1,0 +1,55 @@
+-- Derivations in which nothing is amiss, whatever the leaves.
+use Rattle.std.specs.Prelude.{◌≡◌, ℕ, ◌<◌, List, length, Option, IfSome}
+use Rattle.std.specs.List.{AllByRecursion}
+use Rattle.vx_base.specs.Data.{DataType}
+use Rattle.vx_base.specs.Fits.{Fits}
+use Rattle.vx_rows.specs.Derivations.{Derivation, nothing, cell, list_row, given, packed, valid_where, looked_up, worked_out, read_whole, Derivations, no_more, also, Leaves}
+use Rattle.vx_rows.specs.Reads.{Found, a_cell, a_code, a_list_row}
+
+-- No node is missing, each cell's row is one of its leaf, and no expression is worked out, which may be a fault.
+abbrev mutual
+  pub IsWhole : Derivation → Type 0
+  IsWhole nothing = ⊥
+  IsWhole (cell at) = at.row < at.rows
+  IsWhole (list_row list row) = Unit {0}
+  IsWhole (given v) = Unit {0}
+  IsWhole (packed ds) = AreWhole ds
+  IsWhole (valid_where d validity) = IsWhole d × IsWhole validity
+  IsWhole (looked_up dictionary row code values) = IsWhole code × AreWhole values
+  IsWhole (worked_out t e d) = ⊥
+  IsWhole (read_whole share row d ds) = IsWhole d
+
+  pub AreWhole : Derivations → Type 0
+  AreWhole no_more = Unit {0}
+  AreWhole (also d ds) = IsWhole d × AreWhole ds
+
+-- No row is read beside the one that is asked for but a dictionary's values: whatever is read counts.
+abbrev mutual
+  pub IsStrict : Derivation → Type 0
+  IsStrict nothing = Unit {0}
+  IsStrict (cell at) = Unit {0}
+  IsStrict (list_row list row) = Unit {0}
+  IsStrict (given v) = Unit {0}
+  IsStrict (packed ds) = AreStrict ds
+  IsStrict (valid_where d validity) = IsStrict d × IsStrict validity
+  IsStrict (looked_up dictionary row code values) = IsStrict code × AreStrict values
+  IsStrict (worked_out t e d) = IsStrict d
+  IsStrict (read_whole share row d ds) = ⊥
+
+  pub AreStrict : Derivations → Type 0
+  AreStrict no_more = Unit {0}
+  AreStrict (also d ds) = IsStrict d × AreStrict ds
+
+-- a leaf that has values has one for each row
+abbrev pub GiveEachRow : Leaves → Type 0
+GiveEachRow leaves = (t : DataType) (rows segment : ℕ) → IfSome (leaves t rows segment) (λ values. length values ≡ rows)
+
+-- two families of leaves have the same values for what was found
+abbrev pub AgreeOn : Leaves → Leaves → Found → Type 0
+AgreeOn ones others (a_cell at) = ones at.dtype at.rows at.segment ≡ others at.dtype at.rows at.segment
+AgreeOn ones others (a_code at) = Unit {0}
+AgreeOn ones others (a_list_row list row) = Unit {0}
+
+-- the values of each leaf fit its dtype
+abbrev pub GiveFitting : Leaves → Type 0
+GiveFitting leaves = (t : DataType) (rows segment : ℕ) → IfSome (leaves t rows segment) (AllByRecursion (Fits t))
