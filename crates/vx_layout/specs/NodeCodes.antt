@@ -1,27 +1,47 @@
 -- Nodes as trees of numbers, one to one: what a layout tree's model asks of its value.
-use Rattle.std.specs.Prelude.{◌≡◌, ℕ, List, Option, Some, None, refl}
-use Rattle.std.specs.Coded.{Coded, code_by, coded_ℕ, coded_list, coded_option, coded×}
+use Rattle.std.specs.Prelude.{◌≡◌, ℕ, zero, suc, List, [], refl}
+use Rattle.std.specs.Coded.{Coded, code_by, coded_ℕ, coded_list, coded×}
 use Rattle.vx_base.specs.Data.{DataType}
 use Rattle.vx_base.specs.Codes.{coded_type}
 use Rattle.vx_layout.specs.declared.nodes.LayoutKind.{LayoutKind}
-use Rattle.vx_layout.specs.declared.nodes.LayoutKind.TheVariants.{Flat, Chunked}
+use Rattle.vx_layout.specs.declared.nodes.LayoutKind.TheVariants as kinds
+use Rattle.vx_expr.specs.declared.statistics.Statistic.{Statistic}
+use Rattle.vx_expr.specs.StatisticCodes.{coded_statistics}
 use Rattle.vx_layout.specs.Nodes.{Node}
 
--- a kind as the segment that it names, if any
-abbrev pub segment_in : LayoutKind → Option ℕ
-segment_in (Flat segment) = Some segment
-segment_in Chunked = None
+-- a kind as its number among the kinds, the number that it names, and its statistics
+abbrev pub kind_parts : LayoutKind → ℕ × (ℕ × List Statistic)
+kind_parts (kinds.Flat segment) = (0, (segment, []))
+kind_parts kinds.Chunked = (1, (0, []))
+kind_parts kinds.Struct = (2, (0, []))
+kind_parts kinds.Dict = (3, (0, []))
+kind_parts kinds.List = (4, (0, []))
+kind_parts (kinds.Zoned zone_len stats) = (5, (zone_len, stats))
+kind_parts (kinds.LegacyStats zone_len stats) = (6, (zone_len, stats))
 
-abbrev pub kind_with : Option ℕ → LayoutKind
-kind_with (Some segment) = Flat segment
-kind_with None = Chunked
+abbrev kind_from : ℕ → ℕ → List Statistic → LayoutKind
+kind_from zero n stats = kinds.Flat n
+kind_from (suc zero) n stats = kinds.Chunked
+kind_from (suc (suc zero)) n stats = kinds.Struct
+kind_from (suc (suc (suc zero))) n stats = kinds.Dict
+kind_from (suc (suc (suc (suc zero)))) n stats = kinds.List
+kind_from (suc (suc (suc (suc (suc zero))))) n stats = kinds.Zoned n stats
+kind_from (suc (suc (suc (suc (suc (suc k)))))) n stats = kinds.LegacyStats n stats
 
-pub kind_back : (kind : LayoutKind) → kind_with (segment_in kind) ≡ kind
-kind_back (Flat segment) = refl
-kind_back Chunked = refl
+abbrev pub kind_with : ℕ × (ℕ × List Statistic) → LayoutKind
+kind_with parts = kind_from parts.0 parts.1.0 parts.1.1
+
+pub kind_back : (kind : LayoutKind) → kind_with (kind_parts kind) ≡ kind
+kind_back (kinds.Flat segment) = refl
+kind_back kinds.Chunked = refl
+kind_back kinds.Struct = refl
+kind_back kinds.Dict = refl
+kind_back kinds.List = refl
+kind_back (kinds.Zoned zone_len stats) = refl
+kind_back (kinds.LegacyStats zone_len stats) = refl
 
 abbrev pub coded_kind : Coded LayoutKind
-coded_kind = code_by (Option ℕ) (coded_option coded_ℕ) segment_in kind_with kind_back
+coded_kind = code_by (ℕ × (ℕ × List Statistic)) (coded× coded_ℕ (coded× coded_ℕ coded_statistics)) kind_parts kind_with kind_back
 
 abbrev pub node_parts : Node → LayoutKind × (DataType × (ℕ × List ℕ))
 node_parts node = (node.kind, (node.dtype, (node.rows, node.children)))

@@ -1,14 +1,26 @@
 -- Which lists of nodes are a layout tree: each rule of the shape at one node, and all of them at all nodes.
-use Rattle.std.specs.Prelude.{◌≡◌, ℕ, zero, suc, ◌+◌, ◌<◌, ◌≤◌, ◌==◌, ◌⊎◌, max, count_by, sum_by, if◌then◌else◌, List, [], ◌∷◌, length, Option, Some, None, All, IfSome, IsSomeAnd}
-use Rattle.std.specs.List.{flat_map, list_any, slice_get}
+-- Each rule stands by itself: where a child that it speaks of is no node, the rule is broken.
+use Rattle.std.specs.Prelude.{◌≡◌, ℕ, zero, suc, ◌+◌, ◌<◌, ◌≤◌, sum_by, List, length, All, IfSome, IsSomeAnd}
+use Rattle.std.specs.Int.{div_ceil}
+use Rattle.std.specs.List.{slice_get}
 use Rattle.std.specs.Option.{option_map_or}
-use Rattle.vx_base.specs.Data.{DataType, bool_type, int_type, utf8_type, struct_type, list_type, Members, no_members, member}
+use Rattle.vx_base.specs.declared.dtypes.Nullability.{Nullability}
+use Rattle.vx_base.specs.declared.dtypes.Nullability.TheVariants.{NonNullable, Nullable}
+use Rattle.vx_base.specs.Data.{DataType, bool_type, int_type, struct_type, list_type, Members}
+use Rattle.vx_base.specs.ColumnCalls.{nullable_where, IsUnsigned}
+use Rattle.vx_base.specs.Fits.{nullability_of}
 use Rattle.vx_base.specs.Leaf.{IsLeaf}
+use Rattle.vx_base.specs.Views.{fields_in}
 use Rattle.vx_layout.specs.declared.nodes.LayoutKind.{LayoutKind}
-use Rattle.vx_layout.specs.declared.nodes.LayoutKind.TheVariants.{Flat, Chunked}
-use Rattle.vx_layout.specs.declared.errors.LayoutError.{LayoutError}
-use Rattle.vx_layout.specs.declared.errors.LayoutError.TheVariants.{BadLayout, Memory}
+use Rattle.vx_layout.specs.declared.nodes.LayoutKind.TheVariants as kinds
+use Rattle.vx_layout.specs.declared.rules.ShapeRule.{ShapeRule}
+use Rattle.vx_layout.specs.declared.rules.ShapeRule.TheVariants as rules
+use Rattle.vx_expr.specs.declared.statistics.Statistic.{Statistic}
 use Rattle.vx_layout.specs.Nodes.{Node}
+use Rattle.vx_layout.specs.Children.{ChildAt, EachChild, times_child}
+use Rattle.vx_layout.specs.Depths.{depth_of, dtype_depth}
+use Rattle.vx_base.specs.Names.{HasDistinctNames}
+use Rattle.vx_layout.specs.Zones.{zones_type, StandOver}
 
 -- a list of nodes has fewer than this
 abbrev pub node_limit : ℕ
@@ -22,160 +34,162 @@ most_rows = 68719476736
 abbrev pub most_levels : ℕ
 most_levels = 64
 
--- P of the node of that number, if there is one
-abbrev pub AtNode : (Node → Type 0) → List Node → ℕ → Type 0
-AtNode P nodes number = IfSome (slice_get nodes number) P
-
--- ---- children
+-- ---- numbers, depths and rows
 
 -- The children have greater numbers than the node, and are nodes themselves.
-abbrev pub HasLaterChildren : List Node → ℕ → Type 0
-HasLaterChildren nodes number = AtNode (λ node. All (λ child. (number < child) × (child < length nodes)) node.children) nodes number
-
--- how often a number stands among the children of all nodes
-abbrev pub times_child : List Node → ℕ → ℕ
-times_child nodes number = count_by (λ child. child == number) (flat_map (λ node. node.children) nodes)
+abbrev pub HasLaterChildren : List Node → ℕ → Node → Type 0
+HasLaterChildren nodes number node = All (λ child. (number < child) × (child < length nodes)) node.children
 
 -- Each node but the root is a child exactly once.
 abbrev pub IsChildOnce : List Node → ℕ → Type 0
 IsChildOnce nodes zero = Unit {0}
 IsChildOnce nodes (suc n) = times_child nodes (suc n) ≡ 1
 
--- ---- depth
+-- Neither the node nor its dtype is deeper than 64 levels.
+abbrev pub IsShallow : List Node → ℕ → Node → Type 0
+IsShallow nodes number node = (depth_of nodes number ≤ most_levels) × (dtype_depth node.dtype ≤ most_levels)
 
--- the first node, numbered from `at` on, that has the child
-abbrev pub parent_from : ℕ → List Node → ℕ → Option ℕ
-parent_from at [] child = None
-parent_from at (node ∷ nodes) child = if list_any (λ number. number == child) node.children then Some at else parent_from (at + 1) nodes child
+abbrev pub HasFewRows : Node → Type 0
+HasFewRows node = node.rows ≤ most_rows
 
-abbrev pub parent_of : List Node → ℕ → Option ℕ
-parent_of nodes child = parent_from 0 nodes child
+-- ---- how many children
 
--- one more than the depth of the parent, and 1 without a parent; parents are followed so many steps at most
-unfoldable pub depth_within : ℕ → List Node → ℕ → ℕ
-depth_within zero nodes number = 1
-depth_within (suc steps) nodes number = option_map_or (λ parent. depth_within steps nodes parent + 1) (parent_of nodes number) 1
+-- the validity is a child where the dtype is nullable
+abbrev pub validity_count : Nullability → ℕ
+validity_count NonNullable = 0
+validity_count Nullable = 1
 
--- The depth of a node: the root's is 1, and a child's one more than its parent's. Where each child has a
--- greater number than its parent, a node has no more ancestors than its number says.
-abbrev pub depth_of : List Node → ℕ → ℕ
-depth_of nodes number = depth_within number nodes number
+-- So many children fit the kind and the dtype: a struct's are its fields and the validity, a list's the
+-- elements, the offsets and the validity. The dtype of a struct node is a struct, and of a list node a list.
+abbrev pub CountFits : LayoutKind → DataType → ℕ → Type 0
+CountFits (kinds.Flat segment) t count = count ≡ 0
+CountFits kinds.Chunked t count = Unit {0}
+CountFits kinds.Struct (struct_type ms n) count = count ≡ length (fields_in ms) + validity_count n
+CountFits kinds.Struct t count = ⊥
+CountFits kinds.Dict t count = count ≡ 2
+CountFits kinds.List (list_type t n) count = count ≡ 2 + validity_count n
+CountFits kinds.List t count = ⊥
+CountFits (kinds.Zoned zone_len stats) t count = count ≡ 2
+CountFits (kinds.LegacyStats zone_len stats) t count = count ≡ 2
 
--- a leaf dtype has one level
-abbrev mutual
-  pub dtype_depth : DataType → ℕ
-  dtype_depth (bool_type n) = 1
-  dtype_depth (int_type kind n) = 1
-  dtype_depth (utf8_type n) = 1
-  dtype_depth (struct_type ms n) = members_depth ms + 1
-  dtype_depth (list_type t n) = dtype_depth t + 1
+abbrev pub HasFittingCount : Node → Type 0
+HasFittingCount node = CountFits node.kind node.dtype (length node.children)
 
-  pub members_depth : Members → ℕ
-  members_depth no_members = 0
-  members_depth (member name t ms) = max (dtype_depth t) (members_depth ms)
+-- ---- dtypes
 
--- Neither the node nor its dtype has too many levels.
-abbrev pub IsShallow : List Node → ℕ → Type 0
-IsShallow nodes number = AtNode (λ node. (depth_of nodes number ≤ most_levels) × (dtype_depth node.dtype ≤ most_levels)) nodes number
+-- The child at the place is a validity, where there is one.
+abbrev pub ValidityAt : List Node → Node → ℕ → Nullability → Type 0
+ValidityAt nodes node place NonNullable = Unit {0}
+ValidityAt nodes node place Nullable = ChildAt nodes node place (λ child. child.dtype ≡ bool_type NonNullable)
 
--- ---- rows, kinds and dtypes
+-- Each field has a child of its dtype, in order, the first of them at the place.
+abbrev pub FieldsFrom : List Node → Node → ℕ → Members → Type 0
+FieldsFrom nodes node first ms = (place : ℕ) → IfSome (slice_get (fields_in ms) place) (λ field. ChildAt nodes node (first + place) (λ child. child.dtype ≡ field.dtype))
 
-abbrev pub HasFewRows : List Node → ℕ → Type 0
-HasFewRows nodes number = AtNode (λ node. node.rows ≤ most_rows) nodes number
+-- a non-nullable Int
+abbrev pub IsOffsets : DataType → Type 0
+IsOffsets (int_type kind NonNullable) = Unit {0}
+IsOffsets t = ⊥
 
--- A flat node has no children; a chunked one has any number.
-abbrev pub CountsChildren : Node → LayoutKind → Type 0
-CountsChildren node (Flat segment) = node.children ≡ []
-CountsChildren node Chunked = Unit {0}
+-- The dtype is that of the values, made nullable where the codes are.
+abbrev pub IsLookedUp : List Node → Node → DataType → Type 0
+IsLookedUp nodes node t = ChildAt nodes node 0 (λ values. ChildAt nodes node 1 (λ codes. t ≡ nullable_where (nullability_of codes.dtype) values.dtype))
 
-abbrev pub HasChildCount : List Node → ℕ → Type 0
-HasChildCount nodes number = AtNode (λ node. CountsChildren node node.kind) nodes number
+-- The dtypes of the children fit the kind and the dtype. Of a struct node whose dtype is no struct, and of
+-- a list node whose dtype is no list, the rule on the count of children speaks.
+abbrev pub TypesFit : List Node → Node → LayoutKind → DataType → Type 0
+TypesFit nodes node (kinds.Flat segment) t = IsLeaf t
+TypesFit nodes node kinds.Chunked t = EachChild nodes node.children (λ child. child.dtype ≡ t)
+TypesFit nodes node kinds.Struct (struct_type ms n) = ValidityAt nodes node 0 n × FieldsFrom nodes node (validity_count n) ms
+TypesFit nodes node kinds.Struct t = Unit {0}
+TypesFit nodes node kinds.Dict t = IsLookedUp nodes node t
+TypesFit nodes node kinds.List (list_type t n) = ChildAt nodes node 0 (λ elements. elements.dtype ≡ t) × ChildAt nodes node 1 (λ offsets. IsOffsets offsets.dtype) × ValidityAt nodes node 2 n
+TypesFit nodes node kinds.List t = Unit {0}
+TypesFit nodes node (kinds.Zoned zone_len stats) t = ChildAt nodes node 0 (λ data_. data_.dtype ≡ t)
+TypesFit nodes node (kinds.LegacyStats zone_len stats) t = ChildAt nodes node 0 (λ data_. data_.dtype ≡ t)
 
--- P of the child of that number
-abbrev pub ChildIs : List Node → (Node → Type 0) → ℕ → Type 0
-ChildIs nodes P child = IsSomeAnd (slice_get nodes child) P
+-- The codes of a dictionary have an unsigned Int dtype.
+abbrev pub CodesFit : List Node → Node → LayoutKind → Type 0
+CodesFit nodes node kinds.Dict = ChildAt nodes node 1 (λ codes. IsUnsigned codes.dtype)
+CodesFit nodes node kind = Unit {0}
 
--- A flat node has a leaf dtype, and a chunk has the dtype of its parent.
-abbrev pub FitsKind : List Node → Node → LayoutKind → Type 0
-FitsKind nodes node (Flat segment) = IsLeaf node.dtype
-FitsKind nodes node Chunked = All (ChildIs nodes (λ child. child.dtype ≡ node.dtype)) node.children
+-- ---- row counts
 
-abbrev pub HasFittingTypes : List Node → ℕ → Type 0
-HasFittingTypes nodes number = AtNode (λ node. FitsKind nodes node node.kind) nodes number
-
+-- the rows of the node of that number, 0 where there is none
 abbrev pub rows_of : List Node → ℕ → ℕ
 rows_of nodes number = option_map_or (λ node. node.rows) (slice_get nodes number) 0
 
--- The rows of the chunks add up to those of their parent.
-abbrev pub AddsUp : List Node → Node → LayoutKind → Type 0
-AddsUp nodes node (Flat segment) = Unit {0}
-AddsUp nodes node Chunked = sum_by (rows_of nodes) node.children ≡ node.rows
+-- There is a child at the place, with so many rows.
+abbrev pub RowsAt : List Node → Node → ℕ → ℕ → Type 0
+RowsAt nodes node place rows = ChildAt nodes node place (λ child. child.rows ≡ rows)
 
-abbrev pub HasRowCounts : List Node → ℕ → Type 0
-HasRowCounts nodes number = AtNode (λ node. AddsUp nodes node node.kind) nodes number
+-- The validity at the place has the rows of the node, where there is one.
+abbrev pub ValidityRowsAt : List Node → Node → ℕ → Nullability → Type 0
+ValidityRowsAt nodes node place NonNullable = Unit {0}
+ValidityRowsAt nodes node place Nullable = RowsAt nodes node place node.rows
 
--- ---- the whole tree
+-- Chunks add up to their parent's rows; fields, validities, codes and zoned data have them; list offsets
+-- have one more.
+abbrev pub RowsFit : List Node → Node → LayoutKind → Type 0
+RowsFit nodes node (kinds.Flat segment) = Unit {0}
+RowsFit nodes node kinds.Chunked = sum_by (rows_of nodes) node.children ≡ node.rows
+RowsFit nodes node kinds.Struct = EachChild nodes node.children (λ child. child.rows ≡ node.rows)
+RowsFit nodes node kinds.Dict = RowsAt nodes node 1 node.rows
+RowsFit nodes node kinds.List = RowsAt nodes node 1 (node.rows + 1) × ValidityRowsAt nodes node 2 (nullability_of node.dtype)
+RowsFit nodes node (kinds.Zoned zone_len stats) = RowsAt nodes node 0 node.rows
+RowsFit nodes node (kinds.LegacyStats zone_len stats) = RowsAt nodes node 0 node.rows
+
+-- ---- zones
+
+-- so many zones of a length, where the length isn't 0
+abbrev pub ZonesCount : ℕ → ℕ → ℕ → Type 0
+ZonesCount zero rows count = Unit {0}
+ZonesCount (suc n) rows count = count ≡ div_ceil rows (suc n)
+
+-- The zones have a field for each statistic, and a row for each zone.
+abbrev pub AreZones : List Node → Node → ℕ → List Statistic → Type 0
+AreZones nodes node zone_len stats = StandOver node.dtype stats × ChildAt nodes node 1 (λ zones. (zones.dtype ≡ zones_type node.dtype stats) × ZonesCount zone_len node.rows zones.rows)
+
+abbrev pub ZonesFit : List Node → Node → LayoutKind → Type 0
+ZonesFit nodes node (kinds.Zoned zone_len stats) = AreZones nodes node zone_len stats
+ZonesFit nodes node (kinds.LegacyStats zone_len stats) = AreZones nodes node zone_len stats
+ZonesFit nodes node kind = Unit {0}
+
+-- ---- the rules
+
+-- the number of a rule, in the order in which they are tried
+abbrev pub number_of : ShapeRule → ℕ
+number_of rules.Nonempty = 1
+number_of rules.LaterChildren = 2
+number_of rules.ChildOnce = 3
+number_of rules.Shallow = 4
+number_of rules.FewRows = 5
+number_of rules.ChildCount = 6
+number_of rules.DistinctNames = 7
+number_of rules.FittingTypes = 8
+number_of rules.UnsignedCodes = 9
+number_of rules.RowCounts = 10
+number_of rules.FittingZones = 11
+
+-- what a rule asks of a node of that number
+abbrev pub Asks : ShapeRule → List Node → ℕ → Node → Type 0
+Asks rules.Nonempty nodes number node = Unit {0}
+Asks rules.LaterChildren nodes number node = HasLaterChildren nodes number node
+Asks rules.ChildOnce nodes number node = IsChildOnce nodes number
+Asks rules.Shallow nodes number node = IsShallow nodes number node
+Asks rules.FewRows nodes number node = HasFewRows node
+Asks rules.ChildCount nodes number node = HasFittingCount node
+Asks rules.DistinctNames nodes number node = HasDistinctNames node.dtype
+Asks rules.FittingTypes nodes number node = TypesFit nodes node node.kind node.dtype
+Asks rules.UnsignedCodes nodes number node = CodesFit nodes node node.kind
+Asks rules.RowCounts nodes number node = RowsFit nodes node node.kind
+Asks rules.FittingZones nodes number node = ZonesFit nodes node node.kind
+
+-- There is a node of that number, and it has what the rule asks. (The first rule asks no more.)
+abbrev pub Keeps : ShapeRule → List Node → ℕ → Type 0
+Keeps rule nodes number = IsSomeAnd (slice_get nodes number) (Asks rule nodes number)
 
 -- A good tree: there is a node, and each node keeps each rule.
 pub record IsGoodTree (nodes : List Node) : Type 0 where
   pub nonempty : 0 < length nodes
-  pub later_children : (n : ℕ) → n < length nodes → HasLaterChildren nodes n
-  pub child_once : (n : ℕ) → n < length nodes → IsChildOnce nodes n
-  pub shallow : (n : ℕ) → n < length nodes → IsShallow nodes n
-  pub few_rows : (n : ℕ) → n < length nodes → HasFewRows nodes n
-  pub child_count : (n : ℕ) → n < length nodes → HasChildCount nodes n
-  pub fitting_types : (n : ℕ) → n < length nodes → HasFittingTypes nodes n
-  pub row_counts : (n : ℕ) → n < length nodes → HasRowCounts nodes n
-
--- ---- faults
-
--- Each number below the count has P, or this is the first that hasn't.
-abbrev pub FindsFirst : (ℕ → Type 0) → ℕ → Option ℕ → Type 0
-FindsFirst P count None = (n : ℕ) → n < count → P n
-FindsFirst P count (Some first) = (first < count) × (P first → ⊥) × ((n : ℕ) → n < first → P n)
-
--- the rules in the order in which they are tried, and their numbers in answers
-pub data ShapeRule : Type 0 where
-  nonempty : ShapeRule
-  later_children : ShapeRule
-  child_once : ShapeRule
-  shallow : ShapeRule
-  few_rows : ShapeRule
-  child_count : ShapeRule
-  fitting_types : ShapeRule
-  row_counts : ShapeRule
-
-abbrev pub number_of : ShapeRule → ℕ
-number_of nonempty = 1
-number_of later_children = 2
-number_of child_once = 3
-number_of shallow = 4
-number_of few_rows = 5
-number_of child_count = 6
-number_of fitting_types = 8
-number_of row_counts = 10
-
-abbrev pub Keeps : ShapeRule → List Node → ℕ → Type 0
-Keeps nonempty nodes n = 0 < length nodes
-Keeps later_children nodes n = HasLaterChildren nodes n
-Keeps child_once nodes n = IsChildOnce nodes n
-Keeps shallow nodes n = IsShallow nodes n
-Keeps few_rows nodes n = HasFewRows nodes n
-Keeps child_count nodes n = HasChildCount nodes n
-Keeps fitting_types nodes n = HasFittingTypes nodes n
-Keeps row_counts nodes n = HasRowCounts nodes n
-
--- The node breaks the rule of that number; each node before it keeps that rule, and each node keeps each
--- rule before it.
-pub record IsFirstFault (nodes : List Node) (node number : ℕ) : Type 0 where
-  pub rule : ShapeRule
-  pub number_is : number ≡ number_of rule
-  pub broken : Keeps rule nodes node → ⊥
-  pub node_is : (node ≡ 0) ⊎ (node < length nodes)
-  pub earlier_nodes : (n : ℕ) → n < node → Keeps rule nodes n
-  pub earlier_rules : (earlier : ShapeRule) → number_of earlier < number_of rule → (n : ℕ) → n < length nodes → Keeps earlier nodes n
-
--- what a refusal says of the nodes
-abbrev pub RefusedBy : List Node → LayoutError → Type 0
-RefusedBy nodes (BadLayout node rule) = IsFirstFault nodes node rule
-RefusedBy nodes Memory = Unit {0}
+  pub kept : (rule : ShapeRule) (n : ℕ) → n < length nodes → Keeps rule nodes n

@@ -1,23 +1,46 @@
 //! Layout trees: which segments of a file hold which rows, checked once and then relied on.
+//!
+//! - Nodes and their kinds: [`LayoutNode`], [`LayoutKind`].
+//! - Checked trees: [`LayoutTree`] with [`LayoutError`], by the rules of [`ShapeRule`]; which fields of its root an
+//!   expression gets: [`Kept`].
+//! - The laws of the shape: [`faults_are_one`], [`good_trees_unfold`], [`limits_are_promised`].
+//! - The laws of values: [`values_are_those_of_the_rows`], [`nodes_have_their_childrens_values`], [`values_fit`].
+//! - The laws of reads: [`chunks_have_rows`], [`children_are_read`], [`children_are_reached`],
+//!   [`ways_tell_the_dictionary`], [`reads_decide_values`].
+//! - Definitions on trees that were written by hand: [`trees_by_hand`], [`structs_by_hand`],
+//!   [`dictionaries_by_hand`], [`zones_by_hand`], [`kept_by_hand`].
 #![tactic(auto)]
 
 mod by_hand;
+mod children;
 mod counts;
 mod depths;
+mod dtypes;
 mod errors;
+mod facts;
+mod kept_fields;
 mod laws;
 mod limits;
 mod nodes;
+mod number_rules;
+mod row_rules;
 mod rules;
 mod shape;
 mod trees;
+mod type_rules;
+mod zones;
 
-pub use by_hand::trees_by_hand;
+pub use by_hand::{
+    dictionaries_by_hand, kept_by_hand, structs_by_hand, trees_by_hand, zones_by_hand,
+};
 pub use errors::LayoutError;
+pub use kept_fields::Kept;
 pub use laws::{
-    chunks_have_the_values, faults_leave_no_values, leaf_has_the_values, segments_are_reached,
-    torn_leaves_are_read, tree_unfolds, values_are_those_of_the_rows, values_join,
+    children_are_reached, children_are_read, chunks_have_rows, faults_are_one, good_trees_unfold,
+    nodes_have_their_childrens_values, reads_decide_values, values_are_those_of_the_rows,
+    values_fit, ways_tell_the_dictionary,
 };
 pub use limits::limits_are_promised;
 pub use nodes::{LayoutKind, LayoutNode};
+pub use rules::ShapeRule;
 pub use trees::LayoutTree;

@@ -1,7 +1,7 @@
 //! The limits of the code are the numbers that are promised.
 
 ghost use Rattle.std.specs.Prelude.{◌≡◌};
-ghost use Rattle.vx_layout.specs.declared.rules.TheConstants.{MOST_ROWS, MOST_LEVELS};
+ghost use Rattle.vx_layout.specs.declared.number_rules.TheConstants.{MOST_ROWS, MOST_LEVELS};
 ghost use Rattle.vx_layout.specs.Shape.{most_rows, most_levels};
 
 /// Each limit of the code is the number of that meaning.

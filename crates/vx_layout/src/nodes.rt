@@ -1,12 +1,25 @@
 //! The nodes of a layout.
 
 use vx_base::DType;
+use vx_expr::Statistics;
 
-/// What a node is. A flat node is one segment; a chunked one has its rows in its children, in order.
-#[derive(Clone, Copy, Debug, PartialEq, Eq)]
+/// What a node is, and what its children are, in order.
+#[derive(Debug, Drop)]
 pub enum LayoutKind {
+    /// One segment, and no children.
     Flat { segment: u32 },
+    /// The rows of its children, one child after another.
     Chunked,
+    /// The validity where the dtype is nullable, then a child for each field.
+    Struct,
+    /// The values, and the codes that say for each row which of them it has.
+    Dict,
+    /// The elements, the offsets, and the validity where the dtype is nullable.
+    List,
+    /// The data, and a table with a row for each zone of so many rows.
+    Zoned { zone_len: u64, stats: Statistics },
+    /// As `Zoned`, in an older form.
+    LegacyStats { zone_len: u64, stats: Statistics },
 }
 
 /// A node of a layout: its kind, the dtype and the number of its rows, and the numbers of its children.

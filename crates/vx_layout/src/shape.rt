@@ -1,120 +1,88 @@
-//! The first node that breaks a rule, rule by rule, and the first of all faults.
+//! The first fault of a list of nodes, by rule and then by node.
 
-ghost use Rattle.std.specs.Prelude.{◌<◌, ℕ, length, map, IfOk, OnOk, IfErr};
+ghost use Rattle.std.specs.Prelude.{◌<◌, ◌↔◌, length, map, IfOk, OnOk, IfErr, IsTrue};
+ghost use Rattle.vx_layout.specs.Facts.{AreFacts};
+ghost use Rattle.vx_layout.specs.Faults.{FindsFirst, RefusedBy};
 ghost use Rattle.vx_layout.specs.Nodes.{node_data};
-ghost use Rattle.vx_layout.specs.Shape.{node_limit, IsGoodTree, RefusedBy, FindsFirst, HasLaterChildren, IsChildOnce, IsShallow, HasFewRows, HasChildCount, HasFittingTypes, HasRowCounts};
+ghost use Rattle.vx_layout.specs.Shape.{node_limit, Asks, IsGoodTree, Keeps};
 
-use crate::counts::count_parents;
-use crate::depths::depths_of;
 use crate::errors::LayoutError;
+use crate::facts::{Facts, facts_of};
 use crate::nodes::LayoutNode;
-use crate::rules::{
-    has_child_count, has_few_rows, has_fitting_types, has_later_children, has_row_counts,
-    is_child_once, is_shallow,
+use crate::number_rules::{
+    has_few_rows, has_fitting_count, has_later_children, is_child_once, is_shallow,
 };
+use crate::row_rules::{have_fitting_rows, have_fitting_zones};
+use crate::rules::ShapeRule;
+use crate::type_rules::{has_unsigned_codes, have_fitting_types};
 use std::alloc::{AllocError, Global};
+use vx_base::has_distinct_names;
 
-/// The first node that breaks rule 2.
-fn first_without_later_children(nodes: &[LayoutNode]) -> Option<u32>
-    requires { length nodes.now < node_limit }
-    ensures { FindsFirst (HasLaterChildren (map node_data nodes.now)) (length nodes.now) result }
+/// Whether the node of that number has what the rule asks.
+fn has_asked(
+    alloc: Global,
+    facts: &Facts,
+    nodes: &[LayoutNode],
+    rule: ShapeRule,
+    number: usize,
+    node: &LayoutNode,
+) -> Result<bool, AllocError>
+    requires place { number < length nodes.now }
+    requires facts { AreFacts (map node_data nodes.now) facts.now }
+    ensures { IfOk result (λ has. IsTrue has ↔ Asks rule (map node_data nodes.now) number (node_data node.now)) }
 {
-    for number in 0..nodes.len() {
-        if !has_later_children(nodes, number) {
-            return Some(number as u32);
-        }
-    }
-    None
+    Ok(match rule {
+        ShapeRule::Nonempty => true,
+        ShapeRule::LaterChildren => has_later_children(nodes, number, node),
+        ShapeRule::ChildOnce => is_child_once(nodes, facts, number),
+        ShapeRule::Shallow => is_shallow(nodes, facts, number, node),
+        ShapeRule::FewRows => has_few_rows(node),
+        ShapeRule::ChildCount => has_fitting_count(node),
+        ShapeRule::DistinctNames => has_distinct_names(alloc, &node.dtype)?,
+        ShapeRule::FittingTypes => have_fitting_types(alloc, nodes, node)?,
+        ShapeRule::UnsignedCodes => has_unsigned_codes(nodes, node),
+        ShapeRule::RowCounts => have_fitting_rows(nodes, node),
+        ShapeRule::FittingZones => have_fitting_zones(alloc, nodes, node)?,
+    })
 }
 
-/// The first node that breaks rule 3.
-fn first_not_child_once(alloc: Global, nodes: &[LayoutNode]) -> Result<Option<u32>, AllocError>
-    requires short { length nodes.now < node_limit }
-    requires later { (n : ℕ) → n < length nodes.now → HasLaterChildren (map node_data nodes.now) n }
-    ensures { IfOk result (FindsFirst (IsChildOnce (map node_data nodes.now)) (length nodes.now)) }
+/// Whether the node of that number keeps the rule.
+fn keeps(
+    alloc: Global,
+    facts: &Facts,
+    nodes: &[LayoutNode],
+    rule: ShapeRule,
+    number: usize,
+) -> Result<bool, AllocError>
+    requires place { number < length nodes.now }
+    requires facts { AreFacts (map node_data nodes.now) facts.now }
+    ensures { IfOk result (λ kept. IsTrue kept ↔ Keeps rule (map node_data nodes.now) number) }
 {
-    let counts = count_parents(alloc, nodes)?;
+    has_asked(alloc, facts, nodes, rule, number, &nodes[number])
+}
+
+/// The first node that breaks the rule.
+fn first_without(
+    alloc: Global,
+    facts: &Facts,
+    nodes: &[LayoutNode],
+    rule: ShapeRule,
+) -> Result<Option<u32>, AllocError>
+    requires short { length nodes.now < node_limit }
+    requires facts { AreFacts (map node_data nodes.now) facts.now }
+    ensures { IfOk result (FindsFirst (Keeps rule (map node_data nodes.now)) (length nodes.now)) }
+{
     for number in 0..nodes.len() {
-        if !is_child_once(&counts, number) {
+        if !keeps(alloc, facts, nodes, rule, number)? {
             return Ok(Some(number as u32));
         }
     }
     Ok(None)
-}
-
-/// The first node that breaks rule 4.
-fn first_not_shallow(alloc: Global, nodes: &[LayoutNode]) -> Result<Option<u32>, AllocError>
-    requires short { length nodes.now < node_limit }
-    requires later { (n : ℕ) → n < length nodes.now → HasLaterChildren (map node_data nodes.now) n }
-    ensures { IfOk result (FindsFirst (IsShallow (map node_data nodes.now)) (length nodes.now)) }
-{
-    let depths = depths_of(alloc, nodes)?;
-    for number in 0..nodes.len() {
-        if !is_shallow(nodes, &depths, number) {
-            return Ok(Some(number as u32));
-        }
-    }
-    Ok(None)
-}
-
-/// The first node that breaks rule 5.
-fn first_without_few_rows(nodes: &[LayoutNode]) -> Option<u32>
-    requires { length nodes.now < node_limit }
-    ensures { FindsFirst (HasFewRows (map node_data nodes.now)) (length nodes.now) result }
-{
-    for number in 0..nodes.len() {
-        if !has_few_rows(nodes, number) {
-            return Some(number as u32);
-        }
-    }
-    None
-}
-
-/// The first node that breaks rule 6.
-fn first_without_child_count(nodes: &[LayoutNode]) -> Option<u32>
-    requires { length nodes.now < node_limit }
-    ensures { FindsFirst (HasChildCount (map node_data nodes.now)) (length nodes.now) result }
-{
-    for number in 0..nodes.len() {
-        if !has_child_count(nodes, number) {
-            return Some(number as u32);
-        }
-    }
-    None
-}
-
-/// The first node that breaks rule 8.
-fn first_without_fitting_types(nodes: &[LayoutNode]) -> Option<u32>
-    requires short { length nodes.now < node_limit }
-    requires later { (n : ℕ) → n < length nodes.now → HasLaterChildren (map node_data nodes.now) n }
-    ensures { FindsFirst (HasFittingTypes (map node_data nodes.now)) (length nodes.now) result }
-{
-    for number in 0..nodes.len() {
-        if !has_fitting_types(nodes, number) {
-            return Some(number as u32);
-        }
-    }
-    None
-}
-
-/// The first node that breaks rule 10.
-fn first_without_row_counts(nodes: &[LayoutNode]) -> Option<u32>
-    requires short { length nodes.now < node_limit }
-    requires later { (n : ℕ) → n < length nodes.now → HasLaterChildren (map node_data nodes.now) n }
-    requires few { (n : ℕ) → n < length nodes.now → HasFewRows (map node_data nodes.now) n }
-    ensures { FindsFirst (HasRowCounts (map node_data nodes.now)) (length nodes.now) result }
-{
-    for number in 0..nodes.len() {
-        if !has_row_counts(nodes, number) {
-            return Some(number as u32);
-        }
-    }
-    None
 }
 
 /// Whether the nodes keep every rule of the shape. The rules are tried in their order, each over the
-/// nodes in ascending number; the error is the first fault. Time is linear in the nodes and their
-/// children but for the dtypes, which are compared whole.
+/// nodes in ascending number; the error is the first fault. Time is linear in nodes, children and fields
+/// together, but for the names of a struct's fields, which are told apart in n log n.
 pub fn check(alloc: Global, nodes: &[LayoutNode]) -> Result<(), LayoutError>
     requires { length nodes.now < node_limit }
     ensures good { OnOk result (IsGoodTree (map node_data nodes.now)) }
@@ -123,26 +91,12 @@ pub fn check(alloc: Global, nodes: &[LayoutNode]) -> Result<(), LayoutError>
     if nodes.is_empty() {
         return Err(LayoutError::BadLayout { node: 0, rule: 1 });
     }
-    if let Some(node) = first_without_later_children(nodes) {
-        return Err(LayoutError::BadLayout { node, rule: 2 });
-    }
-    if let Some(node) = first_not_child_once(alloc, nodes)? {
-        return Err(LayoutError::BadLayout { node, rule: 3 });
-    }
-    if let Some(node) = first_not_shallow(alloc, nodes)? {
-        return Err(LayoutError::BadLayout { node, rule: 4 });
-    }
-    if let Some(node) = first_without_few_rows(nodes) {
-        return Err(LayoutError::BadLayout { node, rule: 5 });
-    }
-    if let Some(node) = first_without_child_count(nodes) {
-        return Err(LayoutError::BadLayout { node, rule: 6 });
-    }
-    if let Some(node) = first_without_fitting_types(nodes) {
-        return Err(LayoutError::BadLayout { node, rule: 8 });
-    }
-    if let Some(node) = first_without_row_counts(nodes) {
-        return Err(LayoutError::BadLayout { node, rule: 10 });
+    let facts = facts_of(alloc, nodes)?;
+    for number in 1..12 {
+        let rule = ShapeRule::of_number(number);
+        if let Some(node) = first_without(alloc, &facts, nodes, rule)? {
+            return Err(LayoutError::BadLayout { node, rule: number });
+        }
     }
     Ok(())
 }

@@ -1,16 +1,21 @@
 //! A checked layout tree.
 
-ghost use Rattle.std.specs.Prelude.{◌≡◌, ◌<◌, length, map, IfOk, OnOk, IfErr, IfSome, IsSomeAnd, Some, option_and_then, slice_get};
+ghost use Rattle.std.specs.Prelude.{◌≡◌, ◌<◌, length, map, All, IfOk, OnOk, IfErr, IfSome, IsSomeAnd, Some, option_and_then, slice_get};
 ghost use Rattle.vx_base.specs.Views.{data_type};
+ghost use Rattle.vx_layout.specs.Kept.{kept_data, kept_fields};
 ghost use Rattle.vx_layout.specs.Nodes.{node_data};
-ghost use Rattle.vx_layout.specs.Shape.{node_limit, IsGoodTree, RefusedBy};
+ghost use Rattle.vx_layout.specs.Faults.{RefusedBy};
+ghost use Rattle.vx_layout.specs.Shape.{node_limit, IsGoodTree};
 
+use crate::children::{child_number, node_at};
 use crate::errors::LayoutError;
+use crate::kept_fields::{Kept, fields_kept};
 use crate::nodes::LayoutNode;
 use crate::shape;
-use std::alloc::Global;
+use std::alloc::{AllocError, Global};
 use std::marker::Model;
 use vx_base::DType;
+use vx_expr::BoundExpression;
 
 /// A layout tree: nodes that keep the rules of the shape (docs/FORMATS.md). Node 0 is the root.
 #[derive(Debug, Drop)]
@@ -54,8 +59,7 @@ impl LayoutTree {
         ensures zero { result ≡ 0 }
         ensures node { result < length self.now }
     {
-        let is_there = !self.nodes.is_empty();
-        prove!(is_there);
+        let _nodes = &self.nodes;
         0
     }
 
@@ -82,13 +86,14 @@ impl LayoutTree {
         self.nodes[0].row_count
     }
 
-    /// A node of the tree.
+    /// A node of the tree. Its children are later nodes of the tree.
     pub fn node(&self, node: u32) -> &LayoutNode
         requires { node < length self.now }
         ensures at { slice_get self.now node ≡ Some (node_data result.now) }
+        ensures later { All (λ child. (node < child) × (child < length self.now)) result.now.children.items }
         ensures good { IsGoodTree self.now }
     {
-        &self.nodes[node as usize]
+        node_at(&self.nodes, node)
     }
 
     /// The number of the child at a place, and `None` exactly where the node has no such place. A child is a
@@ -98,14 +103,14 @@ impl LayoutTree {
         ensures at { result ≡ option_and_then (λ node. slice_get node.children place) (slice_get self.now node) }
         ensures later { IfSome result (λ child. (node < child) × (child < length self.now)) }
     {
-        child_at(self.nodes.as_slice(), node as usize, place)
+        child_number(&self.nodes, node, place)
     }
-}
 
-/// The number of the child of a node at a place.
-fn child_at(nodes: &[LayoutNode], node: usize, place: usize) -> Option<u32>
-    requires { node < length nodes.now }
-    ensures { result ≡ option_and_then (λ node. slice_get node.children place) (slice_get (map node_data nodes.now) node) }
-{
-    nodes[node].children.get(place).copied()
+    /// The fields of the root that the expression gets: all, unless the root is a struct that takes no nulls
+    /// and occurs in the expression, but never bare.
+    pub fn kept(&self, alloc: Global, expression: &BoundExpression) -> Result<Kept, AllocError>
+        ensures { IfOk result (λ kept. IsSomeAnd (slice_get self.now 0) (λ root. kept_data kept ≡ kept_fields root.dtype expression.now.term)) }
+    {
+        fields_kept(alloc, &self.nodes[0].dtype, expression)
+    }
 }

@@ -1,21 +1,26 @@
-//! Cases of layout trees: reads a call a line, and prints the line with its answer.
+//! Cases of layout trees: reads a command a line, and prints the line with its answer.
 //!
-//! A line that is empty or begins with `# ` is printed as it is. `README.md` says how nodes are written.
+//! A line that is empty or begins with `# ` is printed as it is. The commands stand in `README.md`.
 #![tactic(auto)]
 
-mod calls;
-mod words;
+mod commands;
+mod dtypes;
+mod expressions;
+mod kinds;
+mod large;
+mod nodes;
 
-use calls::answer;
+use commands::{Desk, answer};
 
 fn main(rt: HostRuntime) -> anyhow::Result<()> {
     let alloc = rt.alloc();
+    let mut desk = Desk { tree: None };
     for line in rt.lines(alloc) {
         let line = line?;
-        if line.is_empty() || line.starts_with("# ") {
+        let answered = answer(alloc, &mut desk, line.as_str())?;
+        if answered.is_empty() {
             println!(rt; "{line}")?;
         } else {
-            let answered = answer(alloc, line.as_str())?;
             println!(rt; "{line} => {answered}")?;
         }
     }

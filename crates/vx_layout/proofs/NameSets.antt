@@ -1,0 +1,158 @@
+-- Sets of names, and the fields whose names stand in one.
+use Rattle.std.proofs.Common.{◌≡◌, ℕ, zero, suc, ◌+◌, ◌<◌, add-one, Bool, true, false, cond, not, ◌||◌, List, [], ◌∷◌, ◌++◌, Option, Some, None, map, length, get_or, take, refl, sym, ap, ◌∙◌, arith, Bor, Ordering}
+use Rattle.std.specs.Prelude.{filter, option_map}
+use Rattle.std.specs.List.{list_any}
+use Rattle.std.specs.Str.{bytes_eq}
+use Rattle.std.specs.BTreeSet.{insert_key}
+use Rattle.std.specs.BTreeMap.{is_at}
+use Rattle.std.specs.Ordering.{is_eq, nat_cmp, match_ordering}
+use Rattle.std.specs.declared.cmp.Ordering.TheVariants.{Less, Equal, Greater}
+use Rattle.std.specs.Cmp.Lexicographic.{slice_cmp}
+use Rattle.std.proofs.lemmas.List.{take_more}
+use Rattle.std.proofs.lemmas.Map.Text.{is_eq-slice_cmp}
+use Rattle.std.proofs.lemmas.Slice.Eq.{bytes_eq-Decides}
+use Rattle.vx_base.specs.declared.dtypes.Field.{Field}
+use Rattle.vx_base.specs.Data.{Members}
+use Rattle.vx_base.specs.Names.{names_in}
+use Rattle.vx_base.specs.Views.{members_of}
+use Rattle.vx_expr.specs.Mentions.{first_ones}
+use Rattle.vx_layout.specs.Kept.{KeptFields, is_kept, kept_among, names_among, only}
+
+-- whether the name is one of these
+abbrev pub stands_in : List (List ℕ) → List ℕ → Bool
+stands_in names name = is_kept (only names) name
+
+eq_swap : (xs ys : List ℕ) (a b : Bool) → bytes_eq xs ys ≡ a → bytes_eq ys xs ≡ b → a ≡ b
+eq_swap xs ys true true e f = refl
+eq_swap xs ys false false e f = refl
+eq_swap xs ys true false e f = let no = (bytes_eq-Decides ys xs).1 (sym ((bytes_eq-Decides xs ys).0 e)) in absurd cc
+eq_swap xs ys false true e f = let no = (bytes_eq-Decides xs ys).1 (sym ((bytes_eq-Decides ys xs).0 f)) in absurd cc
+
+swapped : (xs ys : List ℕ) → bytes_eq xs ys ≡ bytes_eq ys xs
+swapped xs ys = eq_swap xs ys _ _ refl refl
+
+-- the texts of a set's keys
+abbrev pub texts : List (Bor (List ℕ)) → List (List ℕ)
+texts keys = map (λ key. key.now) keys
+
+abbrev text_cmp : Bor (List ℕ) → Bor (List ℕ) → Ordering
+text_cmp x y = slice_cmp nat_cmp x.now y.now
+
+-- a set looks a key up by its bytes
+pub looked_up : (keys : List (Bor (List ℕ))) (key : Bor (List ℕ)) → list_any (is_at (text_cmp key)) keys ≡ stands_in (texts keys) key.now
+looked_up [] key = refl
+looked_up (k ∷ ks) key = let here = is_eq-slice_cmp key.now k.now ∙ swapped key.now k.now in let later = looked_up ks key in λ i. here i || later i
+
+or_swap : (a b c : Bool) → (a || (b || c)) ≡ (b || (a || c))
+or_swap true true c = refl
+or_swap true false c = refl
+or_swap false b c = refl
+
+or_same : (a b : Bool) → (a || (a || b)) ≡ (a || b)
+or_same true b = refl
+or_same false b = refl
+
+inserted_at : (o : Ordering) (k : Bor (List ℕ)) (key : Bor (List ℕ)) (ks rest : List (Bor (List ℕ))) (q : List ℕ) → (o ≡ Equal → key.now ≡ k.now) → stands_in (texts rest) q ≡ (bytes_eq key.now q || stands_in (texts ks) q)
+    → stands_in (texts (match_ordering o (key ∷ k ∷ ks) (k ∷ ks) (k ∷ rest))) q ≡ (bytes_eq key.now q || (bytes_eq k.now q || stands_in (texts ks) q))
+inserted_at Less k key ks rest q same later = refl
+inserted_at Equal k key ks rest q same later = sym (ap (λ (x : List ℕ). bytes_eq x q || (bytes_eq k.now q || stands_in (texts ks) q)) (same refl) ∙ or_same (bytes_eq k.now q) (stands_in (texts ks) q))
+inserted_at Greater k key ks rest q same later = ap (λ (b : Bool). bytes_eq k.now q || b) later ∙ or_swap (bytes_eq k.now q) (bytes_eq key.now q) (stands_in (texts ks) q)
+
+same_text : (xs ys : List ℕ) → slice_cmp nat_cmp xs ys ≡ Equal → xs ≡ ys
+same_text xs ys e = (bytes_eq-Decides xs ys).0 (sym (is_eq-slice_cmp xs ys) ∙ ap is_eq e)
+
+-- what a set has seen after an insertion
+pub inserted : (keys : List (Bor (List ℕ))) (key : Bor (List ℕ)) (q : List ℕ) → stands_in (texts (insert_key text_cmp keys key)) q ≡ stands_in (key.now ∷ texts keys) q
+inserted [] key q = refl
+inserted (k ∷ ks) key q = inserted_at (text_cmp key k) k key ks (insert_key text_cmp ks key) q (same_text key.now k.now) (inserted ks key q)
+
+seen_last : (xs : List (List ℕ)) (x q : List ℕ) → stands_in (xs ++ x ∷ []) q ≡ (bytes_eq x q || stands_in xs q)
+seen_last [] x q = refl
+seen_last (y ∷ ys) x q = ap (λ (b : Bool). bytes_eq y q || b) (seen_last ys x q) ∙ or_swap (bytes_eq y q) (bytes_eq x q) (stands_in ys q)
+
+-- one more name
+pub set_more : (names : List (List ℕ)) (i : ℕ) (name : List ℕ) (key : Bor (List ℕ)) (keys after : List (Bor (List ℕ))) → i < length names → name ≡ get_or names i name → key.now ≡ name → after ≡ insert_key text_cmp keys key
+    → ((q : List ℕ) → stands_in (texts keys) q ≡ stands_in (take i names) q) → (q : List ℕ) → stands_in (texts after) q ≡ stands_in (take (i + 1) names) q
+set_more names i name key keys after lt is same put so_far q =
+    ap (λ (ks : List (Bor (List ℕ))). stands_in (texts ks) q) put
+    ∙ inserted keys key q
+    ∙ ap (λ (b : Bool). bytes_eq key.now q || b) (so_far q)
+    ∙ ap (λ (n : List ℕ). bytes_eq n q || stands_in (take i names) q) (same ∙ is)
+    ∙ sym (seen_last (take i names) (get_or names i name) q)
+    ∙ ap (λ (ns : List (List ℕ)). stands_in ns q) (sym (take_more names i name lt))
+
+-- one more field
+pub kept_more : (names : List (List ℕ)) (fields : List Field) (i : ℕ) (field : Field) → i < length fields → field ≡ get_or fields i field → names_among (members_of (take (suc i) fields)) names ≡ names_among (members_of (take i fields)) names ++ cond (stands_in names field.name) (field.name ∷ []) []
+kept_more names [] i field lt e = absurd (omega arith)
+kept_more names (one ∷ fields) zero field lt e = ap (λ (f : Field). cond (stands_in names f.name) (f.name ∷ []) []) (sym e)
+kept_more names (one ∷ fields) (suc i) field lt e =
+    let rest : names_among (members_of (take (suc i) fields)) names ≡ names_among (members_of (take i fields)) names ++ cond (stands_in names field.name) (field.name ∷ []) [] = kept_more names fields i field (omega arith) e in
+    elim (stands_in names one.name) as (λ b. cond b (one.name ∷ names_among (members_of (take (suc i) fields)) names) (names_among (members_of (take (suc i) fields)) names) ≡ cond b (one.name ∷ names_among (members_of (take i fields)) names) (names_among (members_of (take i fields)) names) ++ cond (stands_in names field.name) (field.name ∷ []) []) [ true ↦ ap (λ (ns : List (List ℕ)). one.name ∷ ns) rest | false ↦ rest ]
+
+add_none : (names : List (List ℕ)) → names ++ [] ≡ names
+add_none [] = refl
+add_none (name ∷ names) = ap (λ (ns : List (List ℕ)). name ∷ ns) (add_none names)
+
+pub kept_yes : (names : List (List ℕ)) (fields : List Field) (i : ℕ) (field : Field) (so_far after : List (List ℕ)) (name : List ℕ) → i < length fields → field ≡ get_or fields i field → stands_in names field.name ≡ true → so_far ≡ names_among (members_of (take i fields)) names → name ≡ field.name → after ≡ so_far ++ name ∷ [] → after ≡ names_among (members_of (take (suc i) fields)) names
+kept_yes names fields i field so_far after name lt is there before same put =
+    put
+    ∙ ap (λ (n : List ℕ). so_far ++ n ∷ []) same
+    ∙ ap (λ (ns : List (List ℕ)). ns ++ field.name ∷ []) before
+    ∙ ap (λ (b : Bool). names_among (members_of (take i fields)) names ++ cond b (field.name ∷ []) []) (sym there)
+    ∙ sym (kept_more names fields i field lt is)
+
+pub kept_no : (names : List (List ℕ)) (fields : List Field) (i : ℕ) (field : Field) (so_far : List (List ℕ)) → i < length fields → field ≡ get_or fields i field → stands_in names field.name ≡ false → so_far ≡ names_among (members_of (take i fields)) names → so_far ≡ names_among (members_of (take (suc i) fields)) names
+kept_no names fields i field so_far lt is not_there before =
+    before
+    ∙ sym (add_none (names_among (members_of (take i fields)) names))
+    ∙ ap (λ (b : Bool). names_among (members_of (take i fields)) names ++ cond b (field.name ∷ []) []) (sym not_there)
+    ∙ sym (kept_more names fields i field lt is)
+
+pub told : (keys : List (Bor (List ℕ))) (key : Bor (List ℕ)) (names : List (List ℕ)) (name : List ℕ) (found is : Bool) → found ≡ list_any (is_at (text_cmp key)) keys → ((q : List ℕ) → stands_in (texts keys) q ≡ stands_in names q) → key.now ≡ name → found ≡ is → stands_in names name ≡ is
+told keys key names name found is test same e found_is =
+    ap (stands_in names) (sym e) ∙ sym (same key.now) ∙ sym (looked_up keys key) ∙ sym test ∙ found_is
+
+-- ---- names of which each stands once
+
+found_step : (p : List ℕ → Bool) (x : List ℕ) (left xs : List (List ℕ)) (b c : Bool) → p x ≡ c → (c ≡ true → b ≡ true) → list_any p left ≡ list_any p xs → list_any p (cond b (x ∷ left) left) ≡ (c || list_any p xs)
+found_step p x left xs true c e passes later = ap (λ (d : Bool). d || list_any p left) e ∙ ap (λ (d : Bool). c || d) later
+found_step p x left xs false true e passes later = absurd (let no : false ≡ true = passes refl in cc)
+found_step p x left xs false false e passes later = later
+
+-- where whatever has p passes the test, it is found among those that pass
+found_left : (p test : List ℕ → Bool) → ((x : List ℕ) → p x ≡ true → test x ≡ true) → (xs : List (List ℕ)) → list_any p (filter test xs) ≡ list_any p xs
+found_left p test passes [] = refl
+found_left p test passes (x ∷ xs) = found_step p x (filter test xs) xs (test x) (p x) refl (passes x) (found_left p test passes xs)
+
+-- a text that equals one name differs from another
+other_name : (n name x : List ℕ) → bytes_eq n name ≡ false → bytes_eq x name ≡ true → not (bytes_eq x n) ≡ true
+other_name n name x differs e =
+    let same : x ≡ name = (bytes_eq-Decides x name).0 e in
+    ap (λ (y : List ℕ). not (bytes_eq y n)) same ∙ ap not (swapped name n ∙ differs)
+
+first_step : (n name : List ℕ) (ns : List (List ℕ)) (b : Bool) → bytes_eq n name ≡ b → stands_in (first_ones ns) name ≡ stands_in ns name → (b || stands_in (filter (λ other. not (bytes_eq other n)) (first_ones ns)) name) ≡ (b || stands_in ns name)
+first_step n name ns true e later = refl
+first_step n name ns false e later = found_left (λ other. bytes_eq other name) (λ other. not (bytes_eq other n)) (λ x is. other_name n name x e is) (first_ones ns) ∙ later
+
+-- a name is one of these where it is one of them taken once each
+first_found : (names : List (List ℕ)) (name : List ℕ) → stands_in (first_ones names) name ≡ stands_in names name
+first_found [] name = refl
+first_found (n ∷ ns) name = first_step n name ns (bytes_eq n name) refl (first_found ns name)
+
+filter_same : (p q : List ℕ → Bool) → ((x : List ℕ) → p x ≡ q x) → (xs : List (List ℕ)) → filter p xs ≡ filter q xs
+filter_same p q same [] = refl
+filter_same p q same (x ∷ xs) =
+    let here : p x ≡ q x = same x in
+    let rest : filter p xs ≡ filter q xs = filter_same p q same xs in
+    λ i. cond (here i) (x ∷ rest i) (rest i)
+
+-- and so the same fields are among them
+pub first_among : (ms : Members) (names : List (List ℕ)) → names_among ms (first_ones names) ≡ names_among ms names
+first_among ms names = filter_same (stands_in (first_ones names)) (stands_in names) (first_found names) (names_in ms)
+
+-- the fields of a list of names, taken once each
+pub kept_named : (ms : Members) (names slice kept : List (List ℕ)) (got : Option (List (List ℕ))) → Some names ≡ option_map first_ones got → slice ≡ names → kept ≡ names_among ms slice → only kept ≡ kept_among ms got
+kept_named ms names slice kept None e same is = absurd cc
+kept_named ms names slice kept (Some ns) e same is =
+    let once : slice ≡ first_ones ns = cc in
+    ap only (is ∙ ap (names_among ms) once ∙ first_among ms ns)

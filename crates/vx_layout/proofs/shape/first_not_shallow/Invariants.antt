@@ -1,7 +1,0 @@
-use Rattle.std.proofs.Common.{ℕ, ◌<◌, map}
-use Rattle.vx_layout.specs.Nodes.{node_data}
-use Rattle.vx_layout.specs.Shape.{IsShallow}
-use Rattle.vx_layout.proofs.shape.first_not_shallow.Given as goal
-
-abbrev pub invariant-loop-number : goal.invariant-loop-number
-invariant-loop-number l = (n : ℕ) → n < l.number → IsShallow (map node_data l.nodes) n
