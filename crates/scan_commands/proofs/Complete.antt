@@ -7,41 +7,38 @@ use Rattle.vx_base.specs.Data.{DataType, Datum}
 use Rattle.vx_base.specs.Reading.{decoded}
 use Rattle.vx_base.specs.Sources.{SourceState, Rose}
 use Rattle.vx_base.specs.Streams.{ReadState, WriteState}
-use Rattle.vx_layout.specs.Trees.{Tree, missing, leaf, chunks}
+use Rattle.vx_rows.specs.Reads.{directly, Found, a_cell, a_code, a_list_row, Read, Finds, FindsOnly, IsFine}
+use Rattle.vx_rows.specs.SegmentLeaves.{Bytes, leaves_of, IsTorn}
+use Rattle.vx_rows.proofs.ByteLeaves.{torn_lacks}
 use Rattle.vx_layout.specs.Kept.{all}
-use Rattle.vx_layout.specs.Reads.{Read, AnyOf, reads, directly}
-use Rattle.vx_layout.specs.Value.{IsTorn, segment_bytes}
+use Rattle.vx_layout.specs.Rows.{segment_bytes, reads}
 use Rattle.scan_commands.specs.Request.{Asked}
 use Rattle.scan_commands.specs.Answer.{IsAccepted, IsTornIn, root_of}
 use Rattle.scan_commands.specs.Run.{Serves, IsStatus, IsRefused, IsValid, IsComplete, FirstOf}
 use Rattle.scan_commands.specs.Segments.{RoseBy, idle_limit}
-use Rattle.scan_commands.specs.Walk.{IsRead, EachLeafIsRead}
+use Rattle.scan_commands.specs.Walk.{EachReadIsFine}
 
-no_value : (o : Option (List Datum)) → o ≡ None → IsSome o → ⊥
-no_value None none some = cc
-no_value (Some values) none some = absurd cc
+none_left : (o : Option (List Datum)) → o ≡ None → IsSome o → ⊥
+none_left None none some = absurd cc
+none_left (Some values) none some = absurd cc
 
-torn_not_read : (bytes : Option (List ℕ)) (dtype : DataType) (rows : ℕ) → IsSomeAnd bytes (λ b. decoded dtype rows b ≡ None) → IsSomeAnd bytes (λ b. IsSome (decoded dtype rows b)) → ⊥
-torn_not_read None dtype rows torn read = absurd torn
-torn_not_read (Some bytes) dtype rows torn read = no_value (decoded dtype rows bytes) torn read
+not_both : (bytes : Bytes) (found : Found) → IsTorn bytes found → IsFine (leaves_of bytes) found → ⊥
+not_both bytes (a_cell at) torn fine = none_left (leaves_of bytes at.dtype at.rows at.segment) (torn_lacks bytes (a_cell at) torn) fine
+not_both bytes (a_code at) torn fine = absurd torn
+not_both bytes (a_list_row list row) torn fine = absurd torn
 
-not_both : (file : List ℕ) (locations : List SegmentLocation) (t : Tree) → IsTorn file locations t → IsRead file locations t → ⊥
-not_both file locations (missing head) torn read = absurd torn
-not_both file locations (leaf head segment) torn read = torn_not_read (segment_bytes file locations segment) head.dtype head.rows torn read
-not_both file locations (chunks head forest) torn read = absurd torn
-
-none_torn : (file : List ℕ) (locations : List SegmentLocation) (xs : List Read) → AnyOf (λ read. IsTorn file locations read.node) xs → AllByRecursion (λ read. IsRead file locations read.node) xs → ⊥
-none_torn file locations [] torn fine = absurd torn
-none_torn file locations (x ∷ xs) torn fine = elim torn [ inl here ↦ not_both file locations x.node here fine.0 | inr later ↦ none_torn file locations xs later fine.1 ]
+none_torn : (bytes : Bytes) (xs : List Read) → Finds (IsTorn bytes) xs → FindsOnly (IsFine (leaves_of bytes)) xs → ⊥
+none_torn bytes [] torn fine = absurd torn
+none_torn bytes (x ∷ xs) torn fine = elim torn [ inl here ↦ not_both bytes x.found here fine.0 | inr later ↦ none_torn bytes xs later fine.1 ]
 
 same_request : (bytes : List ℕ) (a b : Asked) → IsAccepted bytes a → IsAccepted bytes b → a ≡ b
 same_request bytes a b p q = let one = p.form in let two = q.form in cc
 
-not_torn : (bytes file : List ℕ) (asked : Asked) → IsAccepted bytes asked → EachLeafIsRead file asked.locations (root_of asked) → IsTornIn bytes file → ⊥
+not_torn : (bytes file : List ℕ) (asked : Asked) → IsAccepted bytes asked → EachReadIsFine file asked.locations (root_of asked) → IsTornIn bytes file → ⊥
 not_torn bytes file asked accepted fine torn =
-    let P : Asked → Type 0 = λ (a : Asked). EachLeafIsRead file a.locations (root_of a) in
+    let P : Asked → Type 0 = λ (a : Asked). EachReadIsFine file a.locations (root_of a) in
     let there = subst P (same_request bytes asked torn.0 accepted torn.1) fine in
-    none_torn file torn.0.locations (reads (root_of torn.0) directly all torn.2.0) torn.2.2 (there torn.2.0 torn.2.1)
+    none_torn (segment_bytes file torn.0.locations) (reads (root_of torn.0) directly all torn.2.0) torn.2.2 (there torn.2.0 torn.2.1)
 
 not_refused : (bytes file : List ℕ) → IsValid bytes file → IsRefused bytes → ⊥
 not_refused bytes file valid refused = elim refused [ inl large ↦ omega (arith, large, valid.0) | inr none ↦ none valid.1.0 valid.1.1 ]

@@ -1,3 +1,4 @@
+pub mod Chunks
 pub mod Pieces
 pub mod Polls
 pub mod Writes
@@ -5,5 +6,6 @@ pub mod Lists
 pub mod Forms
 pub mod Accepted
 pub mod Walks
+pub mod Faulted
 pub mod Serving
 pub mod Complete

@@ -13,12 +13,12 @@ use Rattle.vx_base.specs.Sources.{SourceState, Rose, range_of, asks_also, bytes_
 use Rattle.vx_layout.specs.declared.nodes.LayoutKind.TheVariants.{Chunked}
 use Rattle.vx_layout.specs.Nodes.{Node}
 use Rattle.vx_layout.specs.Shape.{IsGoodTree}
-use Rattle.vx_layout.specs.Trees.{leaf, Head, forest_of, subtree}
+use Rattle.vx_rows.specs.SegmentLeaves.{IsTorn}
+use Rattle.vx_layout.specs.Trees.{leaf, Head, subtree}
 use Rattle.vx_layout.specs.Kept.{all}
-use Rattle.vx_layout.specs.Value.{leaves_of, IsTorn}
-use Rattle.vx_layout.specs.Joined.{AreForestValues}
-use Rattle.vx_layout.proofs.Forests.{Continues, continue_more, continue_all, chunked_values, leaf_values}
-use Rattle.vx_layout.proofs.Reaching.{some_read_of_child, reached_of_child, reached_leaf}
+use Rattle.vx_layout.specs.Rows.{segment_bytes, file_leaves, AreForestValues}
+use Rattle.vx_layout.proofs.Joined.{leaf_values}
+use Rattle.scan_commands.proofs.Chunks.{forest_of, Continues, continue_none, continue_more, continue_all, chunked_values, some_row_of_child, reached_of_child, reached_leaf}
 use Rattle.scan_commands.specs.declared.faults.ScanFault.{ScanFault}
 use Rattle.scan_commands.specs.declared.faults.ScanFault.TheVariants.{BadSegment, ReadFault, Stalled, Memory}
 use Rattle.scan_commands.specs.Output.{line, lines}
@@ -98,7 +98,7 @@ lines-append xs ys = flat_map-append line xs ys
 -- what the chunks before an index gave
 abbrev pub RowsSoFar : List SegmentLocation → List Node → List ℕ → ℕ → Option (List ℕ) → List ℕ → List ℕ → Type 0
 RowsSoFar locations nodes children index None before after = Unit {0}
-RowsSoFar locations nodes children index (Some file) before after = (values : List Datum) × Continues (leaves_of file locations) (subtree nodes) children all index values × (after ≡ before ++ lines values)
+RowsSoFar locations nodes children index (Some file) before after = (values : List Datum) × Continues (file_leaves file locations) (subtree nodes) children all index values × (after ≡ before ++ lines values)
 
 pub record WalksSoFar (locations : List SegmentLocation) (nodes : List Node) (number : ℕ) (children : List ℕ) (index : ℕ) (old new : SourceState) (before after : List ℕ) : Type 0 where
   pub asks : AsksOnly (IsRangeIn locations (subtree nodes number)) old new
@@ -111,7 +111,7 @@ rows_more locations nodes children index child None mid_file before mid after sa
 rows_more locations nodes children index child (Some file) mid_file before mid after same here so_far gains =
     let next = rw same at gains in (
       so_far.0 ++ next.0,
-      continue_more (leaves_of file locations) (subtree nodes) children all index (index + 1) child so_far.0 next.0 refl here so_far.1 next.1,
+      continue_more (file_leaves file locations) (subtree nodes) children all index (index + 1) child so_far.0 next.0 refl here so_far.1 next.1,
       next.2 ∙ ap (λ (x : List ℕ). x ++ lines next.0) so_far.2 ∙ append_assoc before (lines so_far.0) (lines next.0) ∙ ap (λ (x : List ℕ). before ++ x) (sym (lines-append so_far.0 next.0)),
     )
 
@@ -141,7 +141,7 @@ torn_chunk : (locations : List SegmentLocation) (nodes : List Node) → IsGoodTr
 torn_chunk locations nodes good number node index child None mid_file same is chunked here torn = tt
 torn_chunk locations nodes good number node index child (Some file) mid_file same is chunked here torn =
     let there = rw same at torn in
-    some_read_of_child nodes good (λ read. IsTorn file locations read.node) number node index child all is chunked here there
+    some_row_of_child nodes good (IsTorn (segment_bytes file locations)) number node index child all is chunked here there
 
 -- the cause of a chunk is a cause of its node
 pub cause_of_chunk : (fault : ScanFault) (locations : List SegmentLocation) (nodes : List Node) → IsGoodTree nodes → (number : ℕ) (node : Node) (children : List ℕ) (index child : ℕ) (old mid new : SourceState)
@@ -157,9 +157,9 @@ pub gains_all : (locations : List SegmentLocation) (nodes : List Node) → IsGoo
     → slice_get nodes number ≡ Some node → node.kind ≡ Chunked → children ≡ node.children → length children ≤ index → RowsSoFar locations nodes children index file before after → GainsLines locations (subtree nodes number) file before after
 gains_all locations nodes good number node children index None before after is chunked same done so_far = tt
 gains_all locations nodes good number node children index (Some file) before after is chunked same done so_far =
-    let whole = continue_all (leaves_of file locations) (subtree nodes) children all index so_far.0 done so_far.1 in
-    let P : List ℕ → Type 0 = λ (cs : List ℕ). AreForestValues (leaves_of file locations) (forest_of (subtree nodes) cs) all so_far.0 in
-    (so_far.0, chunked_values nodes good (leaves_of file locations) number node all so_far.0 is chunked (subst P same whole), so_far.2)
+    let whole = continue_all (file_leaves file locations) (subtree nodes) children all index so_far.0 done so_far.1 in
+    let P : List ℕ → Type 0 = λ (cs : List ℕ). AreForestValues (file_leaves file locations) (forest_of (subtree nodes) cs) all so_far.0 in
+    (so_far.0, chunked_values nodes good (file_leaves file locations) number node all so_far.0 is chunked (subst P same whole), so_far.2)
 
 -- ---- a chunk by its index
 
@@ -181,4 +181,4 @@ pub gains_leaf : (locations : List SegmentLocation) (head : Head) (segment : ℕ
     → length column.values ≡ head.rows → IfSome file (λ told. option_and_then (decoded head.dtype head.rows) (bytes_at told at) ≡ Some column.values) → after ≡ before ++ lines column.values → GainsLines locations (leaf head segment) file before after
 gains_leaf locations head segment at None column before after is count values text = tt
 gains_leaf locations head segment at (Some file) column before after is count values text =
-    (column.values, leaf_values (leaves_of file locations) head segment all column.values (rw is values) count, text)
+    (column.values, leaf_values (file_leaves file locations) head segment all column.values (rw is values) count, text)

@@ -17,16 +17,17 @@ use Rattle.scan_commands.specs.Request.{Asked, requested}
 use Rattle.scan_commands.specs.Segments.{idle_limit, RoseBy}
 use Rattle.scan_commands.specs.Walk.{AreRowsOf, IsRangeIn, HasTornLeaf, GainsLines}
 
--- a flat node's segment has one of so many locations
+-- a flat node whose segment has one of so many locations, or a chunked one
 abbrev pub IsLocated : ℕ → LayoutKind → Type 0
 IsLocated count (Flat segment) = segment < count
 IsLocated count Chunked = Unit {0}
+IsLocated count kind = ⊥
 
 abbrev pub AllLocated : ℕ → List Node → Type 0
 AllLocated count nodes = AllByRecursion (λ node. IsLocated count node.kind) nodes
 
--- The bytes are this request: they have the form, the nodes are a good tree, and each flat node's segment
--- has a location.
+-- The bytes are this request: they have the form, the nodes are a good tree of flat and chunked nodes, and each
+-- flat node's segment has a location.
 pub record IsAccepted (bytes : List ℕ) (asked : Asked) : Type 0 where
   pub form : requested bytes ≡ Some asked
   pub good : IsGoodTree asked.nodes

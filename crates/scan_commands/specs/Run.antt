@@ -13,7 +13,7 @@ use Rattle.scan_commands.specs.Output.{lines}
 use Rattle.scan_commands.specs.Reading.{most_bytes, ReadsPieces, EndsInEmptyPiece}
 use Rattle.scan_commands.specs.Segments.{idle_limit, RoseBy}
 use Rattle.scan_commands.specs.Statuses.{done_status, not_yet_status, bad_segment_status, read_fault_status, stalled_status, write_fault_status, request_fault_status, memory_status}
-use Rattle.scan_commands.specs.Walk.{AsksOnly, EachLeafIsRead}
+use Rattle.scan_commands.specs.Walk.{AsksOnly, EachReadIsFine}
 
 -- ---- statuses
 
@@ -127,7 +127,7 @@ pub record Serves (status : ℕ) (request_old request_new : ReadState) (source_o
 -- The input is valid: the bytes are a request of at most 16777216 bytes, and each leaf that a row reads has
 -- a segment inside the file that spells values for it.
 abbrev pub IsValid : List ℕ → List ℕ → Type 0
-IsValid bytes file = (length bytes ≤ most_bytes) × ((asked : Asked) × IsAccepted bytes asked × EachLeafIsRead file asked.locations (root_of asked))
+IsValid bytes file = (length bytes ≤ most_bytes) × ((asked : Asked) × IsAccepted bytes asked × EachReadIsFine file asked.locations (root_of asked))
 
 -- Valid input without fault or stall is answered, or memory runs out.
 abbrev pub IsComplete : ℕ → ReadState → ReadState → SourceState → SourceState → WriteState → WriteState → Type 0

@@ -7,11 +7,11 @@ use Rattle.vx_base.specs.Columns.{ColumnData}
 use Rattle.vx_base.specs.Data.{DataType, Datum}
 use Rattle.vx_base.specs.Reading.{decoded}
 use Rattle.vx_base.specs.Sources.{SourceState, Rose, range_of, bytes_at}
-use Rattle.vx_layout.specs.Trees.{Tree, missing, leaf, chunks, head_of}
+use Rattle.vx_rows.specs.Reads.{directly, FindsOnly, IsFine}
+use Rattle.vx_rows.specs.SegmentLeaves.{IsTorn}
+use Rattle.vx_layout.specs.Trees.{Tree, head_of}
 use Rattle.vx_layout.specs.Kept.{all}
-use Rattle.vx_layout.specs.Reads.{directly, reads, SomeRead, IsReached}
-use Rattle.vx_layout.specs.Value.{leaves_of, segment_bytes, IsTorn}
-use Rattle.vx_layout.specs.Joined.{AreTreeValues}
+use Rattle.vx_layout.specs.Rows.{segment_bytes, file_leaves, reads, AreTreeValues, SomeRowFinds, IsReached}
 use Rattle.scan_commands.specs.declared.faults.ScanFault.{ScanFault}
 use Rattle.scan_commands.specs.declared.faults.ScanFault.TheVariants.{BadSegment, ReadFault, Stalled, Memory}
 use Rattle.scan_commands.specs.Output.{lines}
@@ -30,21 +30,16 @@ IsRangeIn locations tree range = (segment : ℕ) × IsReached tree all segment �
 
 -- a row of the tree reads a leaf whose segment lies inside the file and spells no values for it
 abbrev pub HasTornLeaf : List ℕ → List SegmentLocation → Tree → Type 0
-HasTornLeaf file locations tree = SomeRead (λ read. IsTorn file locations read.node) tree all
+HasTornLeaf file locations tree = SomeRowFinds (IsTorn (segment_bytes file locations)) tree all
 
--- a leaf whose segment lies inside the file and spells values for it
-abbrev pub IsRead : List ℕ → List SegmentLocation → Tree → Type 0
-IsRead file locations (missing head) = ⊥
-IsRead file locations (leaf head segment) = IsSomeAnd (segment_bytes file locations segment) (λ bytes. IsSome (decoded head.dtype head.rows bytes))
-IsRead file locations (chunks head forest) = Unit {0}
-
--- so each leaf that a row of the tree reads
-abbrev pub EachLeafIsRead : List ℕ → List SegmentLocation → Tree → Type 0
-EachLeafIsRead file locations tree = (row : ℕ) → row < (head_of tree).rows → AllByRecursion (λ read. IsRead file locations read.node) (reads tree directly all row)
+-- each leaf that a row of the tree reads has a segment inside the file that spells values for it
+abbrev pub EachReadIsFine : List ℕ → List SegmentLocation → Tree → Type 0
+EachReadIsFine file locations tree = (row : ℕ) → row < (head_of tree).rows
+    → FindsOnly (IsFine (file_leaves file locations)) (reads tree directly all row)
 
 -- these are the values of the tree's rows by the file, none of which is a fault
 abbrev pub AreRowsOf : List ℕ → List SegmentLocation → Tree → List Datum → Type 0
-AreRowsOf file locations tree values = AreTreeValues (leaves_of file locations) tree all values
+AreRowsOf file locations tree values = AreTreeValues (file_leaves file locations) tree all values
 
 -- why a scan of the tree gave no rows
 abbrev pub HasScanCause : ScanFault → List SegmentLocation → Tree → SourceState → SourceState → Type 0

@@ -64,23 +64,24 @@ pub fn answer<S: SegmentSource>(
     }
 }
 
-/// Whether each flat node's segment has one of so many locations.
+/// Whether all nodes are flat and chunked ones, and each flat node's segment has one of so many locations.
 fn are_located(nodes: &[LayoutNode], count: usize) -> bool
     ensures { IsTrue result ↔ AllLocated count (map node_data nodes.now) }
 {
     for node in nodes {
-        if !is_located(node.kind, count) {
+        if !is_located(&node.kind, count) {
             return false;
         }
     }
     true
 }
 
-fn is_located(kind: LayoutKind, count: usize) -> bool
-    ensures { IsTrue result ↔ IsLocated count kind }
+fn is_located(kind: &LayoutKind, count: usize) -> bool
+    ensures { IsTrue result ↔ IsLocated count kind.now }
 {
     match kind {
-        LayoutKind::Flat { segment } => (segment as usize) < count,
+        LayoutKind::Flat { segment } => (*segment as usize) < count,
         LayoutKind::Chunked => true,
+        _ => false,
     }
 }

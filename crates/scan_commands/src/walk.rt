@@ -22,7 +22,7 @@ use std::alloc::{AllocError, Global};
 use vx_base::{Column, DecodeError, SegmentLocation, SegmentSource, Value, decode};
 use vx_layout::{LayoutKind, LayoutNode, LayoutTree};
 
-/// Reads the leaves below a node, and appends a line for each row.
+/// Reads the leaves below a node, and appends a line for each row. All nodes are flat and chunked ones.
 pub fn append_rows<S: SegmentSource>(
     alloc: Global,
     tree: &LayoutTree,
@@ -40,14 +40,15 @@ pub fn append_rows<S: SegmentSource>(
         (S.state source.new) (string_bytes text.old) (string_bytes text.new) }
 {
     let node = tree.node(number);
-    match node.kind {
-        LayoutKind::Flat { segment } => append_leaf(alloc, node, segment, locations, source, text),
+    match &node.kind {
+        LayoutKind::Flat { segment } => append_leaf(alloc, node, *segment, locations, source, text),
         LayoutKind::Chunked => {
             for child in &node.children {
                 append_rows(alloc, tree, locations, *child, source, text)?;
             }
             Ok(())
         }
+        _ => unreachable!(),
     }
 }
 

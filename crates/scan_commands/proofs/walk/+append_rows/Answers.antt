@@ -1,7 +1,7 @@
-use Rattle.std.proofs.Common.{get_or}
+use Rattle.std.proofs.Common.{◌≡◌, true, length, get_or}
 use Rattle.std.proofs.lemmas.Result.{err_from_is_err_and}
 use Rattle.vx_layout.specs.Nodes.{node_data}
-use Rattle.vx_layout.proofs.Unfolding.{flat_subtree}
+use Rattle.scan_commands.proofs.Chunks.{flat_subtree, is_walked, located_walked, is_one}
 use Rattle.scan_commands.proofs.Walks.{walks_more, asks_chunk, cause_of_chunk, gains_all, child_at}
 use Rattle.scan_commands.proofs.walk.+append_rows.Goals as goal
 
@@ -38,3 +38,9 @@ pub returns-after-loop-child-clause-rows : goal.returns-after-loop-child-clause-
 returns-after-loop-child-clause-rows g t c =
     let children = c.deref-child-items.result.now in
     gains_all c.args.locations.now c.args.tree.now c.node-node.ensures.good c.args.number (node_data c.node-node.result.now) children c.loop-child.child-index _ _ _ c.node-node.ensures.at c.in-Chunked.is c.deref-child-items.ensures.value c.loop-child-test.false c.loop-child.invariant.rows
+
+-- no other kind is located
+pub unreachable-requires : goal.unreachable-requires
+unreachable-requires g t c =
+    let walked : is_walked c.node-node.result.now.kind ≡ true = located_walked (length c.args.locations.now) c.args.tree.now c.args.number (node_data c.node-node.result.now) c.requires.located c.node-node.ensures.at in
+    absurd (is_one c.node-node.result.now.kind walked c.in_default.not-Flat c.in_default.not-Chunked)
