@@ -1,8 +1,8 @@
 //! The first fault of a list of nodes, by rule and then by node.
 
-ghost use Rattle.std.specs.Prelude.{◌<◌, ◌↔◌, length, map, IfOk, OnOk, IfErr, IsTrue};
+ghost use Rattle.std.specs.Prelude.{◌<◌, ◌≤◌, ◌↔◌, length, map, IfOk, OnOk, IfErr, IsTrue};
 ghost use Rattle.vx_layout.specs.Facts.{AreFacts};
-ghost use Rattle.vx_layout.specs.Faults.{FindsFirst, RefusedBy};
+ghost use Rattle.vx_layout.specs.Faults.{BreaksFirst, RefusedBy};
 ghost use Rattle.vx_layout.specs.Nodes.{node_data};
 ghost use Rattle.vx_layout.specs.Shape.{node_limit, Asks, IsGoodTree, Keeps};
 
@@ -17,6 +17,9 @@ use crate::rules::ShapeRule;
 use crate::type_rules::{has_unsigned_codes, have_fitting_types};
 use std::alloc::{AllocError, Global};
 use vx_base::has_distinct_names;
+
+/// One more than the number of the last rule.
+const PAST_LAST_RULE: u8 = 12;
 
 /// Whether the node of that number has what the rule asks.
 fn has_asked(
@@ -61,28 +64,32 @@ fn keeps(
     has_asked(alloc, facts, nodes, rule, number, &nodes[number])
 }
 
-/// The first node that breaks the rule.
-fn first_without(
+/// The number of the first rule that the node of that number breaks, of the rules before the limit; the limit
+/// where it keeps them.
+fn first_broken(
     alloc: Global,
     facts: &Facts,
     nodes: &[LayoutNode],
-    rule: ShapeRule,
-) -> Result<Option<u32>, AllocError>
-    requires short { length nodes.now < node_limit }
+    number: usize,
+    limit: u8,
+) -> Result<u8, AllocError>
+    requires place { number < length nodes.now }
     requires facts { AreFacts (map node_data nodes.now) facts.now }
-    ensures { IfOk result (FindsFirst (Keeps rule (map node_data nodes.now)) (length nodes.now)) }
+    requires some { 1 ≤ limit }
+    requires few { limit ≤ 12 }
+    ensures { IfOk result (BreaksFirst (map node_data nodes.now) number limit) }
 {
-    for number in 0..nodes.len() {
-        if !keeps(alloc, facts, nodes, rule, number)? {
-            return Ok(Some(number as u32));
+    for at in 1..limit {
+        if !keeps(alloc, facts, nodes, ShapeRule::of_number(at), number)? {
+            return Ok(at);
         }
     }
-    Ok(None)
+    Ok(limit)
 }
 
-/// Whether the nodes keep every rule of the shape. The rules are tried in their order, each over the
-/// nodes in ascending number; the error is the first fault. Time is linear in nodes, children and fields
-/// together, but for the names of a struct's fields, which are told apart in n log n.
+/// Whether the nodes keep every rule of the shape; the error is the first fault, by rule and then by node. Each
+/// node is asked once, for the rules before the first that an earlier node broke. Time is linear in nodes,
+/// children and fields together, but for the names of a struct's fields, which are told apart in n log n.
 pub fn check(alloc: Global, nodes: &[LayoutNode]) -> Result<(), LayoutError>
     requires { length nodes.now < node_limit }
     ensures good { OnOk result (IsGoodTree (map node_data nodes.now)) }
@@ -92,11 +99,17 @@ pub fn check(alloc: Global, nodes: &[LayoutNode]) -> Result<(), LayoutError>
         return Err(LayoutError::BadLayout { node: 0, rule: 1 });
     }
     let facts = facts_of(alloc, nodes)?;
-    for number in 1..12 {
-        let rule = ShapeRule::of_number(number);
-        if let Some(node) = first_without(alloc, &facts, nodes, rule)? {
-            return Err(LayoutError::BadLayout { node, rule: number });
+    let mut rule = PAST_LAST_RULE;
+    let mut node = 0;
+    for number in 0..nodes.len() {
+        let broken = first_broken(alloc, &facts, nodes, number, rule)?;
+        if broken < rule {
+            rule = broken;
+            node = number as u32;
         }
+    }
+    if rule < PAST_LAST_RULE {
+        return Err(LayoutError::BadLayout { node, rule });
     }
     Ok(())
 }
