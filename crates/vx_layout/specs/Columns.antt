@@ -9,7 +9,8 @@ use Rattle.vx_layout.specs.Rows.{AreTreeValues}
 -- Each field has a column: the values of all rows of its tree.
 abbrev pub AreColumns : Leaves → Members → Forest → List (List Datum) → Type 0
 AreColumns leaves no_members forest [] = Unit {0}
-AreColumns leaves (member name t ms) (tree first rest) (column ∷ columns) = AreTreeValues leaves first all column × AreColumns leaves ms rest columns
+AreColumns leaves (member name t ms) (tree first rest) (column ∷ columns) =
+    AreTreeValues leaves first all column × AreColumns leaves ms rest columns
 AreColumns leaves ms forest columns = ⊥
 
 -- the struct of the columns' values at a row

@@ -91,7 +91,8 @@ StructHasValues = (leaves : Leaves) (head : Head) (forest : Forest) (columns : L
 
 -- and null where the validity is false
 abbrev pub ValidStructHasValues : Type 0
-ValidStructHasValues = (leaves : Leaves) (head : Head) (forest : Forest) (validity : Tree) (columns : List (List Datum)) (truths : List Datum)
+ValidStructHasValues =
+    (leaves : Leaves) (head : Head) (forest : Forest) (validity : Tree) (columns : List (List Datum)) (truths : List Datum)
     → AreFields (struct_members head.dtype) head.rows forest → AreColumns leaves (struct_members head.dtype) forest columns
     → (head_of validity).rows ≡ head.rows → AreTreeValues leaves validity all truths
     → AreTreeValues leaves (fields head forest (valid_by validity)) all (map (valid_row_of truths columns) (range_with_len 0 head.rows))
@@ -129,11 +130,13 @@ ValueIsRead = (head : Head) (values codes : Tree) (kept : KeptFields) (way : Way
 
 -- the same is found, in the same order, whatever the way to a node
 abbrev pub FoundAnyWay : Type 0
-FoundAnyWay = (t : Tree) (kept : KeptFields) (row : ℕ) (way other : Way) → found_in (reads t way kept row) ≡ found_in (reads t other kept row)
+FoundAnyWay =
+    (t : Tree) (kept : KeptFields) (row : ℕ) (way other : Way) → found_in (reads t way kept row) ≡ found_in (reads t other kept row)
 
 -- whatever is read inside an outermost dictionary is come to through its values
 abbrev pub ReadThroughValues : Type 0
-ReadThroughValues = (t : Tree) (kept : KeptFields) (row dictionary : ℕ) → AreComeToBy (through dictionary) (reads t (through dictionary) kept row)
+ReadThroughValues =
+    (t : Tree) (kept : KeptFields) (row dictionary : ℕ) → AreComeToBy (through dictionary) (reads t (through dictionary) kept row)
 
 -- ---- what is reached below is reached above
 
@@ -183,4 +186,6 @@ ReadsDecideValue = (ones others : Leaves) (t : Tree) (kept : KeptFields) (way : 
 
 -- the value of a row fits the dtype of the tree, where the leaves' values fit theirs
 abbrev pub ValuesFit : Type 0
-ValuesFit = (leaves : Leaves) → GiveFitting leaves → (t : Tree) (row : ℕ) → IsSound t → IfSome (value leaves t all row) (Fits (head_of t).dtype)
+ValuesFit =
+    (leaves : Leaves) → GiveFitting leaves → (t : Tree) (row : ℕ) → IsSound t
+    → IfSome (value leaves t all row) (Fits (head_of t).dtype)

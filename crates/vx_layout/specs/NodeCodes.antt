@@ -50,4 +50,6 @@ abbrev pub node_with : LayoutKind × (DataType × (ℕ × List ℕ)) → Node
 node_with parts = record { kind = parts.0; dtype = parts.1.0; rows = parts.1.1.0; children = parts.1.1.1 }
 
 abbrev pub coded_nodes : Coded (List Node)
-coded_nodes = coded_list (code_by (LayoutKind × (DataType × (ℕ × List ℕ))) (coded× coded_kind (coded× coded_type (coded× coded_ℕ (coded_list coded_ℕ)))) node_parts node_with (λ _. refl))
+coded_nodes =
+    coded_list (code_by (LayoutKind × (DataType × (ℕ × List ℕ)))
+    (coded× coded_kind (coded× coded_type (coded× coded_ℕ (coded_list coded_ℕ)))) node_parts node_with (λ _. refl))

@@ -28,21 +28,26 @@ abbrev mutual
   derivation (missing head) kept row = nothing
   derivation (leaf head segment) kept row = cell (record { dtype = head.dtype; rows = head.rows; segment = segment; row = row })
   derivation (chunks head forest) kept row = derivation_in forest kept row
-  derivation (fields head forest validity) kept row = where_valid_by validity row (packed (field_derivations (struct_members head.dtype) forest kept row))
-  derivation (dict head values codes) kept row = looked_up head.number row (derivation codes all row) (each_row (derivation values all) 0 (head_of values).rows)
+  derivation (fields head forest validity) kept row =
+      where_valid_by validity row (packed (field_derivations (struct_members head.dtype) forest kept row))
+  derivation (dict head values codes) kept row =
+      looked_up head.number row (derivation codes all row) (each_row (derivation values all) 0 (head_of values).rows)
   derivation (lists head elements offsets validity) kept row = list_row head.number row
   derivation (zoned head zones content table) kept row = derivation content kept row
 
   -- the row of trees one after another
   pub derivation_in : Forest → KeptFields → ℕ → Derivation
   derivation_in no_trees kept row = nothing
-  derivation_in (tree first rest) kept row = if nat_lt row (head_of first).rows then derivation first kept row else derivation_in rest kept (row - (head_of first).rows)
+  derivation_in (tree first rest) kept row =
+      if nat_lt row (head_of first).rows then derivation first kept row else derivation_in rest kept (row - (head_of first).rows)
 
   -- the row of each field; a field without a tree is a fault
   pub field_derivations : Members → Forest → KeptFields → ℕ → Derivations
   field_derivations no_members forest kept row = no_more
-  field_derivations (member name t ms) no_trees kept row = also (if is_kept kept name then nothing else given null) (field_derivations ms no_trees kept row)
-  field_derivations (member name t ms) (tree first rest) kept row = also (if is_kept kept name then derivation first all row else given null) (field_derivations ms rest kept row)
+  field_derivations (member name t ms) no_trees kept row =
+      also (if is_kept kept name then nothing else given null) (field_derivations ms no_trees kept row)
+  field_derivations (member name t ms) (tree first rest) kept row =
+      also (if is_kept kept name then derivation first all row else given null) (field_derivations ms rest kept row)
 
   pub where_valid_by : Validity → ℕ → Derivation → Derivation
   where_valid_by always row d = d

@@ -84,7 +84,9 @@ ValidityAt nodes node place Nullable = ChildAt nodes node place (λ child. child
 
 -- Each field has a child of its dtype, in order, the first of them at the place.
 abbrev pub FieldsFrom : List Node → Node → ℕ → Members → Type 0
-FieldsFrom nodes node first ms = (place : ℕ) → IfSome (slice_get (fields_in ms) place) (λ field. ChildAt nodes node (first + place) (λ child. child.dtype ≡ field.dtype))
+FieldsFrom nodes node first ms =
+    (place : ℕ) → IfSome (slice_get (fields_in ms) place)
+    (λ field. ChildAt nodes node (first + place) (λ child. child.dtype ≡ field.dtype))
 
 -- a non-nullable Int
 abbrev pub IsOffsets : DataType → Type 0
@@ -93,7 +95,8 @@ IsOffsets t = ⊥
 
 -- The dtype is that of the values, made nullable where the codes are.
 abbrev pub IsLookedUp : List Node → Node → DataType → Type 0
-IsLookedUp nodes node t = ChildAt nodes node 0 (λ values. ChildAt nodes node 1 (λ codes. t ≡ nullable_where (nullability_of codes.dtype) values.dtype))
+IsLookedUp nodes node t =
+    ChildAt nodes node 0 (λ values. ChildAt nodes node 1 (λ codes. t ≡ nullable_where (nullability_of codes.dtype) values.dtype))
 
 -- The dtypes of the children fit the kind and the dtype. Of a struct node whose dtype is no struct, and of
 -- a list node whose dtype is no list, the rule on the count of children speaks.
@@ -103,7 +106,9 @@ TypesFit nodes node kinds.Chunked t = EachChild nodes node.children (λ child. c
 TypesFit nodes node kinds.Struct (struct_type ms n) = ValidityAt nodes node 0 n × FieldsFrom nodes node (validity_count n) ms
 TypesFit nodes node kinds.Struct t = Unit {0}
 TypesFit nodes node kinds.Dict t = IsLookedUp nodes node t
-TypesFit nodes node kinds.List (list_type t n) = ChildAt nodes node 0 (λ elements. elements.dtype ≡ t) × ChildAt nodes node 1 (λ offsets. IsOffsets offsets.dtype) × ValidityAt nodes node 2 n
+TypesFit nodes node kinds.List (list_type t n) =
+    ChildAt nodes node 0 (λ elements. elements.dtype ≡ t) × ChildAt nodes node 1 (λ offsets. IsOffsets offsets.dtype)
+    × ValidityAt nodes node 2 n
 TypesFit nodes node kinds.List t = Unit {0}
 TypesFit nodes node (kinds.Zoned zone_len stats) t = ChildAt nodes node 0 (λ data_. data_.dtype ≡ t)
 TypesFit nodes node (kinds.LegacyStats zone_len stats) t = ChildAt nodes node 0 (λ data_. data_.dtype ≡ t)
@@ -148,7 +153,9 @@ ZonesCount (suc n) rows count = count ≡ div_ceil rows (suc n)
 
 -- The zones have a field for each statistic, and a row for each zone.
 abbrev pub AreZones : List Node → Node → ℕ → List Statistic → Type 0
-AreZones nodes node zone_len stats = StandOver node.dtype stats × ChildAt nodes node 1 (λ zones. (zones.dtype ≡ zones_type node.dtype stats) × ZonesCount zone_len node.rows zones.rows)
+AreZones nodes node zone_len stats =
+    StandOver node.dtype stats
+    × ChildAt nodes node 1 (λ zones. (zones.dtype ≡ zones_type node.dtype stats) × ZonesCount zone_len node.rows zones.rows)
 
 abbrev pub ZonesFit : List Node → Node → LayoutKind → Type 0
 ZonesFit nodes node (kinds.Zoned zone_len stats) = AreZones nodes node zone_len stats

@@ -52,10 +52,15 @@ abbrev mutual
   IsSound (missing head) = ⊥
   IsSound (leaf head segment) = IsLeaf head.dtype
   IsSound (chunks head forest) = AreChunks head.dtype forest × (rows_in forest ≡ head.rows)
-  IsSound (fields head forest validity) = IsStruct head.dtype × AreFields (struct_members head.dtype) head.rows forest × IsValidity (nullability_of head.dtype) head.rows validity
+  IsSound (fields head forest validity) =
+      IsStruct head.dtype × AreFields (struct_members head.dtype) head.rows forest
+      × IsValidity (nullability_of head.dtype) head.rows validity
   IsSound (dict head values codes) = IsSound values × IsSound codes × IsDictionary head (head_of values) (head_of codes)
-  IsSound (lists head elements offsets validity) = IsSound elements × IsSound offsets × IsList head (head_of elements) (head_of offsets) × IsValidity (nullability_of head.dtype) head.rows validity
-  IsSound (zoned head zones content table) = IsSound content × IsHead (head_of content) head.dtype head.rows × IsSound table × AreZones zones head (head_of table)
+  IsSound (lists head elements offsets validity) =
+      IsSound elements × IsSound offsets × IsList head (head_of elements) (head_of offsets)
+      × IsValidity (nullability_of head.dtype) head.rows validity
+  IsSound (zoned head zones content table) =
+      IsSound content × IsHead (head_of content) head.dtype head.rows × IsSound table × AreZones zones head (head_of table)
 
   -- each chunk has the dtype
   pub AreChunks : DataType → Forest → Type 0

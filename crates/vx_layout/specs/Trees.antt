@@ -90,7 +90,8 @@ zones_of is_legacy zone_len stats = record { is_legacy = is_legacy; zone_len = z
 abbrev pub grown_as : Head → LayoutKind → List Tree → Tree
 grown_as head (kinds.Flat segment) ts = leaf head segment
 grown_as head kinds.Chunked ts = chunks head (forest_from ts)
-grown_as head kinds.Struct ts = fields head (forest_from (field_trees (nullability_of head.dtype) ts)) (validity_in (nullability_of head.dtype) ts 0)
+grown_as head kinds.Struct ts =
+    fields head (forest_from (field_trees (nullability_of head.dtype) ts)) (validity_in (nullability_of head.dtype) ts 0)
 grown_as head kinds.Dict ts = dict head (child_in ts 0) (child_in ts 1)
 grown_as head kinds.List ts = lists head (child_in ts 0) (child_in ts 1) (validity_in (nullability_of head.dtype) ts 2)
 grown_as head (kinds.Zoned zone_len stats) ts = zoned head (zones_of false zone_len stats) (child_in ts 0) (child_in ts 1)

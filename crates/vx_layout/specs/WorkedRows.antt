@@ -95,7 +95,9 @@ code_zero = 1 ∷ 0 ∷ 0 ∷ 0 ∷ []
 
 -- ---- a dictionary of which one value, that no row has, is torn
 abbrev pub torn_value : List Node
-torn_value = inner_node kinds.Dict text_type 2 (1 ∷ 4 ∷ []) ∷ inner_node kinds.Chunked text_type 2 (2 ∷ 3 ∷ []) ∷ flat_node text_type 1 0 ∷ flat_node text_type 1 1 ∷ flat_node u8 2 2 ∷ []
+torn_value =
+    inner_node kinds.Dict text_type 2 (1 ∷ 4 ∷ []) ∷ inner_node kinds.Chunked text_type 2 (2 ∷ 3 ∷ [])
+    ∷ flat_node text_type 1 0 ∷ flat_node text_type 1 1 ∷ flat_node u8 2 2 ∷ []
 
 abbrev pub torn_file : List ℕ
 torn_file = 1 ∷ 0 ∷ 0 ∷ 0 ∷ 97 ∷ 1 ∷ 0 ∷ 0 ∷ 0 ∷ 0 ∷ 0 ∷ []
@@ -124,7 +126,9 @@ abbrev pub with_list : DataType
 with_list = struct_type (member (codes "a") i64 (member (codes "l") (list_type i64 NonNullable) no_members)) NonNullable
 
 abbrev pub list_field : List Node
-list_field = inner_node kinds.Struct with_list 1 (1 ∷ 2 ∷ []) ∷ flat_node i64 1 0 ∷ inner_node kinds.List (list_type i64 NonNullable) 1 (3 ∷ 4 ∷ []) ∷ flat_node i64 0 1 ∷ flat_node i64 2 2 ∷ []
+list_field =
+    inner_node kinds.Struct with_list 1 (1 ∷ 2 ∷ []) ∷ flat_node i64 1 0
+    ∷ inner_node kinds.List (list_type i64 NonNullable) 1 (3 ∷ 4 ∷ []) ∷ flat_node i64 0 1 ∷ flat_node i64 2 2 ∷ []
 
 abbrev pub list_file : List ℕ
 list_file = 7 ∷ 0 ∷ 0 ∷ 0 ∷ 0 ∷ 0 ∷ 0 ∷ 0 ∷ []
@@ -137,11 +141,15 @@ seven_and_null = Some (structure (item (number (pos 7)) (item null no_items)))
 
 -- ---- data in zones of so many rows
 abbrev zones_of_numbers : DataType
-zones_of_numbers = struct_type (member (codes "min") (int_type I32 Nullable) (member (codes "max") (int_type I32 Nullable) no_members)) NonNullable
+zones_of_numbers =
+    struct_type (member (codes "min") (int_type I32 Nullable) (member (codes "max") (int_type I32 Nullable) no_members)) NonNullable
 
 abbrev pub in_zones : ℕ → List Node
-in_zones zone_len = inner_node (kinds.Zoned zone_len (Min ∷ Max ∷ [])) i32 3 (1 ∷ 4 ∷ []) ∷ inner_node kinds.Chunked i32 3 (2 ∷ 3 ∷ []) ∷ flat_node i32 1 0 ∷ flat_node i32 2 1
-    ∷ inner_node kinds.Struct zones_of_numbers 1 (5 ∷ 6 ∷ []) ∷ flat_node (int_type I32 Nullable) 1 2 ∷ flat_node (int_type I32 Nullable) 1 3 ∷ []
+in_zones zone_len =
+    inner_node (kinds.Zoned zone_len (Min ∷ Max ∷ [])) i32 3 (1 ∷ 4 ∷ []) ∷ inner_node kinds.Chunked i32 3 (2 ∷ 3 ∷ [])
+    ∷ flat_node i32 1 0 ∷ flat_node i32 2 1
+    ∷ inner_node kinds.Struct zones_of_numbers 1 (5 ∷ 6 ∷ [])
+    ∷ flat_node (int_type I32 Nullable) 1 2 ∷ flat_node (int_type I32 Nullable) 1 3 ∷ []
 
 abbrev pub zoned_file : List ℕ
 zoned_file = 1 ∷ 0 ∷ 0 ∷ 0 ∷ 2 ∷ 0 ∷ 0 ∷ 0 ∷ 3 ∷ 0 ∷ 0 ∷ 0 ∷ []
@@ -154,4 +162,6 @@ one_two_three = map (λ n. Some (number (pos n))) (1 ∷ 2 ∷ 3 ∷ [])
 
 -- ---- a dictionary whose values are a dictionary
 abbrev pub nested : List Node
-nested = inner_node kinds.Dict i8 1 (1 ∷ 4 ∷ []) ∷ inner_node kinds.Dict i8 1 (2 ∷ 3 ∷ []) ∷ flat_node i8 1 0 ∷ flat_node u8 1 1 ∷ flat_node u8 1 2 ∷ []
+nested =
+    inner_node kinds.Dict i8 1 (1 ∷ 4 ∷ []) ∷ inner_node kinds.Dict i8 1 (2 ∷ 3 ∷ []) ∷ flat_node i8 1 0 ∷ flat_node u8 1 1
+    ∷ flat_node u8 1 2 ∷ []

@@ -71,7 +71,8 @@ fn has_rows(nodes: &[LayoutNode], number: u32, rows: u64) -> bool
 
 /// Whether the child at a place has the dtype.
 pub fn has_child_of(nodes: &[LayoutNode], node: &LayoutNode, place: usize, dtype: &DType) -> bool
-    ensures { IsTrue result ↔ ChildAt (map node_data nodes.now) (node_data node.now) place (λ child. child.dtype ≡ data_type dtype.now) }
+    ensures { IsTrue result
+        ↔ ChildAt (map node_data nodes.now) (node_data node.now) place (λ child. child.dtype ≡ data_type dtype.now) }
 {
     match child_at(nodes, node, place) {
         Some(child) => child.dtype.same(dtype),

@@ -21,7 +21,8 @@ pub enum Kept {
 
 /// A set of the names.
 fn set_of<'a>(alloc: Global, names: &'a [Text]) -> Result<BTreeSet<&'a str>, AllocError>
-    ensures { IfOk result (λ seen. (name : List ℕ) → is_kept (only (map (λ key. key.now) seen.keys)) name ≡ is_kept (only names.now) name) }
+    ensures { IfOk result (λ seen. (name : List ℕ) → is_kept (only (map (λ key. key.now) seen.keys)) name
+        ≡ is_kept (only names.now) name) }
 {
     let mut seen = BTreeSet::new(alloc);
     for name in names {

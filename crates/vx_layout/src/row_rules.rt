@@ -49,7 +49,8 @@ fn has_one_more_at(nodes: &[LayoutNode], node: &LayoutNode, place: usize) -> boo
 
 /// Whether the validity at the place has the rows of the node, where there is one.
 fn has_validity_rows_at(nodes: &[LayoutNode], node: &LayoutNode, place: usize) -> bool
-    ensures { IsTrue result ↔ ValidityRowsAt (map node_data nodes.now) (node_data node.now) place (nullability_of (data_type node.now.dtype)) }
+    ensures { IsTrue result
+        ↔ ValidityRowsAt (map node_data nodes.now) (node_data node.now) place (nullability_of (data_type node.now.dtype)) }
 {
     if node.dtype.is_nullable() {
         has_rows_at(nodes, node, place, node.row_count)
@@ -119,7 +120,8 @@ pub fn have_fitting_zones(
     nodes: &[LayoutNode],
     node: &LayoutNode,
 ) -> Result<bool, AllocError>
-    ensures { IfOk result (λ fit. IsTrue fit ↔ ZonesFit (map node_data nodes.now) (node_data node.now) (node_data node.now).kind) }
+    ensures { IfOk result (λ fit. IsTrue fit
+        ↔ ZonesFit (map node_data nodes.now) (node_data node.now) (node_data node.now).kind) }
 {
     match &node.kind {
         LayoutKind::Zoned { zone_len, stats } | LayoutKind::LegacyStats { zone_len, stats } => {

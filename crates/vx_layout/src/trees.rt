@@ -109,7 +109,8 @@ impl LayoutTree {
     /// The fields of the root that the expression gets: all, unless the root is a struct that takes no nulls
     /// and occurs in the expression, but never bare.
     pub fn kept(&self, alloc: Global, expression: &BoundExpression) -> Result<Kept, AllocError>
-        ensures { IfOk result (λ kept. IsSomeAnd (slice_get self.now 0) (λ root. kept_data kept ≡ kept_fields root.dtype expression.now.term)) }
+        ensures { IfOk result (λ kept. IsSomeAnd (slice_get self.now 0) (λ root. kept_data kept
+            ≡ kept_fields root.dtype expression.now.term)) }
     {
         fields_kept(alloc, &self.nodes[0].dtype, expression)
     }

@@ -66,7 +66,8 @@ fn is_made_of(
     values: &DType,
     codes: &DType,
 ) -> Result<bool, AllocError>
-    ensures { IfOk result (λ made. IsTrue made ↔ (data_type dtype.now ≡ nullable_where (nullability_of (data_type codes.now)) (data_type values.now))) }
+    ensures { IfOk result (λ made. IsTrue made
+        ↔ (data_type dtype.now ≡ nullable_where (nullability_of (data_type codes.now)) (data_type values.now))) }
 {
     if codes.is_nullable() {
         let nullable = values.as_nullable(alloc)?;
@@ -78,7 +79,8 @@ fn is_made_of(
 
 /// Whether the dtype of a dictionary is that of its values, made nullable where its codes are.
 fn is_looked_up(alloc: Global, nodes: &[LayoutNode], node: &LayoutNode) -> Result<bool, AllocError>
-    ensures { IfOk result (λ fits. IsTrue fits ↔ IsLookedUp (map node_data nodes.now) (node_data node.now) (data_type node.now.dtype)) }
+    ensures { IfOk result (λ fits. IsTrue fits
+        ↔ IsLookedUp (map node_data nodes.now) (node_data node.now) (data_type node.now.dtype)) }
 {
     match (child_at(nodes, node, 0), child_at(nodes, node, 1)) {
         (Some(values), Some(codes)) => is_made_of(alloc, &node.dtype, &values.dtype, &codes.dtype),
@@ -92,7 +94,8 @@ pub fn have_fitting_types(
     nodes: &[LayoutNode],
     node: &LayoutNode,
 ) -> Result<bool, AllocError>
-    ensures { IfOk result (λ fit. IsTrue fit ↔ TypesFit (map node_data nodes.now) (node_data node.now) (node_data node.now).kind (data_type node.now.dtype)) }
+    ensures { IfOk result (λ fit. IsTrue fit
+        ↔ TypesFit (map node_data nodes.now) (node_data node.now) (node_data node.now).kind (data_type node.now.dtype)) }
 {
     Ok(match (&node.kind, &node.dtype) {
         (LayoutKind::Flat { .. }, dtype) => is_leaf(dtype),

@@ -36,7 +36,8 @@ abbrev mutual
   with_given values_for (given v) = given v
   with_given values_for (packed ds) = packed (each_with_given values_for ds)
   with_given values_for (valid_where d validity) = valid_where (with_given values_for d) (with_given values_for validity)
-  with_given values_for (looked_up dictionary row code values) = looked_up dictionary row (with_given values_for code) (values_with (values_for dictionary) values)
+  with_given values_for (looked_up dictionary row code values) =
+      looked_up dictionary row (with_given values_for code) (values_with (values_for dictionary) values)
   with_given values_for (worked_out t e d) = worked_out t e (with_given values_for d)
   with_given values_for (read_whole share row d ds) = share_with (values_for share) row (read_whole share row d ds)
 
@@ -53,7 +54,8 @@ abbrev mutual
   AreCertified leaves values_for (given v) = Unit {0}
   AreCertified leaves values_for (packed ds) = EachCertified leaves values_for ds
   AreCertified leaves values_for (valid_where d validity) = AreCertified leaves values_for d × AreCertified leaves values_for validity
-  AreCertified leaves values_for (looked_up dictionary row code values) = AreCertified leaves values_for code × IfSome (values_for dictionary) (λ vs. derived_each leaves values ≡ Some vs)
+  AreCertified leaves values_for (looked_up dictionary row code values) =
+      AreCertified leaves values_for code × IfSome (values_for dictionary) (λ vs. derived_each leaves values ≡ Some vs)
   AreCertified leaves values_for (worked_out t e d) = AreCertified leaves values_for d
   AreCertified leaves values_for (read_whole share row d ds) = IfSome (values_for share) (λ vs. derived leaves d ≡ slice_get vs row)
 

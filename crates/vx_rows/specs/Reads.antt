@@ -45,7 +45,9 @@ abbrev mutual
   reads_of way (given v) = []
   reads_of way (packed ds) = reads_of_each way ds
   reads_of way (valid_where d validity) = reads_of way d ++ reads_of way validity
-  reads_of way (looked_up dictionary row code values) = read_by way (a_code (code_row dictionary row code values)) ∷ (reads_of way code ++ reads_of_each (inside dictionary way) values)
+  reads_of way (looked_up dictionary row code values) =
+      read_by way (a_code (code_row dictionary row code values))
+      ∷ (reads_of way code ++ reads_of_each (inside dictionary way) values)
   reads_of way (worked_out t e d) = reads_of way d
   reads_of way (read_whole share row d ds) = reads_of way d ++ reads_of_each way ds
 

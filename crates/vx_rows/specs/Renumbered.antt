@@ -11,9 +11,11 @@ abbrev mutual
   renumbered number_of (given v) = given v
   renumbered number_of (packed ds) = packed (each_renumbered number_of ds)
   renumbered number_of (valid_where d validity) = valid_where (renumbered number_of d) (renumbered number_of validity)
-  renumbered number_of (looked_up dictionary row code values) = looked_up (number_of dictionary) row (renumbered number_of code) (each_renumbered number_of values)
+  renumbered number_of (looked_up dictionary row code values) =
+      looked_up (number_of dictionary) row (renumbered number_of code) (each_renumbered number_of values)
   renumbered number_of (worked_out t e d) = worked_out t e (renumbered number_of d)
-  renumbered number_of (read_whole share row d ds) = read_whole (number_of share) row (renumbered number_of d) (each_renumbered number_of ds)
+  renumbered number_of (read_whole share row d ds) =
+      read_whole (number_of share) row (renumbered number_of d) (each_renumbered number_of ds)
 
   pub each_renumbered : (ℕ → ℕ) → Derivations → Derivations
   each_renumbered number_of no_more = no_more
@@ -24,7 +26,8 @@ way_renumbered number_of directly = directly
 way_renumbered number_of (through dictionary) = through (number_of dictionary)
 
 abbrev pub code_renumbered : (ℕ → ℕ) → CodeRow → CodeRow
-code_renumbered number_of at = record { dictionary = number_of at.dictionary; row = at.row; code = renumbered number_of at.code; count = at.count }
+code_renumbered number_of at =
+    record { dictionary = number_of at.dictionary; row = at.row; code = renumbered number_of at.code; count = at.count }
 
 abbrev pub found_renumbered : (ℕ → ℕ) → Found → Found
 found_renumbered number_of (a_cell at) = a_cell at
