@@ -53,13 +53,13 @@ fn gives<I: Read + Drop>(rt: &impl Abort, source: &mut ReadSource<I>, max: usize
     requires { 0 < max }
 {
     let piece = source.read(max).expect(rt, "a piece");
-    assert_eq!(rt; piece.as_slice(), wanted);
+    assert!(rt; piece.as_slice() == wanted);
 }
 
 /// Asserts that the next read fails.
 fn fails<I: Read + Drop>(rt: &impl Abort, source: &mut ReadSource<I>, faults: u64) {
-    assert_eq!(rt; source.read(4).err(), Some(StreamError::Failed));
-    assert_eq!(rt; source.faults(), faults);
+    assert!(rt; matches!(source.read(4), Err(StreamError::Failed)));
+    assert!(rt; source.faults() == faults);
 }
 
 #[test]
@@ -69,7 +69,7 @@ fn reads_bytes(rt: HostRuntime) {
     gives(&rt, &mut source, 2, &[1, 2]);
     gives(&rt, &mut source, 2, &[3]);
     gives(&rt, &mut source, 2, &[]);
-    assert_eq!(rt; source.faults(), 0);
+    assert!(rt; source.faults() == 0);
 }
 
 #[test]
@@ -83,7 +83,7 @@ fn reads_on_after_a_fault(rt: HostRuntime) {
     gives(&rt, &mut source, usize::MAX, &[2]);
     gives(&rt, &mut source, usize::MAX, &[1]);
     gives(&rt, &mut source, usize::MAX, &[]);
-    assert_eq!(rt; source.faults(), 1);
+    assert!(rt; source.faults() == 1);
 }
 
 #[test]
@@ -101,8 +101,8 @@ fn takes<O: Write + Drop>(
     wanted: Result<usize, StreamError>,
     faults: u64,
 ) {
-    assert_eq!(rt; sink.write(piece), wanted);
-    assert_eq!(rt; sink.faults(), faults);
+    assert!(rt; sink.write(piece) == wanted);
+    assert!(rt; sink.faults() == faults);
 }
 
 #[test]
@@ -113,7 +113,7 @@ fn writes_bytes(rt: HostRuntime) {
     takes(&rt, &mut sink, &[], Ok(0), 0);
     takes(&rt, &mut sink, &[3], Ok(1), 0);
     drop(sink);
-    assert_eq!(rt; written.as_slice(), [1, 2, 3].as_slice());
+    assert!(rt; written.as_slice() == [1, 2, 3].as_slice());
 }
 
 #[test]

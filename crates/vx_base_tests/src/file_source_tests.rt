@@ -5,7 +5,6 @@ use std::fs;
 use std::fs::File;
 use std::process::Abort;
 use std::rt::Files;
-use std::test::Fail;
 use vx_base::{FileSource, SegmentLocation, SegmentSource, SourceError};
 
 fn place(offset: u64, length: u32) -> SegmentLocation {
@@ -21,26 +20,36 @@ fn gives(rt: &impl Abort, source: &mut FileSource, at: SegmentLocation, wanted: 
     let before = source.faults();
     let ticket = source.request(3, at).expect(rt, "a ticket");
     match source.poll(ticket) {
-        Ok(Some(bytes)) => assert_eq!(rt; bytes.as_slice(), wanted),
+        Ok(Some(bytes)) => assert!(rt; bytes.as_slice() == wanted),
         _ => panic!(rt; "no bytes"),
     }
-    assert_eq!(rt; source.faults(), before);
+    assert!(rt; source.faults() == before);
 }
 
 /// Asserts that the first poll of a location fails.
 fn fails(rt: &impl Abort, source: &mut FileSource, at: SegmentLocation, faults: u64) {
     let ticket = source.request(3, at).expect(rt, "a ticket");
-    assert_eq!(rt; source.poll(ticket).err(), Some(SourceError::Failed));
-    assert_eq!(rt; source.faults(), faults);
+    assert!(rt; matches!(source.poll(ticket), Err(SourceError::Failed)));
+    assert!(rt; source.faults() == faults);
+}
+
+/// Writes a file of these bytes, and opens it.
+fn opened<R: Files<File = File> + Abort>(
+    rt: &R,
+    alloc: Global,
+    path: &str,
+    bytes: &[u8],
+) -> FileSource {
+    fs::write(rt, path, bytes).expect(rt, "a file");
+    FileSource::new(rt, alloc, Some(path)).expect(rt, "memory")
 }
 
 fn is_send<T: Send>(_value: &T) {}
 
 #[test]
-fn reads_a_file(rt: HostRuntime) -> Result<(), Fail> {
+fn reads_a_file(rt: HostRuntime) {
     let path = "vx_base_reads_a_file.bytes";
-    fs::write(&rt, path, [10u8, 11, 12, 13, 14, 15].as_slice())?;
-    let mut source = FileSource::new(&rt, rt.alloc(), Some(path))?;
+    let mut source = opened(&rt, rt.alloc(), path, &[10, 11, 12, 13, 14, 15]);
     is_send(&source);
     assert!(rt; source.is_open());
     gives(&rt, &mut source, place(1, 3), &[11, 12, 13]);
@@ -49,39 +58,35 @@ fn reads_a_file(rt: HostRuntime) -> Result<(), Fail> {
     gives(&rt, &mut source, place(6, 0), &[]);
     fails(&rt, &mut source, place(0, u32::MAX), 2);
     fails(&rt, &mut source, place(u64::MAX, 2), 3);
-    assert_eq!(rt; source.idle(), 0);
-    fs::remove_file(&rt, path)?;
-    Ok(())
+    assert!(rt; source.idle() == 0);
+    fs::remove_file(&rt, path).expect(&rt, "the file");
 }
 
 #[test]
-fn forgets_its_reads(rt: HostRuntime) -> Result<(), Fail> {
+fn forgets_its_reads(rt: HostRuntime) {
     let path = "vx_base_forgets_its_reads.bytes";
-    fs::write(&rt, path, [10u8, 11].as_slice())?;
-    let mut source = FileSource::new(&rt, rt.alloc(), Some(path))?;
-    assert_eq!(rt; source.request(0, place(0, 1)), Ok(0));
+    let mut source = opened(&rt, rt.alloc(), path, &[10, 11]);
+    assert!(rt; source.request(0, place(0, 1)) == Ok(0));
     source.clear();
-    assert_eq!(rt; source.request(0, place(1, 1)), Ok(1));
-    assert_eq!(rt; source.faults(), 0);
-    fs::remove_file(&rt, path)?;
-    Ok(())
+    assert!(rt; source.request(0, place(1, 1)) == Ok(1));
+    assert!(rt; source.faults() == 0);
+    fs::remove_file(&rt, path).expect(&rt, "the file");
 }
 
 /// So many bytes, of which each is its place's remainder by 251.
-fn remainders(alloc: Global, count: usize) -> Result<Vec<u8>, Fail> {
+fn remainders(rt: &impl Abort, alloc: Global, count: usize) -> Vec<u8> {
     let mut bytes = Vec::new(alloc);
     for place in 0..count {
-        bytes.push((place % 251) as u8)?;
+        bytes.push((place % 251) as u8).expect(rt, "memory");
     }
-    Ok(bytes)
+    bytes
 }
 
 #[test]
-fn reads_behind_64_kib(rt: HostRuntime) -> Result<(), Fail> {
+fn reads_behind_64_kib(rt: HostRuntime) {
     let path = "vx_base_reads_behind_64_kib.bytes";
-    let bytes = remainders(rt.alloc(), 70000)?;
-    fs::write(&rt, path, bytes.as_slice())?;
-    let mut source = FileSource::new(&rt, rt.alloc(), Some(path))?;
+    let bytes = remainders(&rt, rt.alloc(), 70000);
+    let mut source = opened(&rt, rt.alloc(), path, bytes.as_slice());
     gives(
         &rt,
         &mut source,
@@ -90,32 +95,36 @@ fn reads_behind_64_kib(rt: HostRuntime) -> Result<(), Fail> {
     );
     gives(&rt, &mut source, place(69996, 4), &[218, 219, 220, 221]);
     fails(&rt, &mut source, place(69996, 5), 1);
-    fs::remove_file(&rt, path)?;
-    Ok(())
+    fs::remove_file(&rt, path).expect(&rt, "the file");
+}
+
+/// Asserts that a request fails.
+fn refused(rt: &impl Abort, source: &mut FileSource, length: u32, faults: u64) {
+    assert!(rt;
+        matches!(
+            source.request(0, place(0, length)),
+            Err(SourceError::Failed)
+        )
+    );
+    assert!(rt; source.faults() == faults);
 }
 
 /// Asserts that there is no file to read, so that each request fails, of however many bytes.
 fn refuses<R: Files<File = File> + Abort>(rt: &R, alloc: Global, path: Option<&str>) {
     let mut source = FileSource::new(rt, alloc, path).expect(rt, "memory");
     assert!(rt; !source.is_open());
-    assert_eq!(rt;
-        source.request(0, place(0, 4294967295)),
-        Err(SourceError::Failed)
-    );
-    assert_eq!(rt; source.faults(), 1);
-    assert_eq!(rt; source.request(0, place(0, 0)), Err(SourceError::Failed));
-    assert_eq!(rt; source.faults(), 2);
+    refused(rt, &mut source, 4294967295, 1);
+    refused(rt, &mut source, 0, 2);
 }
 
 #[test]
-fn refuses_what_is_no_regular_file(rt: HostRuntime) -> Result<(), Fail> {
+fn refuses_what_is_no_regular_file(rt: HostRuntime) {
     let path = "vx_base_refuses.bytes";
-    fs::write(&rt, path, [10u8].as_slice())?;
+    fs::write(&rt, path, [10u8].as_slice()).expect(&rt, "a file");
     refuses(&rt, rt.alloc(), None);
     refuses(&rt, rt.alloc(), Some("vx_base_no_such_file.bytes"));
     refuses(&rt, rt.alloc(), Some("."));
     refuses(&rt, rt.alloc(), Some("/dev/null"));
     refuses(&rt, rt.alloc(), Some("vx_base_refuses.bytes/inside"));
-    fs::remove_file(&rt, path)?;
-    Ok(())
+    fs::remove_file(&rt, path).expect(&rt, "the file");
 }
