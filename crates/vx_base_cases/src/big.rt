@@ -11,6 +11,7 @@ use crate::built::texts_or_nulls;
 use crate::fields::number_of;
 use anyhow::{Context, Error, Result};
 use std::alloc::Global;
+use std::fmt::Write;
 use vx_base::{Column, Text, Value, decode, encode};
 use vx_notation::write_value;
 
@@ -37,13 +38,11 @@ fn texts_of(alloc: Global, from: u64, to: u64) -> Result<Column>
     }
 }
 
-/// How many rows there are, and the last one.
-fn told(alloc: Global, column: &Column) -> Result<String> {
-    let rows = column.len();
-    let mut text = format!(in alloc; "{rows} rows, the last ")?;
+/// Appends how many rows there are, and the last one.
+fn write_told(column: &Column, out: &mut String) -> Result<()> {
     let last = column.values().last().context("a row")?;
-    write_value(last, &mut text)?;
-    Ok(text)
+    write!(out, "{} rows, the last ", column.len())?;
+    write_value(last, out)
 }
 
 /// The parts of a column, of two rows each.
@@ -59,13 +58,22 @@ fn parts_of(alloc: Global, count: u64) -> Result<Vec<Column>>
     Ok(parts)
 }
 
+/// The column of that many parts.
+fn joined_column(alloc: Global, count: u64) -> Result<Column> {
+    let parts = parts_of(alloc, count)?;
+    Ok(Column::concat(alloc, texts_or_nulls(), parts)?)
+}
+
 /// The column of that many parts, which is the same as that of all its rows at once.
 fn joined(alloc: Global, count: u64) -> Result<String> {
-    let column = Column::concat(alloc, texts_or_nulls(), parts_of(alloc, count)?)?;
-    if !column.same(&texts_of(alloc, 0, count.saturating_mul(2))?) {
+    let column = joined_column(alloc, count)?;
+    let is_same = texts_of(alloc, 0, count.saturating_mul(2))?.same(&column);
+    if !is_same {
         return Err(Error::msg("the same rows"));
     }
-    told(alloc, &column)
+    let mut text = String::new(alloc);
+    write_told(&column, &mut text)?;
+    Ok(text)
 }
 
 /// Whether the value's text, if it is one, has a length that a segment can hold.
@@ -90,19 +98,34 @@ fn are_short(values: &[Value]) -> bool
     true
 }
 
-/// The column that is read from what that many rows are written as.
-fn coded(alloc: Global, count: u64) -> Result<String> {
-    let column = texts_of(alloc, 0, count)?;
+/// Appends what is told of the column that these bytes are read as, which is the same.
+fn write_read(alloc: Global, column: &Column, bytes: &[u8], out: &mut String) -> Result<()>
+    requires { column.now.dtype ≡ utf8_type Nullable }
+{
+    let read = decode(alloc, column.dtype(), column.len(), bytes)?;
+    if !read.same(column) {
+        return Err(Error::msg("the same rows"));
+    }
+    write_told(&read, out)
+}
+
+/// How many bytes a column is written as, and what is read of them.
+fn coded_column(alloc: Global, column: &Column) -> Result<String>
+    requires { column.now.dtype ≡ utf8_type Nullable }
+{
     if !are_short(column.values()) {
         return Err(Error::msg("short texts"));
     }
-    let bytes = encode(alloc, &column)?;
-    let read = decode(alloc, &texts_or_nulls(), count, bytes.as_slice())?;
-    if !read.same(&column) {
-        return Err(Error::msg("the same rows"));
-    }
-    let text = told(alloc, &read)?;
-    Ok(format!(in alloc; "{} bytes, {text}", bytes.len())?)
+    let bytes = encode(alloc, column)?;
+    let mut text = format!(in alloc; "{} bytes, ", bytes.len())?;
+    write_read(alloc, column, bytes.as_slice(), &mut text)?;
+    Ok(text)
+}
+
+/// The column of that many rows, which is read from what it is written as.
+fn coded(alloc: Global, count: u64) -> Result<String> {
+    let column = texts_of(alloc, 0, count)?;
+    coded_column(alloc, &column)
 }
 
 /// The answer to `big joined COUNT` and `big coded COUNT`.

@@ -10,8 +10,9 @@ ghost use Rattle.vx_base.specs.ColumnCalls.{IsUnsigned, IsCodeBelow};
 ghost use Rattle.vx_base.specs.Views.{data_type};
 ghost use Rattle.vx_base.specs.ValueViews.{datum};
 
-use crate::column_calls::shown;
-use crate::fields::{bits_of, number_of, three, two};
+use crate::column_calls::column;
+use crate::fields::{number_of, three, two};
+use crate::mask_calls::mask_of;
 use anyhow::{Error, Result};
 use std::alloc::Global;
 use vx_base::{Column, DType, Field, Fields, IntKind, Mask, Nullability, Text, Value};
@@ -49,17 +50,21 @@ fn are_below(codes: &[Value], count: usize) -> bool
     true
 }
 
-/// The values at codes, each column with its dtype before it.
-fn look_up(alloc: Global, rest: &str) -> Result<String> {
-    let (codes_dtype, codes, values) = three(rest)?;
-    let (values_dtype, values) = two(values)?;
-    let codes = column_of(alloc, dtype_of(alloc, codes_dtype)?, codes)?;
-    let values = column_of(alloc, dtype_of(alloc, values_dtype)?, values)?;
+/// The values at codes.
+fn looked_up(alloc: Global, codes: &Column, values: &Column) -> Result<Column> {
     if !is_unsigned(codes.dtype()) || !are_below(codes.values(), values.values().len()) {
         return Err(Error::msg("codes of values"));
     }
-    let column = Column::look_up(alloc, &codes, &values)?;
-    shown(alloc, &column)
+    Ok(Column::look_up(alloc, codes, values)?)
+}
+
+/// The values at codes, each column with its dtype before it.
+pub(crate) fn look_up(alloc: Global, rest: &str) -> Result<Column> {
+    let (dtype, codes, values) = three(rest)?;
+    let values = column(alloc, values)?;
+    let dtype = dtype_of(alloc, dtype)?;
+    let codes = column_of(alloc, dtype, codes)?;
+    looked_up(alloc, &codes, &values)
 }
 
 /// A validity of so many rows: none where the word is `all`.
@@ -69,7 +74,7 @@ fn validity_of(alloc: Global, word: &str, rows: u64) -> Result<Option<Mask>>
     if word == "all" {
         return Ok(None);
     }
-    let mask = Mask::of(alloc, bits_of(alloc, word)?)?;
+    let mask = mask_of(alloc, word)?;
     if mask.len() == rows {
         Ok(Some(mask))
     } else {
@@ -106,38 +111,34 @@ fn two_fields(alloc: Global) -> Result<Fields>
     Ok(Fields::from_vec(vec![in alloc; first, second]?))
 }
 
-/// The structs of a validity, numbers and texts, `{a=u64, b=utf8?}`.
-fn pack(alloc: Global, rest: &str) -> Result<String> {
-    let (validity, numbers, texts) = three(rest)?;
-    let fields = two_fields(alloc)?;
-    let numbers = column_of(alloc, plain_numbers(), numbers)?;
-    let texts = column_of(alloc, texts_or_nulls(), texts)?;
+/// The structs of a validity, numbers and texts.
+fn packed(alloc: Global, validity: &str, numbers: Column, texts: Column) -> Result<Column>
+    requires numbers { numbers.dtype ≡ int_type U64 NonNullable }
+    requires texts { texts.dtype ≡ utf8_type Nullable }
+{
     let rows = numbers.len();
     if texts.len() != rows {
         return Err(Error::msg("as many texts as numbers"));
     }
-    let validity = validity_of(alloc, validity, rows)?;
     let parts = vec![in alloc; numbers, texts]?;
-    let column = Column::pack(alloc, fields, parts, validity, rows)?;
-    shown(alloc, &column)
+    let validity = validity_of(alloc, validity, rows)?;
+    let fields = two_fields(alloc)?;
+    Ok(Column::pack(alloc, fields, parts, validity, rows)?)
+}
+
+/// The structs of a validity, numbers and texts, `{a=u64, b=utf8?}`.
+pub(crate) fn pack(alloc: Global, rest: &str) -> Result<Column> {
+    let (validity, numbers, texts) = three(rest)?;
+    let numbers = column_of(alloc, plain_numbers(), numbers)?;
+    let texts = column_of(alloc, texts_or_nulls(), texts)?;
+    packed(alloc, validity, numbers, texts)
 }
 
 /// The structs of a validity and no fields.
-fn pack_none(alloc: Global, rest: &str) -> Result<String> {
+pub(crate) fn pack_none(alloc: Global, rest: &str) -> Result<Column> {
     let (validity, rows) = two(rest)?;
     let rows = number_of(rows)?;
-    let fields = Fields::from_vec(Vec::new(alloc));
     let validity = validity_of(alloc, validity, rows)?;
-    let column = Column::pack(alloc, fields, Vec::new(alloc), validity, rows)?;
-    shown(alloc, &column)
-}
-
-/// The answer to a command that makes a column of columns.
-pub(crate) fn of_built(alloc: Global, command: &str, rest: &str) -> Result<String> {
-    match command {
-        "look_up" => look_up(alloc, rest),
-        "pack" => pack(alloc, rest),
-        "pack_none" => pack_none(alloc, rest),
-        _ => Err(Error::msg("a command")),
-    }
+    let fields = Fields::from_vec(Vec::new(alloc));
+    Ok(Column::pack(alloc, fields, Vec::new(alloc), validity, rows)?)
 }

@@ -1,7 +1,6 @@
 //! The commands.
 
 use crate::big::big;
-use crate::built::of_built;
 use crate::column_calls::of_columns;
 use crate::desks::Desk;
 use crate::dtype_calls::of_dtypes;
@@ -12,9 +11,10 @@ use crate::sources::{of_memory, of_scripts};
 use crate::streams::of_streams;
 use anyhow::Result;
 use std::alloc::Global;
+use std::fmt::Write;
 
 /// The answer to a line: none to an empty one and to a remark.
-pub(crate) fn answer(alloc: Global, desk: &mut Desk, line: &str) -> Result<String> {
+fn answer(alloc: Global, desk: &mut Desk, line: &str) -> Result<String> {
     if line.is_empty() || line.starts_with("# ") {
         return Ok(String::new(alloc));
     }
@@ -34,7 +34,26 @@ pub(crate) fn answer(alloc: Global, desk: &mut Desk, line: &str) -> Result<Strin
         "stream" | "next" | "sink" | "put" | "written" => of_streams(alloc, desk, command, rest),
         "error" => error_text(alloc, rest),
         "big" => big(alloc, rest),
-        "look_up" | "pack" | "pack_none" => of_built(alloc, command, rest),
         _ => of_columns(alloc, desk, command, rest),
     }
+}
+
+/// Appends a line, with its answer behind `=>`.
+fn write_answer(alloc: Global, desk: &mut Desk, line: &str, out: &mut String) -> Result<()> {
+    out.push_str(line)?;
+    let answered = answer(alloc, desk, line)?;
+    if !answered.is_empty() {
+        write!(out, " => {answered}")?;
+    }
+    out.push('\n')?;
+    Ok(())
+}
+
+/// Appends each line with its answer.
+pub(crate) fn write_answers(alloc: Global, lines: &str, out: &mut String) -> Result<()> {
+    let mut desk = Desk::new(alloc)?;
+    for line in lines.lines() {
+        write_answer(alloc, &mut desk, line, out)?;
+    }
+    Ok(())
 }

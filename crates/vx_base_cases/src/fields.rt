@@ -96,10 +96,18 @@ pub(crate) fn yes_or_no(alloc: Global, truth: bool) -> Result<String> {
     Ok(String::from_str(alloc, if truth { "yes" } else { "no" })?)
 }
 
+/// Appends the number, or `none`.
+pub(crate) fn write_number_or_none(number: Option<u64>, out: &mut String) -> Result<()> {
+    match number {
+        Some(number) => write!(out, "{number}")?,
+        None => out.push_str("none")?,
+    }
+    Ok(())
+}
+
 /// The number, or `none`.
 pub(crate) fn number_or_none(alloc: Global, number: Option<u64>) -> Result<String> {
-    match number {
-        Some(number) => Ok(format!(in alloc; "{number}")?),
-        None => Ok(String::from_str(alloc, "none")?),
-    }
+    let mut text = String::new(alloc);
+    write_number_or_none(number, &mut text)?;
+    Ok(text)
 }

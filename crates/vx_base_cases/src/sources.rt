@@ -85,6 +85,21 @@ fn poll(alloc: Global, source: &mut ScriptSource, rest: &str) -> Result<String> 
     polled_text(alloc, polled)
 }
 
+/// Sets the file in memory.
+fn set_memory(alloc: Global, source: &mut MemorySource, rest: &str) -> Result<()> {
+    let bytes = bytes_of(alloc, rest)?;
+    *source = MemorySource::new(alloc, bytes);
+    Ok(())
+}
+
+/// Sets the script of the file of the bytes 10 to 15.
+fn set_script(alloc: Global, source: &mut ScriptSource, rest: &str) -> Result<()> {
+    let bytes = bytes_of(alloc, "0a 0b 0c 0d 0e 0f")?;
+    let script = script_of(alloc, rest)?;
+    *source = ScriptSource::new(alloc, bytes, script);
+    Ok(())
+}
+
 /// The answer to a command about the source over memory.
 pub(crate) fn of_memory(
     alloc: Global,
@@ -94,7 +109,7 @@ pub(crate) fn of_memory(
 ) -> Result<String> {
     match command {
         "memory" => {
-            desk.memory = MemorySource::new(alloc, bytes_of(alloc, rest)?);
+            set_memory(alloc, &mut desk.memory, rest)?;
             Ok(String::new(alloc))
         }
         "fetch" => fetch(alloc, &mut desk.memory, rest),
@@ -115,8 +130,7 @@ pub(crate) fn of_scripts(
 ) -> Result<String> {
     match command {
         "script" => {
-            let script = script_of(alloc, rest)?;
-            desk.script = ScriptSource::new(alloc, bytes_of(alloc, "0a 0b 0c 0d 0e 0f")?, script);
+            set_script(alloc, &mut desk.script, rest)?;
             Ok(String::new(alloc))
         }
         "request" => request(alloc, &mut desk.script, rest),

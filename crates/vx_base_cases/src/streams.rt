@@ -6,6 +6,7 @@ use crate::desks::Desk;
 use crate::fields::{bytes_of, hexadecimal, numbers_of, three, two};
 use anyhow::{Context, Error, Result};
 use std::alloc::Global;
+use std::fmt::Write;
 use vx_base::{BytesSink, BytesSource, Sink, Source};
 
 /// A count that is not 0.
@@ -21,21 +22,41 @@ fn size_of(word: &str) -> Result<usize>
 
 /// The next piece of the stream that is read.
 fn next(alloc: Global, stream: &mut BytesSource, rest: &str) -> Result<String> {
-    let text = match stream.read(size_of(rest)?) {
+    let mut text = match stream.read(size_of(rest)?) {
         Ok(piece) => hexadecimal(alloc, piece.as_slice())?,
         Err(error) => format!(in alloc; "{error}")?,
     };
-    Ok(format!(in alloc; "{text}, {} faults", stream.faults())?)
+    write!(text, ", {} faults", stream.faults())?;
+    Ok(text)
 }
 
 /// Hands a piece to the stream that is written.
 fn put(alloc: Global, stream: &mut BytesSink, rest: &str) -> Result<String> {
-    let piece = bytes_of(alloc, rest)?;
-    let text = match stream.write(piece.as_slice()) {
+    let mut text = match stream.write(bytes_of(alloc, rest)?.as_slice()) {
         Ok(count) => format!(in alloc; "took {count}")?,
         Err(error) => format!(in alloc; "{error}")?,
     };
-    Ok(format!(in alloc; "{text}, {} faults", stream.faults())?)
+    write!(text, ", {} faults", stream.faults())?;
+    Ok(text)
+}
+
+/// Sets the stream that is read.
+fn set_stream(alloc: Global, stream: &mut BytesSource, rest: &str) -> Result<()> {
+    let (piece, fails, bytes) = three(rest)?;
+    let piece = size_of(piece)?;
+    let bytes = bytes_of(alloc, bytes)?;
+    let fails = numbers_of(alloc, fails)?;
+    *stream = BytesSource::new(alloc, bytes, piece, fails);
+    Ok(())
+}
+
+/// Sets the stream that is written.
+fn set_sink(alloc: Global, stream: &mut BytesSink, rest: &str) -> Result<()> {
+    let (piece, fails) = two(rest)?;
+    let piece = size_of(piece)?;
+    let fails = numbers_of(alloc, fails)?;
+    *stream = BytesSink::new(alloc, piece, fails);
+    Ok(())
 }
 
 /// The answer to a command about streams.
@@ -47,16 +68,11 @@ pub(crate) fn of_streams(
 ) -> Result<String> {
     match command {
         "stream" => {
-            let (piece, fails, bytes) = three(rest)?;
-            let piece = size_of(piece)?;
-            let bytes = bytes_of(alloc, bytes)?;
-            desk.stream = BytesSource::new(alloc, bytes, piece, numbers_of(alloc, fails)?);
+            set_stream(alloc, &mut desk.stream, rest)?;
             Ok(String::new(alloc))
         }
         "sink" => {
-            let (piece, fails) = two(rest)?;
-            let piece = size_of(piece)?;
-            desk.sink = BytesSink::new(alloc, piece, numbers_of(alloc, fails)?);
+            set_sink(alloc, &mut desk.sink, rest)?;
             Ok(String::new(alloc))
         }
         "next" => next(alloc, &mut desk.stream, rest),
