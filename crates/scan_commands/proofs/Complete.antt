@@ -5,7 +5,7 @@ use Rattle.std.specs.List.{AllByRecursion}
 use Rattle.vx_base.specs.declared.locations.SegmentLocation.{SegmentLocation}
 use Rattle.vx_base.specs.Data.{DataType, Datum}
 use Rattle.vx_base.specs.Reading.{decoded}
-use Rattle.vx_base.specs.Sources.{SourceState, Rose}
+use Rattle.vx_base.specs.Sources.{SourceState, Rose, RoseBy}
 use Rattle.vx_base.specs.Streams.{ReadState, WriteState}
 use Rattle.vx_rows.specs.Reads.{directly, Found, a_cell, a_code, a_list_row, Read, Finds, FindsOnly, IsFine}
 use Rattle.vx_rows.specs.SegmentLeaves.{Bytes, leaves_of, IsTorn}
@@ -15,7 +15,7 @@ use Rattle.vx_layout.specs.Rows.{segment_bytes, reads}
 use Rattle.scan_commands.specs.Request.{Asked}
 use Rattle.scan_commands.specs.Answer.{IsAccepted, IsTornIn, root_of}
 use Rattle.scan_commands.specs.Run.{Serves, IsStatus, IsRefused, IsValid, IsComplete, FirstOf}
-use Rattle.scan_commands.specs.Segments.{RoseBy, idle_limit}
+use Rattle.scan_commands.specs.Segments.{idle_limit}
 use Rattle.scan_commands.specs.Walk.{EachReadIsFine}
 
 none_left : (o : Option (List Datum)) → o ≡ None → IsSome o → ⊥

@@ -1,12 +1,12 @@
 -- A scan that failed, as the answer to a request: its cause is a cause of the request.
 use Rattle.std.proofs.Common.{◌≡◌, ℕ, inr, List, Option, Some, None, IfSome, Err, sym, subst}
-use Rattle.vx_base.specs.Sources.{SourceState, Rose, Cleared}
+use Rattle.vx_base.specs.Sources.{SourceState, Rose, Cleared, RoseBy}
 use Rattle.scan_commands.specs.declared.faults.ScanFault.{ScanFault}
 use Rattle.scan_commands.specs.declared.faults.ScanFault.TheVariants.{BadSegment, ReadFault, Stalled, Memory}
 use Rattle.scan_commands.specs.declared.answers.Refusal.TheVariants.{Fault}
 use Rattle.scan_commands.specs.Answer.{IsAccepted, IsTornIn, AnswerGives, root_of}
 use Rattle.scan_commands.specs.Request.{Asked}
-use Rattle.scan_commands.specs.Segments.{RoseBy, idle_limit}
+use Rattle.scan_commands.specs.Segments.{idle_limit}
 use Rattle.scan_commands.specs.Walk.{HasTornLeaf, HasScanCause}
 
 torn_in : (bytes : List ℕ) (asked : Asked) (file : Option (List ℕ)) → IsAccepted bytes asked → IfSome file (λ told. HasTornLeaf told asked.locations (root_of asked)) → IfSome file (IsTornIn bytes)

@@ -1,6 +1,6 @@
 -- What a refused request means for a run.
 use Rattle.std.proofs.Common.{◌≡◌, ℕ, ◌≤◌, ◌⊎◌, List, [], length, Option, Some, None, IfSome, Err, refl, sym, subst, inl, inr, arith}
-use Rattle.vx_base.specs.Sources.{SourceState, Rose}
+use Rattle.vx_base.specs.Sources.{SourceState, Rose, RoseBy}
 use Rattle.vx_base.specs.Streams.{ReadState, WriteState}
 use Rattle.scan_commands.specs.declared.faults.ScanFault.TheVariants.{BadSegment, ReadFault, Stalled, Memory}
 use Rattle.scan_commands.specs.declared.answers.Refusal.{Refusal}
@@ -8,7 +8,7 @@ use Rattle.scan_commands.specs.declared.answers.Refusal.TheVariants.{NotYet, Fau
 use Rattle.scan_commands.specs.Answer.{AnswerGives, IsReachedRange, IsRequest, IsNoRequest, IsTornIn}
 use Rattle.scan_commands.specs.Reading.{most_bytes, ReadsAll, ReadsPieces}
 use Rattle.scan_commands.specs.Run.{Serves, IsStatus, IsAnswered, IsRefused, refusal_status}
-use Rattle.scan_commands.specs.Segments.{RoseBy, idle_limit}
+use Rattle.scan_commands.specs.Segments.{idle_limit}
 use Rattle.scan_commands.specs.Walk.{AsksOnly}
 
 -- what holds of the bytes that were read holds of the bytes that are told

@@ -9,7 +9,7 @@ use Rattle.vx_base.specs.declared.locations.AskedRange.{AskedRange}
 use Rattle.vx_base.specs.Columns.{ColumnData}
 use Rattle.vx_base.specs.Data.{Datum}
 use Rattle.vx_base.specs.Reading.{decoded}
-use Rattle.vx_base.specs.Sources.{SourceState, Rose, range_of, asks_also, bytes_at, Cleared}
+use Rattle.vx_base.specs.Sources.{SourceState, Rose, range_of, asks_also, bytes_at, Cleared, RoseBy}
 use Rattle.vx_layout.specs.declared.nodes.LayoutKind.TheVariants.{Chunked}
 use Rattle.vx_layout.specs.Nodes.{Node}
 use Rattle.vx_layout.specs.Shape.{IsGoodTree}
@@ -22,7 +22,7 @@ use Rattle.scan_commands.proofs.Chunks.{forest_of, Continues, continue_none, con
 use Rattle.scan_commands.specs.declared.faults.ScanFault.{ScanFault}
 use Rattle.scan_commands.specs.declared.faults.ScanFault.TheVariants.{BadSegment, ReadFault, Stalled, Memory}
 use Rattle.scan_commands.specs.Output.{line, lines}
-use Rattle.scan_commands.specs.Segments.{Asks, RoseBy, idle_limit}
+use Rattle.scan_commands.specs.Segments.{Asks, idle_limit}
 use Rattle.scan_commands.specs.Walk.{AsksOnly, IsRangeIn, HasTornLeaf, HasScanCause, GainsLines}
 
 -- ---- counts

@@ -4,7 +4,7 @@ use Rattle.std.specs.Prelude.{◌≡◌, ℕ, ◌<◌, ◌⊎◌, List, [], leng
 use Rattle.std.specs.declared.alloc.Global.{Global}
 use Rattle.vx_base.specs.declared.locations.AskedRange.{AskedRange}
 use Rattle.vx_base.specs.Data.{Datum}
-use Rattle.vx_base.specs.Sources.{SourceState, Rose}
+use Rattle.vx_base.specs.Sources.{SourceState, Rose, RoseBy}
 use Rattle.vx_layout.specs.declared.nodes.LayoutKind.{LayoutKind}
 use Rattle.vx_layout.specs.declared.nodes.LayoutKind.TheVariants.{Flat, Chunked}
 use Rattle.vx_layout.specs.Nodes.{Node}
@@ -14,7 +14,7 @@ use Rattle.scan_commands.specs.declared.faults.ScanFault.TheVariants.{BadSegment
 use Rattle.scan_commands.specs.declared.answers.Refusal.{Refusal}
 use Rattle.scan_commands.specs.declared.answers.Refusal.TheVariants.{NotYet, Fault}
 use Rattle.scan_commands.specs.Request.{Asked, requested}
-use Rattle.scan_commands.specs.Segments.{idle_limit, RoseBy}
+use Rattle.scan_commands.specs.Segments.{idle_limit}
 use Rattle.scan_commands.specs.Walk.{AreRowsOf, IsRangeIn, HasTornLeaf, GainsLines}
 
 -- a flat node whose segment has one of so many locations, or a chunked one

@@ -2,7 +2,7 @@
 -- told: the request's bytes, the file, the ranges asked and the bytes written.
 use Rattle.std.specs.Prelude.{◌≡◌, ℕ, ◌<◌, ◌≤◌, ◌⊎◌, ◌++◌, List, [], ◌∷◌, length, take, Some, IfSome}
 use Rattle.vx_base.specs.Data.{Datum}
-use Rattle.vx_base.specs.Sources.{SourceState, Rose}
+use Rattle.vx_base.specs.Sources.{SourceState, Rose, RoseBy}
 use Rattle.vx_base.specs.Streams.{ReadState, WriteState}
 use Rattle.scan_commands.specs.declared.faults.ScanFault.TheVariants.{BadSegment, ReadFault, Stalled, Memory}
 use Rattle.scan_commands.specs.declared.answers.Refusal.{Refusal}
@@ -11,7 +11,7 @@ use Rattle.scan_commands.specs.Request.{Asked}
 use Rattle.scan_commands.specs.Answer.{IsAccepted, root_of, IsAnswer, IsReachedRange, IsTornIn, IsNoRequest}
 use Rattle.scan_commands.specs.Output.{lines}
 use Rattle.scan_commands.specs.Reading.{most_bytes, ReadsPieces, EndsInEmptyPiece}
-use Rattle.scan_commands.specs.Segments.{idle_limit, RoseBy}
+use Rattle.scan_commands.specs.Segments.{idle_limit}
 use Rattle.scan_commands.specs.Statuses.{done_status, not_yet_status, bad_segment_status, read_fault_status, stalled_status, write_fault_status, request_fault_status, memory_status}
 use Rattle.scan_commands.specs.Walk.{AsksOnly, EachReadIsFine}
 

@@ -1,8 +1,8 @@
 -- Reading one segment from a source.
-use Rattle.std.specs.Prelude.{◌≡◌, ℕ, ◌+◌, ◌-◌, ◌^◌, ◌≤◌, ◌⊎◌, min, [], Result, Ok, Err}
+use Rattle.std.specs.Prelude.{◌≡◌, ℕ, ◌≤◌, ◌⊎◌, [], Result, Ok, Err}
 use Rattle.std.specs.Global.{Vec}
 use Rattle.vx_base.specs.declared.locations.SegmentLocation.{SegmentLocation}
-use Rattle.vx_base.specs.Sources.{SourceState, Rose, IsSegment, asks_also}
+use Rattle.vx_base.specs.Sources.{SourceState, Rose, RoseBy, IsSegment, asks_also}
 use Rattle.vx_base.specs.declared.outside.SourceError.{SourceError}
 use Rattle.vx_base.specs.declared.outside.SourceError.TheVariants.{Failed}
 use Rattle.vx_base.specs.declared.outside.SourceError.TheVariants as source
@@ -12,11 +12,6 @@ use Rattle.scan_commands.specs.declared.faults.ScanFault.TheVariants.{BadSegment
 -- a read that is polled so often without an end is given up
 abbrev pub idle_limit : ℕ
 idle_limit = 1000000
-
--- The count rose by at least so much, or stands at its type's end.
-pub record RoseBy (much before now : ℕ) : Type 0 where
-  pub kept : before ≤ now
-  pub raised : min (before + much) (2 ^ 64 - 1) ≤ now
 
 -- What reading changes at a source, whatever comes of it: the range may have been asked for.
 pub record Asks (at : SegmentLocation) (old new : SourceState) : Type 0 where

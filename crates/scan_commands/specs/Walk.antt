@@ -6,7 +6,7 @@ use Rattle.vx_base.specs.declared.locations.SegmentLocation.{SegmentLocation}
 use Rattle.vx_base.specs.Columns.{ColumnData}
 use Rattle.vx_base.specs.Data.{DataType, Datum}
 use Rattle.vx_base.specs.Reading.{decoded}
-use Rattle.vx_base.specs.Sources.{SourceState, Rose, range_of, bytes_at}
+use Rattle.vx_base.specs.Sources.{SourceState, Rose, range_of, bytes_at, RoseBy}
 use Rattle.vx_rows.specs.Reads.{directly, FindsOnly, IsFine}
 use Rattle.vx_rows.specs.SegmentLeaves.{IsTorn}
 use Rattle.vx_layout.specs.Trees.{Tree, head_of}
@@ -15,7 +15,7 @@ use Rattle.vx_layout.specs.Rows.{segment_bytes, file_leaves, reads, AreTreeValue
 use Rattle.scan_commands.specs.declared.faults.ScanFault.{ScanFault}
 use Rattle.scan_commands.specs.declared.faults.ScanFault.TheVariants.{BadSegment, ReadFault, Stalled, Memory}
 use Rattle.scan_commands.specs.Output.{lines}
-use Rattle.scan_commands.specs.Segments.{idle_limit, RoseBy}
+use Rattle.scan_commands.specs.Segments.{idle_limit}
 
 -- Each range that was asked for has P; the file is as it was, and no count fell.
 pub record AsksOnly (P : AskedRange → Type 0) (old new : SourceState) : Type 0 where

@@ -16,10 +16,14 @@ pub record SourceState : Type 0 where
   pub faults : ℕ
   pub idle : ℕ
 
--- a count never falls, and stands still at its type's end
-pub record Rose (before now : ℕ) : Type 0 where
+-- A count rose by at least so much, or stands at its type's end. It never falls.
+pub record RoseBy (much before now : ℕ) : Type 0 where
   pub kept : before ≤ now
-  pub raised : min (before + 1) (2 ^ 64 - 1) ≤ now
+  pub raised : min (before + much) (2 ^ 64 - 1) ≤ now
+
+-- it rose
+abbrev pub Rose : ℕ → ℕ → Type 0
+Rose before now = RoseBy 1 before now
 
 -- the range that a location names
 abbrev pub range_of : SegmentLocation → AskedRange

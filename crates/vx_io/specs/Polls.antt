@@ -1,6 +1,6 @@
 -- What a poll does to a session and its source.
-use Rattle.std.specs.Prelude.{◌≡◌, ℕ, ◌+◌, ◌-◌, ◌^◌, ◌<◌, ◌≤◌, min, List, length, slice_get, Option, Some, None, IsSomeAnd, Result, Ok, Err}
-use Rattle.vx_base.specs.Sources.{SourceState, Rose, IsSegment, without}
+use Rattle.std.specs.Prelude.{◌≡◌, ℕ, ◌<◌, ◌≤◌, List, length, slice_get, Option, Some, None, IsSomeAnd, Result, Ok, Err}
+use Rattle.vx_base.specs.Sources.{SourceState, Rose, RoseBy, IsSegment, without}
 use Rattle.vx_io.specs.declared.requests.Completion.{Completion}
 use Rattle.vx_io.specs.declared.requests.IoOwnerId.{IoOwnerId}
 use Rattle.vx_io.specs.declared.requests.IoRequestId.{IoRequestId}
@@ -8,11 +8,6 @@ use Rattle.vx_io.specs.declared.requests.PollError.{PollError}
 use Rattle.vx_io.specs.declared.requests.PollError.TheVariants.{NothingInFlight, Source, Memory}
 use Rattle.vx_io.specs.Session.{SessionState, table_after, ended}
 use Rattle.vx_io.specs.Ranges.{RangeTable}
-
--- so many polls found nothing: the idle count never falls, and rose by them or stands at its end
-pub record Waited (polls : ℕ) (before after : SourceState) : Type 0 where
-  pub kept : before.idle ≤ after.idle
-  pub rose : min (before.idle + polls) (2 ^ 64 - 1) ≤ after.idle
 
 -- the file and the asks stay
 pub record KeepsAsks (before after : SourceState) : Type 0 where
@@ -30,7 +25,7 @@ pub record EndsAt (place : ℕ) (owner : IoOwnerId) (request : IoRequestId) (ran
   pub named : IsSomeAnd (slice_get old.table.fetches place) (λ fetch. (fetch.owner ≡ owner) × (fetch.request ≡ request))
   pub table : new.table ≡ table_after ranges old.table (ended place)
   pub in_flight : EndsReadOf place old new
-  pub waited : Waited place old.source new.source
+  pub waited : RoseBy place old.source.idle new.source.idle
   pub keeps : KeepsAsks old.source new.source
 
 -- The fetch at a place ended, and no other was polled.
@@ -49,7 +44,7 @@ HasBytes place state bytes = IsSomeAnd (slice_get state.table.fetches place) (λ
 pub record AllGoOn (polls : ℕ) (old new : SessionState) : Type 0 where
   pub table : new.table ≡ old.table
   pub in_flight : new.source.in_flight ≡ old.source.in_flight
-  pub waited : Waited polls old.source new.source
+  pub waited : RoseBy polls old.source.idle new.source.idle
   pub keeps : KeepsAsks old.source new.source
   pub faults : new.source.faults ≡ old.source.faults
 
