@@ -1,5 +1,5 @@
 -- Sets of names, and the fields whose names stand in one.
-use Rattle.std.proofs.Common.{◌≡◌, ℕ, zero, suc, ◌+◌, ◌<◌, add-one, Bool, true, false, cond, not, ◌||◌, List, [], ◌∷◌, ◌++◌, Option, Some, None, map, length, get_or, take, refl, sym, ap, ◌∙◌, arith, Bor, Ordering}
+use Rattle.std.proofs.Common.{◌≡◌, ℕ, zero, suc, ◌+◌, ◌<◌, Bool, true, false, cond, not, ◌||◌, List, [], ◌∷◌, ◌++◌, Option, Some, None, map, length, get_or, take, refl, sym, ap, ◌∙◌, arith, Bor, Ordering}
 use Rattle.std.specs.Prelude.{filter, option_map}
 use Rattle.std.specs.List.{list_any}
 use Rattle.std.specs.Str.{bytes_eq}
@@ -16,7 +16,7 @@ use Rattle.vx_base.specs.Data.{Members}
 use Rattle.vx_base.specs.Names.{names_in}
 use Rattle.vx_base.specs.Views.{members_of}
 use Rattle.vx_expr.specs.Mentions.{first_ones}
-use Rattle.vx_layout.specs.Kept.{KeptFields, is_kept, kept_among, names_among, only}
+use Rattle.vx_layout.specs.Kept.{is_kept, kept_among, names_among, only}
 
 -- whether the name is one of these
 abbrev pub stands_in : List (List ℕ) → List ℕ → Bool

@@ -1,7 +1,7 @@
 -- A node that is_kept the rules of the shape fits its children.
 use Rattle.std.proofs.Common.{◌≡◌, ℕ, suc, true, false, ◌+◌, ◌<◌, List, [], ◌∷◌, Option, Some, None, length, refl, sym, ◌∙◌, subst, arith}
 use Rattle.std.specs.Prelude.{IfSome, IsSomeAnd, option_and_then}
-use Rattle.std.specs.List.{slice_get, All, AllByRecursion, sum_by}
+use Rattle.std.specs.List.{slice_get, sum_by}
 use Rattle.std.proofs.lemmas.List.Elements.{All-head, All-tail}
 use Rattle.std.proofs.lemmas.List.Sums.{sum_by-cons}
 use Rattle.vx_base.specs.declared.dtypes.Nullability.{Nullability}

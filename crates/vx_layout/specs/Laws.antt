@@ -5,7 +5,7 @@ use Rattle.vx_base.specs.Data.{Datum}
 use Rattle.vx_base.specs.Fits.{Fits}
 use Rattle.vx_base.specs.ColumnCalls.{value_at}
 use Rattle.vx_rows.specs.Derivations.{Leaves}
-use Rattle.vx_rows.specs.Reads.{Way, directly, through, inside, AreAmong, Finds, FindsOnly, AreComeToBy, found_in, IsPlaceAmong, IsFaulty, IsFine}
+use Rattle.vx_rows.specs.Reads.{Way, through, inside, AreAmong, Finds, FindsOnly, AreComeToBy, found_in, IsPlaceAmong, IsFaulty, IsFine}
 use Rattle.vx_rows.specs.Whole.{GiveEachRow, GiveFitting, AgreeOn}
 use Rattle.vx_layout.specs.Nodes.{Node}
 use Rattle.vx_layout.specs.Faults.{IsFirstFault}

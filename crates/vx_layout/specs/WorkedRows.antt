@@ -11,7 +11,7 @@ use Rattle.vx_layout.specs.declared.nodes.LayoutKind.{LayoutKind}
 use Rattle.vx_layout.specs.declared.nodes.LayoutKind.TheVariants as kinds
 use Rattle.vx_layout.specs.Nodes.{Node}
 use Rattle.vx_layout.specs.Trees.{leaf, Forest, no_trees, tree, head_at, subtree}
-use Rattle.vx_layout.specs.Kept.{KeptFields, all, only}
+use Rattle.vx_layout.specs.Kept.{KeptFields, only}
 use Rattle.vx_layout.specs.Rows.{value, reads, file_leaves}
 
 abbrev u8 : DataType

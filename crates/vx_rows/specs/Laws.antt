@@ -1,8 +1,7 @@
 -- What holds of derivations, whatever tree or plan they come from.
-use Rattle.std.specs.Prelude.{◌≡◌, ℕ, ◌⊎◌, List, map, Option, None, IsSome}
-use Rattle.vx_base.specs.Data.{Datum}
+use Rattle.std.specs.Prelude.{◌≡◌, ℕ, ◌⊎◌, map, None, IsSome}
 use Rattle.vx_rows.specs.Derivations.{Cell, Derivation, Leaves, derived}
-use Rattle.vx_rows.specs.Reads.{Way, through, Found, Read, reads_of, Finds, FindsOnly, found_in, AreComeToBy, ReadsCell, LacksValues, IsFaulty, IsFine}
+use Rattle.vx_rows.specs.Reads.{Way, through, Found, reads_of, Finds, FindsOnly, found_in, AreComeToBy, ReadsCell, LacksValues, IsFaulty, IsFine}
 use Rattle.vx_rows.specs.SegmentLeaves.{Bytes, leaves_of, LacksBytes, IsTorn, SameBytesFor}
 use Rattle.vx_rows.specs.Whole.{IsWhole, IsStrict, GiveEachRow, GiveFitting, AgreeOn}
 use Rattle.vx_rows.specs.Renumbered.{renumbered, way_renumbered, read_renumbered}

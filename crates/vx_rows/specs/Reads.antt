@@ -1,6 +1,6 @@
 -- What a row reads: cells of leaves, codes of dictionaries, and rows of lists, in order. A row reads what is
 -- itself first; then fields before their validity, and a code before the values.
-use Rattle.std.specs.Prelude.{◌≡◌, ℕ, ◌<◌, ◌⊎◌, pos, List, [], ◌∷◌, ◌++◌, map, Option, None, IfSome, IsSome, IsSomeAnd}
+use Rattle.std.specs.Prelude.{◌≡◌, ℕ, ◌<◌, ◌⊎◌, pos, List, [], ◌∷◌, ◌++◌, map, None, IfSome, IsSome, IsSomeAnd}
 use Rattle.std.specs.List.{AllByRecursion}
 use Rattle.vx_base.specs.Data.{Datum, null, number}
 use Rattle.vx_rows.specs.Derivations.{Cell, Derivation, nothing, cell, list_row, given, packed, valid_where, looked_up, worked_out, read_whole, Derivations, no_more, also, count_of, Leaves, derived}

@@ -1,7 +1,7 @@
 -- Derivations and reads with other numbers for dictionaries and lists, as a table of plans has them.
-use Rattle.std.specs.Prelude.{◌≡◌, ℕ, map}
-use Rattle.vx_rows.specs.Derivations.{Derivation, nothing, cell, list_row, given, packed, valid_where, looked_up, worked_out, read_whole, Derivations, no_more, also, Leaves, derived}
-use Rattle.vx_rows.specs.Reads.{Way, directly, through, CodeRow, Found, a_cell, a_code, a_list_row, Read, reads_of}
+use Rattle.std.specs.Prelude.{ℕ}
+use Rattle.vx_rows.specs.Derivations.{Derivation, nothing, cell, list_row, given, packed, valid_where, looked_up, worked_out, read_whole, Derivations, no_more, also}
+use Rattle.vx_rows.specs.Reads.{Way, directly, through, CodeRow, Found, a_cell, a_code, a_list_row, Read}
 
 abbrev mutual
   pub renumbered : (ℕ → ℕ) → Derivation → Derivation

@@ -1,5 +1,5 @@
 -- Derivations in which nothing is amiss, whatever the leaves.
-use Rattle.std.specs.Prelude.{◌≡◌, ℕ, ◌<◌, List, length, Option, IfSome}
+use Rattle.std.specs.Prelude.{◌≡◌, ℕ, ◌<◌, length, IfSome}
 use Rattle.std.specs.List.{AllByRecursion}
 use Rattle.vx_base.specs.Data.{DataType}
 use Rattle.vx_base.specs.Fits.{Fits}
