@@ -49,11 +49,16 @@ fn write_answer(alloc: Global, desk: &mut Desk, line: &str, out: &mut String) ->
     Ok(())
 }
 
+/// Appends each line with its answer, over what is set so far.
+fn write_all(alloc: Global, desk: &mut Desk, lines: &str, out: &mut String) -> Result<()> {
+    for line in lines.lines() {
+        write_answer(alloc, desk, line, out)?;
+    }
+    Ok(())
+}
+
 /// Appends each line with its answer.
 pub(crate) fn write_answers(alloc: Global, lines: &str, out: &mut String) -> Result<()> {
     let mut desk = Desk::new(alloc)?;
-    for line in lines.lines() {
-        write_answer(alloc, &mut desk, line, out)?;
-    }
-    Ok(())
+    write_all(alloc, &mut desk, lines, out)
 }

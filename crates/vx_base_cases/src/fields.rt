@@ -1,8 +1,11 @@
 //! The parts of a line: fields between `|`, bits, bytes and numbers.
 
+ghost use Rattle.std.specs.Prelude.{◌≤◌, IfOk};
+
 use anyhow::{Context, Error, Result};
 use std::alloc::Global;
 use std::fmt::Write;
+use std::ops::Range;
 
 /// The two fields before and after a `|`.
 pub(crate) fn two(text: &str) -> Result<(&str, &str)> {
@@ -20,6 +23,19 @@ pub(crate) fn three(text: &str) -> Result<(&str, &str, &str)> {
 /// The number that is written so.
 pub(crate) fn number_of(word: &str) -> Result<u64> {
     word.parse::<u64>().context("a number")
+}
+
+/// The range inside so many rows that starts and ends so.
+pub(crate) fn range_of(start: &str, end: &str, rows: u64) -> Result<Range<u64>>
+    ensures forwards { IfOk result (λ range. range.start ≤ range.end) }
+    ensures inside { IfOk result (λ range. range.end ≤ rows) }
+{
+    let start = number_of(start)?;
+    let end = number_of(end)?;
+    if end < start || rows < end {
+        return Err(Error::msg("a range inside"));
+    }
+    Ok(start..end)
 }
 
 /// The numbers between blanks.
