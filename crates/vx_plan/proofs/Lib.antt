@@ -1,0 +1,12 @@
+pub mod ChildNodes
+pub mod Each
+pub mod Broken
+pub mod Growing
+pub mod Offsets
+pub mod Unfolding
+pub mod Shaping
+pub mod Refusing
+pub mod Adding
+pub mod Keeping
+pub mod SharedTypes
+pub mod Validities

@@ -1,0 +1,12 @@
+pub mod Refs
+pub mod Nodes
+pub mod NodeCodes
+pub mod Kinds
+pub mod Plans
+pub mod PlanRows
+pub mod Zones
+pub mod Rules
+pub mod ChildNames
+pub mod Tables
+pub mod Shapes
+pub mod Reaches

@@ -1,0 +1,45 @@
+//! Plans: a table of nodes that keep the rules of their kinds, what a plan is over, what its rows are worth and
+//! read, and which segments it reaches.
+//!
+//! - Plans by number, and the table that holds them: [`PlanRef`], [`PlanChildren`], [`PlanTable`] with [`PlanError`];
+//!   the nodes inside are [`PlanNode`] of a [`PlanKind`], and keep each [`PlanRule`].
+//! - The kinds of plan, with their constructors: [`ConcatPlan`], [`EvalPlan`], [`FilterPlan`], [`PackPlan`],
+//!   [`TakePlan`], [`SharePlan`], [`ListPackPlan`], [`RowIdxPlan`], [`SegmentScanPlan`], [`ZonedPlan`],
+//!   [`LegacyStatsPlan`]; which of them a plan is: [`PlanId`].
+//! - What a plan is over: [`Shape`].
+//! - Which segments its rows could read: [`reach`], [`selected`], with [`Reach`] and [`SegmentReach`].
+#![tactic(auto)]
+
+mod checks;
+mod child_names;
+mod children;
+mod concat_plans;
+mod errors;
+mod field_checks;
+mod field_plans;
+mod kinds;
+mod list_plans;
+mod nodes;
+mod plan_types;
+mod reaching;
+mod row_plans;
+mod rules;
+mod shapes;
+mod tables;
+mod taking_plans;
+mod zone_checks;
+mod zoned_plans;
+mod zones;
+
+pub use children::{PlanChildren, PlanRef};
+pub use errors::PlanError;
+pub use kinds::PlanId;
+pub use nodes::{PlanKind, PlanNode};
+pub use plan_types::{
+    ConcatPlan, EvalPlan, FilterPlan, LegacyStatsPlan, ListPackPlan, PackPlan, RowIdxPlan,
+    SegmentScanPlan, SharePlan, TakePlan, ZonedPlan,
+};
+pub use reaching::{Reach, SegmentReach};
+pub use rules::PlanRule;
+pub use shapes::Shape;
+pub use tables::PlanTable;

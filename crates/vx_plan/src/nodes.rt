@@ -1,0 +1,59 @@
+//! The nodes of a table of plans.
+
+ghost use Rattle.std.specs.Prelude.{◌≡◌};
+ghost use Rattle.vx_base.specs.Views.{data_type};
+ghost use Rattle.std.specs.Arc.{arc_value};
+
+use crate::children::PlanChildren;
+use std::alloc::Global;
+use std::sync::Arc;
+use vx_base::DType;
+use vx_expr::{BoundExpression, Statistics};
+
+/// What a plan does, and what its children are, in order.
+#[derive(Debug, Drop)]
+pub enum PlanKind {
+    /// The rows of its children, one child after another.
+    Concat,
+    /// The expression at each row of its child.
+    Eval(BoundExpression),
+    /// The rows of its child.
+    Filter,
+    /// Structs of one field for each child, but the last one where a validity was given: that says which
+    /// structs are not null.
+    Pack { has_validity: bool },
+    /// The values, its second child, at the codes, its first.
+    Take,
+    /// The rows of its child, which is read whole.
+    Share,
+    /// Lists of the elements, its first child, cut at the offsets, its second; a validity is its third.
+    ListPack { has_validity: bool },
+    /// The numbers of the rows.
+    RowIdx,
+    /// The rows of a segment.
+    SegmentScan { segment: u32 },
+    /// The rows of the data, its first child; its second has a row for each zone of so many rows.
+    Zoned { zone_len: u64, stats: Statistics },
+    /// As `Zoned`, in an older form.
+    LegacyStats { zone_len: u64, stats: Statistics },
+}
+
+/// A plan: its kind, the dtype and the number of its rows, its children, and of a concat the row at which each child
+/// starts. A plan that has the dtype of a child shares it.
+#[derive(Drop)]
+pub struct PlanNode {
+    pub kind: PlanKind,
+    pub dtype: Arc<DType, Global>,
+    pub row_count: u64,
+    pub children: PlanChildren,
+    pub row_offsets: Vec<u64>,
+}
+
+impl PlanNode {
+    /// The dtype of the rows.
+    pub fn dtype(&self) -> &DType
+        ensures { data_type result.now ≡ data_type (arc_value self.now.dtype) }
+    {
+        &self.dtype
+    }
+}
