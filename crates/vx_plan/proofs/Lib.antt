@@ -1,3 +1,4 @@
+pub mod AnyRow
 pub mod ChildNodes
 pub mod Each
 pub mod Broken
@@ -10,3 +11,5 @@ pub mod Adding
 pub mod Keeping
 pub mod SharedTypes
 pub mod Validities
+pub mod Selecting
+pub mod Collecting

@@ -9,7 +9,7 @@ use Rattle.vx_plan.specs.declared.nodes.PlanKind.{PlanKind}
 use Rattle.vx_plan.specs.declared.nodes.PlanKind.TheVariants as kinds
 use Rattle.vx_plan.specs.declared.shapes.Shape.TheVariants as shapes
 use Rattle.vx_plan.specs.Nodes.{Node}
-use Rattle.vx_plan.specs.Plans.{head_at, plan_at, plan_grown_as, zones_of}
+use Rattle.vx_plan.specs.Plans.{head_at, plan_at, plan_grown_as}
 use Rattle.vx_plan.specs.Rules.{nodes_at, HasZones, IsLike, IsLookUp, IsMadeAs, IsRowNumbers, IsWorkedOut}
 use Rattle.vx_plan.specs.Shapes.{HasShape, IsOver, ShapeOf}
 use Rattle.vx_plan.specs.Tables.{IsGoodTable}
@@ -108,9 +108,9 @@ row_idx_shape nodes good n node at is =
 pub zoned_shape : (nodes : List Node) → IsGoodTable nodes → (n : ℕ) (node : Node) (zone_len : ℕ) (stats : List Statistic) (content table : ℕ) → slice_get nodes n ≡ Some node → node.kind ≡ kinds.Zoned zone_len stats → slice_get node.children 0 ≡ Some content → slice_get node.children 1 ≡ Some table → HasShape nodes n (shapes.Zoned content table)
 zoned_shape nodes good n node zone_len stats content table at is first second =
     there (λ node. ShapeOf nodes n node (shapes.Zoned content table)) (slice_get nodes n) node at
-    (record { kind = kinds.Zoned zone_len stats; zones = zones_of false zone_len stats; over = over nodes good n node (kinds.Zoned zone_len stats) (content ∷ table ∷ []) at is (two_zoned nodes node node.children content table (made_as nodes good n node (kinds.Zoned zone_len stats) at is) first second) })
+    (record { is_legacy = false; zone_len = zone_len; stats = stats; over = over nodes good n node (kinds.Zoned zone_len stats) (content ∷ table ∷ []) at is (two_zoned nodes node node.children content table (made_as nodes good n node (kinds.Zoned zone_len stats) at is) first second) })
 
 pub legacy_shape : (nodes : List Node) → IsGoodTable nodes → (n : ℕ) (node : Node) (zone_len : ℕ) (stats : List Statistic) (content table : ℕ) → slice_get nodes n ≡ Some node → node.kind ≡ kinds.LegacyStats zone_len stats → slice_get node.children 0 ≡ Some content → slice_get node.children 1 ≡ Some table → HasShape nodes n (shapes.Zoned content table)
 legacy_shape nodes good n node zone_len stats content table at is first second =
     there (λ node. ShapeOf nodes n node (shapes.Zoned content table)) (slice_get nodes n) node at
-    (record { kind = kinds.LegacyStats zone_len stats; zones = zones_of true zone_len stats; over = over nodes good n node (kinds.LegacyStats zone_len stats) (content ∷ table ∷ []) at is (two_zoned nodes node node.children content table (made_as nodes good n node (kinds.LegacyStats zone_len stats) at is) first second) })
+    (record { is_legacy = true; zone_len = zone_len; stats = stats; over = over nodes good n node (kinds.LegacyStats zone_len stats) (content ∷ table ∷ []) at is (two_zoned nodes node node.children content table (made_as nodes good n node (kinds.LegacyStats zone_len stats) at is) first second) })

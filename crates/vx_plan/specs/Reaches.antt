@@ -84,6 +84,10 @@ abbrev mutual
 abbrev pub selected_each : List Plan → Reach → ℕ → List Bool → List SegmentReach
 selected_each ps at start bits = selected_fields (plans_from ps) at start bits
 
+-- what a chunk could read that starts behind so many rows
+abbrev pub selected_in_chunk : Plan → ℕ → Reach → ℕ → List Bool → List SegmentReach
+selected_in_chunk p before at start bits = selected_of p (shifted at before) (start - before) (take ((plan_head p).rows - (start - before)) (drop (before - start) bits))
+
 -- what all rows of a range could read
 abbrev pub reached : Plan → Reach → ℕ → ℕ → List SegmentReach
 reached p at start end = selected_of p at start (all_rows (end - start))

@@ -1,13 +1,14 @@
 -- What a plan of a table is over: its law, and what is known of it and of its children.
-use Rattle.std.specs.Prelude.{◌≡◌, ℕ, Bool, List, [], ◌∷◌, map, IsSomeAnd}
+use Rattle.std.specs.Prelude.{◌≡◌, ℕ, Bool, true, false, List, [], ◌∷◌, map, IsSomeAnd}
 use Rattle.std.specs.List.{slice_get}
+use Rattle.vx_expr.specs.declared.statistics.Statistic.{Statistic}
 use Rattle.vx_expr.specs.Bound.{Bound}
 use Rattle.vx_plan.specs.declared.nodes.PlanKind.{PlanKind}
 use Rattle.vx_plan.specs.declared.nodes.PlanKind.TheVariants as kinds
 use Rattle.vx_plan.specs.declared.shapes.Shape.{Shape}
 use Rattle.vx_plan.specs.declared.shapes.Shape.TheVariants as shapes
 use Rattle.vx_plan.specs.Nodes.{Node}
-use Rattle.vx_plan.specs.Plans.{Plan, Zones, head_at, plan_at, plan_grown_as, plans_from, field_plans, last_validity, concat_plan, eval_plan, filter_plan, pack_plan, take_plan, share_plan, row_idx_plan, scan_plan, zoned_plan}
+use Rattle.vx_plan.specs.Plans.{Plan, head_at, plan_at, plan_grown_as, plans_from, field_plans, last_validity, zones_of, concat_plan, eval_plan, filter_plan, pack_plan, take_plan, share_plan, row_idx_plan, scan_plan, zoned_plan}
 use Rattle.vx_plan.specs.Tables.{IsGoodNode}
 
 -- The plan of the number is this one; its node has the kind and the children.
@@ -27,11 +28,16 @@ pub record IsListOver (nodes : List Node) (n : ℕ) (node : Node) : Type 0 where
   pub has_validity : Bool
   pub over : IsOver nodes n node (plan_grown_as (head_at n node) (kinds.ListPack has_validity) (map (plan_at nodes) node.children)) (kinds.ListPack has_validity) node.children
 
+abbrev pub zoned_kind : Bool → ℕ → List Statistic → PlanKind
+zoned_kind false zone_len stats = kinds.Zoned zone_len stats
+zoned_kind true zone_len stats = kinds.LegacyStats zone_len stats
+
 -- Zoned data has its data first, then the zones, in either form.
 pub record IsZonedOver (nodes : List Node) (n : ℕ) (node : Node) (content table : ℕ) : Type 0 where
-  pub kind : PlanKind
-  pub zones : Zones
-  pub over : IsOver nodes n node (zoned_plan (head_at n node) zones (plan_at nodes content) (plan_at nodes table)) kind (content ∷ table ∷ [])
+  pub is_legacy : Bool
+  pub zone_len : ℕ
+  pub stats : List Statistic
+  pub over : IsOver nodes n node (zoned_plan (head_at n node) (zones_of is_legacy zone_len stats) (plan_at nodes content) (plan_at nodes table)) (zoned_kind is_legacy zone_len stats) (content ∷ table ∷ [])
 
 abbrev pub fields_plan : List Node → ℕ → Node → Bool → Plan
 fields_plan nodes n node has_validity = pack_plan (head_at n node) (plans_from (field_plans has_validity (map (plan_at nodes) node.children))) (last_validity has_validity (map (plan_at nodes) node.children))

@@ -24,6 +24,7 @@ mod plan_types;
 mod reaching;
 mod row_plans;
 mod rules;
+mod segments;
 mod shapes;
 mod tables;
 mod taking_plans;
@@ -41,5 +42,6 @@ pub use plan_types::{
 };
 pub use reaching::{Reach, SegmentReach};
 pub use rules::PlanRule;
+pub use segments::{reach, selected};
 pub use shapes::Shape;
 pub use tables::PlanTable;

@@ -3,6 +3,7 @@
 ghost use Rattle.std.specs.Prelude.{◌<◌, length};
 ghost use Rattle.vx_plan.specs.Refs.{number_of};
 ghost use Rattle.vx_plan.specs.Shapes.{HasShape};
+ghost use Rattle.vx_plan.specs.Tables.{IsGoodTable};
 
 use crate::children::PlanRef;
 use crate::nodes::PlanKind;
@@ -37,7 +38,8 @@ impl PlanTable {
     /// What a plan is over.
     pub fn shape(&self, plan: PlanRef) -> Shape
         requires { number_of plan < length self.now }
-        ensures { HasShape self.now (number_of plan) result }
+        ensures shape { HasShape self.now (number_of plan) result }
+        ensures good { IsGoodTable self.now }
     {
         let node = self.node(plan.0);
         match &node.kind {
