@@ -13,3 +13,5 @@ pub mod SharedTypes
 pub mod Validities
 pub mod Selecting
 pub mod Collecting
+pub mod FittingPlans
+pub mod SelectedReads

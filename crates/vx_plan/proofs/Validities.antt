@@ -23,7 +23,7 @@ some_fields (int_type kind n) below fit = absurd fit
 some_fields (utf8_type n) below fit = absurd fit
 some_fields (list_type t n) below fit = absurd fit
 
-some_children : (kind : PlanKind) (t : DataType) (below : List Node) → TypesFit kind t below → IsTrue (has_validity_of kind) → 0 < length below
+pub some_children : (kind : PlanKind) (t : DataType) (below : List Node) → TypesFit kind t below → IsTrue (has_validity_of kind) → 0 < length below
 some_children (kinds.Pack true) t below fit has = some_fields t below fit
 some_children (kinds.Pack false) t below fit has = absurd cc
 some_children (kinds.ListPack true) t [] fit has = absurd fit.0

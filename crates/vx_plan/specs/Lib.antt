@@ -10,3 +10,5 @@ pub mod ChildNames
 pub mod Tables
 pub mod Shapes
 pub mod Reaches
+pub mod FittingRows
+pub mod Laws

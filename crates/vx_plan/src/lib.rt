@@ -8,6 +8,7 @@
 //!   [`LegacyStatsPlan`]; which of them a plan is: [`PlanId`].
 //! - What a plan is over: [`Shape`].
 //! - Which segments its rows could read: [`reach`], [`selected`], with [`Reach`] and [`SegmentReach`].
+//! - The laws: [`plans_unfold`], [`reached_is_read`].
 #![tactic(auto)]
 
 mod checks;
@@ -18,6 +19,7 @@ mod errors;
 mod field_checks;
 mod field_plans;
 mod kinds;
+mod laws;
 mod list_plans;
 mod nodes;
 mod plan_types;
@@ -35,6 +37,7 @@ mod zones;
 pub use children::{PlanChildren, PlanRef};
 pub use errors::PlanError;
 pub use kinds::PlanId;
+pub use laws::{plans_unfold, reached_is_read};
 pub use nodes::{PlanKind, PlanNode};
 pub use plan_types::{
     ConcatPlan, EvalPlan, FilterPlan, LegacyStatsPlan, ListPackPlan, PackPlan, RowIdxPlan,

@@ -1,0 +1,18 @@
+//! The laws of the plans of a table. Each is the contract of a function that does nothing.
+
+ghost use Rattle.vx_plan.specs.Laws.{PlanUnfolds, PlanStays, PlanHasHead, PlanRowsFit, ReachedIsRead, ReadIsReached};
+
+/// The plan of a number is its node over the plans of the node's children; it stays when others are appended, and
+/// has the dtype and the rows of the node.
+pub fn plans_unfold()
+    ensures unfolds { PlanUnfolds }
+    ensures stays { PlanStays }
+    ensures head { PlanHasHead }
+    ensures rows { PlanRowsFit }
+{}
+
+/// The segments that are given for selected rows are exactly those that the rows read.
+pub fn reached_is_read()
+    ensures only { ReachedIsRead }
+    ensures each { ReadIsReached }
+{}
