@@ -12,3 +12,4 @@ pub mod Shapes
 pub mod Reaches
 pub mod FittingRows
 pub mod Laws
+pub mod WorkedPlans

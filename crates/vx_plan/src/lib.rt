@@ -8,9 +8,10 @@
 //!   [`LegacyStatsPlan`]; which of them a plan is: [`PlanId`].
 //! - What a plan is over: [`Shape`].
 //! - Which segments its rows could read: [`reach`], [`selected`], with [`Reach`] and [`SegmentReach`].
-//! - The laws: [`plans_unfold`], [`reached_is_read`].
+//! - The laws: [`plans_unfold`], [`reached_is_read`]; plans by hand: [`reach_by_hand`], [`rows_by_hand`].
 #![tactic(auto)]
 
+mod by_hand;
 mod checks;
 mod child_names;
 mod children;
@@ -34,6 +35,7 @@ mod zone_checks;
 mod zoned_plans;
 mod zones;
 
+pub use by_hand::{reach_by_hand, rows_by_hand};
 pub use children::{PlanChildren, PlanRef};
 pub use errors::PlanError;
 pub use kinds::PlanId;

@@ -1,0 +1,85 @@
+-- Plans that were written by hand, on which the definitions of rows, of reads and of what is reached are checked.
+use Rattle.std.specs.Prelude.{codes, ℕ, pos, true, false, List, [], ◌∷◌, ◌++◌, map, Option, Some, None}
+use Rattle.std.specs.declared.ops.Range.{Range}
+use Rattle.vx_base.specs.declared.dtypes.IntKind.TheVariants.{U8, I64, U64}
+use Rattle.vx_base.specs.declared.dtypes.Nullability.TheVariants.{NonNullable, Nullable}
+use Rattle.vx_base.specs.Data.{DataType, bool_type, int_type, struct_type, list_type, no_members, member, Datum, null, truth, number, structure, no_items}
+use Rattle.vx_expr.specs.declared.operators.ArithOp.TheVariants.{Add, Div}
+use Rattle.vx_expr.specs.Terms.{Term, root, literal, get_field, arithmetic}
+use Rattle.vx_rows.specs.Derivations.{Leaves}
+use Rattle.vx_rows.specs.Reads.{Way, Found, a_cell, a_code, a_list_row, Read}
+use Rattle.vx_plan.specs.declared.reaching.SegmentReach.{SegmentReach}
+use Rattle.vx_plan.specs.Plans.{Head, Plan, concat_plan, eval_plan, filter_plan, pack_plan, take_plan, share_plan, list_plan, row_idx_plan, scan_plan, no_plans, plan, all_valid, valid_as}
+use Rattle.vx_plan.specs.PlanRows.{plan_value, plan_reads}
+
+abbrev pub i64 : DataType
+i64 = int_type I64 NonNullable
+
+abbrev pub u64 : DataType
+u64 = int_type U64 NonNullable
+
+abbrev pub head : DataType → ℕ → Head
+head t rows = record { number = 0; dtype = t; rows = rows }
+
+-- ---- plans
+
+abbrev pub flat : DataType → ℕ → ℕ → Plan
+flat t rows segment = filter_plan (head t rows) (scan_plan (head t rows) segment)
+
+abbrev pub three_flats : Plan
+three_flats = concat_plan (head i64 9) (plan (flat i64 3 0) (plan (flat i64 3 1) (plan (flat i64 3 2) no_plans)))
+
+-- four codes in one segment, over so many values in the next
+abbrev pub looked_up_in : ℕ → Plan
+looked_up_in count = take_plan (head i64 4) (flat (int_type U8 Nullable) 4 0) (flat i64 count 1)
+
+abbrev pub shared_flats : Plan
+shared_flats = share_plan (head i64 9) three_flats
+
+abbrev pub two_lists : Plan
+two_lists = list_plan (head (list_type i64 NonNullable) 2) (flat i64 5 0) (flat i64 3 1) all_valid
+
+-- structs without fields, and which of them are not null
+abbrev pub null_structs : Plan
+null_structs = pack_plan (head (struct_type no_members Nullable) 3) no_plans (valid_as (flat (bool_type NonNullable) 3 0))
+
+-- the number of the row and two more
+abbrev pub two_behind : Plan
+two_behind = eval_plan (head u64 3) (arithmetic Add root (literal (number (pos 2)) u64)) (row_idx_plan (head u64 3))
+
+-- ten through the field `a`
+abbrev pub ten_through : Plan
+ten_through = eval_plan (head i64 3) (arithmetic Div (literal (number (pos 10)) i64) (get_field (codes "a") root)) (pack_plan (head (struct_type (member (codes "a") i64 no_members) NonNullable) 3) (plan (flat i64 3 0) no_plans) all_valid)
+
+-- ---- what rows are worth and read
+
+-- each segment has these values
+abbrev pub all_have : List Datum → Leaves
+all_have values t rows segment = Some values
+
+abbrev pub worth : List Datum → ℕ → Plan → List ℕ → List (Option Datum)
+worth values offset p rows = map (plan_value (all_have values) offset p) rows
+
+abbrev segment_in : Way → Found → List (Way × ℕ)
+segment_in way (a_cell found) = (way, found.segment) ∷ []
+segment_in way (a_code found) = []
+segment_in way (a_list_row list row) = []
+
+abbrev segments_in : List Read → List (Way × ℕ)
+segments_in [] = []
+segments_in (read ∷ reads) = segment_in read.way read.found ++ segments_in reads
+
+-- the segments whose cells a row reads, each with the way to it
+abbrev pub segments_read : Plan → ℕ → List (Way × ℕ)
+segments_read p row = segments_in (plan_reads 0 p row)
+
+abbrev pub natural_rows : List ℕ → List Datum
+natural_rows numbers = map (λ n. number (pos n)) numbers
+
+-- ---- what is reached
+
+abbrev pub rows : ℕ → ℕ → Range ℕ
+rows start end = record { start = start; end = end }
+
+abbrev pub entry : ℕ → ℕ → ℕ → SegmentReach
+entry segment start end = record { segment = segment; rows = rows start end }
