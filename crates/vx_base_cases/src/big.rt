@@ -8,12 +8,11 @@ ghost use Rattle.vx_base.specs.Segment.{IsShort};
 ghost use Rattle.vx_base.specs.ValueViews.{datum};
 
 use crate::built::texts_or_nulls;
-use crate::fields::number_of;
 use anyhow::{Context, Error, Result};
 use std::alloc::Global;
 use std::fmt::Write;
 use vx_base::{Column, Text, Value, decode, encode};
-use vx_notation::write_value;
+use vx_notation::{number_of, write_value};
 
 /// The text of a row: its number, and null at each seventh row.
 fn value_at(alloc: Global, row: u64) -> Result<Value> {

@@ -11,12 +11,12 @@ ghost use Rattle.vx_base.specs.Views.{data_type};
 ghost use Rattle.vx_base.specs.ValueViews.{datum};
 
 use crate::column_calls::column;
-use crate::fields::{number_of, three, two};
+use crate::fields::three;
 use crate::mask_calls::mask_of;
 use anyhow::{Error, Result};
 use std::alloc::Global;
 use vx_base::{Column, DType, Field, Fields, IntKind, Mask, Nullability, Text, Value};
-use vx_notation::{column_of, dtype_of};
+use vx_notation::{column_of, dtype_of, number_of, two};
 
 /// Whether the codes are unsigned numbers.
 fn is_unsigned(dtype: &DType) -> bool

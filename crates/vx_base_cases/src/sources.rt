@@ -1,13 +1,14 @@
 //! Sources over memory, one of them with a script: reads that are started, polled and forgotten.
 
 use crate::desks::Desk;
-use crate::fields::{bytes_of, hexadecimal, number_of, numbers_of, two};
+use crate::fields::{bytes_of, hexadecimal};
 use anyhow::{Context, Error, Result};
 use std::alloc::Global;
 use std::fmt::Write;
 use vx_base::{
     AskedRange, MemorySource, Script, ScriptSource, SegmentLocation, SegmentSource, SourceError,
 };
+use vx_notation::{number_of, numbers_of, two};
 
 /// The location that is written as its offset and its length.
 fn location_of(words: &str) -> Result<SegmentLocation> {
@@ -60,10 +61,10 @@ fn script_of(alloc: Global, rest: &str) -> Result<Script> {
     let (polls, waits) = two(polls)?;
     let (waits, order) = two(waits)?;
     Ok(Script {
-        fail_requests: numbers_of(alloc, requests)?,
-        fail_polls: numbers_of(alloc, polls)?,
-        waits: numbers_of(alloc, waits)?,
-        order: numbers_of(alloc, order)?,
+        fail_requests: numbers_of(alloc, requests, ' ')?,
+        fail_polls: numbers_of(alloc, polls, ' ')?,
+        waits: numbers_of(alloc, waits, ' ')?,
+        order: numbers_of(alloc, order, ' ')?,
     })
 }
 

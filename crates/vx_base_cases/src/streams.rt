@@ -3,11 +3,12 @@
 ghost use Rattle.std.specs.Prelude.{◌<◌, IfOk};
 
 use crate::desks::Desk;
-use crate::fields::{bytes_of, hexadecimal, numbers_of, three, two};
+use crate::fields::{bytes_of, hexadecimal, three};
 use anyhow::{Context, Error, Result};
 use std::alloc::Global;
 use std::fmt::Write;
 use vx_base::{BytesSink, BytesSource, Sink, Source};
+use vx_notation::{numbers_of, two};
 
 /// A count that is not 0.
 fn size_of(word: &str) -> Result<usize>
@@ -45,7 +46,7 @@ fn set_stream(alloc: Global, stream: &mut BytesSource, rest: &str) -> Result<()>
     let (piece, fails, bytes) = three(rest)?;
     let piece = size_of(piece)?;
     let bytes = bytes_of(alloc, bytes)?;
-    let fails = numbers_of(alloc, fails)?;
+    let fails = numbers_of(alloc, fails, ' ')?;
     *stream = BytesSource::new(alloc, bytes, piece, fails);
     Ok(())
 }
@@ -54,7 +55,7 @@ fn set_stream(alloc: Global, stream: &mut BytesSource, rest: &str) -> Result<()>
 fn set_sink(alloc: Global, stream: &mut BytesSink, rest: &str) -> Result<()> {
     let (piece, fails) = two(rest)?;
     let piece = size_of(piece)?;
-    let fails = numbers_of(alloc, fails)?;
+    let fails = numbers_of(alloc, fails, ' ')?;
     *stream = BytesSink::new(alloc, piece, fails);
     Ok(())
 }

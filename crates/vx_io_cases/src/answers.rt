@@ -1,12 +1,12 @@
 //! The commands.
 
 use crate::drives::{announced, drive_three};
-use crate::fields::two;
 use crate::many::many;
 use crate::sessions::{find, session};
 use crate::texts::text;
 use anyhow::Result;
 use std::alloc::Global;
+use vx_notation::two;
 
 /// The answer to a line: none to an empty one and to a remark.
 pub(crate) fn answer(alloc: Global, line: &str) -> Result<String> {

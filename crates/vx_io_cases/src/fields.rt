@@ -1,27 +1,9 @@
-//! The parts of a line: fields between `|`, numbers and ranges.
+//! The parts of a line: locations and tables of ranges.
 
 use anyhow::{Context, Error, Result};
 use std::alloc::Global;
 use vx_base::SegmentLocation;
 use vx_io::{SegmentRanges, segment_ranges};
-
-/// The two fields before and after a `|`.
-pub(crate) fn two(text: &str) -> Result<(&str, &str)> {
-    let (one, two) = text.split_once('|').context("a field after `|`")?;
-    Ok((one.trim(), two.trim()))
-}
-
-/// The numbers between commas; `-` is none.
-pub(crate) fn numbers_of(alloc: Global, word: &str) -> Result<Vec<u64>> {
-    let mut numbers = Vec::new(alloc);
-    for part in word.split(',') {
-        if part != "-" {
-            let number = part.parse::<u64>().context("a number")?;
-            numbers.push(number)?;
-        }
-    }
-    Ok(numbers)
-}
 
 /// The location of a range, as `4+2` for two bytes from the fourth on, or `4+2/8` for that with alignment 8.
 pub(crate) fn place_of(word: &str) -> Result<SegmentLocation> {

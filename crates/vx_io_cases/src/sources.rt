@@ -1,10 +1,10 @@
 //! A source that keeps to a script and notes what it is asked.
 
-use crate::fields::numbers_of;
 use anyhow::Result;
 use std::alloc::Global;
 use std::fmt::Write;
 use vx_base::{Script, ScriptSource, SegmentLocation, SegmentSource, SourceError};
+use vx_notation::numbers_of;
 
 /// A scripted source that notes by which number and for which location it is asked.
 #[derive(Drop)]
@@ -58,7 +58,7 @@ pub(crate) fn quiet(alloc: Global) -> Script {
 pub(crate) fn source_of(alloc: Global, words: &str) -> Result<Noting> {
     let mut script = quiet(alloc);
     for (place, word) in words.split_whitespace().enumerate() {
-        let numbers = numbers_of(alloc, word)?;
+        let numbers = numbers_of(alloc, word, ',')?;
         match place {
             0 => script.fail_requests = numbers,
             1 => script.fail_polls = numbers,

@@ -1,11 +1,10 @@
 //! The calls.
 
-use crate::words::{
-    bits_text, number_of, numbers_of, numbers_text, range_of, ranges_text, selection_of,
-};
+use crate::words::{number_of, numbers_of, numbers_text, range_of, ranges_text, selection_of};
 use anyhow::{Context, Error, Result};
 use std::alloc::Global;
 use vx_base::SegmentLocation;
+use vx_notation::bits_text;
 use vx_splits::{
     StrictSorted, WorkScope, attempt_split_ranges, row_chunks, rows_per_chunk, select_rows,
     subdivide_large_spans,

@@ -1,4 +1,4 @@
-//! Words of a call and of its answer: numbers, ranges, bits and selections.
+//! Words of a call and of its answer: numbers with steps, ranges and selections.
 
 use anyhow::{Context, Error, Result};
 use std::alloc::Global;
@@ -83,19 +83,6 @@ pub(crate) fn ranges_text(alloc: Global, ranges: &[Range<u64>]) -> Result<String
         write!(text, "{blank}{start}..{end}")?;
     }
     Ok(if ranges.is_empty() {
-        String::from_str(alloc, "-")?
-    } else {
-        text
-    })
-}
-
-/// The bits as `101`; none is `-`.
-pub(crate) fn bits_text(alloc: Global, bits: &[bool]) -> Result<String> {
-    let mut text = String::new(alloc);
-    for bit in bits {
-        text.push(if *bit { '1' } else { '0' })?;
-    }
-    Ok(if bits.is_empty() {
         String::from_str(alloc, "-")?
     } else {
         text
