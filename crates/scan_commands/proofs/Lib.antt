@@ -2,6 +2,7 @@ pub mod Chunks
 pub mod Pieces
 pub mod Polls
 pub mod Writes
+pub mod Lines
 pub mod Lists
 pub mod Forms
 pub mod Accepted

@@ -6,7 +6,7 @@ ghost use Rattle.std.specs.Fmt.{signed_decimal};
 ghost use Rattle.std.specs.List.{AllByRecursion};
 ghost use Rattle.vx_base.specs.Data.{int_type};
 ghost use Rattle.vx_base.specs.Segment.{number_in};
-ghost use Rattle.vx_base.specs.ValueViews.{datum};
+ghost use Rattle.vx_base.specs.Cells.{cell_datum};
 ghost use Rattle.vx_base.specs.Views.{data_type};
 ghost use Rattle.vx_base.specs.declared.dtypes.IntKind.TheVariants.{I64};
 ghost use Rattle.vx_base.specs.declared.dtypes.Nullability.TheVariants.{NonNullable};
@@ -19,7 +19,7 @@ ghost use Rattle.scan_commands.specs.Walk.{AsksOnly, IsRangeIn, LeafGives, WalkG
 use crate::faults::ScanFault;
 use crate::segments::read_segment;
 use std::alloc::{AllocError, Global};
-use vx_base::{Column, DecodeError, SegmentLocation, SegmentSource, Value, decode};
+use vx_base::{Cell, Column, DecodeError, SegmentLocation, SegmentSource, decode};
 use vx_layout::{LayoutKind, LayoutNode, LayoutTree};
 
 /// Reads the leaves below a node, and appends a line for each row. All nodes are flat and chunked ones.
@@ -110,12 +110,12 @@ fn read_leaf<S: SegmentSource>(
 }
 
 /// Appends a line for each value of a column of numbers.
+#[tactic(auto, using(crate::proofs::Lines::row_more))]
 fn append_lines(text: &mut String, column: &Column) -> Result<(), AllocError>
     ensures { OnOk result (string_bytes text.new ≡ string_bytes text.old ++ lines column.now.values) }
 {
-    let values = column.values();
-    for value in values {
-        append_line(text, number_of(value))?;
+    for row in 0..column.len() {
+        append_line(text, number_of(column.cell(row)))?;
     }
     Ok(())
 }
@@ -128,11 +128,12 @@ fn append_line(text: &mut String, number: i128) -> Result<(), AllocError>
 }
 
 /// The number of a value.
-fn number_of(value: &Value) -> i128
-    ensures { result ≡ number_in (datum value.now) }
+#[tactic(auto, using(crate::proofs::Lines::no_number))]
+fn number_of(cell: Cell<'_>) -> i128
+    ensures { result ≡ number_in (cell_datum cell.entry) }
 {
-    match value {
-        Value::Int(number) => *number,
+    match cell {
+        Cell::Int(number) => number,
         _ => 0,
     }
 }

@@ -1,17 +1,21 @@
 //! Columns: a dtype and values that it takes, one for each row.
 
-ghost use Rattle.std.specs.Prelude.{◌≡◌, ℕ, ◌<◌, ◌++◌, Some, List, [], length, map, OnOk, IfOk, IsErrOf, MatchOption};
-ghost use Rattle.std.specs.List.{slice_get, flat_map, AllByRecursion};
+ghost use Rattle.std.specs.Prelude.{◌≡◌, ℕ, ◌<◌, ◌≤◌, Some, [], length, map, slice_get, OnOk, IfOk, IsErrOf, MatchOption};
+ghost use Rattle.std.specs.List.{AllByRecursion};
 ghost use Rattle.vx_base.specs.Fits.{Fits};
 ghost use Rattle.vx_base.specs.Columns.{IsFirstUnfit};
+ghost use Rattle.vx_base.specs.Segment.{is_value};
 ghost use Rattle.vx_base.specs.Views.{data_type};
 ghost use Rattle.vx_base.specs.ValueViews.{datum};
+ghost use Rattle.vx_packed.specs.Cells.{cell_datum};
+ghost use Rattle.vx_packed.specs.PackedColumns.{IsColumn};
 
-use crate::dtypes::DType;
-use crate::values::{Value, fits};
 use std::alloc::{AllocError, Global};
 use std::marker::Model;
 use thiserror::Error;
+use vx_packed::{Cell, Part};
+use vx_types::{DType, Value, fits};
+use vx_words::Mask;
 
 /// Why values are no column of a dtype.
 #[derive(Debug, Drop, Error)]
@@ -25,32 +29,29 @@ pub enum ColumnError {
 }
 
 /// A dtype and values that it takes, one for each row.
-#[derive(Debug, Drop)]
+#[derive(Drop)]
 pub struct Column {
     dtype: DType,
-    values: Vec<Value>,
+    rows: Part,
 }
 
 impl Model for Column {
-    ghost use Rattle.std.specs.Prelude.{map};
-    ghost use Rattle.std.specs.List.{AllByRecursion};
     ghost use Rattle.vx_base.specs.Columns.{ColumnData};
     ghost use Rattle.vx_base.specs.Codes.{coded_column};
-    ghost use Rattle.vx_base.specs.Fits.{Fits};
     ghost use Rattle.vx_base.specs.Views.{data_type};
-    ghost use Rattle.vx_base.specs.ValueViews.{datum};
+    ghost use Rattle.vx_packed.specs.PackedColumns.{IsColumn};
 
     ghost Value = { ColumnData };
 
     ghost coded = { coded_column };
 
-    ghost view = { λ a. record { dtype = data_type a.dtype; values = map datum a.values.items } };
+    ghost view = { λ a. record { dtype = data_type a.dtype; values = a.rows.values } };
 
-    ghost invariant = { λ a. AllByRecursion (Fits (data_type a.dtype)) (map datum a.values.items) };
+    ghost invariant = { λ a. IsColumn (data_type a.dtype) a.rows };
 }
 
 /// The first of the values that the dtype doesn't take. None where it takes each.
-fn first_unfit(dtype: &DType, values: &[Value]) -> Option<usize>
+pub(crate) fn first_unfit(dtype: &DType, values: &[Value]) -> Option<usize>
     ensures { MatchOption result (AllByRecursion (Fits (data_type dtype.now)) (map datum values.now)) (λ row. IsFirstUnfit (data_type dtype.now) (map datum values.now) row) }
 {
     for (row, value) in values.iter().enumerate() {
@@ -61,46 +62,57 @@ fn first_unfit(dtype: &DType, values: &[Value]) -> Option<usize>
     None
 }
 
-/// How many rows the parts have together, or the most that a `usize` holds.
-fn rows_in(parts: &[Column]) -> usize {
-    let mut rows: usize = 0;
-    for part in parts {
-        rows = rows.saturating_add(part.values().len());
-    }
-    rows
-}
-
-/// Moves the part's values to the end of the values.
-fn append_part(values: &mut Vec<Value>, part: Column) -> Result<(), AllocError>
-    ensures moved { OnOk result (map datum values.new.items ≡ map datum values.old.items ++ part.values) }
-    ensures fit { AllByRecursion (Fits part.dtype) part.values }
-{
-    let mut moved = part.values;
-    values.append(&mut moved)
-}
-
 impl Column {
-    /// The column of these values in this order, where the dtype takes each of them. `_alloc` is for
-    /// representations other than a list.
-    pub fn try_of(_alloc: Global, dtype: DType, values: Vec<Value>) -> Result<Column, ColumnError>
+    /// The column of a dtype and of rows that it takes. It takes no memory.
+    pub(crate) fn of_rows(dtype: DType, rows: Part) -> Column
+        requires { IsColumn (data_type dtype) rows }
+        ensures dtype { result.dtype ≡ data_type dtype }
+        ensures values { result.values ≡ rows.values }
+    {
+        Column { dtype, rows }
+    }
+
+    /// What the rows hold. It takes no memory.
+    pub(crate) fn rows(&self) -> &Part
+        ensures values { result.now.values ≡ self.now.values }
+        ensures column { IsColumn self.now.dtype result.now }
+    {
+        &self.rows
+    }
+
+    /// What the rows hold, alone. It takes no memory.
+    pub(crate) fn into_rows(self) -> Part
+        ensures values { result.values ≡ self.values }
+        ensures column { IsColumn self.dtype result }
+    {
+        self.rows
+    }
+
+    /// The column of these values in this order, where the dtype takes each of them.
+    pub fn try_of(alloc: Global, dtype: DType, values: Vec<Value>) -> Result<Column, ColumnError>
         ensures dtype { IfOk result (λ column. column.dtype ≡ data_type dtype) }
         ensures values { IfOk result (λ column. column.values ≡ map datum values.items) }
         ensures fit { OnOk result (AllByRecursion (Fits (data_type dtype)) (map datum values.items)) }
         ensures unfit { (row : ℕ) → IsErrOf result (ColumnError.Unfit row) → IsFirstUnfit (data_type dtype) (map datum values.items) row }
     {
-        match first_unfit(&dtype, &values) {
-            Some(row) => Err(ColumnError::Unfit(row as u64)),
-            None => Ok(Column { dtype, values }),
+        if let Some(row) = first_unfit(&dtype, &values) {
+            return Err(ColumnError::Unfit(row as u64));
+        }
+        match Column::of_fitting(alloc, dtype, values) {
+            Ok(column) => Ok(column),
+            Err(_) => Err(ColumnError::Memory),
         }
     }
 
-    /// The column of values that are known to fit, in their order. It takes no memory.
-    pub fn of_fitting(dtype: DType, values: Vec<Value>) -> Column
+    /// The column of values that are known to fit, in their order.
+    #[tactic(auto, using(vx_packed::proofs::PackedRows::column_of_values, vx_packed::proofs::PackedRows::all_nullable))]
+    pub fn of_fitting(alloc: Global, dtype: DType, values: Vec<Value>) -> Result<Column, AllocError>
         requires { AllByRecursion (Fits (data_type dtype)) (map datum values.items) }
-        ensures dtype { result.dtype ≡ data_type dtype }
-        ensures values { result.values ≡ map datum values.items }
+        ensures dtype { IfOk result (λ column. column.dtype ≡ data_type dtype) }
+        ensures values { IfOk result (λ column. column.values ≡ map datum values.items) }
     {
-        Column { dtype, values }
+        let rows = Part::of_values(alloc, &dtype, values.as_slice())?;
+        Ok(Column { dtype, rows })
     }
 
     /// The column of no rows.
@@ -108,8 +120,7 @@ impl Column {
         ensures dtype { IfOk result (λ column. column.dtype ≡ data_type dtype) }
         ensures values { IfOk result (λ column. column.values ≡ []) }
     {
-        let values = Vec::new(alloc);
-        Ok(Column { dtype, values })
+        Column::of_fitting(alloc, dtype, Vec::new(alloc))
     }
 
     /// How many rows there are.
@@ -117,7 +128,7 @@ impl Column {
         ensures rows { result ≡ length self.now.values }
         ensures fit { AllByRecursion (Fits self.now.dtype) self.now.values }
     {
-        self.values.len() as u64
+        self.rows.len() as u64
     }
 
     /// The dtype of the values. It takes no memory.
@@ -127,12 +138,19 @@ impl Column {
         &self.dtype
     }
 
-    /// The values, row by row. It takes no memory.
-    pub fn values(&self) -> &[Value]
-        ensures values { map datum result.now ≡ self.now.values }
-        ensures fit { AllByRecursion (Fits self.now.dtype) self.now.values }
+    /// Which rows have a value. It takes no memory.
+    pub fn validity(&self) -> &Mask
+        ensures { result.now ≡ map is_value self.now.values }
     {
-        self.values.as_slice()
+        self.rows.validity()
+    }
+
+    /// The value of a row, counted from 0, borrowed from the column. It takes no memory.
+    pub fn cell(&self, row: u64) -> Cell<'_>
+        requires { row < length self.now.values }
+        ensures { slice_get self.now.values row ≡ Some (cell_datum result) }
+    {
+        self.rows.cell(row as usize)
     }
 
     /// The value of a row, counted from 0, in memory of its own.
@@ -140,20 +158,20 @@ impl Column {
         requires { row < length self.now.values }
         ensures { IfOk result (λ value. slice_get self.now.values row ≡ Some (datum value)) }
     {
-        let values = self.values();
-        values[row as usize].copy(alloc)
+        let value = self.rows.get(alloc, row as usize)?;
+        Ok(value)
     }
 
-    /// The values of all parts, one part after another. It moves them into memory that it takes once.
-    pub fn concat(alloc: Global, dtype: DType, parts: Vec<Column>) -> Result<Column, AllocError>
-        requires { AllByRecursion (λ part. part.dtype ≡ data_type dtype) parts.items }
-        ensures dtype { IfOk result (λ column. column.dtype ≡ data_type dtype) }
-        ensures values { IfOk result (λ column. column.values ≡ flat_map (λ part. part.values) parts.items) }
+    /// The values, row by row, in memory of their own.
+    pub fn to_values(&self, alloc: Global) -> Result<Vec<Value>, AllocError>
+        ensures values { IfOk result (λ values. map datum values.items ≡ self.now.values) }
+        ensures fit { AllByRecursion (Fits self.now.dtype) self.now.values }
     {
-        let mut values = Vec::with_capacity(alloc, rows_in(&parts))?;
-        for part in parts {
-            append_part(&mut values, part)?;
+        let mut values = Vec::with_capacity(alloc, self.len() as usize)?;
+        for row in 0..self.len() {
+            let value = self.get(alloc, row)?;
+            values.push(value)?;
         }
-        Ok(Column { dtype, values })
+        Ok(values)
     }
 }

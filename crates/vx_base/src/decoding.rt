@@ -1,157 +1,86 @@
 //! Decoding: the column whose values the bytes of a segment spell.
 
-ghost use Rattle.std.specs.Prelude.{◌≡◌, Some, None, List, map, IfOk, IsErrOf};
-ghost use Rattle.vx_base.specs.declared.decoding.DecodeError.TheVariants as errors;
+ghost use Rattle.std.specs.Prelude.{◌≡◌, Some, None, List, IfOk, IsErrOf};
+ghost use Rattle.vx_packed.specs.declared.decode_errors.DecodeError.TheVariants as errors;
 ghost use Rattle.vx_base.specs.Data.{Datum, bool_type, int_type, utf8_type};
 ghost use Rattle.vx_base.specs.Leaf.{IsLeaf};
 ghost use Rattle.vx_base.specs.Segment.{Spells};
 ghost use Rattle.vx_base.specs.Reading.{decoded};
 ghost use Rattle.vx_base.specs.Views.{data_type};
-ghost use Rattle.vx_base.specs.ValueViews.{datum};
 
 use crate::columns::Column;
-use crate::dtypes::{DType, IntKind, Nullability};
-use crate::segment_parts::{
-    are_bits, bit_of_row, four_at, is_filled, is_valid, number_at, number_value, split_validity,
-    text_value, truth_value,
-};
-use crate::values::Value;
-use std::alloc::{AllocError, AllocFailed, Global};
-use thiserror::Error;
+use std::alloc::Global;
+use vx_packed::{DecodeError, Part, decode_numbers, decode_texts, decode_truths};
+use vx_types::{DType, IntKind, Nullability};
 
-/// Why a segment was not decoded.
-#[derive(Debug, Drop, Error)]
-pub enum DecodeError {
-    /// The bytes spell no values of the dtype for so many rows.
-    #[error("the segment does not hold the rows that it should")]
-    BadSegment,
-    /// There is no memory left.
-    #[error("out of memory")]
-    Memory,
-}
-
-impl From<AllocError> for DecodeError {
-    ghost from_gives = { λ _ e. e ≡ errors.Memory };
-
-    fn from(_error: AllocError) -> DecodeError {
-        DecodeError::Memory
-    }
-}
-
-impl<T: Drop> From<AllocFailed<T>> for DecodeError {
-    ghost from_gives = { λ _ e. e ≡ errors.Memory };
-
-    fn from(_error: AllocFailed<T>) -> DecodeError {
-        DecodeError::Memory
-    }
-}
-
-/// The truth values of so many rows that the bytes spell.
+/// The column of so many truth values that the bytes spell.
 fn truths(
     alloc: Global,
     nullability: Nullability,
     rows: u64,
     bytes: &[u8],
-) -> Result<Vec<Value>, DecodeError>
-    ensures spelled { IfOk result (λ values. Spells (bool_type nullability) rows bytes.now (map datum values.items)) }
+) -> Result<Column, DecodeError>
+    ensures dtype { IfOk result (λ column. column.dtype ≡ bool_type nullability) }
+    ensures spelled { IfOk result (λ column. Spells (bool_type nullability) rows bytes.now column.values) }
     ensures refused { IsErrOf result DecodeError.BadSegment → (values : List Datum) → ¬ (Spells (bool_type nullability) rows bytes.now values) }
 {
-    let (validity, slots) = match split_validity(nullability, rows, bytes) {
-        Some(parts) => parts,
-        None => return Err(DecodeError::BadSegment),
-    };
-    if !are_bits(rows, slots) {
-        return Err(DecodeError::BadSegment);
+    match decode_truths(alloc, nullability, rows, bytes) {
+        Ok((validity, truths)) => {
+            let rows = Part::of_truths(validity, truths);
+            Ok(Column::of_rows(DType::Bool(nullability), rows))
+        }
+        Err(error) => Err(error),
     }
-    let mut values = Vec::with_capacity(alloc, rows as usize)?;
-    for row in 0..rows {
-        let valid = is_valid(nullability, validity, row);
-        let value = match truth_value(valid, bit_of_row(slots, row)) {
-            Some(value) => value,
-            None => return Err(DecodeError::BadSegment),
-        };
-        values.push(value)?;
-    }
-    Ok(values)
 }
 
-/// The numbers of so many rows that the bytes spell.
+/// The column of so many numbers of a kind that the bytes spell.
 fn numbers(
     alloc: Global,
     kind: IntKind,
     nullability: Nullability,
     rows: u64,
     bytes: &[u8],
-) -> Result<Vec<Value>, DecodeError>
-    ensures spelled { IfOk result (λ values. Spells (int_type kind nullability) rows bytes.now (map datum values.items)) }
+) -> Result<Column, DecodeError>
+    ensures dtype { IfOk result (λ column. column.dtype ≡ int_type kind nullability) }
+    ensures spelled { IfOk result (λ column. Spells (int_type kind nullability) rows bytes.now column.values) }
     ensures refused { IsErrOf result DecodeError.BadSegment → (values : List Datum) → ¬ (Spells (int_type kind nullability) rows bytes.now values) }
 {
-    let (validity, slots) = match split_validity(nullability, rows, bytes) {
-        Some(parts) => parts,
-        None => return Err(DecodeError::BadSegment),
-    };
-    if !is_filled(kind, rows, slots) {
-        return Err(DecodeError::BadSegment);
+    match decode_numbers(alloc, kind, nullability, rows, bytes) {
+        Ok((validity, numbers)) => {
+            let _inside = numbers.len();
+            let rows = Part::of_numbers(validity, numbers);
+            Ok(Column::of_rows(DType::Int(kind, nullability), rows))
+        }
+        Err(error) => Err(error),
     }
-    let mut values = Vec::with_capacity(alloc, rows as usize)?;
-    let mut rest = slots;
-    for row in 0..rows {
-        let (number, after) = number_at(kind, rest);
-        let valid = is_valid(nullability, validity, row);
-        let value = match number_value(valid, number) {
-            Some(value) => value,
-            None => return Err(DecodeError::BadSegment),
-        };
-        values.push(value)?;
-        rest = after;
-    }
-    Ok(values)
 }
 
-/// The texts of so many rows that the bytes spell.
+/// The column of so many texts that the bytes spell.
 fn texts(
     alloc: Global,
     nullability: Nullability,
     rows: u64,
     bytes: &[u8],
-) -> Result<Vec<Value>, DecodeError>
-    ensures spelled { IfOk result (λ values. Spells (utf8_type nullability) rows bytes.now (map datum values.items)) }
+) -> Result<Column, DecodeError>
+    ensures dtype { IfOk result (λ column. column.dtype ≡ utf8_type nullability) }
+    ensures spelled { IfOk result (λ column. Spells (utf8_type nullability) rows bytes.now column.values) }
     ensures refused { IsErrOf result DecodeError.BadSegment → (values : List Datum) → ¬ (Spells (utf8_type nullability) rows bytes.now values) }
 {
-    let (validity, slots) = match split_validity(nullability, rows, bytes) {
-        Some(parts) => parts,
-        None => return Err(DecodeError::BadSegment),
-    };
-    if ((slots.len() / 4) as u64) < rows {
-        return Err(DecodeError::BadSegment);
-    }
-    let mut values = Vec::with_capacity(alloc, rows as usize)?;
-    let (mut lengths, mut rest) = slots.split_at(4 * rows as usize);
-    for row in 0..rows {
-        let (len, more) = four_at(lengths);
-        if rest.len() < len as usize {
-            return Err(DecodeError::BadSegment);
+    match decode_texts(alloc, nullability, rows, bytes) {
+        Ok((validity, texts)) => {
+            let _utf8 = texts.len();
+            let rows = Part::of_texts(validity, texts);
+            Ok(Column::of_rows(DType::Utf8(nullability), rows))
         }
-        let (text, after) = rest.split_at(len as usize);
-        let value = match text_value(alloc, is_valid(nullability, validity, row), text)? {
-            Some(value) => value,
-            None => return Err(DecodeError::BadSegment),
-        };
-        values.push(value)?;
-        lengths = more;
-        rest = after;
-    }
-    if rest.is_empty() {
-        Ok(values)
-    } else {
-        Err(DecodeError::BadSegment)
+        Err(error) => Err(error),
     }
 }
 
-/// The values of so many rows of a leaf dtype that the bytes spell.
-fn leaf(alloc: Global, dtype: &DType, rows: u64, bytes: &[u8]) -> Result<Vec<Value>, DecodeError>
+/// The column of so many rows of a leaf dtype that the bytes spell.
+fn leaf(alloc: Global, dtype: &DType, rows: u64, bytes: &[u8]) -> Result<Column, DecodeError>
     requires { IsLeaf (data_type dtype.now) }
-    ensures spelled { IfOk result (λ values. Spells (data_type dtype.now) rows bytes.now (map datum values.items)) }
+    ensures dtype { IfOk result (λ column. column.dtype ≡ data_type dtype.now) }
+    ensures spelled { IfOk result (λ column. Spells (data_type dtype.now) rows bytes.now column.values) }
     ensures refused { IsErrOf result DecodeError.BadSegment → (values : List Datum) → ¬ (Spells (data_type dtype.now) rows bytes.now values) }
 {
     match dtype {
@@ -173,10 +102,8 @@ pub fn decode(alloc: Global, dtype: &DType, rows: u64, bytes: &[u8]) -> Result<C
     ensures read { IfOk result (λ column. decoded (data_type dtype.now) rows bytes.now ≡ Some column.values) }
     ensures unread { IsErrOf result DecodeError.BadSegment → decoded (data_type dtype.now) rows bytes.now ≡ None }
 {
-    let values = match leaf(alloc, dtype, rows, bytes) {
-        Ok(values) => values,
-        Err(error) => return Err(error),
-    };
-    let dtype = dtype.copy(alloc)?;
-    Ok(Column::of_fitting(dtype, values))
+    match leaf(alloc, dtype, rows, bytes) {
+        Ok(column) => Ok(column),
+        Err(error) => Err(error),
+    }
 }

@@ -38,10 +38,14 @@ fn texts_of(alloc: Global, from: u64, to: u64) -> Result<Column>
 }
 
 /// Appends how many rows there are, and the last one.
-fn write_told(column: &Column, out: &mut String) -> Result<()> {
-    let last = column.values().last().context("a row")?;
-    write!(out, "{} rows, the last ", column.len())?;
-    write_value(last, out)
+fn write_told(alloc: Global, column: &Column, out: &mut String) -> Result<()> {
+    let rows = column.len();
+    if rows == 0 {
+        return Err(Error::msg("a row"));
+    }
+    let last = column.get(alloc, rows - 1)?;
+    write!(out, "{rows} rows, the last ")?;
+    write_value(&last, out)
 }
 
 /// The parts of a column, of two rows each.
@@ -71,7 +75,7 @@ fn joined(alloc: Global, count: u64) -> Result<String> {
         return Err(Error::msg("the same rows"));
     }
     let mut text = String::new(alloc);
-    write_told(&column, &mut text)?;
+    write_told(alloc, &column, &mut text)?;
     Ok(text)
 }
 
@@ -105,14 +109,15 @@ fn write_read(alloc: Global, column: &Column, bytes: &[u8], out: &mut String) ->
     if !read.same(column) {
         return Err(Error::msg("the same rows"));
     }
-    write_told(&read, out)
+    write_told(alloc, &read, out)
 }
 
 /// How many bytes a column is written as, and what is read of them.
 fn coded_column(alloc: Global, column: &Column) -> Result<String>
     requires { column.now.dtype ≡ utf8_type Nullable }
 {
-    if !are_short(column.values()) {
+    let values = column.to_values(alloc)?;
+    if !are_short(values.as_slice()) {
         return Err(Error::msg("short texts"));
     }
     let bytes = encode(alloc, column)?;

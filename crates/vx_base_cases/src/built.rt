@@ -52,7 +52,8 @@ fn are_below(codes: &[Value], count: usize) -> bool
 
 /// The values at codes.
 fn looked_up(alloc: Global, codes: &Column, values: &Column) -> Result<Column> {
-    if !is_unsigned(codes.dtype()) || !are_below(codes.values(), values.values().len()) {
+    let numbers = codes.to_values(alloc)?;
+    if !is_unsigned(codes.dtype()) || !are_below(numbers.as_slice(), values.len() as usize) {
         return Err(Error::msg("codes of values"));
     }
     Ok(Column::look_up(alloc, codes, values)?)

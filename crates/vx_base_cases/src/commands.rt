@@ -24,9 +24,18 @@ fn answer(alloc: Global, desk: &mut Desk, line: &str) -> Result<String> {
         "dtype" | "same_dtype" | "kind" | "find" | "field" | "field_count" => {
             of_dtypes(alloc, command, rest)
         }
-        "mask" | "all_true" | "all_false" | "at_rows" | "slice_mask" | "both" | "ranked" => {
-            of_masks(alloc, command, rest)
-        }
+        "mask"
+        | "all_true"
+        | "all_false"
+        | "at_rows"
+        | "slice_mask"
+        | "both"
+        | "either"
+        | "without"
+        | "chosen"
+        | "behind"
+        | "ranked"
+        | "words" => of_masks(alloc, command, rest),
         "memory" | "fetch" | "forget" | "asked" => of_memory(alloc, desk, command, rest),
         "script" | "request" | "poll" | "clear" | "counts" => of_scripts(
             alloc, desk, command, rest,

@@ -8,7 +8,7 @@ use Rattle.std.specs.BTreeMap.{is_at}
 use Rattle.std.specs.Ordering.{is_eq, nat_cmp, match_ordering}
 use Rattle.std.specs.declared.cmp.Ordering.TheVariants.{Less, Equal, Greater}
 use Rattle.std.specs.Cmp.Lexicographic.{slice_cmp}
-use Rattle.std.proofs.lemmas.List.{take_more}
+use Rattle.std.proofs.lemmas.List.{map-append, take_more}
 use Rattle.std.proofs.lemmas.Map.Text.{is_eq-slice_cmp}
 use Rattle.std.proofs.lemmas.Slice.Eq.{bytes_eq-Decides}
 use Rattle.vx_base.specs.declared.dtypes.Field.{Field}
@@ -107,6 +107,21 @@ kept_no names fields i field so_far lt is not_there before =
     ∙ sym (add_none (names_among (members_of (take i fields)) names))
     ∙ ap (λ (b : Bool). names_among (members_of (take i fields)) names ++ cond b (field.name ∷ []) []) (sym not_there)
     ∙ sym (kept_more names fields i field lt is)
+
+-- the names of one more field
+pub names_more : (fields : List Field) (i : ℕ) (field : Field) → i < length fields → field ≡ get_or fields i field → names_in (members_of (take (suc i) fields)) ≡ names_in (members_of (take i fields)) ++ field.name ∷ []
+names_more [] i field lt e = absurd (omega arith)
+names_more (one ∷ fields) zero field lt e = ap (λ (f : Field). f.name ∷ []) (sym e)
+names_more (one ∷ fields) (suc i) field lt e = ap (λ (ns : List (List ℕ)). one.name ∷ ns) (names_more fields i field (omega arith) e)
+
+-- and whether it is kept
+pub flags_more : (names : List (List ℕ)) (fields : List Field) (i : ℕ) (field : Field) (so_far after : List Bool) (kept : Bool) → i < length fields → field ≡ get_or fields i field → stands_in names field.name ≡ kept → so_far ≡ map (stands_in names) (names_in (members_of (take i fields))) → after ≡ so_far ++ kept ∷ [] → after ≡ map (stands_in names) (names_in (members_of (take (suc i) fields)))
+flags_more names fields i field so_far after kept lt is tells before put =
+    put
+    ∙ ap (λ (b : Bool). so_far ++ b ∷ []) (sym tells)
+    ∙ ap (λ (bs : List Bool). bs ++ stands_in names field.name ∷ []) before
+    ∙ sym (map-append (stands_in names) (names_in (members_of (take i fields))) (field.name ∷ []))
+    ∙ sym (ap (map (stands_in names)) (names_more fields i field lt is))
 
 pub told : (keys : List (Bor (List ℕ))) (key : Bor (List ℕ)) (names : List (List ℕ)) (name : List ℕ) (found is : Bool) → found ≡ list_any (is_at (text_cmp key)) keys → ((q : List ℕ) → stands_in (texts keys) q ≡ stands_in names q) → key.now ≡ name → found ≡ is → stands_in names name ≡ is
 told keys key names name found is test same e found_is =

@@ -1,6 +1,7 @@
 //! The fields of the root that an expression gets, in the order of the dtype.
 
 ghost use Rattle.std.specs.Prelude.{◌≡◌, ℕ, List, map, IfOk};
+ghost use Rattle.vx_base.specs.Names.{names_in};
 ghost use Rattle.vx_base.specs.Views.{data_type, members_of};
 ghost use Rattle.vx_expr.specs.Mentions.{root_fields};
 ghost use Rattle.vx_layout.specs.Kept.{is_kept, kept_among, kept_data, kept_fields, names_among, only};
@@ -43,6 +44,19 @@ fn names_among(alloc: Global, fields: &[Field], names: &[Text]) -> Result<Vec<Te
         }
     }
     Ok(kept)
+}
+
+/// Whether each of the fields is one of these names, one field after another. Time is n log n.
+pub fn kept_flags(alloc: Global, fields: &[Field], names: &[Text]) -> Result<Vec<bool>, AllocError>
+    ensures { IfOk result (λ flags. flags.items ≡ map (is_kept (only names.now)) (names_in (members_of fields.now))) }
+{
+    let seen = set_of(alloc, names)?;
+    let mut flags = Vec::with_capacity(alloc, fields.len())?;
+    for field in fields {
+        let kept = seen.contains(&field.name.as_str());
+        flags.push(kept)?;
+    }
+    Ok(flags)
 }
 
 /// The fields that the expression gets from a root of these fields, and all where the root occurs bare.

@@ -61,7 +61,7 @@ pub fn validity_count(nullability: Nullability) -> usize
 }
 
 /// Whether so many children fit the kind and the dtype.
-#[tactic(auto, using(vx_base::proofs::Members::length_in_view))]
+#[tactic(auto, using(vx_types::proofs::Members::length_in_view))]
 pub fn has_fitting_count(node: &LayoutNode) -> bool
     ensures { IsTrue result ↔ HasFittingCount (node_data node.now) }
 {

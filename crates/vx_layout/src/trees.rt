@@ -66,6 +66,7 @@ impl LayoutTree {
     /// How many nodes there are, at least one.
     pub fn len(&self) -> u32
         ensures count { result ≡ length self.now }
+        ensures few { length self.now < node_limit }
         ensures good { IsGoodTree self.now }
     {
         self.nodes.len() as u32

@@ -2,6 +2,7 @@
 
 use anyhow::{Context, Error, Result};
 use std::alloc::Global;
+use vx_base::Mask;
 
 /// The two fields before and after a `|`.
 pub fn two(text: &str) -> Result<(&str, &str)> {
@@ -49,13 +50,13 @@ pub fn bits_of(alloc: Global, word: &str) -> Result<Vec<bool>> {
 }
 
 /// The truth values of a mask as `101`; none as `-`.
-pub fn bits_text(alloc: Global, bits: &[bool]) -> Result<String> {
+pub fn bits_text(alloc: Global, mask: &Mask) -> Result<String> {
     let mut text = String::new(alloc);
-    if bits.is_empty() {
+    if mask.len() == 0 {
         text.push('-')?;
     }
-    for bit in bits {
-        text.push(if *bit { '1' } else { '0' })?;
+    for row in 0..mask.len() {
+        text.push(if mask.value(row) { '1' } else { '0' })?;
     }
     Ok(text)
 }

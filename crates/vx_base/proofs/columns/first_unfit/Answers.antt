@@ -1,6 +1,6 @@
 use Rattle.vx_base.specs.Fits.{Fits}
 use Rattle.vx_base.specs.Views.{data_type}
-use Rattle.vx_base.proofs.AllFit.{all_more, first_unfit_at}
+use Rattle.vx_types.proofs.AllFit.{all_more, first_unfit_at}
 use Rattle.vx_base.proofs.columns.first_unfit.Goals as goal
 
 pub returns-then-not-fits : goal.returns-then-not-fits

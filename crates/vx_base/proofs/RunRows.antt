@@ -1,0 +1,133 @@
+-- Runs and the rows that they fill.
+use Rattle.std.proofs.Common.{◌⊎◌, inl, inr, ◌≡◌, ℕ, zero, suc, ◌+◌, ◌-◌, ◌<◌, ◌≤◌, List, [], ◌∷◌, ◌++◌, length, map, get_or, drop, replicate, refl, sym, ap, ap₂, subst, ◌∙◌, arith, append_assoc, add-one}
+use Rattle.std.specs.List.{AllByRecursion}
+use Rattle.std.proofs.lemmas.List.{length-append, length-replicate, drop_more, drop_all, map-append, append-nil}
+use Rattle.vx_base.specs.Data.{DataType, Datum, null}
+use Rattle.vx_base.specs.Columns.{ColumnData}
+use Rattle.vx_base.specs.Fits.{Fits}
+use Rattle.vx_base.specs.Rows.{taken}
+use Rattle.vx_base.specs.Runs.{spread, end_before, IsGoodEnd, AreGoodEnds, IsFirstBadEnd, run_places}
+use Rattle.vx_packed.specs.PackedColumns.{IsColumn}
+use Rattle.vx_packed.specs.Slots.{bare}
+
+-- ---- the ends so far
+pub record GoodSoFar (count : ℕ) (ends : List ℕ) (place before : ℕ) : Type 0 where
+  pub last : before ≡ end_before ends place
+  pub good : (earlier : ℕ) → earlier < place → IsGoodEnd count ends earlier
+
+pub good_none : (count : ℕ) (ends : List ℕ) → GoodSoFar count ends 0 0
+good_none count ends = record { last = refl; good = λ earlier lt. absurd (omega arith) }
+
+pub good_more : (count : ℕ) (ends : List ℕ) (place before : ℕ) → place < length ends → place < count → before < get_or ends place 0 → GoodSoFar count ends place before → GoodSoFar count ends (place + 1) (get_or ends place 0)
+good_more count ends place before lt some up h = record {
+  last = rw add-one refl;
+  good = λ earlier less. elim (cases earlier place less) [
+    | inl same ↦ subst (λ (p : ℕ). IsGoodEnd count ends p) (sym same) (record { value = some; there = lt; above = omega (arith, h.last) })
+    | inr lower ↦ h.good earlier lower
+  ];
+}
+  where
+    cases : (a b : ℕ) → a < b + 1 → (a ≡ b) ⊎ (a < b)
+    cases zero zero h = inl refl
+    cases zero (suc b) h = inr (omega arith)
+    cases (suc a) zero h = absurd (omega arith)
+    cases (suc a) (suc b) h = elim (cases a b (omega arith)) [ inl e ↦ inl (ap suc e) | inr l ↦ inr (omega arith) ]
+
+pub bad_here : (count : ℕ) (ends : List ℕ) (place before : ℕ) → place < length ends → (IsGoodEnd count ends place → ⊥) → GoodSoFar count ends place before → IsFirstBadEnd count ends place
+bad_here count ends place before lt bad h = record { there = inr lt; bad = bad; before = h.good }
+
+pub bad_past : (count : ℕ) (ends : List ℕ) (place before : ℕ) → length ends ≤ place → place ≤ length ends → length ends < count → GoodSoFar count ends place before → IsFirstBadEnd count ends (length ends)
+bad_past count ends place before le ge lt h =
+    let end : place ≡ length ends = omega arith in
+    subst (λ (p : ℕ). IsFirstBadEnd count ends p) end (record { there = inl (omega arith); bad = λ g. omega (arith, g.there); before = h.good })
+
+pub good_all : (count : ℕ) (ends : List ℕ) (place before : ℕ) → length ends ≤ place → place ≤ length ends → count ≤ length ends → GoodSoFar count ends place before → AreGoodEnds count ends
+good_all count ends place before le ge enough h = record {
+  same = elim (cases_of (length ends) count enough) [ inl e ↦ e | inr more ↦ absurd (let last = h.good count (omega arith) in omega (arith, last.value)) ];
+  good = λ p lt. h.good p (omega arith);
+}
+  where
+    cases_of : (a b : ℕ) → b ≤ a → (a ≡ b) ⊎ (b < a)
+    cases_of zero zero h = inl refl
+    cases_of (suc a) zero h = inr (omega arith)
+    cases_of zero (suc b) h = absurd (omega arith)
+    cases_of (suc a) (suc b) h = elim (cases_of a b (omega arith)) [ inl e ↦ inl (ap suc e) | inr l ↦ inr (omega arith) ]
+
+-- ---- the places so far
+pub record PlacesSoFar (ends places : List ℕ) (run : ℕ) : Type 0 where
+  pub rows : length places ≡ end_before ends run
+  pub whole : places ++ run_places run (end_before ends run) (drop run ends) ≡ run_places 0 0 ends
+
+pub places_none : (ends places : List ℕ) → places ≡ [] → PlacesSoFar ends places 0
+places_none ends places e = record { rows = ap length e; whole = ap (λ (ps : List ℕ). ps ++ run_places 0 0 ends) e }
+
+pub places_more : (count : ℕ) (ends places more : List ℕ) (run : ℕ) → run < length ends → AreGoodEnds count ends → more ≡ places ++ replicate (get_or ends run 0 - length places) run → PlacesSoFar ends places run → PlacesSoFar ends more (run + 1)
+places_more count ends places more run lt good pushed h =
+    let end = get_or ends run 0 in
+    let here = good.good run (omega (arith, good.same)) in
+    let rest = run_places (suc run) end (drop (run + 1) ends) in
+    let left : run_places run (end_before ends run) (drop run ends) ≡ replicate (end - end_before ends run) run ++ rest = ap (run_places run (end_before ends run)) (drop_more ends run 0 lt) in
+    let size : end - length places ≡ end - end_before ends run = ap (λ (k : ℕ). end - k) h.rows in
+    let long : length more ≡ end = omega (arith, ap length pushed, length-append places (replicate (end - length places) run), length-replicate (end - length places) run, h.rows, here.above) in
+    record {
+      rows = rw add-one long;
+      whole = rw add-one
+          (ap (λ (ps : List ℕ). ps ++ run_places (suc run) end (drop (suc run) ends)) pushed
+          ∙ append_assoc places (replicate (end - length places) run) (run_places (suc run) end (drop (suc run) ends))
+          ∙ ap (λ (k : ℕ). places ++ (replicate k run ++ run_places (suc run) end (drop (suc run) ends))) size
+          ∙ ap (λ (k : ℕ). places ++ (replicate (end - end_before ends run) run ++ run_places (suc run) end (drop k ends))) (sym (add_one run))
+          ∙ ap (λ (ps : List ℕ). places ++ ps) (sym left) ∙ h.whole);
+    }
+  where
+    add_one : (k : ℕ) → k + 1 ≡ suc k
+    add_one k = omega arith
+
+pub places_all : (ends places : List ℕ) (run : ℕ) → length ends ≤ run → PlacesSoFar ends places run → places ≡ run_places 0 0 ends
+places_all ends places run past h = sym (append-nil places) ∙ ap (λ (es : List ℕ). places ++ run_places run (end_before ends run) es) (sym (drop_all run ends past)) ∙ h.whole
+
+-- ---- the values at the places
+alike : (n run : ℕ) (vs : List Datum) → map (λ place. get_or vs place null) (replicate n run) ≡ replicate n (get_or vs run null)
+alike zero run vs = refl
+alike (suc n) run vs = ap (λ (ws : List Datum). get_or vs run null ∷ ws) (alike n run vs)
+
+spread_from : (vs : List Datum) (run from : ℕ) (ends : List ℕ) → length (drop run vs) ≡ length ends → taken null vs (run_places run from ends) ≡ spread from (drop run vs) ends
+spread_from vs run from [] e = ap (λ (ws : List Datum). spread from ws []) (sym (none (drop run vs) e))
+  where
+    none : (ws : List Datum) → length ws ≡ 0 → ws ≡ []
+    none [] h = refl
+    none (w ∷ ws) h = absurd (omega arith)
+spread_from vs run from (end ∷ ends) e =
+    let lt : run < length vs = inside run vs (omega arith) in
+    let split : drop run vs ≡ get_or vs run null ∷ drop (suc run) vs = rw (← add_one run) (drop_more vs run null lt) in
+    map-append (λ place. get_or vs place null) (replicate (end - from) run) (run_places (suc run) end ends)
+    ∙ ap₂ (λ (xs ys : List Datum). xs ++ ys) (alike (end - from) run vs) (spread_from vs (suc run) end ends (omega (arith, ap length split)))
+    ∙ ap (λ (ws : List Datum). spread from ws (end ∷ ends)) (sym split)
+  where
+    add_one : (k : ℕ) → k + 1 ≡ suc k
+    add_one k = omega arith
+
+    inside : (k : ℕ) (ws : List Datum) → 0 < length (drop k ws) → k < length ws
+    inside zero [] h = absurd (omega arith)
+    inside zero (w ∷ ws) h = omega arith
+    inside (suc k) [] h = absurd (omega arith)
+    inside (suc k) (w ∷ ws) h = omega (arith, inside k ws h)
+
+pub spread_is : (vs : List Datum) (ends : List ℕ) → length vs ≡ length ends → taken null vs (run_places 0 0 ends) ≡ spread 0 vs ends
+spread_is vs ends e = spread_from vs 0 0 ends e
+
+-- ---- each row's value fits
+all_alike : (P : Datum → Type 0) (n : ℕ) (v : Datum) → P v → AllByRecursion P (replicate n v)
+all_alike P zero v h = tt
+all_alike P (suc n) v h = (h, all_alike P n v h)
+
+all_behind : (P : Datum → Type 0) (xs ys : List Datum) → AllByRecursion P xs → AllByRecursion P ys → AllByRecursion P (xs ++ ys)
+all_behind P [] ys g h = h
+all_behind P (x ∷ xs) ys g h = (g.0, all_behind P xs ys g.1 h)
+
+spread_fits : (P : Datum → Type 0) (from : ℕ) (vs : List Datum) (ends : List ℕ) → AllByRecursion P vs → AllByRecursion P (spread from vs ends)
+spread_fits P from [] ends h = tt
+spread_fits P from (v ∷ vs) [] h = tt
+spread_fits P from (v ∷ vs) (end ∷ ends) h = all_behind P (replicate (end - from) v) (spread end vs ends) (all_alike P (end - from) v h.0) (spread_fits P end vs ends h.1)
+
+pub column_of_runs : (t : DataType) (vs : List Datum) (ends : List ℕ) (rows : ColumnData) → AllByRecursion (Fits t) vs → rows.dtype ≡ bare t → rows.values ≡ spread 0 vs ends → IsColumn t rows
+column_of_runs t vs ends rows fit type is = record { shape = sym type; fit = subst (AllByRecursion (Fits t)) (sym is) (spread_fits (Fits t) 0 vs ends fit) }

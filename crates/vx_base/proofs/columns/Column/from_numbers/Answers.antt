@@ -1,0 +1,28 @@
+use Rattle.std.proofs.Common.{◌≡◌, ◌∙◌, pos, Bool, List, length, map, refl, sym, ap, subst, arith}
+use Rattle.std.specs.List.{AllByRecursion}
+use Rattle.std.proofs.lemmas.List.{length-map}
+use Rattle.vx_types.specs.declared.dtypes.IntKind.TheVariants.{U64}
+use Rattle.vx_types.specs.declared.dtypes.Nullability.TheVariants.{NonNullable}
+use Rattle.vx_types.specs.Data.{number}
+use Rattle.vx_types.specs.Reading.{where_valid}
+use Rattle.vx_words.specs.Rows.{NullsHold}
+use Rattle.vx_packed.specs.Slots.{Takes}
+use Rattle.vx_packed.proofs.PackedRows.{column_of_numbers}
+use Rattle.vx_base.proofs.ColumnRows.{all_held, all_there, all_taken, naturals}
+use Rattle.vx_base.proofs.columns.Column.from_numbers.Goals as goal
+
+pub of_numbers-rows-requires-clause-held : goal.of_numbers-rows-requires-clause-held
+of_numbers-rows-requires-clause-held c = subst (λ (bits : List Bool). NullsHold (pos 0) bits c.of.result) (sym c.in_ok-validity.ensures) (all_held c.len.result c.of.result)
+
+pub of_rows-requires : goal.of_rows-requires
+of_rows-requires c =
+    column_of_numbers U64 U64 NonNullable c.in_ok-validity.validity c.of.result c.of_numbers-rows.result refl c.of_numbers-rows.ensures.dtype c.of_numbers-rows.ensures.values c.len-inside.ensures.inside
+    (subst (AllByRecursion (Takes NonNullable)) (sym c.in_ok-validity.ensures) (all_taken c.len.result))
+
+pub returns-clause-values : goal.returns-clause-values
+returns-clause-values c =
+    let zs = c.of.result in
+    let ns = c.args.numbers.items in
+    let count : length zs ≡ c.len.result = omega (arith, ap length c.of.ensures, length-map ns pos, c.len.ensures) in
+    c.of_rows.ensures.values ∙ c.of_numbers-rows.ensures.values ∙ ap (λ (bits : List Bool). where_valid bits (map number zs)) c.in_ok-validity.ensures
+    ∙ all_there c.len.result zs count ∙ ap (map number) c.of.ensures ∙ naturals ns

@@ -1,0 +1,22 @@
+mod CutTexts
+mod DecodedNumbers
+mod DecodedTexts
+mod HeldRows
+mod JoinedParts
+pub mod LookedUp
+mod MappedRows
+pub mod PackedParts
+pub mod PackedRows
+mod PartRanges
+mod PartRows
+mod PickedRows
+mod ReadBits
+mod SameRows
+mod SlotRows
+mod SpelledNumbers
+mod TextEnds
+mod TextRows
+mod TruthBits
+mod ValidRows
+mod ValueRows
+mod WrittenRows

@@ -1,0 +1,18 @@
+use Rattle.std.proofs.Common.{◌≡◌, ◌+◌, ◌*◌, map, take}
+use Rattle.vx_types.specs.Sizes.{type_size, members_size}
+use Rattle.vx_types.specs.ValueViews.{datum}
+use Rattle.vx_types.proofs.BuiltRows.{in_row}
+use Rattle.vx_packed.specs.Slots.{slot_type}
+use Rattle.vx_packed.proofs.parts.+get.Given as goal
+
+abbrev pub decreases-Part::get : goal.decreases-Part::get
+decreases-Part::get l = 3 * type_size l.self.now.dtype + 2
+
+abbrev pub decreases-Slots::get : goal.decreases-Slots::get
+decreases-Slots::get l = 3 * type_size (slot_type l.self.now) + 1
+
+abbrev pub decreases-Parts::get : goal.decreases-Parts::get
+decreases-Parts::get l = 3 * members_size l.self.now.members + 3
+
+abbrev pub invariant-Parts::get-loop-part : goal.invariant-Parts::get-loop-part
+invariant-Parts::get-loop-part l = map datum l.values.items ≡ map (in_row l.row) (take l.part-index l.items)

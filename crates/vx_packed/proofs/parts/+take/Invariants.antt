@@ -1,0 +1,17 @@
+use Rattle.std.proofs.Common.{◌≡◌, ◌+◌, ◌*◌, map, take}
+use Rattle.vx_types.specs.Sizes.{type_size, members_size}
+use Rattle.vx_packed.specs.PartRows.{picked_at}
+use Rattle.vx_packed.specs.Slots.{slot_type}
+use Rattle.vx_packed.proofs.parts.+take.Given as goal
+
+abbrev pub decreases-Part::take : goal.decreases-Part::take
+decreases-Part::take l = 3 * type_size l.self.now.dtype + 2
+
+abbrev pub decreases-Slots::take : goal.decreases-Slots::take
+decreases-Slots::take l = 3 * type_size (slot_type l.self.now) + 1
+
+abbrev pub decreases-Parts::take : goal.decreases-Parts::take
+decreases-Parts::take l = 3 * members_size l.self.now.members + 3
+
+abbrev pub invariant-Parts::take-loop-part : goal.invariant-Parts::take-loop-part
+invariant-Parts::take-loop-part l = l.parts.items ≡ map (picked_at l.places) (take l.part-index l.items)

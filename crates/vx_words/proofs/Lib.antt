@@ -1,0 +1,16 @@
+pub mod Built
+pub mod Bytes
+pub mod Chosen
+pub mod Extracted
+pub mod Found
+pub mod Joined
+pub mod LowBits
+pub mod Marks
+pub mod Numbers
+pub mod Places
+pub mod Ranks
+pub mod SameMasks
+pub mod Taken
+pub mod Twice
+pub mod Walked
+pub mod Zipped

@@ -1,0 +1,4 @@
+pub mod Bytes
+pub mod Masks
+pub mod Rows
+pub mod Words
