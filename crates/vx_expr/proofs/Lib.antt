@@ -4,6 +4,7 @@ pub mod ConjunctTruth
 pub mod Conjuncts
 pub mod DistinctNames
 pub mod FieldPlaces
+pub mod FirstMismatches
 pub mod FirstOnes
 pub mod FittingMeaning
 pub mod FoundNames

@@ -74,12 +74,12 @@ pair_answer t self a b l r s u n place found result is d f left right at gives h
 
 -- ---- packs
 -- expressions that all have dtypes refuse nothing
-both_some : (name : List ℕ) (x : Option DataType) (y : Option Members) (ms : Members) → on_both (one_more_member name) x y ≡ Some ms → (s : DataType) × (us : Members) × (x ≡ Some s) × (y ≡ Some us)
+pub both_some : (name : List ℕ) (x : Option DataType) (y : Option Members) (ms : Members) → on_both (one_more_member name) x y ≡ Some ms → (s : DataType) × (us : Members) × (x ≡ Some s) × (y ≡ Some us)
 both_some name None y ms e = absurd cc
 both_some name (Some s) None ms e = absurd cc
 both_some name (Some s) (Some us) ms e = (s, us, refl, refl)
 
-none_refused : (t : DataType) (es : Terms) (ms : Members) (n : ℕ) (last : BindError) → types_in t es ≡ Some ms → refusal_in t es n last ≡ last
+pub none_refused : (t : DataType) (es : Terms) (ms : Members) (n : ℕ) (last : BindError) → types_in t es ≡ Some ms → refusal_in t es n last ≡ last
 none_refused t no_terms ms n last e = refl
 none_refused t (named name part es) ms n last e =
     let found = both_some name (type_of t part) (types_in t es) ms e in

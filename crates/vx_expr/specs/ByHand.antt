@@ -48,9 +48,17 @@ false_and_null = conjunction (of_truth (truth false)) (of_truth null)
 abbrev pub false_and_quotient : Term
 false_and_quotient = conjunction (of_truth (truth false)) (comparison Eq ten_by_a (of_number (pos 1)))
 
+-- not(1)
+abbrev pub not_one : Term
+not_one = negation (of_number (pos 1))
+
 -- ($.A and not(1))
 abbrev pub two_unfit : Term
-two_unfit = conjunction (get_field (codes "A") root) (negation (of_number (pos 1)))
+two_unfit = conjunction (get_field (codes "A") root) not_one
+
+-- ($.p and not(1))
+abbrev pub right_unfit : Term
+right_unfit = conjunction field_p not_one
 
 -- 10 / $.a over the pairs
 abbrev pub bound_ten_by_a : Bound

@@ -12,6 +12,7 @@ pub mod Meaning
 pub mod Mentions
 pub mod Bound
 pub mod Refusals
+pub mod Mismatches
 pub mod Types
 pub mod Codes
 pub mod Counts

@@ -1,11 +1,10 @@
--- Why an expression has no dtype: the first part that breaks its rule, where parts come before the whole
--- and left before right. A part is named by its number, counted from 0, the whole before its parts.
-use Rattle.std.specs.Prelude.{◌≡◌, ℕ, ◌+◌, ◌-◌, ◌^◌, ◌<◌, ◌≤◌, min, List, Option, Some, None, Result, Ok, Err}
+-- The refusal of an expression without a dtype, by the walk that types it: parts before the whole, and left
+-- before right. A part is named by its number, counted from 0, the whole before its parts.
+use Rattle.std.specs.Prelude.{◌≡◌, ℕ, ◌+◌, ◌-◌, ◌^◌, min, List, Option, Some, None}
 use Rattle.vx_base.specs.Data.{DataType, struct_type}
 use Rattle.vx_expr.specs.declared.binding.BindError.{BindError}
 use Rattle.vx_expr.specs.declared.binding.BindError.TheVariants.{NoField, TypeMismatch, TooDeep, Memory}
-use Rattle.vx_expr.specs.Bound.{Bound}
-use Rattle.vx_expr.specs.Counts.{node_count, depth}
+use Rattle.vx_expr.specs.Counts.{node_count}
 use Rattle.vx_expr.specs.Terms.{Term, root, literal, get_field, pack, negation, conjunction, disjunction, comparison, null_test, value_test, arithmetic, row_number, bound_test, Terms, no_terms, named}
 use Rattle.vx_expr.specs.Types.{type_of}
 
@@ -58,16 +57,3 @@ IsRefusal Memory found expected = Unit {0}
 IsRefusal TooDeep found expected = ⊥
 IsRefusal (NoField name) found expected = (found ≡ None) × (expected ≡ NoField name)
 IsRefusal (TypeMismatch place) found expected = (found ≡ None) × (expected ≡ TypeMismatch place)
-
--- how deep an expression may nest to be bound
-abbrev pub deepest : ℕ
-deepest = 64
-
--- What binding an expression to a root dtype gives: too great a depth comes first, then the first part
--- without a dtype.
-abbrev pub BindGives : DataType → Term → Result Bound BindError → Type 0
-BindGives t e (Ok bound) = (depth e ≤ deepest) × (bound.term ≡ e) × (bound.root ≡ t) × (type_of t e ≡ Some bound.dtype)
-BindGives t e (Err TooDeep) = deepest < depth e
-BindGives t e (Err Memory) = depth e ≤ deepest
-BindGives t e (Err (NoField name)) = (depth e ≤ deepest) × (type_of t e ≡ None) × (refusal t e 0 ≡ NoField name)
-BindGives t e (Err (TypeMismatch place)) = (depth e ≤ deepest) × (type_of t e ≡ None) × (refusal t e 0 ≡ TypeMismatch place)

@@ -94,8 +94,10 @@ pub fn apply(
     ensures values { IfOk result (λ column. map Some column.values ≡ worth expression.now root.now.values numbers.now.values) }
     ensures fault { (row : ℕ) → IsErrOf result (ApplyError.EvalFault row) → IsFirstFault (worth expression.now root.now.values numbers.now.values) row }
 {
-    let values = root.values();
-    let numbers = row_numbers(alloc, numbers.values())?;
+    let owned = root.to_values(alloc)?;
+    let values = owned.as_slice();
+    let counted = numbers.to_values(alloc)?;
+    let numbers = row_numbers(alloc, counted.as_slice())?;
     let rows = Rows {
         dtype: expression.root_dtype(),
         values,
@@ -107,5 +109,6 @@ pub fn apply(
     }
     let made = values_of(alloc, cells)?;
     let dtype = expression.dtype().copy(alloc)?;
-    Ok(Column::of_fitting(dtype, made))
+    let column = Column::of_fitting(alloc, dtype, made)?;
+    Ok(column)
 }

@@ -7,7 +7,7 @@ ghost use Rattle.vx_expr.specs.Filters.{IsTruth};
 ghost use Rattle.vx_expr.specs.Bound.{IsBoundTo};
 ghost use Rattle.vx_expr.specs.Meaning.{is_strict};
 ghost use Rattle.vx_expr.specs.Mentions.{is_root, uses_root, uses_row_number, uses_bound, root_fields, first_ones};
-ghost use Rattle.vx_expr.specs.Refusals.{BindGives};
+ghost use Rattle.vx_expr.specs.Mismatches.{BindGives};
 ghost use Rattle.vx_expr.specs.Rewritten.{with_row_number, row_number_as_root, over_row_number};
 ghost use Rattle.vx_expr.specs.Terms.{root};
 ghost use Rattle.vx_expr.specs.TermText.{term_text};

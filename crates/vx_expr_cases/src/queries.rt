@@ -67,7 +67,7 @@ fn fields(alloc: Global, bound: &BoundExpression) -> Result<String> {
 
 /// How many values the column has, with the first and the last.
 fn ends(alloc: Global, column: &Column) -> Result<String> {
-    let values = column.values();
+    let values = column.to_values(alloc)?;
     let mut out = format!(in alloc; "{} rows:", values.len())?;
     for value in [values.first(), values.last()] {
         if let Some(value) = value {
