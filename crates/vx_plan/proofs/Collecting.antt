@@ -1,5 +1,5 @@
 -- What a plan's shape says of the plans that its rows are collected from.
-use Rattle.std.proofs.Common.{◌≡◌, ℕ, zero, suc, ◌+◌, ◌-◌, ◌<◌, ◌≤◌, ◌^◌, Bool, true, false, List, [], ◌∷◌, ◌++◌, Option, Some, None, length, map, min, take, drop, get_or, zero-add, refl, sym, ap, ◌∙◌, subst, arith, append-nil, append_assoc, length-append}
+use Rattle.std.proofs.Common.{◌≡◌, ℕ, zero, suc, ◌+◌, ◌-◌, ◌<◌, ◌≤◌, Bool, true, false, List, [], ◌∷◌, ◌++◌, Option, Some, None, length, map, min, take, drop, get_or, zero-add, refl, sym, ap, ◌∙◌, subst, arith, append-nil, append_assoc}
 use Rattle.std.specs.Prelude.{Result, Ok, Err, option_map, IfSome, IsSomeAnd, OnOk}
 use Rattle.std.specs.List.{slice_get, sum_by, All}
 use Rattle.std.proofs.lemmas.List.{drop_all, length-map}
@@ -17,7 +17,7 @@ use Rattle.vx_plan.specs.declared.shapes.Shape.{Shape}
 use Rattle.vx_plan.specs.declared.shapes.Shape.TheVariants as shapes
 use Rattle.vx_plan.specs.Kinds.{HasKind, IsConcat, IsPack}
 use Rattle.vx_plan.specs.Nodes.{Node, absent}
-use Rattle.vx_plan.specs.Plans.{Plan, Plans, plan_head, plan_at, plans_from, field_plans, last_validity}
+use Rattle.vx_plan.specs.Plans.{Plan, plan_head, plan_at, plans_from}
 use Rattle.vx_plan.specs.Reaches.{all_rows, any_row, chosen_rows, fits, fixed, shifted, selected_of, selected_chunks, selected_each, selected_in_chunk}
 use Rattle.vx_plan.specs.Rules.{node_at, nodes_at, offsets_from, rows_of, IsMadeAs, RowsFit}
 use Rattle.vx_plan.specs.Shapes.{zoned_kind, HasShape, IsOver, ShapeOf}

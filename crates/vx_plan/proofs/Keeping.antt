@@ -1,9 +1,8 @@
 -- Plans that keep the rules, kind by kind.
-use Rattle.std.proofs.Common.{◌≡◌, ℕ, ◌+◌, ◌<◌, ◌^◌, Bool, false, List, [], ◌∷◌, ◌++◌, length, Option}
-use Rattle.std.specs.Prelude.{IsSomeAnd}
-use Rattle.std.specs.List.{All, slice_get, sum_by}
+use Rattle.std.proofs.Common.{◌≡◌, ℕ, ◌<◌, ◌^◌, false, List, [], ◌∷◌, ◌++◌, length, Option}
+use Rattle.std.specs.List.{All, sum_by}
 use Rattle.vx_base.specs.declared.dtypes.Nullability.{Nullability}
-use Rattle.vx_base.specs.Data.{DataType, Members, struct_type, list_type}
+use Rattle.vx_base.specs.Data.{DataType, Members, struct_type}
 use Rattle.vx_base.specs.ColumnCalls.{IsUnsigned}
 use Rattle.vx_base.specs.Leaf.{IsLeaf}
 use Rattle.vx_expr.specs.declared.statistics.Statistic.{Statistic}

@@ -3,6 +3,7 @@ pub mod ChildNodes
 pub mod Each
 pub mod Broken
 pub mod Growing
+pub mod Shortening
 pub mod Offsets
 pub mod Unfolding
 pub mod Shaping
@@ -15,3 +16,4 @@ pub mod Selecting
 pub mod Collecting
 pub mod FittingPlans
 pub mod SelectedReads
+pub mod AlikePlans

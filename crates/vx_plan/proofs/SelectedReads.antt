@@ -1,11 +1,11 @@
 -- The segments that are given for selected rows are exactly those that the rows read.
-use Rattle.std.proofs.Common.{◌≡◌, ℕ, zero, suc, ◌+◌, ◌-◌, ◌<◌, ◌≤◌, ◌⊎◌, inl, inr, ⊎_elim, Bool, true, false, List, [], ◌∷◌, ◌++◌, Some, length, take, drop, replicate, refl, sym, ap, ◌∙◌, subst, arith}
+use Rattle.std.proofs.Common.{◌≡◌, ℕ, zero, suc, ◌+◌, ◌-◌, ◌<◌, ◌≤◌, ◌⊎◌, inl, inr, ⊎_elim, Bool, true, false, List, [], ◌∷◌, ◌++◌, Some, length, take, drop, refl, sym, ap, ◌∙◌, subst, arith}
 use Rattle.std.specs.Prelude.{if◌then◌else◌}
 use Rattle.std.specs.List.{slice_get}
 use Rattle.std.proofs.lemmas.Bool.{lt-ltb, le-ltb, cases_lt}
 use Rattle.vx_base.specs.Data.{DataType}
 use Rattle.vx_rows.specs.Derivations.{Derivation, nothing, cell, packed, looked_up, read_whole, Derivations, each_row}
-use Rattle.vx_rows.specs.Reads.{Way, directly, inside, Read, reads_of, reads_of_each, AnyOf, Finds, IsIn, Found}
+use Rattle.vx_rows.specs.Reads.{Way, directly, inside, Read, reads_of, reads_of_each, AnyOf, IsIn}
 use Rattle.vx_plan.specs.declared.reaching.Reach.{Reach}
 use Rattle.vx_plan.specs.declared.reaching.SegmentReach.{SegmentReach}
 use Rattle.vx_plan.specs.FittingRows.{HasFittingRows, HaveFittingRows, FieldsHaveRows, ValidityHasRows}

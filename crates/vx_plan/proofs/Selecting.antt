@@ -1,12 +1,11 @@
 -- What is reached of no selected rows, of rows one after another, and of chunks from one on.
-use Rattle.std.proofs.Common.{◌≡◌, ℕ, zero, suc, ◌+◌, ◌-◌, ◌≤◌, min, ◌||◌, Bool, true, false, List, [], ◌∷◌, ◌++◌, Option, Some, None, length, map, take, drop, replicate, refl, sym, ap, ◌∙◌, subst, arith, append-nil, append_assoc, drop-cons, length-drop, length-take, drop-drop, take-take, rules}
+use Rattle.std.proofs.Common.{◌≡◌, ℕ, zero, suc, ◌+◌, ◌-◌, ◌≤◌, min, ◌||◌, Bool, true, false, List, [], ◌∷◌, ◌++◌, Option, Some, None, length, take, drop, replicate, refl, sym, ap, ◌∙◌, arith, append-nil, append_assoc, length-drop, length-take, drop-drop}
 use Rattle.std.specs.Prelude.{if◌then◌else◌}
-use Rattle.std.specs.List.{slice_get, sum_by}
-use Rattle.std.proofs.lemmas.List.{drop_all, drop-take, drop-replicate, take-replicate, length-replicate}
+use Rattle.std.proofs.lemmas.List.{drop_all, drop-take, drop-replicate, length-replicate}
 use Rattle.vx_plan.specs.declared.reaching.Reach.{Reach}
 use Rattle.vx_plan.specs.declared.reaching.SegmentReach.{SegmentReach}
 use Rattle.vx_plan.specs.Plans.{Plan, no_plan, concat_plan, eval_plan, filter_plan, pack_plan, take_plan, share_plan, list_plan, row_idx_plan, scan_plan, zoned_plan, Plans, no_plans, plan, PlanValidity, all_valid, valid_as, plan_head, plans_from, field_plans, front_plans, last_plan, last_validity}
-use Rattle.vx_plan.specs.Reaches.{any_row, all_rows, chosen_rows, shifted, selected_of, selected_chunks, selected_fields, selected_validity}
+use Rattle.vx_plan.specs.Reaches.{any_row, chosen_rows, shifted, selected_of, selected_chunks, selected_fields, selected_validity}
 
 -- ---- no row is selected
 

@@ -10,7 +10,7 @@ use Rattle.vx_plan.specs.declared.nodes.PlanKind.TheVariants as kinds
 use Rattle.vx_plan.specs.declared.shapes.Shape.TheVariants as shapes
 use Rattle.vx_plan.specs.Nodes.{Node}
 use Rattle.vx_plan.specs.Plans.{head_at, plan_at, plan_grown_as}
-use Rattle.vx_plan.specs.Rules.{nodes_at, HasZones, IsLike, IsLookUp, IsMadeAs, IsRowNumbers, IsWorkedOut}
+use Rattle.vx_plan.specs.Rules.{nodes_at, HasZones, IsLike, IsLookUp, IsMadeAs, IsWorkedOut}
 use Rattle.vx_plan.specs.Shapes.{HasShape, IsOver, ShapeOf}
 use Rattle.vx_plan.specs.Tables.{IsGoodTable}
 use Rattle.vx_plan.proofs.Unfolding.{Known, known}

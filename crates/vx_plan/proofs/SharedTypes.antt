@@ -1,9 +1,8 @@
 -- Dtypes that take nulls already.
-use Rattle.std.proofs.Common.{◌≡◌, true, false, refl}
-use Rattle.vx_base.specs.declared.dtypes.Nullability.{Nullability}
+use Rattle.std.proofs.Common.{◌≡◌, true, refl}
 use Rattle.vx_base.specs.declared.dtypes.Nullability.TheVariants.{NonNullable, Nullable}
 use Rattle.vx_base.specs.Data.{DataType, bool_type, int_type, utf8_type, struct_type, list_type}
-use Rattle.vx_base.specs.ColumnCalls.{made_nullable, nullable_where}
+use Rattle.vx_base.specs.ColumnCalls.{made_nullable}
 use Rattle.vx_base.specs.Fits.{nullability_of, takes_null}
 
 pub nullable_already : (t : DataType) → takes_null (nullability_of t) ≡ true → made_nullable t ≡ t

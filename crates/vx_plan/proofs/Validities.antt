@@ -1,7 +1,6 @@
 -- A validity is there exactly where one was given.
 use Rattle.std.proofs.Common.{◌≡◌, ℕ, ◌-◌, ◌<◌, Bool, true, false, List, [], ◌∷◌, Option, Some, None, length, subst, refl, arith}
 use Rattle.std.specs.Prelude.{IfSome, IsSome, IsTrue, option_map}
-use Rattle.std.specs.List.{slice_get}
 use Rattle.std.proofs.lemmas.Option.{slice_get-get_or}
 use Rattle.vx_base.specs.Data.{DataType, struct_type, bool_type, int_type, utf8_type, list_type}
 use Rattle.vx_plan.specs.declared.children.PlanRef.{PlanRef}

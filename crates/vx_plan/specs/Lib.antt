@@ -13,3 +13,4 @@ pub mod Reaches
 pub mod FittingRows
 pub mod Laws
 pub mod WorkedPlans
+pub mod Alike

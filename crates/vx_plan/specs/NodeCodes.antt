@@ -1,5 +1,5 @@
 -- Nodes as trees of numbers, one to one: what the table's model asks of its value.
-use Rattle.std.specs.Prelude.{◌≡◌, ℕ, zero, suc, Bool, true, false, List, [], refl}
+use Rattle.std.specs.Prelude.{◌≡◌, ℕ, zero, suc, Bool, false, List, [], refl}
 use Rattle.std.specs.Coded.{Coded, code_by, coded_ℕ, coded_bool, coded_list, coded×}
 use Rattle.vx_base.specs.declared.dtypes.Nullability.TheVariants.{NonNullable}
 use Rattle.vx_base.specs.Data.{DataType, bool_type}

@@ -262,8 +262,11 @@ eval_node nodes a child = record { kind = kinds.Eval a; dtype = a.dtype; rows = 
 abbrev pub filter_node : List Node → ℕ → Node
 filter_node nodes child = record { kind = kinds.Filter; dtype = (node_at nodes child).dtype; rows = (node_at nodes child).rows; children = child ∷ []; offsets = [] }
 
+abbrev pub packed_node : DataType → ℕ → List ℕ → Option ℕ → Node
+packed_node t rows fields validity = record { kind = kinds.Pack (is_given validity); dtype = t; rows = rows; children = fields ++ given_validity validity; offsets = [] }
+
 abbrev pub pack_node : Members → Nullability → ℕ → List ℕ → Option ℕ → Node
-pack_node ms n rows fields validity = record { kind = kinds.Pack (is_given validity); dtype = struct_type ms n; rows = rows; children = fields ++ given_validity validity; offsets = [] }
+pack_node ms n rows fields validity = packed_node (struct_type ms n) rows fields validity
 
 abbrev pub take_node : List Node → ℕ → ℕ → Node
 take_node nodes codes values = record { kind = kinds.Take; dtype = nullable_where (nullability_of (node_at nodes codes).dtype) (node_at nodes values).dtype; rows = (node_at nodes codes).rows; children = codes ∷ values ∷ []; offsets = [] }

@@ -1,11 +1,11 @@
 -- Plans that were written by hand, on which the definitions of rows, of reads and of what is reached are checked.
-use Rattle.std.specs.Prelude.{codes, ℕ, pos, true, false, List, [], ◌∷◌, ◌++◌, map, Option, Some, None}
+use Rattle.std.specs.Prelude.{codes, ℕ, pos, List, [], ◌∷◌, ◌++◌, map, Option, Some}
 use Rattle.std.specs.declared.ops.Range.{Range}
 use Rattle.vx_base.specs.declared.dtypes.IntKind.TheVariants.{U8, I64, U64}
 use Rattle.vx_base.specs.declared.dtypes.Nullability.TheVariants.{NonNullable, Nullable}
-use Rattle.vx_base.specs.Data.{DataType, bool_type, int_type, struct_type, list_type, no_members, member, Datum, null, truth, number, structure, no_items}
+use Rattle.vx_base.specs.Data.{DataType, bool_type, int_type, struct_type, list_type, no_members, member, Datum, number}
 use Rattle.vx_expr.specs.declared.operators.ArithOp.TheVariants.{Add, Div}
-use Rattle.vx_expr.specs.Terms.{Term, root, literal, get_field, arithmetic}
+use Rattle.vx_expr.specs.Terms.{root, literal, get_field, arithmetic}
 use Rattle.vx_rows.specs.Derivations.{Leaves}
 use Rattle.vx_rows.specs.Reads.{Way, Found, a_cell, a_code, a_list_row, Read}
 use Rattle.vx_plan.specs.declared.reaching.SegmentReach.{SegmentReach}

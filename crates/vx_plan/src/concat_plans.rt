@@ -1,6 +1,7 @@
 //! Plans of children one after another.
 
 ghost use Rattle.std.specs.Prelude.{◌≡◌, ◌<◌, ◌≤◌, ◌^◌, length, map, IfErr, IfOk, MatchOption, OnErr, sum_by};
+ghost use Rattle.std.specs.Arc.{arc_value};
 ghost use Rattle.vx_base.specs.Views.{data_type};
 ghost use Rattle.vx_plan.specs.Kinds.{HasKind, IsConcat};
 ghost use Rattle.vx_plan.specs.Nodes.{node_data};
@@ -75,10 +76,26 @@ impl ConcatPlan {
         ensures unchanged { OnErr result (table.new ≡ table.old) }
         ensures refused { IfErr result (RefusedBy (concat_node table.old (data_type dtype) children) (nodes_at table.old children)) }
     {
+        let dtype = Arc::new(alloc, dtype)?;
+        ConcatPlan::sharing(alloc, table, dtype, children)
+    }
+
+    /// The same, whose dtype is shared with whoever else holds it.
+    pub fn sharing(
+        alloc: Global,
+        table: &mut PlanTable,
+        dtype: Arc<DType, Global>,
+        children: PlanChildren,
+    ) -> Result<ConcatPlan, PlanError>
+        requires room { length table.old < 4294967295 }
+        requires known { AreIn table.old children }
+        ensures added { IfOk result (λ plan. IsAdded table.old table.new (concat_node table.old (data_type (arc_value dtype)) children) (number_of plan.plan)) }
+        ensures unchanged { OnErr result (table.new ≡ table.old) }
+        ensures refused { IfErr result (RefusedBy (concat_node table.old (data_type (arc_value dtype)) children) (nodes_at table.old children)) }
+    {
         match offsets_of(alloc, table.nodes(), &children)? {
             None => Err(too_many_rows(table.nodes(), &children, &dtype)),
             Some(RowOffsets { offsets, rows }) => {
-                let dtype = Arc::new(alloc, dtype)?;
                 let node = PlanNode {
                     kind: PlanKind::Concat,
                     dtype,

@@ -197,7 +197,7 @@ pub fn have_fitting_rows(nodes: &[PlanNode], node: &PlanNode) -> bool
 }
 
 /// Whether there is a child for each field, and a validity exactly where nulls are taken.
-#[tactic(auto, using(vx_base::proofs::Members::length_in_view))]
+#[tactic(auto, using(vx_types::proofs::Members::length_in_view))]
 pub fn has_fitting_count(node: &PlanNode) -> bool
     ensures { IsTrue result ↔ CountFits node.now.kind (node_data node.now).dtype (length node.now.children) }
 {

@@ -1,10 +1,11 @@
 //! Plans of structs.
 
 ghost use Rattle.std.specs.Prelude.{◌≡◌, ◌<◌, ◌↔◌, ◌++◌, length, IfErr, IfOk, IfSome, IsSome, IsTrue, OnErr, option_map};
-ghost use Rattle.vx_base.specs.Views.{fields_in};
+ghost use Rattle.std.specs.Arc.{arc_value};
+ghost use Rattle.vx_base.specs.Views.{data_type, fields_in};
 ghost use Rattle.vx_plan.specs.Kinds.{has_validity_of, validity_of, HasKind, IsPack};
 ghost use Rattle.vx_plan.specs.Refs.{number_of};
-ghost use Rattle.vx_plan.specs.Rules.{given_validity, members_at, node_at, nodes_at, pack_node, RefusedBy};
+ghost use Rattle.vx_plan.specs.Rules.{given_validity, members_at, node_at, nodes_at, pack_node, packed_node, IsStruct, RefusedBy};
 ghost use Rattle.vx_plan.specs.Tables.{AreIn, IsAdded};
 
 use crate::children::{PlanChildren, PlanRef, with_validity};
@@ -35,9 +36,29 @@ impl PackPlan {
         ensures unchanged { OnErr result (table.new ≡ table.old) }
         ensures refused { IfErr result (RefusedBy (pack_node fields nullability row_count field_plans (option_map number_of validity)) (nodes_at table.old (field_plans ++ given_validity (option_map number_of validity)))) }
     {
+        let dtype = Arc::new(alloc, DType::Struct(fields, nullability))?;
+        PackPlan::sharing(alloc, table, dtype, row_count, field_plans, validity)
+    }
+
+    /// The same, whose struct dtype is shared with whoever else holds it.
+    pub fn sharing(
+        alloc: Global,
+        table: &mut PlanTable,
+        dtype: Arc<DType, Global>,
+        row_count: u64,
+        field_plans: PlanChildren,
+        validity: Option<PlanRef>,
+    ) -> Result<PackPlan, PlanError>
+        requires room { length table.old < 4294967295 }
+        requires known { AreIn table.old field_plans }
+        requires validity { IfSome validity (λ plan. number_of plan < length table.old) }
+        requires structs { IsStruct (data_type (arc_value dtype)) }
+        ensures added { IfOk result (λ plan. IsAdded table.old table.new (packed_node (data_type (arc_value dtype)) row_count field_plans (option_map number_of validity)) (number_of plan.plan)) }
+        ensures unchanged { OnErr result (table.new ≡ table.old) }
+        ensures refused { IfErr result (RefusedBy (packed_node (data_type (arc_value dtype)) row_count field_plans (option_map number_of validity)) (nodes_at table.old (field_plans ++ given_validity (option_map number_of validity)))) }
+    {
         let has_validity = validity.is_some();
         let children = with_validity(field_plans, validity)?;
-        let dtype = Arc::new(alloc, DType::Struct(fields, nullability))?;
         let node = PlanNode {
             kind: PlanKind::Pack { has_validity },
             dtype,

@@ -8,7 +8,7 @@
 //!   [`LegacyStatsPlan`]; which of them a plan is: [`PlanId`].
 //! - What a plan is over: [`Shape`].
 //! - Which segments its rows could read: [`reach`], [`selected`], with [`Reach`] and [`SegmentReach`].
-//! - The laws: [`plans_unfold`], [`reached_is_read`]; plans by hand: [`reach_by_hand`], [`rows_by_hand`].
+//! - The laws: [`plans_unfold`], [`reached_is_read`], [`plans_are_alike`], [`alike_plans_are_worth_the_same`]; plans by hand: [`reach_by_hand`], [`rows_by_hand`].
 #![tactic(auto)]
 
 mod by_hand;
@@ -39,7 +39,7 @@ pub use by_hand::{reach_by_hand, rows_by_hand};
 pub use children::{PlanChildren, PlanRef};
 pub use errors::PlanError;
 pub use kinds::PlanId;
-pub use laws::{plans_unfold, reached_is_read};
+pub use laws::{alike_plans_are_worth_the_same, plans_are_alike, plans_unfold, reached_is_read};
 pub use nodes::{PlanKind, PlanNode};
 pub use plan_types::{
     ConcatPlan, EvalPlan, FilterPlan, LegacyStatsPlan, ListPackPlan, PackPlan, RowIdxPlan,

@@ -1,6 +1,7 @@
 //! Plans of one child's rows, of the numbers of rows, and of a segment's rows.
 
 ghost use Rattle.std.specs.Prelude.{◌≡◌, ◌<◌, [], ◌∷◌, length, IfErr, IfOk, OnErr};
+ghost use Rattle.std.specs.Arc.{arc_value};
 ghost use Rattle.vx_base.specs.Views.{data_type};
 ghost use Rattle.vx_plan.specs.Kinds.{HasKind, IsEval, IsFilter, IsSegmentScan, IsShare};
 ghost use Rattle.vx_plan.specs.Nodes.{node_data};
@@ -35,6 +36,22 @@ impl SegmentScanPlan {
         ensures refused { IfErr result (RefusedBy (scan_node (data_type dtype) row_count segment) []) }
     {
         let dtype = Arc::new(alloc, dtype)?;
+        SegmentScanPlan::sharing(alloc, table, dtype, row_count, segment)
+    }
+
+    /// The same, whose dtype is shared with whoever else holds it.
+    pub fn sharing(
+        alloc: Global,
+        table: &mut PlanTable,
+        dtype: Arc<DType, Global>,
+        row_count: u64,
+        segment: u32,
+    ) -> Result<SegmentScanPlan, PlanError>
+        requires room { length table.old < 4294967295 }
+        ensures added { IfOk result (λ plan. IsAdded table.old table.new (scan_node (data_type (arc_value dtype)) row_count segment) (number_of plan.plan)) }
+        ensures unchanged { OnErr result (table.new ≡ table.old) }
+        ensures refused { IfErr result (RefusedBy (scan_node (data_type (arc_value dtype)) row_count segment) []) }
+    {
         let node = PlanNode {
             kind: PlanKind::SegmentScan { segment },
             dtype,

@@ -3,16 +3,26 @@
 ghost use Rattle.std.specs.Prelude.{◌≡◌, ◌≤◌};
 ghost use Rattle.vx_plan.specs.Rules.{rule_number};
 
-/// A rule of plans (docs/FORMATS.md has them by their numbers).
+/// A rule of plans, by its number from 1 on.
 #[derive(Clone, Copy, Debug, PartialEq, Eq)]
 pub enum PlanRule {
+    /// 1: chunks have the dtype of the concat, field plans those of the fields, a validity holds truth values that are
+    /// never null, and a list's offsets whole numbers that are never null.
     ChildTypes,
+    /// 2: fields and a validity have the rows of their plan, a list's offsets one more; all rows of chunks together
+    /// fit a `u64`.
     ChildRows,
+    /// 3: an expression is bound to the dtype of its child.
     BoundExpression,
+    /// 4: it doesn't use the row index.
     NoRowIndex,
+    /// 5: there is a plan for each field, and a validity exactly where nulls are taken.
     FieldCount,
+    /// 6: codes are unsigned whole numbers.
     UnsignedCodes,
+    /// 7: a segment has a leaf dtype.
     LeafType,
+    /// 8: zones have a length, a field for each statistic, and a row for each zone.
     FittingZones,
 }
 

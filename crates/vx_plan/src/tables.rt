@@ -1,6 +1,6 @@
 //! The table of plans.
 
-ghost use Rattle.std.specs.Prelude.{◌≡◌, ◌<◌, ◌↔◌, [], length, map, IfErr, IfOk, IsSome, IsTrue, OnErr, Some, option_map, slice_get};
+ghost use Rattle.std.specs.Prelude.{◌≡◌, ◌<◌, ◌↔◌, [], length, map, IfErr, IfOk, IsSome, IsTrue, OnErr, Some, option_map, slice_get, take};
 ghost use Rattle.std.specs.Arc.{arc_value};
 ghost use Rattle.vx_base.specs.Views.{data_type};
 ghost use Rattle.vx_plan.specs.Kinds.{has_validity_of, id_of, validity_of};
@@ -171,6 +171,14 @@ impl PlanTable {
         ensures { result.now ≡ (node_at self.now (number_of plan)).offsets }
     {
         self.node(plan.0).row_offsets.as_slice()
+    }
+
+    /// Takes away the plans behind the first so many, as a caller does that could not add all it meant to. It takes
+    /// no memory.
+    pub fn truncate(&mut self, count: u32)
+        ensures left { self.new ≡ take count self.old }
+    {
+        self.nodes.truncate(count as usize);
     }
 
     /// Adds a plan that is made as its kind asks, where it keeps the rules.

@@ -1,8 +1,7 @@
-use Rattle.std.proofs.Common.{◌≡◌, ℕ, ◌+◌, ◌-◌, ◌<◌, ◌≤◌, ◌++◌, Bool, true, false, List, Option, Some, length, map, min, drop, get_or, refl, sym, ap, ◌∙◌, subst, arith}
+use Rattle.std.proofs.Common.{◌≡◌, ℕ, ◌+◌, ◌-◌, ◌<◌, ◌≤◌, ◌++◌, Bool, List, Option, length, map, min, drop, get_or, sym, ap, ◌∙◌, subst, arith}
 use Rattle.std.specs.Prelude.{option_map}
 use Rattle.std.specs.List.{sum_by}
 use denote.Bor.{Bor}
-use Rattle.vx_base.specs.declared.masks.Mask.{Mask}
 use Rattle.vx_plan.specs.declared.reaching.Reach.{Reach}
 use Rattle.vx_plan.specs.declared.reaching.SegmentReach.{SegmentReach}
 use Rattle.vx_plan.specs.Plans.{Plan, plan_at}
@@ -10,15 +9,15 @@ use Rattle.vx_plan.specs.Reaches.{all_rows, chosen_rows, fits, shifted, selected
 use Rattle.vx_plan.specs.Refs.{number_of}
 use Rattle.vx_plan.specs.Kinds.{IsConcat}
 use Rattle.vx_plan.specs.Rules.{node_at, nodes_at, rows_of}
-use Rattle.vx_plan.proofs.Collecting.{chunk_law, chunk_missed, chunk_next, chunk_offset, chunk_count, chunk_within, chunks_done, chunks_end, chunks_law, chunks_start, codes_part, field_next, field_part, fields_done, fields_law, fits_behind, fits_less, gained, gained_more, has_chunks, held, kind_known, look_up_law, none_gained, over_law, over_part, rows_in_front, same_law, same_part, share_law, zoned_law, zoned_part, HasChunks, IsPart}
+use Rattle.vx_plan.proofs.Collecting.{chunk_law, chunk_missed, chunk_next, chunk_offset, chunk_count, chunk_within, chunks_done, chunks_end, chunks_law, chunks_start, codes_part, field_next, field_part, fields_done, fields_law, fits_less, gained, gained_more, has_chunks, held, kind_known, look_up_law, none_gained, over_part, rows_in_front, same_part, share_law, zoned_part, HasChunks, IsPart}
 use Rattle.vx_plan.proofs.Selecting.{chosen_count, nothing_selected}
 use Rattle.vx_plan.proofs.segments.+collecting.Goals as goal
 
 -- the rows that a mask selects, and all where there is none
-abbrev rows_by : Option (Bor Mask) → ℕ → ℕ → List Bool
-rows_by mask skip count = chosen_rows (option_map (λ (rows : Bor Mask). rows.now) mask) skip count
+abbrev rows_by : Option (Bor (List Bool)) → ℕ → ℕ → List Bool
+rows_by mask skip count = chosen_rows (option_map (λ (rows : Bor (List Bool)). rows.now) mask) skip count
 
-abbrev rows_held : Bor Mask → List Bool
+abbrev rows_held : Bor (List Bool) → List Bool
 rows_held rows = rows.now
 
 pub collect-returns-then-not-is_any : goal.collect-returns-then-not-is_any

@@ -1,4 +1,4 @@
-use Rattle.std.proofs.Common.{◌≡◌, ◌+◌, ◌*◌, ◌++◌, Option, length, drop, map}
+use Rattle.std.proofs.Common.{◌≡◌, ◌+◌, ◌*◌, ◌++◌, drop, map}
 use Rattle.std.specs.Prelude.{option_map}
 use Rattle.vx_plan.specs.Plans.{plan_at, plans_from}
 use Rattle.vx_plan.specs.Reaches.{chosen_rows, selected_chunks, selected_each}

@@ -1,4 +1,4 @@
-use Rattle.std.proofs.Common.{true, false, Some, sym, ap, ◌∙◌, arith}
+use Rattle.std.proofs.Common.{Some, sym, ap, ◌∙◌, arith}
 use Rattle.vx_plan.proofs.AnyRow.{none_more, some_found}
 use Rattle.vx_plan.proofs.segments.is_any_of.Goals as goal
 

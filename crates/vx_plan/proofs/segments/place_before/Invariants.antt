@@ -1,4 +1,4 @@
-use Rattle.std.proofs.Common.{ℕ, ◌<◌, ◌≤◌, ◌-◌, length, get_or}
+use Rattle.std.proofs.Common.{◌<◌, ◌≤◌, ◌-◌, length, get_or}
 use Rattle.vx_plan.proofs.segments.place_before.Given as goal
 
 abbrev pub invariant-loop-low : goal.invariant-loop-low

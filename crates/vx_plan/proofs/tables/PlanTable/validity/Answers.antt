@@ -1,8 +1,7 @@
-use Rattle.std.proofs.Common.{◌≡◌, List, Option, Some, subst, sym, ap, ◌∙◌}
-use Rattle.std.specs.Prelude.{option_map}
+use Rattle.std.proofs.Common.{sym, ap, ◌∙◌}
 use Rattle.std.proofs.lemmas.Option.{get_or_from_slice_get}
 use Rattle.vx_plan.specs.Kinds.{validity_of}
-use Rattle.vx_plan.specs.Nodes.{Node, node_data, absent}
+use Rattle.vx_plan.specs.Nodes.{node_data, absent}
 use Rattle.vx_plan.specs.Refs.{number_of}
 use Rattle.vx_plan.proofs.Validities.{validity_given}
 use Rattle.vx_plan.proofs.tables.PlanTable.validity.Goals as goal

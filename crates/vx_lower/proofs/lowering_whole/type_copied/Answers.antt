@@ -1,0 +1,11 @@
+use Rattle.std.proofs.Common.{ap, ◌∙◌}
+use Rattle.vx_base.specs.Views.{data_type}
+use Rattle.vx_layout.specs.Nodes.{node_data}
+use Rattle.vx_layout.specs.Trees.{Head}
+use Rattle.vx_lower.proofs.Nodes.{node_head}
+use Rattle.vx_lower.proofs.lowering_whole.type_copied.Goals as goal
+
+pub returns : goal.returns
+returns c =
+    ap data_type c.in_ok-dtype.ensures.ok ∙ c.in_ok-copied.ensures
+    ∙ ap (λ (head : Head). head.dtype) (node_head c.args.tree.now c.node-layout.ensures.good c.args.node (node_data c.node-layout.result.now) c.node-layout.ensures.at)

@@ -1,0 +1,17 @@
+pub mod KeptRows
+pub mod Lowered
+pub mod Sizes
+pub mod Numbered
+pub mod OldNumbers
+pub mod NodeParts
+pub mod Keeping
+pub mod RowIndex
+pub mod Projected
+pub mod Planned
+pub mod Laws
+pub mod PlannedOver
+pub mod RowNumberPlans
+pub mod PlanText
+pub mod TreePlans
+pub mod WorkedPlans
+pub mod TextLaws

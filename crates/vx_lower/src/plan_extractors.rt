@@ -1,0 +1,154 @@
+//! What a line of a plan's text says behind the plan's name: a summary of the plan, and what callers have to say.
+
+ghost use Rattle.std.specs.Prelude.{◌≡◌, ◌<◌, ◌++◌, length, map, OnOk};
+ghost use Rattle.vx_lower.specs.PlanText.{all_headers, dtype_part, expression_text, headers_text, rows_part, summary_text, Header};
+ghost use Rattle.vx_plan.specs.Refs.{number_of};
+ghost use Rattle.vx_plan.specs.Rules.{node_at};
+
+use std::alloc::{AllocError, Global};
+use vx_plan::{PlanRef, PlanTable};
+
+/// What has something to say of each plan of a text.
+pub trait PlanTreeExtractor: Drop {
+    ghost header: { Self → Header };
+
+    /// Appends what there is to say of a plan to its line, and nothing else.
+    fn write_header(
+        &self,
+        alloc: Global,
+        table: &PlanTable,
+        plan: PlanRef,
+        out: &mut Vec<u8>,
+    ) -> Result<(), AllocError>
+        requires { number_of plan < length table.now }
+        ensures { OnOk result (out.new.items ≡ out.old.items ++ header self.now table.now (number_of plan)) };
+}
+
+/// Says of a plan which kind it is of, its dtype and its number of rows, and its expression where it has one: a space,
+/// then `vortex.plan.eval(i64, rows=3) expr=$.a`.
+#[derive(Clone, Copy, Debug)]
+pub struct PlanSummaryExtractor;
+
+/// Appends the dtype of a plan.
+fn write_dtype(
+    alloc: Global,
+    table: &PlanTable,
+    plan: PlanRef,
+    out: &mut Vec<u8>,
+) -> Result<(), AllocError>
+    requires { number_of plan < length table.now }
+    ensures { OnOk result (out.new.items ≡ out.old.items ++ dtype_part (node_at table.now (number_of plan))) }
+{
+    let dtype = table.dtype(plan).text(alloc)?;
+    out.push(b'(')?;
+    out.extend_from_slice(&dtype)
+}
+
+/// Appends the number of rows of a plan.
+fn write_rows(
+    alloc: Global,
+    table: &PlanTable,
+    plan: PlanRef,
+    out: &mut Vec<u8>,
+) -> Result<(), AllocError>
+    requires { number_of plan < length table.now }
+    ensures { OnOk result (out.new.items ≡ out.old.items ++ rows_part (node_at table.now (number_of plan))) }
+{
+    let rows = table.row_count(plan);
+    let text = format!(in alloc; ", rows={rows})")?;
+    out.extend_from_slice(text.as_bytes())
+}
+
+/// Appends the expression of a plan, where it has one.
+fn write_expression(
+    alloc: Global,
+    table: &PlanTable,
+    plan: PlanRef,
+    out: &mut Vec<u8>,
+) -> Result<(), AllocError>
+    requires { number_of plan < length table.now }
+    ensures { OnOk result (out.new.items ≡ out.old.items ++ expression_text (node_at table.now (number_of plan)).kind) }
+{
+    match table.as_eval(plan) {
+        Some(eval) => {
+            let text = eval.expression(table).text(alloc)?;
+            out.extend_from_slice(b" expr=")?;
+            out.extend_from_slice(&text)
+        }
+        None => Ok(()),
+    }
+}
+
+impl PlanTreeExtractor for PlanSummaryExtractor {
+    ghost header = { λ _. summary_text };
+
+    fn write_header(
+        &self,
+        alloc: Global,
+        table: &PlanTable,
+        plan: PlanRef,
+        out: &mut Vec<u8>,
+    ) -> Result<(), AllocError> {
+        let id = table.id(plan);
+        out.push(b' ')?;
+        out.extend_from_slice(id.text().as_bytes())?;
+        write_dtype(alloc, table, plan, out)?;
+        write_rows(alloc, table, plan, out)?;
+        write_expression(alloc, table, plan, out)
+    }
+}
+
+/// The summary, where it is asked for, and what boxed extractors say, one after another.
+#[derive(Drop)]
+pub(crate) struct AllHeaders {
+    pub(crate) has_summary: bool,
+    pub(crate) extractors: Vec<Box<dyn PlanTreeExtractor>>,
+}
+
+/// Appends what a boxed extractor says.
+fn write_boxed(
+    alloc: Global,
+    extractor: &Box<dyn PlanTreeExtractor>,
+    table: &PlanTable,
+    plan: PlanRef,
+    out: &mut Vec<u8>,
+) -> Result<(), AllocError>
+    requires { number_of plan < length table.now }
+    ensures { OnOk result (out.new.items ≡ out.old.items ++ (PlanTreeExtractor-box extractor.now).header extractor.now.value table.now (number_of plan)) }
+{
+    extractor.write_header(alloc, table, plan, out)
+}
+
+/// Appends what the boxed extractors say, in order.
+fn write_each(
+    alloc: Global,
+    extractors: &[Box<dyn PlanTreeExtractor>],
+    table: &PlanTable,
+    plan: PlanRef,
+    out: &mut Vec<u8>,
+) -> Result<(), AllocError>
+    requires { number_of plan < length table.now }
+    ensures { OnOk result (out.new.items ≡ out.old.items ++ headers_text (map (λ extractor. (PlanTreeExtractor-box extractor).header extractor.value) extractors.now) table.now (number_of plan)) }
+{
+    for extractor in extractors {
+        write_boxed(alloc, extractor, table, plan, out)?;
+    }
+    Ok(())
+}
+
+impl PlanTreeExtractor for AllHeaders {
+    ghost header = { λ all. all_headers all.has_summary (map (λ extractor. (PlanTreeExtractor-box extractor).header extractor.value) all.extractors.items) };
+
+    fn write_header(
+        &self,
+        alloc: Global,
+        table: &PlanTable,
+        plan: PlanRef,
+        out: &mut Vec<u8>,
+    ) -> Result<(), AllocError> {
+        if self.has_summary {
+            PlanSummaryExtractor.write_header(alloc, table, plan, out)?;
+        }
+        write_each(alloc, &self.extractors, table, plan, out)
+    }
+}
