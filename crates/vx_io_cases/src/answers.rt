@@ -1,30 +1,72 @@
 //! The commands.
 
-use crate::drives::{announced, drive_three};
-use crate::many::many;
-use crate::sessions::{find, session};
-use crate::texts::text;
-use anyhow::Result;
-use std::alloc::Global;
-use vx_notation::two;
+use crate::drives::{write_announced, write_three};
+use crate::fields::{place_of, ranges_of};
+use crate::many::write_many;
+use crate::sessions::write_session;
+use crate::sources::source_of;
+use crate::texts::write_text;
+use std::alloc::{AllocError, Global};
 
-/// The answer to a line: none to an empty one and to a remark.
-pub(crate) fn answer(alloc: Global, line: &str) -> Result<String> {
-    if line.is_empty() || line.starts_with("# ") {
-        return Ok(String::new(alloc));
+/// The segment that has a range of these.
+fn write_found(
+    alloc: Global,
+    ranges: &str,
+    word: &str,
+    out: &mut String,
+) -> Result<(), AllocError> {
+    let at = place_of(word);
+    match ranges_of(alloc, ranges)?.find(at.offset, at.length) {
+        Some(segment) => write!(out, "{segment}"),
+        None => out.push_str("none"),
     }
+}
+
+/// What commands over a source of a script gave, and what it was asked.
+fn write_asked(
+    alloc: Global,
+    command: &str,
+    script: &str,
+    ranges: &str,
+    words: &str,
+    out: &mut String,
+) -> Result<(), AllocError> {
+    let ranges = ranges_of(alloc, ranges)?;
+    let mut source = source_of(alloc, script)?;
+    match command {
+        "session" => write_session(alloc, &mut source, &ranges, words, out),
+        "announced" => write_announced(alloc, &mut source, &ranges, words, out),
+        "drive" => write_three(alloc, &mut source, &ranges, words, out),
+        _ => Ok(()),
+    }
+}
+
+/// Appends the answer to a line.
+fn write_answer(alloc: Global, line: &str, out: &mut String) -> Result<(), AllocError> {
     let (command, rest) = line.split_once(' ').unwrap_or((line, ""));
+    let (script, rest) = rest.split_once('|').unwrap_or((rest, ""));
+    let (ranges, words) = rest.split_once('|').unwrap_or((rest, ""));
     match command {
-        "text" => return text(alloc, rest),
-        "many" => return many(alloc, rest),
-        _ => {}
+        "text" => write_text(script, out),
+        "many" => write_many(alloc, script.parse::<u16>().unwrap_or(0), out),
+        "find" => write_found(alloc, ranges, words.trim(), out),
+        _ => write_asked(alloc, command, script, ranges, words.trim(), out),
     }
-    let (script, rest) = two(rest)?;
-    let (ranges, rest) = two(rest)?;
-    match command {
-        "find" => find(alloc, ranges, rest),
-        "session" => session(alloc, script, ranges, rest),
-        "announced" => announced(alloc, script, ranges, rest),
-        _ => drive_three(alloc, script, ranges, rest),
+}
+
+/// Appends each line with its answer.
+pub(crate) fn write_answers(
+    alloc: Global,
+    lines: &str,
+    out: &mut String,
+) -> Result<(), AllocError> {
+    for line in lines.lines() {
+        out.push_str(line)?;
+        if !line.is_empty() && !line.starts_with("# ") {
+            out.push_str(" => ")?;
+            write_answer(alloc, line, out)?;
+        }
+        out.push('\n')?;
     }
+    Ok(())
 }

@@ -3,17 +3,15 @@
 ghost use Rattle.std.specs.Prelude.{◌≡◌, OnOk, IfOk};
 ghost use Rattle.vx_io.specs.Drive.{fetches_in, AreDistinct};
 
-use crate::batches::{OWNER, request, write_completion, write_polled};
-use crate::fields::{place_of, ranges_of};
-use crate::sources::{source_of, write_notes};
-use anyhow::{Context, Result};
-use std::alloc::Global;
-use std::fmt::Write;
+use crate::batches::{OWNER, request, write_completion, write_failed};
+use crate::fields::place_of;
+use crate::sources::{Noting, write_notes};
+use std::alloc::{AllocError, Global};
 use vx_base::SegmentLocation;
-use vx_io::{DriveError, Driven, IoCommand, IoIntent, SegmentIoSource, drive};
+use vx_io::{DriveError, Driven, IoCommand, IoIntent, SegmentIoSource, SegmentRanges, drive};
 
 /// Polls behind the commands.
-fn push_polls(commands: &mut Vec<IoCommand>, count: u8) -> Result<()>
+fn push_polls(commands: &mut Vec<IoCommand>, count: u8) -> Result<(), AllocError>
     ensures { OnOk result (fetches_in commands.new.items ≡ fetches_in commands.old.items) }
 {
     for _poll in 0..count {
@@ -28,7 +26,7 @@ fn commands_of(
     places: [SegmentLocation; 3],
     between: u8,
     behind: u8,
-) -> Result<Vec<IoCommand>>
+) -> Result<Vec<IoCommand>, AllocError>
     ensures { IfOk result (λ commands. AreDistinct (fetches_in commands.items)) }
 {
     let mut commands = Vec::new(alloc);
@@ -45,7 +43,7 @@ fn commands_of(
 }
 
 /// One batch of an announcement of a range, and a poll.
-fn announcing(alloc: Global, place: SegmentLocation) -> Result<Vec<IoCommand>>
+fn announcing(alloc: Global, place: SegmentLocation) -> Result<Vec<IoCommand>, AllocError>
     ensures { IfOk result (λ commands. AreDistinct (fetches_in commands.items)) }
 {
     let mut commands = Vec::new(alloc);
@@ -55,60 +53,69 @@ fn announcing(alloc: Global, place: SegmentLocation) -> Result<Vec<IoCommand>>
     Ok(commands)
 }
 
+/// What ended a list of commands.
+fn write_end(error: Option<DriveError>, out: &mut String) -> Result<(), AllocError> {
+    match error {
+        Some(DriveError::Poll(error)) => write_failed(error, out),
+        Some(DriveError::Submit(error)) => write!(out, "{error}"),
+        Some(DriveError::Memory) => write!(out, "{}", DriveError::Memory),
+        None => out.push_str("no error"),
+    }
+}
+
 /// How many commands succeeded, the completions, and the error.
-fn write_driven(driven: &Driven, out: &mut String) -> Result<()> {
+fn write_driven(driven: &Driven, out: &mut String) -> Result<(), AllocError> {
     write!(out, "{} done; ", driven.done)?;
     for completion in driven.completions.as_slice() {
         write_completion(completion, out)?;
         out.push_str("; ")?;
     }
-    match driven.error {
-        Some(DriveError::Poll(error)) => write_polled(Err(error), out)?,
-        Some(DriveError::Submit(error)) => write!(out, "{error}")?,
-        Some(DriveError::Memory) => write!(out, "{}", DriveError::Memory)?,
-        None => out.push_str("no error")?,
-    }
-    out.push_str("; ")?;
-    Ok(())
+    write_end(driven.error, out)?;
+    out.push_str("; ")
 }
 
 /// What the commands gave, and what the source was asked.
-fn driven(alloc: Global, script: &str, ranges: &str, commands: Vec<IoCommand>) -> Result<String>
+fn write_drive(
+    alloc: Global,
+    source: &mut Noting,
+    ranges: &SegmentRanges,
+    commands: Vec<IoCommand>,
+    out: &mut String,
+) -> Result<(), AllocError>
     requires { AreDistinct (fetches_in commands.items) }
 {
-    let mut source = source_of(alloc, script)?;
-    let ranges = ranges_of(alloc, ranges)?;
-    let mut out = String::new(alloc);
-    let mut session = SegmentIoSource::new(alloc, &mut source, &ranges);
-    write_driven(&drive(alloc, &mut session, commands), &mut out)?;
-    write_notes(session.into_source(), &mut out)?;
-    Ok(out)
+    let mut session = SegmentIoSource::new(alloc, source, ranges);
+    write_driven(&drive(alloc, &mut session, commands), out)?;
+    write_notes(session.into_source(), out)
 }
 
 /// The answer to `drive SCRIPT | RANGES | BETWEEN BEHIND RANGE RANGE RANGE`.
-pub(crate) fn drive_three(
+pub(crate) fn write_three(
     alloc: Global,
-    script: &str,
-    ranges: &str,
+    source: &mut Noting,
+    ranges: &SegmentRanges,
     words: &str,
-) -> Result<String> {
-    let mut words = words.split_whitespace();
-    let between = words.next().unwrap_or("").parse::<u8>().context("a count")?;
-    let behind = words.next().unwrap_or("").parse::<u8>().context("a count")?;
-    let places = [
-        place_of(words.next().unwrap_or(""))?,
-        place_of(words.next().unwrap_or(""))?,
-        place_of(words.next().unwrap_or(""))?,
-    ];
-    driven(
-        alloc,
-        script,
-        ranges,
-        commands_of(alloc, places, between, behind)?,
-    )
+    out: &mut String,
+) -> Result<(), AllocError> {
+    let (between, words) = words.split_once(' ').unwrap_or((words, ""));
+    let (behind, words) = words.split_once(' ').unwrap_or((words, ""));
+    let (first, words) = words.split_once(' ').unwrap_or((words, ""));
+    let (second, third) = words.split_once(' ').unwrap_or((words, ""));
+    let between = between.parse::<u8>().unwrap_or(0);
+    let behind = behind.parse::<u8>().unwrap_or(0);
+    let places = [place_of(first), place_of(second), place_of(third)];
+    let commands = commands_of(alloc, places, between, behind)?;
+    write_drive(alloc, source, ranges, commands, out)
 }
 
 /// The answer to `announced SCRIPT | RANGES | RANGE`.
-pub(crate) fn announced(alloc: Global, script: &str, ranges: &str, word: &str) -> Result<String> {
-    driven(alloc, script, ranges, announcing(alloc, place_of(word)?)?)
+pub(crate) fn write_announced(
+    alloc: Global,
+    source: &mut Noting,
+    ranges: &SegmentRanges,
+    word: &str,
+    out: &mut String,
+) -> Result<(), AllocError> {
+    let commands = announcing(alloc, place_of(word))?;
+    write_drive(alloc, source, ranges, commands, out)
 }

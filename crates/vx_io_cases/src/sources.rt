@@ -1,10 +1,7 @@
 //! A source that keeps to a script and notes what it is asked.
 
-use anyhow::Result;
-use std::alloc::Global;
-use std::fmt::Write;
+use std::alloc::{AllocError, Global};
 use vx_base::{Script, ScriptSource, SegmentLocation, SegmentSource, SourceError};
-use vx_notation::numbers_of;
 
 /// A scripted source that notes by which number and for which location it is asked.
 #[derive(Drop)]
@@ -54,11 +51,22 @@ pub(crate) fn quiet(alloc: Global) -> Script {
     }
 }
 
+/// The numbers between commas; `-` is none.
+fn numbers_of(alloc: Global, text: &str) -> Result<Vec<u64>, AllocError> {
+    let mut numbers = Vec::new(alloc);
+    for word in text.split(',') {
+        if word != "-" {
+            numbers.push(word.parse::<u64>().unwrap_or(0))?;
+        }
+    }
+    Ok(numbers)
+}
+
 /// The source of a script: the requests that fail, the polls that fail, the waits and the order.
-pub(crate) fn source_of(alloc: Global, words: &str) -> Result<Noting> {
+pub(crate) fn source_of(alloc: Global, words: &str) -> Result<Noting, AllocError> {
     let mut script = quiet(alloc);
     for (place, word) in words.split_whitespace().enumerate() {
-        let numbers = numbers_of(alloc, word, ',')?;
+        let numbers = numbers_of(alloc, word)?;
         match place {
             0 => script.fail_requests = numbers,
             1 => script.fail_polls = numbers,
@@ -71,17 +79,12 @@ pub(crate) fn source_of(alloc: Global, words: &str) -> Result<Noting> {
 }
 
 /// What the source was asked, each as its number and its location, and what it counted.
-pub(crate) fn write_notes(source: &Noting, out: &mut String) -> Result<()> {
-    write!(out, "asked")?;
+pub(crate) fn write_notes(source: &Noting, out: &mut String) -> Result<(), AllocError> {
+    out.push_str("asked")?;
     for (id, at) in source.asked.as_slice() {
-        let SegmentLocation {
-            offset,
-            length,
-            alignment,
-        } = *at;
+        let (offset, length, alignment) = (at.offset, at.length, at.alignment);
         write!(out, " {id}:{offset}+{length}/{alignment}")?;
     }
     let (faults, idle) = (source.script.faults(), source.script.idle());
-    write!(out, ", {faults} faults, {idle} idle")?;
-    Ok(())
+    write!(out, ", {faults} faults, {idle} idle")
 }

@@ -1,28 +1,21 @@
 //! The texts of the errors.
 
-use anyhow::{Error, Result};
-use std::alloc::Global;
-use std::fmt::Display;
+use std::alloc::AllocError;
 use vx_io::{DriveError, IoOwnerId, IoRequestId, PollError, SubmitError};
 
-/// What an error says.
-fn said<E: Display>(alloc: Global, error: &E) -> Result<String> {
-    Ok(format!(in alloc; "{error}")?)
-}
-
 /// The answer to `text ERROR`: what the error says.
-pub(crate) fn text(alloc: Global, word: &str) -> Result<String> {
+pub(crate) fn write_text(name: &str, out: &mut String) -> Result<(), AllocError> {
     let (owner, request) = (IoOwnerId(7), IoRequestId(3));
-    match word {
-        "submit unknown range" => said(alloc, &SubmitError::UnknownRange(3)),
-        "submit source" => said(alloc, &SubmitError::Source { taken: 2 }),
-        "submit memory" => said(alloc, &SubmitError::Memory { taken: 2 }),
-        "poll nothing in flight" => said(alloc, &PollError::NothingInFlight),
-        "poll source" => said(alloc, &PollError::Source { owner, request }),
-        "poll memory" => said(alloc, &PollError::Memory),
-        "drive submit" => said(alloc, &DriveError::Submit(SubmitError::UnknownRange(3))),
-        "drive poll" => said(alloc, &DriveError::Poll(PollError::NothingInFlight)),
-        "drive memory" => said(alloc, &DriveError::Memory),
-        _ => Err(Error::msg("an error")),
+    match name {
+        "submit unknown range" => write!(out, "{}", SubmitError::UnknownRange(3)),
+        "submit source" => write!(out, "{}", SubmitError::Source { taken: 2 }),
+        "submit memory" => write!(out, "{}", SubmitError::Memory { taken: 2 }),
+        "poll nothing in flight" => write!(out, "{}", PollError::NothingInFlight),
+        "poll source" => write!(out, "{}", PollError::Source { owner, request }),
+        "poll memory" => write!(out, "{}", PollError::Memory),
+        "drive submit" => write!(out, "{}", DriveError::Submit(SubmitError::UnknownRange(3))),
+        "drive poll" => write!(out, "{}", DriveError::Poll(PollError::NothingInFlight)),
+        "drive memory" => write!(out, "{}", DriveError::Memory),
+        _ => Ok(()),
     }
 }

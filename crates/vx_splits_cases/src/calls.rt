@@ -1,132 +1,189 @@
 //! The calls.
 
-use crate::words::{number_of, numbers_of, numbers_text, range_of, ranges_text, selection_of};
-use anyhow::{Context, Error, Result};
-use std::alloc::Global;
-use vx_base::SegmentLocation;
-use vx_notation::bits_text;
+use crate::words::{number_of, numbers_of, range_of, selection_of, write_numbers, write_ranges};
+use std::alloc::{AllocError, Global};
+use std::ops::Range;
+use vx_base::{Mask, SegmentLocation};
 use vx_splits::{
-    StrictSorted, WorkScope, attempt_split_ranges, row_chunks, rows_per_chunk, select_rows,
-    subdivide_large_spans,
+    SelectedRows, Selection, StrictSorted, WorkScope, attempt_split_ranges, row_chunks,
+    rows_per_chunk, select_rows, subdivide_large_spans,
 };
 
-/// The numbers where they ascend, else why they are refused.
-fn of_sorted(alloc: Global, numbers: &str) -> Result<String> {
-    match StrictSorted::try_new(numbers_of(alloc, numbers)?) {
-        Ok(sorted) => numbers_text(alloc, sorted.as_slice()),
-        Err(error) => Ok(format!(in alloc; "{error}")?),
-    }
-}
-
-/// The boundaries with cuts.
-fn of_spans(alloc: Global, boundaries: &str, max_span: u64) -> Result<String> {
-    let Ok(sorted) = StrictSorted::try_new(numbers_of(alloc, boundaries)?) else {
-        return Err(Error::msg("boundaries that ascend"));
-    };
-    let boundaries = Vec::from_slice(alloc, sorted.as_slice())?;
+/// The boundaries with cuts; without a span above 0 nothing.
+fn write_cuts(
+    alloc: Global,
+    boundaries: &StrictSorted,
+    max_span: u64,
+    out: &mut String,
+) -> Result<(), AllocError> {
+    let boundaries = Vec::from_slice(alloc, boundaries.as_slice())?;
     if max_span == 0 {
-        return Err(Error::msg("a span above 0"));
+        return Ok(());
     }
     match subdivide_large_spans(alloc, boundaries, max_span) {
-        Ok(cuts) => numbers_text(alloc, cuts.as_slice()),
-        Err(_) => Ok(String::from_str(alloc, "out of memory")?),
+        Ok(cuts) => write_numbers(&cuts, out),
+        Err(_) => out.push_str("out of memory"),
     }
 }
 
-/// The rows of a chunk of a file with segments of these lengths.
-fn of_lengths(alloc: Global, row_count: u64, lengths: &str) -> Result<String> {
+/// The rows of a chunk of a file with segments of these lengths, of a few.
+fn write_chunk_rows(
+    alloc: Global,
+    row_count: u64,
+    lengths: &str,
+    out: &mut String,
+) -> Result<(), AllocError> {
     let mut locations = Vec::new(alloc);
-    for length in numbers_of(alloc, lengths)? {
-        let length = u32::try_from(length).context("a length")?;
-        locations.push(SegmentLocation {
-            offset: 0,
-            length,
-            alignment: 0,
-        })?;
+    for length in lengths.split(',') {
+        if length != "-" {
+            let location = SegmentLocation {
+                offset: 0,
+                length: length.parse::<u32>().unwrap_or(0),
+                alignment: 0,
+            };
+            locations.push(location)?;
+        }
     }
     if 1000 < locations.len() {
-        return Err(Error::msg("few segments"));
+        return Ok(());
     }
-    Ok(format!(in alloc; "{}", rows_per_chunk(row_count, &locations))?)
+    write!(out, "{}", rows_per_chunk(row_count, &locations))
 }
 
-/// The chunks of a range.
-fn of_chunks(alloc: Global, rows: &str, size: u64) -> Result<String> {
+/// The chunks of a range; without a size above 0 nothing.
+fn write_chunks(
+    alloc: Global,
+    rows: Range<u64>,
+    size: u64,
+    out: &mut String,
+) -> Result<(), AllocError> {
     if size == 0 {
-        return Err(Error::msg("a size above 0"));
+        return Ok(());
     }
-    let chunks = row_chunks(alloc, range_of(rows)?, size)?;
-    ranges_text(alloc, chunks.as_slice())
+    write_ranges(&row_chunks(alloc, rows, size)?, out)
 }
 
-/// What is left of the scope of file 7: its rows, how many of them are chosen, and the mask of a short one.
-fn of_scope(alloc: Global, selection: &str, rows: &str) -> Result<String> {
-    let selection = selection_of(alloc, selection)?;
-    let scope = WorkScope {
-        file_ordinal: 7,
-        rows: range_of(rows)?,
-    };
-    let Some(left) = select_rows(alloc, scope, &selection)? else {
-        return Ok(String::from_str(alloc, "none")?);
-    };
-    let (file, rows, count) = (
-        left.scope.file_ordinal,
-        left.scope.rows,
-        left.mask.true_count(),
-    );
-    let (start, end) = (rows.start, rows.end);
+/// Appends truth values as `101`; none is `-`.
+fn write_bits(mask: &Mask, out: &mut String) -> Result<(), AllocError> {
+    if mask.len() == 0 {
+        return out.push('-');
+    }
+    for row in 0..mask.len() {
+        out.push(if mask.value(row) { '1' } else { '0' })?;
+    }
+    Ok(())
+}
+
+/// What is left of a scope: its rows, how many of them are chosen, and the mask of a short one.
+fn write_left(left: &SelectedRows, out: &mut String) -> Result<(), AllocError> {
+    let (file, count) = (left.scope.file_ordinal, left.mask.true_count());
+    let (start, end) = (left.scope.rows.start, left.scope.rows.end);
+    write!(out, "file {file} rows {start}..{end} chosen {count}")?;
     if 64 < left.mask.len() {
-        return Ok(format!(in alloc; "file {file} rows {start}..{end} chosen {count}")?);
+        return Ok(());
     }
-    let bits = bits_text(alloc, left.mask.bits())?;
-    Ok(format!(in alloc; "file {file} rows {start}..{end} chosen {count} {bits}")?)
+    out.push(' ')?;
+    write_bits(&left.mask, out)
 }
 
-/// The truth values of the rows of a range.
-fn of_mask(alloc: Global, selection: &str, rows: &str) -> Result<String> {
-    let rows = range_of(rows)?;
-    if rows.end < rows.start {
-        return Err(Error::msg("a range that isn't reversed"));
+/// What a selection says of a range; a scope is one of file 7. Of a reversed range there is no mask.
+fn write_selected(
+    alloc: Global,
+    call: &str,
+    selection: &Selection,
+    rows: Range<u64>,
+    count: u64,
+    out: &mut String,
+) -> Result<(), AllocError> {
+    match call {
+        "row_count_in_range" => write!(out, "{}", selection.row_count_in_range(&rows)),
+        "reaches_past" => write!(out, "{}", selection.reaches_past(&rows, count)),
+        "row_mask" if rows.start <= rows.end => {
+            write_bits(&selection.row_mask(alloc, &rows)?, out)
+        }
+        "select_rows" => {
+            let file_ordinal = 7;
+            match select_rows(alloc, WorkScope { file_ordinal, rows }, selection)? {
+                Some(left) => write_left(&left, out),
+                None => out.push_str("none"),
+            }
+        }
+        _ => Ok(()),
     }
-    let mask = selection_of(alloc, selection)?.row_mask(alloc, &rows)?;
-    bits_text(alloc, mask.bits())
 }
 
 /// The ranges that a selection is split into, of a range or of all rows.
-fn of_splits(alloc: Global, selection: &str, rows: &str) -> Result<String> {
-    let selection = selection_of(alloc, selection)?;
-    let ranges = if rows == "all" {
-        attempt_split_ranges(alloc, &selection, None)?
-    } else {
-        attempt_split_ranges(alloc, &selection, Some(&range_of(rows)?))?
-    };
-    match ranges {
-        Some(ranges) => ranges_text(alloc, ranges.as_slice()),
-        None => Ok(String::from_str(alloc, "none")?),
+fn write_splits(
+    alloc: Global,
+    selection: &Selection,
+    rows: &str,
+    out: &mut String,
+) -> Result<(), AllocError> {
+    let range = range_of(rows);
+    let rows = if rows == "all" { None } else { Some(&range) };
+    match attempt_split_ranges(alloc, selection, rows)? {
+        Some(ranges) => write_ranges(&ranges, out),
+        None => out.push_str("none"),
     }
 }
 
-/// The answer to a call.
-pub(crate) fn answer(alloc: Global, line: &str) -> Result<String> {
-    let (call, words) = line.split_once(' ').unwrap_or((line, ""));
-    let (one, rest) = words.split_once(' ').unwrap_or((words, "0"));
-    let (two, three) = rest.split_once(' ').unwrap_or((rest, "0"));
-    match call {
-        "try_new" => of_sorted(alloc, one),
-        "subdivide_large_spans" => of_spans(alloc, one, number_of(two)?),
-        "rows_per_chunk" => of_lengths(alloc, number_of(one)?, two),
-        "row_chunks" => of_chunks(alloc, one, number_of(two)?),
-        "select_rows" => of_scope(alloc, one, two),
-        "row_mask" => of_mask(alloc, one, two),
-        "attempt_split_ranges" => of_splits(alloc, one, two),
-        "row_count_in_range" => {
-            let count = selection_of(alloc, one)?.row_count_in_range(&range_of(two)?);
-            Ok(format!(in alloc; "{count}")?)
-        }
-        "reaches_past" => {
-            let past = selection_of(alloc, one)?.reaches_past(&range_of(two)?, number_of(three)?);
-            Ok(format!(in alloc; "{past}")?)
-        }
-        _ => Err(Error::msg("a call")),
+/// The answer to a call on ascending numbers, or why they are refused.
+fn write_sorted(
+    alloc: Global,
+    call: &str,
+    numbers: &str,
+    max_span: u64,
+    out: &mut String,
+) -> Result<(), AllocError> {
+    match StrictSorted::try_new(numbers_of(alloc, numbers)?) {
+        Ok(sorted) if call == "try_new" => write_numbers(sorted.as_slice(), out),
+        Ok(sorted) => write_cuts(alloc, &sorted, max_span, out),
+        Err(error) => write!(out, "{error}"),
     }
+}
+
+/// The answer to a call on a selection.
+fn write_on_selection(
+    alloc: Global,
+    call: &str,
+    selection: &str,
+    words: &str,
+    out: &mut String,
+) -> Result<(), AllocError> {
+    let selection = selection_of(alloc, selection)?;
+    if call == "attempt_split_ranges" {
+        return write_splits(alloc, &selection, words, out);
+    }
+    let (rows, count) = words.split_once(' ').unwrap_or((words, ""));
+    let (rows, count) = (range_of(rows), number_of(count));
+    write_selected(alloc, call, &selection, rows, count, out)
+}
+
+/// Appends the answer to a call.
+fn write_answer(alloc: Global, line: &str, out: &mut String) -> Result<(), AllocError> {
+    let (call, words) = line.split_once(' ').unwrap_or((line, ""));
+    let (one, two) = words.split_once(' ').unwrap_or((words, ""));
+    match call {
+        "try_new" | "subdivide_large_spans" => write_sorted(alloc, call, one, number_of(two), out),
+        "rows_per_chunk" => write_chunk_rows(alloc, number_of(one), two, out),
+        "row_chunks" => write_chunks(alloc, range_of(one), number_of(two), out),
+        _ => write_on_selection(alloc, call, one, two, out),
+    }
+}
+
+/// Appends each line with its answer.
+pub(crate) fn write_answers(
+    alloc: Global,
+    lines: &str,
+    out: &mut String,
+) -> Result<(), AllocError> {
+    for line in lines.lines() {
+        out.push_str(line)?;
+        if !line.is_empty() && !line.starts_with("# ") {
+            out.push_str(" => ")?;
+            write_answer(alloc, line, out)?;
+        }
+        out.push('\n')?;
+    }
+    Ok(())
 }

@@ -7,18 +7,13 @@
 mod calls;
 mod words;
 
-use calls::answer;
+use calls::write_answers;
+use std::io;
 
-fn main(rt: HostRuntime) -> anyhow::Result<()> {
+fn main(rt: HostRuntime) -> io::Result<()> {
     let alloc = rt.alloc();
-    for line in rt.lines(alloc) {
-        let line = line?;
-        if line.is_empty() || line.starts_with("# ") {
-            println!(rt; "{line}")?;
-        } else {
-            let answered = answer(alloc, line.as_str())?;
-            println!(rt; "{line} => {answered}")?;
-        }
-    }
-    Ok(())
+    let lines = io::read_to_string(alloc, rt.reader())?;
+    let mut out = String::new(alloc);
+    let _all = write_answers(alloc, lines.as_str(), &mut out);
+    print!(rt; "{out}")
 }
