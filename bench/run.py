@@ -1,10 +1,11 @@
 #!/usr/bin/env python3
-"""Runs the built program on made data, and prints times and memory beside a yardstick.
+"""Runs the built program on made data, and prints times and memory beside those of a plain program.
 
     python3 bench/run.py PROGRAM [--seed N] [--runs N]
 
 PROGRAM is the built program, crates/scan_cli/out/scan_cli after a run or a check. The script makes its
-data from the seed into bench/data/, builds nothing, and checks each output against its own.
+data from the seed into bench/data/, builds plain.rs there by rustc, checks each output of both against its
+own, and then runs both in turns with their output thrown away.
 """
 import argparse
 import filecmp
@@ -85,46 +86,45 @@ def child(arguments, out):
     return os.waitstatus_to_exitcode(status), seconds, used.ru_maxrss * 1024
 
 
-def yardstick(name, out):
-    """Seconds to read the segment bytes and to write as many bytes as the output has."""
-    size = os.path.getsize(path_of(name + ".lines"))
-    block = b"\n" * 65536
-    start = time.perf_counter()
-    with open(path_of(name + ".seg"), "rb") as source:
-        while source.read(len(block)):
-            pass
-    with open(out, "wb") as sink:
-        for _ in range(size // len(block)):
-            sink.write(block)
-        sink.write(block[: size % len(block)])
-    return time.perf_counter() - start
+def build_plain():
+    """Builds the plain program beside the data, and gives its path."""
+    plain = path_of("plain")
+    subprocess.check_call(["rustc", "--edition", "2021", "-O", "-o", plain, os.path.join(HERE, "plain.rs")])
+    return plain
 
 
-def measure(program, name, rows, runs):
-    """The median seconds of some runs, after a line is printed."""
+def check(arguments, name):
+    """Stops where the output isn't the lines that are wanted."""
     out = path_of("out.txt")
-    times, yards, peak = [], [], 0
+    status = child(arguments, out)[0]
+    if status != 0 or not filecmp.cmp(out, path_of(name + ".lines"), shallow=False):
+        sys.exit("%s: %s: status %d, or another output" % (arguments[0], name, status))
+
+
+def measure(program, plain, name, rows, runs):
+    """The best seconds of some runs, after a line is printed."""
+    words = [path_of(name + ".seg"), path_of(name + ".json")]
+    both = {"proved": [program, "scan"] + words, "plain": [plain] + words}
+    for arguments in both.values():
+        check(arguments, name)
+    times, peaks = {one: [] for one in both}, {one: 0 for one in both}
     for _ in range(runs):
-        yards.append(yardstick(name, out))
-        words = [program, "scan", path_of(name + ".seg"), path_of(name + ".json")]
-        status, seconds, used = child(words, out)
-        if status != 0 or not filecmp.cmp(out, path_of(name + ".lines"), shallow=False):
-            sys.exit("%s: status %d, or another output" % (name, status))
-        times.append(seconds)
-        peak = max(peak, used)
-    seconds = statistics.median(times)
-    moved = sum(os.path.getsize(path_of(name + end)) for end in (".seg", ".json", ".lines"))
-    print("%-14s %9.3f %12.0f %9.1f %9.1f %10.1f %12.1f" % (
-        name, seconds, rows / seconds, moved / seconds / 1e6, peak / 1e6, peak / rows,
-        seconds / statistics.median(yards)))
-    return seconds
+        for one, arguments in both.items():
+            _, seconds, used = child(arguments, os.devnull)
+            times[one].append(seconds)
+            peaks[one] = max(peaks[one], used)
+    best, median = ({one: pick(taken) for one, taken in times.items()} for pick in (min, statistics.median))
+    print("%-14s %8.4f %8.4f %8.4f %8.4f %7.2f %7.2f %9.1f %9.1f %9.1f" % (
+        name, best["proved"], median["proved"], best["plain"], median["plain"], best["proved"] / best["plain"],
+        median["proved"] / median["plain"], peaks["proved"] / 1e6, peaks["plain"] / 1e6, peaks["proved"] / rows))
+    return best["proved"]
 
 
 def main():
     parser = argparse.ArgumentParser(description=__doc__)
     parser.add_argument("program")
     parser.add_argument("--seed", type=int, default=1)
-    parser.add_argument("--runs", type=int, default=7)
+    parser.add_argument("--runs", type=int, default=9)
     parser.add_argument("--make", action="store_true", help="make the data and no more")
     options = parser.parse_args()
     if options.make:
@@ -132,15 +132,12 @@ def main():
         return
     # In a process of its own: a child's peak memory counts from the size of the one that starts it.
     subprocess.check_call([sys.executable, __file__, options.program, "--seed", str(options.seed), "--make"])
-    print("%-14s %9s %12s %9s %9s %10s %12s" % (
-        "data set", "seconds", "rows/s", "MB/s", "peak MB", "bytes/row", "x yardstick"))
-    medians = {name: measure(options.program, name, rows, options.runs) for name, rows in DATA_SETS.items()}
-    print("from 250,000 to 1,000,000 rows: x %.2f" % (medians["chunks_128"] / medians["first_quarter"]))
-    load = "import json, sys; json.load(open(sys.argv[1]))"
-    arguments = [sys.executable, "-c", load, path_of("leaves_290000.json")]
-    python = statistics.median(child(arguments, path_of("out.txt"))[1] for _ in range(options.runs))
-    ratio = medians["leaves_290000"] / python
-    print("290,000 leaves against json.load of their request (%.3f s): x %.2f" % (python, ratio))
+    plain = build_plain()
+    print("%-14s %17s %17s %15s %19s %9s" % ("", "proved, seconds", "plain, seconds", "ratio", "peak MB", "proved"))
+    print("%-14s %8s %8s %8s %8s %7s %7s %9s %9s %9s" % (
+        "data set", "best", "median", "best", "median", "best", "median", "proved", "plain", "bytes/row"))
+    best = {name: measure(options.program, plain, name, rows, options.runs) for name, rows in DATA_SETS.items()}
+    print("from 250,000 to 1,000,000 rows: x %.2f" % (best["chunks_128"] / best["first_quarter"]))
 
 
 if __name__ == "__main__":
