@@ -1,6 +1,6 @@
 -- Columns, row by row.
 use Rattle.std.proofs.Common.{◌≡◌, ℕ, zero, suc, ◌+◌, ◌-◌, ◌<◌, ◌≤◌, pos, ℤ, Bool, true, false, List, [], ◌∷◌, ◌++◌, length, map, get_or, take, drop, replicate, Some, refl, sym, ap, ◌∙◌, arith}
-use Rattle.std.specs.Prelude.{slice_get}
+use Rattle.std.specs.Prelude.{slice_get, ◌↔◌}
 use Rattle.std.specs.List.{AllByRecursion, slice_range}
 use Rattle.std.proofs.lemmas.List.{map-append, take_more}
 use Rattle.vx_types.specs.declared.dtypes.Nullability.TheVariants.{NonNullable}
@@ -56,3 +56,7 @@ range_chosen mask wide front start end more xs forwards within len e f =
     ap (λ (bits : List Bool). chosen bits xs) (f ∙ ap (λ (bits : List Bool). bits ++ replicate more false) e)
     ∙ chosen_between Datum start more mask xs (omega arith)
     ∙ ap (λ (k : ℕ). chosen mask (take k (drop start xs))) len
+
+-- ---- a row of two columns, each where its value stands
+pub row_agrees : (xs ys ones others : List Datum) (row place second : ℕ) (P : Type 0) → slice_get xs row ≡ slice_get ones place → slice_get ys row ≡ slice_get others second → (P ↔ (slice_get ones place ≡ slice_get others second)) → (P ↔ (slice_get xs row ≡ slice_get ys row))
+row_agrees xs ys ones others row place second P e f h = (λ p. e ∙ h.0 p ∙ sym f, λ same. h.1 (sym e ∙ same ∙ f))

@@ -1,6 +1,8 @@
 pub mod ColumnRows
+pub mod KeptRuns
 pub mod RunRows
 pub mod ScriptTurns
+pub mod SpreadRuns
 pub mod Tickets
 pub use Rattle.vx_types.proofs.AllFit
 pub use Rattle.vx_types.proofs.BuiltRows

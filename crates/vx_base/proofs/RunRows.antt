@@ -7,7 +7,9 @@ use Rattle.vx_base.specs.Columns.{ColumnData}
 use Rattle.vx_base.specs.Fits.{Fits}
 use Rattle.vx_base.specs.Rows.{taken}
 use Rattle.vx_base.specs.Runs.{spread, end_before, IsGoodEnd, AreGoodEnds, IsFirstBadEnd, run_places}
+use Rattle.vx_base.specs.RunRows.{runs_column}
 use Rattle.vx_packed.specs.PackedColumns.{IsColumn}
+use Rattle.vx_packed.specs.PartRows.{picked_at}
 use Rattle.vx_packed.specs.Slots.{bare}
 
 -- ---- the ends so far
@@ -61,14 +63,13 @@ pub record PlacesSoFar (ends places : List ℕ) (run : ℕ) : Type 0 where
 pub places_none : (ends places : List ℕ) → places ≡ [] → PlacesSoFar ends places 0
 places_none ends places e = record { rows = ap length e; whole = ap (λ (ps : List ℕ). ps ++ run_places 0 0 ends) e }
 
-pub places_more : (count : ℕ) (ends places more : List ℕ) (run : ℕ) → run < length ends → AreGoodEnds count ends → more ≡ places ++ replicate (get_or ends run 0 - length places) run → PlacesSoFar ends places run → PlacesSoFar ends more (run + 1)
-places_more count ends places more run lt good pushed h =
+pub places_more : (ends places more : List ℕ) (run : ℕ) → run < length ends → end_before ends run < get_or ends run 0 → more ≡ places ++ replicate (get_or ends run 0 - length places) run → PlacesSoFar ends places run → PlacesSoFar ends more (run + 1)
+places_more ends places more run lt above pushed h =
     let end = get_or ends run 0 in
-    let here = good.good run (omega (arith, good.same)) in
     let rest = run_places (suc run) end (drop (run + 1) ends) in
     let left : run_places run (end_before ends run) (drop run ends) ≡ replicate (end - end_before ends run) run ++ rest = ap (run_places run (end_before ends run)) (drop_more ends run 0 lt) in
     let size : end - length places ≡ end - end_before ends run = ap (λ (k : ℕ). end - k) h.rows in
-    let long : length more ≡ end = omega (arith, ap length pushed, length-append places (replicate (end - length places) run), length-replicate (end - length places) run, h.rows, here.above) in
+    let long : length more ≡ end = omega (arith, ap length pushed, length-append places (replicate (end - length places) run), length-replicate (end - length places) run, h.rows, above) in
     record {
       rows = rw add-one long;
       whole = rw add-one
@@ -131,3 +132,10 @@ spread_fits P from (v ∷ vs) (end ∷ ends) h = all_behind P (replicate (end - 
 
 pub column_of_runs : (t : DataType) (vs : List Datum) (ends : List ℕ) (rows : ColumnData) → AllByRecursion (Fits t) vs → rows.dtype ≡ bare t → rows.values ≡ spread 0 vs ends → IsColumn t rows
 column_of_runs t vs ends rows fit type is = record { shape = sym type; fit = subst (AllByRecursion (Fits t)) (sym is) (spread_fits (Fits t) 0 vs ends fit) }
+
+-- ---- all rows of runs, each with a value of its own
+pub spread_all : (values rows column : ColumnData) (ends slice places at : List ℕ) → runs_column values ends ≡ column → length ends ≡ length values.values → slice ≡ ends → places ≡ run_places 0 0 slice → at ≡ places → rows ≡ picked_at at values → rows ≡ column
+spread_all values rows column ends slice places at view same e f g is =
+    let there : at ≡ run_places 0 0 ends = g ∙ f ∙ ap (run_places 0 0) e in
+    let values_are : taken null values.values at ≡ spread 0 values.values ends = ap (taken null values.values) there ∙ spread_is values.values ends (sym same) in
+    is ∙ (λ i. record { dtype = values.dtype; values = values_are i }) ∙ view

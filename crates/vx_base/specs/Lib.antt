@@ -4,9 +4,11 @@ pub mod FileSources
 pub mod InFlight
 pub mod MemorySources
 pub mod MemoryStreams
+pub mod RunRows
 pub mod Runs
 pub mod ScriptSources
 pub mod Sources
+pub mod StoredRows
 pub mod Streams
 pub use Rattle.vx_packed.specs.Cells
 pub use Rattle.vx_types.specs.Codes

@@ -1,9 +1,8 @@
 -- Values that each fill the rows from the end before them to their own.
 use Rattle.std.specs.Prelude.{◌≡◌, ℕ, zero, suc, ◌-◌, ◌<◌, ◌⊎◌, List, [], ◌∷◌, ◌++◌, length, replicate, slice_index}
-use Rattle.vx_base.specs.Data.{Datum}
 
 -- the values, each in its rows, the first of which is the given one
-abbrev pub spread : ℕ → List Datum → List ℕ → List Datum
+abbrev pub spread : {X : Type 0} → ℕ → List X → List ℕ → List X
 spread from [] ends = []
 spread from (v ∷ values) [] = []
 spread from (v ∷ values) (end ∷ ends) = replicate (end - from) v ++ spread end values ends

@@ -37,23 +37,25 @@ fn looked_up_dtype(alloc: Global, codes: &DType, values: &DType) -> Result<DType
     }
 }
 
-/// The rows of a part alone.
-fn rows_alone(part: Column) -> Part
-    ensures rows { result ≡ bare_column part }
+/// The rows of a part alone, packed.
+fn rows_alone(alloc: Global, part: Column) -> Result<Part, AllocError>
+    ensures rows { IfOk result (λ rows. rows ≡ bare_column part) }
     ensures fit { IsFitting part }
 {
     let _fit = part.len();
-    part.into_rows()
+    let rows = part.into_part(alloc)?;
+    Ok(rows)
 }
 
-/// The rows of each part. It moves them.
+/// The rows of each part. It moves those that are packed.
 fn all_rows_alone(alloc: Global, parts: Vec<Column>) -> Result<Vec<Part>, AllocError>
     ensures rows { IfOk result (λ rows. rows.items ≡ map bare_column parts.items) }
     ensures fit { OnOk result (AllByRecursion IsFitting parts.items) }
 {
     let mut rows = Vec::with_capacity(alloc, parts.len())?;
     for part in parts {
-        rows.push(rows_alone(part))?;
+        let alone = rows_alone(alloc, part)?;
+        rows.push(alone)?;
     }
     Ok(rows)
 }
@@ -92,8 +94,10 @@ impl Column {
         ensures values { IfOk result (λ column. column.values ≡ self.values ++ other.values) }
     {
         let dtype = self.dtype().copy(alloc)?;
-        let rows = self.into_rows().append(alloc, other.into_rows())?;
-        Ok(Column::of_rows(dtype, rows))
+        let ones = self.into_part(alloc)?;
+        let others = other.into_part(alloc)?;
+        let part = ones.append(alloc, others)?;
+        Ok(Column::of_part(dtype, part))
     }
 
     /// The values of all parts, one part after another. It moves them into memory that it takes once.
@@ -103,7 +107,7 @@ impl Column {
         ensures values { IfOk result (λ column. column.values ≡ flat_map (λ part. part.values) parts.items) }
     {
         let rows = Part::with_room(alloc, &dtype, rows_in(&parts))?;
-        let mut joined = Column::of_rows(dtype, rows);
+        let mut joined = Column::of_part(dtype, rows);
         for part in parts {
             joined = joined.append(alloc, part)?;
         }
@@ -123,7 +127,7 @@ impl Column {
         let places = codes.places(alloc, found.len())?;
         let rows = found.take(alloc, places.as_slice())?;
         let dtype = looked_up_dtype(alloc, codes.dtype(), values.dtype())?;
-        Ok(Column::of_rows(dtype, rows))
+        Ok(Column::of_part(dtype, rows))
     }
 
     /// The codes as places of so many rows, and the place past the last one where there is none.
@@ -157,6 +161,6 @@ impl Column {
         let structs = Parts::of(rows as usize, parts);
         let validity = valid_rows(alloc, validity, rows)?;
         let packed = Part::of_structs(validity, structs);
-        Ok(Column::of_rows(DType::Struct(fields, nullability), packed))
+        Ok(Column::of_part(DType::Struct(fields, nullability), packed))
     }
 }

@@ -26,9 +26,9 @@ impl Column {
         let validity = Mask::new_true(alloc, numbers.len() as u64)?;
         let numbers = Numbers::U64(Primitive::of(numbers));
         let _inside = numbers.len();
-        let rows = Part::of_numbers(validity, numbers);
+        let part = Part::of_numbers(validity, numbers);
         let dtype = DType::Int(IntKind::U64, Nullability::NonNullable);
-        Ok(Column::of_rows(dtype, rows))
+        Ok(Column::of_part(dtype, part))
     }
 
     /// The rows of a range.
@@ -38,11 +38,11 @@ impl Column {
         ensures dtype { IfOk result (λ column. column.dtype ≡ self.now.dtype) }
         ensures values { IfOk result (λ column. column.values ≡ slice_range self.now.values rows.start rows.end) }
     {
-        let part = self
+        let made = self
             .rows()
             .slice(alloc, rows.start as usize..rows.end as usize)?;
         let dtype = self.dtype().copy(alloc)?;
-        Ok(Column::of_rows(dtype, part))
+        Ok(Column::of_rows(dtype, made))
     }
 
     /// The rows that the mask chooses.
@@ -51,9 +51,9 @@ impl Column {
         ensures dtype { IfOk result (λ column. column.dtype ≡ self.now.dtype) }
         ensures values { IfOk result (λ column. column.values ≡ chosen mask.now self.now.values) }
     {
-        let part = self.rows().filter(alloc, mask)?;
+        let made = self.rows().filter(alloc, mask)?;
         let dtype = self.dtype().copy(alloc)?;
-        Ok(Column::of_rows(dtype, part))
+        Ok(Column::of_rows(dtype, made))
     }
 
     /// The rows of a range that the mask chooses of them, in one pass over the chosen rows.

@@ -1,15 +1,17 @@
 //! Columns: a dtype and values that it takes, one for each row.
 
-ghost use Rattle.std.specs.Prelude.{◌≡◌, ℕ, ◌<◌, ◌≤◌, Some, [], length, map, slice_get, OnOk, IfOk, IsErrOf, MatchOption};
+ghost use Rattle.std.specs.Prelude.{◌≡◌, ℕ, ◌<◌, ◌≤◌, Some, [], length, map, slice_get, OnOk, IfOk, IfSome, IsErrOf, MatchOption};
 ghost use Rattle.std.specs.List.{AllByRecursion};
 ghost use Rattle.vx_base.specs.Fits.{Fits};
 ghost use Rattle.vx_base.specs.Columns.{IsFirstUnfit};
 ghost use Rattle.vx_base.specs.Segment.{is_value};
+ghost use Rattle.vx_base.specs.StoredRows.{row_data};
 ghost use Rattle.vx_base.specs.Views.{data_type};
 ghost use Rattle.vx_base.specs.ValueViews.{datum};
 ghost use Rattle.vx_packed.specs.Cells.{cell_datum};
 ghost use Rattle.vx_packed.specs.PackedColumns.{IsColumn};
 
+use crate::stored_rows::Rows;
 use std::alloc::{AllocError, Global};
 use std::marker::Model;
 use thiserror::Error;
@@ -32,12 +34,13 @@ pub enum ColumnError {
 #[derive(Drop)]
 pub struct Column {
     dtype: DType,
-    rows: Part,
+    rows: Rows,
 }
 
 impl Model for Column {
     ghost use Rattle.vx_base.specs.Columns.{ColumnData};
     ghost use Rattle.vx_base.specs.Codes.{coded_column};
+    ghost use Rattle.vx_base.specs.StoredRows.{row_data};
     ghost use Rattle.vx_base.specs.Views.{data_type};
     ghost use Rattle.vx_packed.specs.PackedColumns.{IsColumn};
 
@@ -45,9 +48,9 @@ impl Model for Column {
 
     ghost coded = { coded_column };
 
-    ghost view = { λ a. record { dtype = data_type a.dtype; values = a.rows.values } };
+    ghost view = { λ a. record { dtype = data_type a.dtype; values = (row_data a.rows).values } };
 
-    ghost invariant = { λ a. IsColumn (data_type a.dtype) a.rows };
+    ghost invariant = { λ a. IsColumn (data_type a.dtype) (row_data a.rows) };
 }
 
 /// The first of the values that the dtype doesn't take. None where it takes each.
@@ -64,28 +67,52 @@ pub(crate) fn first_unfit(dtype: &DType, values: &[Value]) -> Option<usize>
 
 impl Column {
     /// The column of a dtype and of rows that it takes. It takes no memory.
-    pub(crate) fn of_rows(dtype: DType, rows: Part) -> Column
-        requires { IsColumn (data_type dtype) rows }
+    pub(crate) fn of_rows(dtype: DType, rows: Rows) -> Column
+        requires { IsColumn (data_type dtype) (row_data rows) }
         ensures dtype { result.dtype ≡ data_type dtype }
-        ensures values { result.values ≡ rows.values }
+        ensures values { result.values ≡ (row_data rows).values }
     {
         Column { dtype, rows }
     }
 
+    /// The column of a dtype and of packed rows that it takes. It takes no memory.
+    pub fn of_part(dtype: DType, part: Part) -> Column
+        requires { IsColumn (data_type dtype) part }
+        ensures dtype { result.dtype ≡ data_type dtype }
+        ensures values { result.values ≡ part.values }
+    {
+        Column {
+            dtype,
+            rows: Rows::Plain(part),
+        }
+    }
+
     /// What the rows hold. It takes no memory.
-    pub(crate) fn rows(&self) -> &Part
-        ensures values { result.now.values ≡ self.now.values }
-        ensures column { IsColumn self.now.dtype result.now }
+    pub(crate) fn rows(&self) -> &Rows
+        ensures values { (row_data result.now).values ≡ self.now.values }
+        ensures column { IsColumn self.now.dtype (row_data result.now) }
     {
         &self.rows
     }
 
-    /// What the rows hold, alone. It takes no memory.
-    pub(crate) fn into_rows(self) -> Part
-        ensures values { result.values ≡ self.values }
-        ensures column { IsColumn self.dtype result }
+    /// What the rows hold, where they are packed one by one; None where they lie in runs. It takes no memory.
+    pub fn part(&self) -> Option<&Part>
+        ensures values { IfSome result (λ part. part.now.values ≡ self.now.values) }
+        ensures column { IfSome result (λ part. IsColumn self.now.dtype part.now) }
     {
-        self.rows
+        match &self.rows {
+            Rows::Plain(part) => Some(part),
+            Rows::Runs(_) => None,
+        }
+    }
+
+    /// What the rows hold, alone and packed. It moves what is packed already.
+    pub(crate) fn into_part(self, alloc: Global) -> Result<Part, AllocError>
+        ensures values { IfOk result (λ part. part.values ≡ self.values) }
+        ensures column { IfOk result (λ part. IsColumn self.dtype part) }
+    {
+        let part = self.rows.into_part(alloc)?;
+        Ok(part)
     }
 
     /// The column of these values in this order, where the dtype takes each of them.
@@ -111,8 +138,8 @@ impl Column {
         ensures dtype { IfOk result (λ column. column.dtype ≡ data_type dtype) }
         ensures values { IfOk result (λ column. column.values ≡ map datum values.items) }
     {
-        let rows = Part::of_values(alloc, &dtype, values.as_slice())?;
-        Ok(Column { dtype, rows })
+        let part = Part::of_values(alloc, &dtype, values.as_slice())?;
+        Ok(Column::of_part(dtype, part))
     }
 
     /// The column of no rows.

@@ -27,7 +27,7 @@ fn truths(
     match decode_truths(alloc, nullability, rows, bytes) {
         Ok((validity, truths)) => {
             let rows = Part::of_truths(validity, truths);
-            Ok(Column::of_rows(DType::Bool(nullability), rows))
+            Ok(Column::of_part(DType::Bool(nullability), rows))
         }
         Err(error) => Err(error),
     }
@@ -49,7 +49,7 @@ fn numbers(
         Ok((validity, numbers)) => {
             let _inside = numbers.len();
             let rows = Part::of_numbers(validity, numbers);
-            Ok(Column::of_rows(DType::Int(kind, nullability), rows))
+            Ok(Column::of_part(DType::Int(kind, nullability), rows))
         }
         Err(error) => Err(error),
     }
@@ -70,7 +70,7 @@ fn texts(
         Ok((validity, texts)) => {
             let _utf8 = texts.len();
             let rows = Part::of_texts(validity, texts);
-            Ok(Column::of_rows(DType::Utf8(nullability), rows))
+            Ok(Column::of_part(DType::Utf8(nullability), rows))
         }
         Err(error) => Err(error),
     }

@@ -26,8 +26,10 @@ mod locations;
 mod memory_sources;
 mod memory_streams;
 mod outside;
+mod run_rows;
 mod runs;
 mod script_sources;
+mod stored_rows;
 
 pub use adapters::{ReadSource, WriteSink};
 pub use columns::{Column, ColumnError};

@@ -4,11 +4,13 @@ ghost use Rattle.std.specs.Prelude.{◌≡◌, ℕ, length, map, IfOk, OnOk, IsE
 ghost use Rattle.std.specs.List.{AllByRecursion};
 ghost use Rattle.vx_base.specs.Columns.{IsFirstUnfit};
 ghost use Rattle.vx_base.specs.Fits.{Fits};
-ghost use Rattle.vx_base.specs.Runs.{spread, AreGoodEnds, IsFirstBadEnd, run_places};
+ghost use Rattle.vx_base.specs.Runs.{spread, AreGoodEnds, IsFirstBadEnd};
 ghost use Rattle.vx_base.specs.ValueViews.{datum};
 ghost use Rattle.vx_base.specs.Views.{data_type};
 
 use crate::columns::{Column, first_unfit};
+use crate::run_rows::Runs;
+use crate::stored_rows::Rows;
 use std::alloc::{AllocError, Global};
 use thiserror::Error;
 use vx_packed::Part;
@@ -47,20 +49,9 @@ fn first_bad_end(count: usize, ends: &[u64]) -> Option<usize>
     }
 }
 
-/// The number of the value that each row has.
-fn places_of(alloc: Global, count: usize, ends: &[u64]) -> Result<Vec<usize>, AllocError>
-    requires { AreGoodEnds count ends.now }
-    ensures { IfOk result (λ places. places.items ≡ run_places 0 0 ends.now) }
-{
-    let mut places = Vec::new(alloc);
-    for (run, end) in ends.iter().enumerate() {
-        places.resize(*end as usize, run)?;
-    }
-    Ok(places)
-}
-
 impl Column {
-    /// The column in which each value fills the rows from the end before it to its own.
+    /// The column in which each value fills the rows from the end before it to its own. It takes memory for the
+    /// runs, and a bit for each row.
     pub fn runs(
         alloc: Global,
         dtype: DType,
@@ -80,7 +71,7 @@ impl Column {
         if let Some(row) = first_unfit(&dtype, values.as_slice()) {
             return Err(RunsError::Unfit(row as u64));
         }
-        match spread_rows(alloc, dtype, values.as_slice(), ends.as_slice()) {
+        match column_of_runs(alloc, dtype, values.as_slice(), ends) {
             Ok(column) => Ok(column),
             Err(_) => Err(RunsError::Memory),
         }
@@ -88,19 +79,18 @@ impl Column {
 }
 
 /// The column in which each of the values, which fit, fills its rows.
-fn spread_rows(
+fn column_of_runs(
     alloc: Global,
     dtype: DType,
     values: &[Value],
-    ends: &[u64],
+    ends: Vec<u64>,
 ) -> Result<Column, AllocError>
-    requires good { AreGoodEnds (length values.now) ends.now }
+    requires good { AreGoodEnds (length values.now) ends.items }
     requires fit { AllByRecursion (Fits (data_type dtype)) (map datum values.now) }
     ensures dtype { IfOk result (λ column. column.dtype ≡ data_type dtype) }
-    ensures values { IfOk result (λ column. column.values ≡ spread 0 (map datum values.now) ends.now) }
+    ensures values { IfOk result (λ column. column.values ≡ spread 0 (map datum values.now) ends.items) }
 {
-    let runs = Part::of_values(alloc, &dtype, values)?;
-    let places = places_of(alloc, values.len(), ends)?;
-    let rows = runs.take(alloc, places.as_slice())?;
-    Ok(Column::of_rows(dtype, rows))
+    let values = Part::of_values(alloc, &dtype, values)?;
+    let runs = Runs::of(alloc, values, ends)?;
+    Ok(Column::of_rows(dtype, Rows::Runs(runs)))
 }

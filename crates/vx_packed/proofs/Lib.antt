@@ -4,14 +4,15 @@ mod DecodedTexts
 mod HeldRows
 mod JoinedParts
 pub mod LookedUp
-mod MappedRows
+mod LookedAt
+pub mod MappedRows
 pub mod PackedParts
 pub mod PackedRows
 mod PartRanges
 mod PartRows
 mod PickedRows
 mod ReadBits
-mod SameRows
+pub mod SameRows
 mod SlotRows
 mod SpelledNumbers
 mod TextEnds

@@ -129,11 +129,11 @@ bit_again mask slots a row bit view h e v f =
     mapped (u ∷ vs) zero w g = cc
     mapped (u ∷ vs) (suc i) w g = mapped vs i w g
 
-pub bits_agree : (mask more : List Bool) (one two : Slots) (a b : ColumnData) (row : ℕ) (x y : Bool) → part_column mask one ≡ a → part_column more two ≡ b → IsPart mask one → IsPart more two → slice_get mask row ≡ Some x → slice_get more row ≡ Some y → row < length a.values
-    → slice_get a.values row ≡ slice_get b.values row → x ≡ y
-bits_agree mask more one two a b row x y view other g h e f lt same =
+pub bits_agree : (mask more : List Bool) (one two : Slots) (a b : ColumnData) (row second : ℕ) (x y : Bool) → part_column mask one ≡ a → part_column more two ≡ b → IsPart mask one → IsPart more two → slice_get mask row ≡ Some x → slice_get more second ≡ Some y → row < length a.values
+    → slice_get a.values row ≡ slice_get b.values second → x ≡ y
+bits_agree mask more one two a b row second x y view other g h e f lt same =
     let at = there_in a.values row lt in
-    sym (bit_again mask one a row x view g e at.0 at.1) ∙ bit_again more two b row y other h f at.0 (sym same ∙ at.1)
+    sym (bit_again mask one a row x view g e at.0 at.1) ∙ bit_again more two b second y other h f at.0 (sym same ∙ at.1)
 
 -- ---- a row of structs
 items_same : (vs ws : List Datum) → items_from vs ≡ items_from ws → vs ≡ ws
@@ -162,33 +162,33 @@ row_seen rows row parts items structs view e h lt =
     let inside : row < rows = omega (arith, lt, struct_len rows parts h, ap (λ (s : StructRows). length s.rows) view) in
     ap (λ (s : StructRows). slice_get s.rows row) (sym view) ∙ row_there rows row parts inside h ∙ ap (λ (ps : List ColumnData). Some (items_from (map (in_row row) ps))) (sym e)
 
-pub rows_same : (row : ℕ) (ones others : List ColumnData) (a b : StructRows) → slice_get a.rows row ≡ Some (items_from (map (in_row row) ones)) → slice_get b.rows row ≡ Some (items_from (map (in_row row) others)) → map (in_row row) ones ≡ map (in_row row) others → slice_get a.rows row ≡ slice_get b.rows row
-rows_same row ones others a b e f h = e ∙ ap (λ (vs : List Datum). Some (items_from vs)) h ∙ sym f
+pub rows_same : (row second : ℕ) (ones others : List ColumnData) (a b : StructRows) → slice_get a.rows row ≡ Some (items_from (map (in_row row) ones)) → slice_get b.rows second ≡ Some (items_from (map (in_row second) others)) → map (in_row row) ones ≡ map (in_row second) others → slice_get a.rows row ≡ slice_get b.rows second
+rows_same row second ones others a b e f h = e ∙ ap (λ (vs : List Datum). Some (items_from vs)) h ∙ sym f
 
-pub same_rows : (row : ℕ) (ones others : List ColumnData) (a b : StructRows) → slice_get a.rows row ≡ Some (items_from (map (in_row row) ones)) → slice_get b.rows row ≡ Some (items_from (map (in_row row) others)) → slice_get a.rows row ≡ slice_get b.rows row → map (in_row row) ones ≡ map (in_row row) others
-same_rows row ones others a b e f h = items_same (map (in_row row) ones) (map (in_row row) others) (some_same (items_from (map (in_row row) ones)) (items_from (map (in_row row) others)) (sym e ∙ h ∙ f))
+pub same_rows : (row second : ℕ) (ones others : List ColumnData) (a b : StructRows) → slice_get a.rows row ≡ Some (items_from (map (in_row row) ones)) → slice_get b.rows second ≡ Some (items_from (map (in_row second) others)) → slice_get a.rows row ≡ slice_get b.rows second → map (in_row row) ones ≡ map (in_row second) others
+same_rows row second ones others a b e f h = items_same (map (in_row row) ones) (map (in_row second) others) (some_same (items_from (map (in_row row) ones)) (items_from (map (in_row second) others)) (sym e ∙ h ∙ f))
 
 part_row : (part : ColumnData) (row : ℕ) → row < length part.values → slice_get part.values row ≡ Some (in_row row part)
 part_row part row lt = slice_get-get_or part.values row null lt
 
-pub agree_more : (row i : ℕ) (ones others : List ColumnData) (a b : ColumnData) → i < length ones → length others ≡ length ones → a ≡ get_or ones i a → b ≡ get_or others i b → row < length a.values → row < length b.values → slice_get a.values row ≡ slice_get b.values row
-    → map (in_row row) (take i ones) ≡ map (in_row row) (take i others) → map (in_row row) (take (i + 1) ones) ≡ map (in_row row) (take (i + 1) others)
-agree_more row i ones others a b lt len p q la lb same h =
+pub agree_more : (row second i : ℕ) (ones others : List ColumnData) (a b : ColumnData) → i < length ones → length others ≡ length ones → a ≡ get_or ones i a → b ≡ get_or others i b → row < length a.values → second < length b.values → slice_get a.values row ≡ slice_get b.values second
+    → map (in_row row) (take i ones) ≡ map (in_row second) (take i others) → map (in_row row) (take (i + 1) ones) ≡ map (in_row second) (take (i + 1) others)
+agree_more row second i ones others a b lt len p q la lb same h =
     let one = take_more ones i a lt in
     let two = take_more others i b (omega arith) in
-    let here : in_row row a ≡ in_row row b = some_same (in_row row a) (in_row row b) (sym (part_row a row la) ∙ same ∙ part_row b row lb) in
-    rw (one, two, ← p, ← q, map-append (in_row row) (take i ones) (a ∷ []), map-append (in_row row) (take i others) (b ∷ []), h, here) refl
+    let here : in_row row a ≡ in_row second b = some_same (in_row row a) (in_row second b) (sym (part_row a row la) ∙ same ∙ part_row b second lb) in
+    rw (one, two, ← p, ← q, map-append (in_row row) (take i ones) (a ∷ []), map-append (in_row second) (take i others) (b ∷ []), h, here) refl
 
-pub agree_at : (row i : ℕ) (ones others : List ColumnData) (a b : ColumnData) → i < length ones → length others ≡ length ones → a ≡ get_or ones i a → b ≡ get_or others i b → row < length a.values → row < length b.values → map (in_row row) ones ≡ map (in_row row) others → slice_get a.values row ≡ slice_get b.values row
-agree_at row i [] others a b lt len p q la lb h = absurd (omega arith)
-agree_at row i (x ∷ ones) [] a b lt len p q la lb h = absurd (omega arith)
-agree_at row zero (x ∷ ones) (y ∷ others) a b lt len p q la lb h =
-    let here : in_row row x ≡ in_row row y = cc in
-    part_row a row la ∙ ap (λ (c : ColumnData). Some (in_row row c)) p ∙ ap (λ (v : Datum). Some v) here ∙ ap (λ (c : ColumnData). Some (in_row row c)) (sym q) ∙ sym (part_row b row lb)
-agree_at row (suc i) (x ∷ ones) (y ∷ others) a b lt len p q la lb h = agree_at row i ones others a b (omega arith) (omega arith) p q la lb cc
+pub agree_at : (row second i : ℕ) (ones others : List ColumnData) (a b : ColumnData) → i < length ones → length others ≡ length ones → a ≡ get_or ones i a → b ≡ get_or others i b → row < length a.values → second < length b.values → map (in_row row) ones ≡ map (in_row second) others → slice_get a.values row ≡ slice_get b.values second
+agree_at row second i [] others a b lt len p q la lb h = absurd (omega arith)
+agree_at row second i (x ∷ ones) [] a b lt len p q la lb h = absurd (omega arith)
+agree_at row second zero (x ∷ ones) (y ∷ others) a b lt len p q la lb h =
+    let here : in_row row x ≡ in_row second y = cc in
+    part_row a row la ∙ ap (λ (c : ColumnData). Some (in_row row c)) p ∙ ap (λ (v : Datum). Some v) here ∙ ap (λ (c : ColumnData). Some (in_row second c)) (sym q) ∙ sym (part_row b second lb)
+agree_at row second (suc i) (x ∷ ones) (y ∷ others) a b lt len p q la lb h = agree_at row second i ones others a b (omega arith) (omega arith) p q la lb cc
 
-pub agree_all : (row i : ℕ) (ones others : List ColumnData) → length ones ≤ i → length others ≡ length ones → map (in_row row) (take i ones) ≡ map (in_row row) (take i others) → map (in_row row) ones ≡ map (in_row row) others
-agree_all row i ones others past len h = ap (map (in_row row)) (sym (take_all i ones past)) ∙ h ∙ ap (map (in_row row)) (take_all i others (omega arith))
+pub agree_all : (row second i : ℕ) (ones others : List ColumnData) → length ones ≤ i → length others ≡ length ones → map (in_row row) (take i ones) ≡ map (in_row second) (take i others) → map (in_row row) ones ≡ map (in_row second) others
+agree_all row second i ones others past len h = ap (map (in_row row)) (sym (take_all i ones past)) ∙ h ∙ ap (map (in_row second)) (take_all i others (omega arith))
 
 pub members_alike : (rows more : ℕ) (ps qs ones others : List ColumnData) (a b : StructRows) → struct_rows rows ps ≡ a → struct_rows more qs ≡ b → ones ≡ ps → others ≡ qs → b.members ≡ a.members → members_in others ≡ members_in ones
 members_alike rows more ps qs ones others a b view other e f same =
@@ -200,13 +200,13 @@ mapped_at f [] row x e = absurd cc
 mapped_at f (y ∷ xs) zero x e = cc
 mapped_at f (y ∷ xs) (suc row) x e = mapped_at f xs row x e
 
-pub slots_agree : {X : Type 0} (f : X → Datum) (one two : Slots) (xs ys : List X) (row : ℕ) (x y : X) → slot_values one ≡ map f xs → slot_values two ≡ map f ys → slice_get xs row ≡ Some x → slice_get ys row ≡ Some y → x ≡ y → slice_get (slot_values one) row ≡ slice_get (slot_values two) row
-slots_agree f one two xs ys row x y e g h l same =
-    ap (λ (vs : List Datum). slice_get vs row) e ∙ mapped_at f xs row x h ∙ ap (λ z. Some (f z)) same ∙ sym (mapped_at f ys row y l) ∙ sym (ap (λ (vs : List Datum). slice_get vs row) g)
+pub slots_agree : {X : Type 0} (f : X → Datum) (one two : Slots) (xs ys : List X) (row second : ℕ) (x y : X) → slot_values one ≡ map f xs → slot_values two ≡ map f ys → slice_get xs row ≡ Some x → slice_get ys second ≡ Some y → x ≡ y → slice_get (slot_values one) row ≡ slice_get (slot_values two) second
+slots_agree f one two xs ys row second x y e g h l same =
+    ap (λ (vs : List Datum). slice_get vs row) e ∙ mapped_at f xs row x h ∙ ap (λ z. Some (f z)) same ∙ sym (mapped_at f ys second y l) ∙ sym (ap (λ (vs : List Datum). slice_get vs second) g)
 
-pub agree_slots : {X : Type 0} (f : X → Datum) → ((x y : X) → f x ≡ f y → x ≡ y) → (one two : Slots) (xs ys : List X) (row : ℕ) (x y : X) → slot_values one ≡ map f xs → slot_values two ≡ map f ys → slice_get xs row ≡ Some x → slice_get ys row ≡ Some y → slice_get (slot_values one) row ≡ slice_get (slot_values two) row → x ≡ y
-agree_slots f back one two xs ys row x y e g h l same =
-    back x y (some_same (f x) (f y) (sym (mapped_at f xs row x h) ∙ sym (ap (λ (vs : List Datum). slice_get vs row) e) ∙ same ∙ ap (λ (vs : List Datum). slice_get vs row) g ∙ mapped_at f ys row y l))
+pub agree_slots : {X : Type 0} (f : X → Datum) → ((x y : X) → f x ≡ f y → x ≡ y) → (one two : Slots) (xs ys : List X) (row second : ℕ) (x y : X) → slot_values one ≡ map f xs → slot_values two ≡ map f ys → slice_get xs row ≡ Some x → slice_get ys second ≡ Some y → slice_get (slot_values one) row ≡ slice_get (slot_values two) second → x ≡ y
+agree_slots f back one two xs ys row second x y e g h l same =
+    back x y (some_same (f x) (f y) (sym (mapped_at f xs row x h) ∙ sym (ap (λ (vs : List Datum). slice_get vs row) e) ∙ same ∙ ap (λ (vs : List Datum). slice_get vs second) g ∙ mapped_at f ys second y l))
 
 pub texts_back : (x y : List ℕ) → text x ≡ text y → x ≡ y
 texts_back x y e = cc
@@ -217,17 +217,17 @@ truths_back x y e = cc
 pub structs_back : (x y : Items) → structure x ≡ structure y → x ≡ y
 structs_back x y e = cc
 
-pub structs_agree : (one two : Slots) (xs ys : List Items) (row : ℕ) → slot_values one ≡ map structure xs → slot_values two ≡ map structure ys → row < length xs → row < length ys → slice_get xs row ≡ slice_get ys row → slice_get (slot_values one) row ≡ slice_get (slot_values two) row
-structs_agree one two xs ys row e g lt lu same =
+pub structs_agree : (one two : Slots) (xs ys : List Items) (row second : ℕ) → slot_values one ≡ map structure xs → slot_values two ≡ map structure ys → row < length xs → second < length ys → slice_get xs row ≡ slice_get ys second → slice_get (slot_values one) row ≡ slice_get (slot_values two) second
+structs_agree one two xs ys row second e g lt lu same =
     let a = there_in xs row lt in
-    let b = there_in ys row lu in
-    slots_agree structure one two xs ys row a.0 b.0 e g a.1 b.1 (some_same a.0 b.0 (sym a.1 ∙ same ∙ b.1))
+    let b = there_in ys second lu in
+    slots_agree structure one two xs ys row second a.0 b.0 e g a.1 b.1 (some_same a.0 b.0 (sym a.1 ∙ same ∙ b.1))
 
-pub agree_structs : (one two : Slots) (xs ys : List Items) (row : ℕ) → slot_values one ≡ map structure xs → slot_values two ≡ map structure ys → row < length xs → row < length ys → slice_get (slot_values one) row ≡ slice_get (slot_values two) row → slice_get xs row ≡ slice_get ys row
-agree_structs one two xs ys row e g lt lu same =
+pub agree_structs : (one two : Slots) (xs ys : List Items) (row second : ℕ) → slot_values one ≡ map structure xs → slot_values two ≡ map structure ys → row < length xs → second < length ys → slice_get (slot_values one) row ≡ slice_get (slot_values two) second → slice_get xs row ≡ slice_get ys second
+agree_structs one two xs ys row second e g lt lu same =
     let a = there_in xs row lt in
-    let b = there_in ys row lu in
-    a.1 ∙ ap (λ (z : Items). Some z) (agree_slots structure structs_back one two xs ys row a.0 b.0 e g a.1 b.1 same) ∙ sym b.1
+    let b = there_in ys second lu in
+    a.1 ∙ ap (λ (z : Items). Some z) (agree_slots structure structs_back one two xs ys row second a.0 b.0 e g a.1 b.1 same) ∙ sym b.1
 
 pub not_true : (b : Bool) → IsTrue (not b) → b ≡ false
 not_true true t = absurd cc

@@ -1,6 +1,7 @@
 pub mod Cells
 pub mod Fields
 pub mod LookUps
+pub mod Looks
 pub mod Numbers
 pub mod PackedColumns
 pub mod PartFalls

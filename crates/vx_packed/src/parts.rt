@@ -13,12 +13,14 @@ ghost use Rattle.vx_words.specs.Rows.{NullsHold};
 
 mod appended;
 mod compared;
+mod looked;
 mod picked;
 mod shown;
 mod written;
 
 use crate::numbers::Numbers;
 use crate::texts::Texts;
+pub use looked::Look;
 use std::alloc::{AllocError, Global};
 use std::marker::Model;
 use vx_types::Value;

@@ -16,18 +16,18 @@ fn same_text(one: &str, other: &str) -> bool
 }
 
 impl Parts {
-    /// Whether the parts' values at a row are the same.
+    /// Whether the parts' values at a row are those of another's parts at a second row.
     #[cycle(same_row)]
-    fn same_row(&self, other: &Parts, row: usize) -> bool
+    fn same_row(&self, row: usize, other: &Parts, second: usize) -> bool
         requires members { other.now.members ≡ self.now.members }
         requires inside { row < length self.now.rows }
-        requires other_inside { row < length other.now.rows }
-        ensures { IsTrue result ↔ (slice_get self.now.rows row ≡ slice_get other.now.rows row) }
+        requires other_inside { second < length other.now.rows }
+        ensures { IsTrue result ↔ (slice_get self.now.rows row ≡ slice_get other.now.rows second) }
     {
         let ones = self.parts.as_slice();
         let others = other.parts.as_slice();
         for (place, one) in ones.iter().enumerate() {
-            if !one.same_row(&others[place], row) {
+            if !one.same_row(row, &others[place], second) {
                 return false;
             }
         }
@@ -36,25 +36,25 @@ impl Parts {
 }
 
 impl Slots {
-    /// Whether the slots of a row hold the same.
+    /// Whether the slot of a row holds the same as another's slot of a second row.
     #[cycle(same_row)]
-    fn same_row(&self, other: &Slots, row: usize) -> bool
+    fn same_row(&self, row: usize, other: &Slots, second: usize) -> bool
         requires dtype { slot_type other.now ≡ slot_type self.now }
         requires inside { row < length (slot_values self.now) }
-        requires other_inside { row < length (slot_values other.now) }
-        ensures { IsTrue result ↔ (slice_get (slot_values self.now) row ≡ slice_get (slot_values other.now) row) }
+        requires other_inside { second < length (slot_values other.now) }
+        ensures { IsTrue result ↔ (slice_get (slot_values self.now) row ≡ slice_get (slot_values other.now) second) }
     {
         match (self, other) {
             (Slots::Truths(ones), Slots::Truths(others)) => {
-                ones.value(row as u64) == others.value(row as u64)
+                ones.value(row as u64) == others.value(second as u64)
             }
-            (Slots::Numbers(ones), Slots::Numbers(others)) => ones.get(row) == others.get(row),
+            (Slots::Numbers(ones), Slots::Numbers(others)) => ones.get(row) == others.get(second),
             (Slots::Texts(ones), Slots::Texts(others)) => {
-                same_text(ones.text(row), others.text(row))
+                same_text(ones.text(row), others.text(second))
             }
-            (Slots::Structs(ones), Slots::Structs(others)) => ones.same_row(others, row),
+            (Slots::Structs(ones), Slots::Structs(others)) => ones.same_row(row, others, second),
             (Slots::Lists(ones), Slots::Lists(others)) => {
-                ones.value(row as u64) == others.value(row as u64)
+                ones.value(row as u64) == others.value(second as u64)
             }
             _ => unreachable!(),
         }
@@ -62,19 +62,19 @@ impl Slots {
 }
 
 impl Part {
-    /// Whether the values of a row are the same.
+    /// Whether the value of a row is that of another part's second row.
     #[cycle(same_row)]
     #[tactic(auto, using(crate::proofs::PartRanges::part_len))]
-    fn same_row(&self, other: &Part, row: usize) -> bool
+    pub fn same_row(&self, row: usize, other: &Part, second: usize) -> bool
         requires dtype { other.now.dtype ≡ self.now.dtype }
         requires inside { row < length self.now.values }
-        requires other_inside { row < length other.now.values }
-        ensures { IsTrue result ↔ (slice_get self.now.values row ≡ slice_get other.now.values row) }
+        requires other_inside { second < length other.now.values }
+        ensures { IsTrue result ↔ (slice_get self.now.values row ≡ slice_get other.now.values second) }
     {
         if self.validity.value(row as u64) {
-            other.validity.value(row as u64) && self.slots.same_row(&other.slots, row)
+            other.validity.value(second as u64) && self.slots.same_row(row, &other.slots, second)
         } else {
-            !other.validity.value(row as u64)
+            !other.validity.value(second as u64)
         }
     }
 
@@ -87,7 +87,7 @@ impl Part {
             return false;
         }
         for row in 0..self.len() {
-            if !self.same_row(other, row) {
+            if !self.same_row(row, other, row) {
                 return false;
             }
         }

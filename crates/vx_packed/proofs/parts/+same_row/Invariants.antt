@@ -14,4 +14,4 @@ abbrev pub decreases-Parts::same_row : goal.decreases-Parts::same_row
 decreases-Parts::same_row l = 3 * members_size l.self.now.members + 3
 
 abbrev pub invariant-Parts::same_row-loop-place : goal.invariant-Parts::same_row-loop-place
-invariant-Parts::same_row-loop-place l = map (in_row l.row) (take l.place l.ones) ≡ map (in_row l.row) (take l.place l.others)
+invariant-Parts::same_row-loop-place l = map (in_row l.row) (take l.place l.ones) ≡ map (in_row l.second) (take l.place l.others)

@@ -3,15 +3,16 @@ use Rattle.std.specs.List.{AllByRecursion}
 use Rattle.vx_base.specs.ColumnCalls.{IsCodeBelow, nullable_where, value_at}
 use Rattle.vx_base.specs.Data.{Datum}
 use Rattle.vx_base.specs.Fits.{nullability_of}
+use Rattle.vx_base.specs.StoredRows.{row_data}
 use Rattle.vx_base.specs.Views.{data_type}
 use Rattle.vx_packed.specs.LookUps.{code_places}
 use Rattle.vx_packed.proofs.LookedUp.{column_found, found_values}
 use Rattle.vx_base.proofs.columns.Column.look_up.Goals as goal
 
-pub of_rows-requires : goal.of_rows-requires
-of_rows-requires c =
+pub of_part-requires : goal.of_part-requires
+of_part-requires c =
     let t = c.args.values.now.dtype in
-    let rows = c.rows-found.result.now in
+    let rows = row_data c.rows-found.result.now in
     let codes = c.args.codes.now.values in
     let below : AllByRecursion (IsCodeBelow (length rows.values)) codes = subst (λ (vs : List Datum). AllByRecursion (IsCodeBelow (length vs)) codes) (sym c.rows-found.ensures.values) c.requires.below in
     let at : c.as_slice.result.now ≡ code_places (length rows.values) codes = c.as_slice.ensures.value ∙ c.in_ok-places.ensures ∙ ap (λ (n : ℕ). code_places n codes) c.len.ensures in
@@ -20,8 +21,8 @@ of_rows-requires c =
 
 pub returns-clause-values : goal.returns-clause-values
 returns-clause-values c =
-    let rows = c.rows-found.result.now in
+    let rows = row_data c.rows-found.result.now in
     let codes = c.args.codes.now.values in
     let at : c.as_slice.result.now ≡ code_places (length rows.values) codes = c.as_slice.ensures.value ∙ c.in_ok-places.ensures ∙ ap (λ (n : ℕ). code_places n codes) c.len.ensures in
-    c.of_rows.ensures.values ∙ found_values rows c.in_ok-rows.rows codes c.as_slice.result.now at c.in_ok-rows.ensures
+    c.of_part.ensures.values ∙ found_values rows c.in_ok-rows.rows codes c.as_slice.result.now at c.in_ok-rows.ensures
     ∙ ap (λ (vs : List Datum). map (value_at vs) codes) c.rows-found.ensures.values

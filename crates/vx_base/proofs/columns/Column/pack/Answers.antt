@@ -11,10 +11,10 @@ of-structs-requires c = made_have c.args.fields c.args.rows c.args.parts.items c
 pub of_structs-packed-requires : goal.of_structs-packed-requires
 of_structs-packed-requires c = validity_len c.args.rows c.args.parts.items c.in_ok-parts.parts.items c.args.fields c.in_ok-validity.validity c.of-structs.result c.requires.parts c.in_ok-parts.ensures.rows c.of-structs.ensures c.in_ok-validity.ensures.rows
 
-pub of_rows-requires : goal.of_rows-requires
-of_rows-requires c =
+pub of_part-requires : goal.of_part-requires
+of_part-requires c =
     subst (λ (n : Nullability). IsColumn (struct_type c.args.fields n) c.of_structs-packed.result) (sym c.nullability_for-nullability.ensures)
     (struct_packed c.args.fields c.args.rows c.args.parts.items c.in_ok-parts.parts.items c.args.validity c.in_ok-validity.validity c.of-structs.result c.of_structs-packed.result c.requires.parts c.in_ok-parts.ensures.fit c.in_ok-parts.ensures.rows c.in_ok-validity.ensures.valid c.of-structs.ensures c.of_structs-packed.ensures.dtype c.of_structs-packed.ensures.values)
 
 pub returns-clause-values : goal.returns-clause-values
-returns-clause-values c = c.of_rows.ensures.values ∙ struct_values c.args.fields c.args.rows c.args.parts.items c.in_ok-parts.parts.items c.args.validity c.in_ok-validity.validity c.of-structs.result c.of_structs-packed.result c.requires.parts c.in_ok-parts.ensures.rows c.in_ok-validity.ensures.valid c.of-structs.ensures c.of_structs-packed.ensures.values
+returns-clause-values c = c.of_part.ensures.values ∙ struct_values c.args.fields c.args.rows c.args.parts.items c.in_ok-parts.parts.items c.args.validity c.in_ok-validity.validity c.of-structs.result c.of_structs-packed.result c.requires.parts c.in_ok-parts.ensures.rows c.in_ok-validity.ensures.valid c.of-structs.ensures c.of_structs-packed.ensures.values
