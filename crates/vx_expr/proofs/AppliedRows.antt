@@ -1,13 +1,12 @@
 -- Rows that an expression is applied to.
-use Rattle.std.proofs.Common.{◌≡◌, ℕ, zero, suc, ◌<◌, ◌≤◌, ◌^◌, pos, negsuc, true, List, [], ◌∷◌, length, map, get_or, take, Option, Some, None, refl, sym, ap, subst, ◌∙◌, arith}
-use Rattle.std.specs.Prelude.{IsTrue, IfSome, is_some, slice_get}
+use Rattle.std.proofs.Common.{◌≡◌, ℕ, zero, suc, ◌<◌, ◌≤◌, ◌^◌, pos, negsuc, true, List, [], ◌∷◌, length, map, take, Option, Some, None, Result, refl, sym, ap, subst, ◌∙◌, arith}
+use Rattle.std.specs.Prelude.{IsTrue, IfOk, IfSome, is_some, slice_get}
 use Rattle.std.specs.List.{AllByRecursion, list_all}
 use Rattle.std.proofs.lemmas.Int.{ints}
 use Rattle.std.proofs.lemmas.List.{length-map}
-use Rattle.vx_base.specs.declared.values.Value.{Value}
+use Rattle.vx_base.specs.Columns.{ColumnData}
 use Rattle.vx_base.specs.Data.{DataType, Datum, null, truth, number, text, structure}
 use Rattle.vx_base.specs.Fits.{Fits}
-use Rattle.vx_base.specs.ValueViews.{datum}
 use Rattle.vx_expr.specs.Bound.{Bound, IsBoundTo}
 use Rattle.vx_expr.specs.Meaning.{meaning}
 use Rattle.vx_expr.specs.Mentions.{uses_root}
@@ -15,12 +14,6 @@ use Rattle.vx_expr.specs.Rows.{along, front, no_bound, number_of_row, at_rows, I
 use Rattle.vx_expr.specs.Terms.{Term}
 use Rattle.vx_expr.specs.Types.{type_of, row_number_type}
 use Rattle.vx_expr.proofs.FittingMeaning.{worth_fits}
-
--- what holds of each value holds of that of a place
-pub all_at : (t : DataType) (vs : List Value) (i : ℕ) (v : Value) → i < length vs → v ≡ get_or vs i v → AllByRecursion (Fits t) (map datum vs) → Fits t (datum v)
-all_at t [] i v lt e h = absurd (omega arith)
-all_at t (w ∷ vs) zero v lt e h = subst (λ (u : Value). Fits t (datum u)) (sym e) h.0
-all_at t (w ∷ vs) (suc i) v lt e h = all_at t vs i v (omega arith) e h.1
 
 -- ---- where the front ends
 pub length_along : {A B C : Type 0} (f : A → B → C) (xs : List A) (ys : List B) → length xs ≡ length ys → length (along f xs ys) ≡ length xs
@@ -84,6 +77,27 @@ fault_told a vs ns xs k row len e count lt same =
 pub whole_told : (a : Bound) (vs ns xs : List Datum) (k : ℕ) → length ns ≡ length vs → xs ≡ front (worth a vs ns) → k ≡ length xs → length vs ≤ k → map Some xs ≡ worth a vs ns
 whole_told a vs ns xs k len e count le = rw e (front_whole (worth a vs ns) (omega (arith, length_worth a vs ns len, ap length e)))
 
--- what is worth at the rows fits, where the root's values fit a dtype that the expression is bound to
-pub worth_fit : (a : Bound) (t : DataType) (vs ns xs : List Datum) → type_of a.root a.term ≡ Some a.dtype → IsBoundTo a t → AllByRecursion (Fits t) vs → AllByRecursion (Fits row_number_type) ns → xs ≡ front (worth a vs ns) → AllByRecursion (Fits a.dtype) xs
-worth_fit a t vs ns xs typed bound fit rows e = rw e (front_fits a.root a.term a.dtype vs ns typed (λ u. subst (λ (s : DataType). AllByRecursion (Fits s) vs) (sym (bound u)) fit) rows)
+-- what is worth at the rows fits, where the root's values fit
+pub worth_fit : (a : Bound) (vs ns xs : List Datum) → type_of a.root a.term ≡ Some a.dtype → (IsTrue (uses_root a.term) → AllByRecursion (Fits a.root) vs) → AllByRecursion (Fits row_number_type) ns → xs ≡ front (worth a vs ns) → AllByRecursion (Fits a.dtype) xs
+worth_fit a vs ns xs typed fit rows e = rw e (front_fits a.root a.term a.dtype vs ns typed fit rows)
+
+-- values of a dtype that the expression is bound to
+pub bound_fit : (a : Bound) (t : DataType) (vs : List Datum) → IsBoundTo a t → AllByRecursion (Fits t) vs → IsTrue (uses_root a.term) → AllByRecursion (Fits a.root) vs
+bound_fit a t vs bound fit u = subst (λ (s : DataType). AllByRecursion (Fits s) vs) (sym (bound u)) fit
+
+-- all rows
+take_whole : (k : ℕ) (xs : List Datum) → k ≡ length xs → take k xs ≡ xs
+take_whole zero [] e = refl
+take_whole zero (x ∷ xs) e = absurd (omega arith)
+take_whole (suc k) [] e = absurd (omega arith)
+take_whole (suc k) (x ∷ xs) e = ap (λ (rest : List Datum). x ∷ rest) (take_whole k xs (omega arith))
+
+pub whole_front : (a : Bound) (t : DataType) (e : Term) (k : ℕ) (vs ns xs : List Datum) → t ≡ a.root → e ≡ a.term → k ≡ length vs → length ns ≡ length vs → xs ≡ front_at t e (take k vs) (map number_of_row (take k ns)) → xs ≡ front (worth a vs ns)
+whole_front a t e k vs ns xs p q count level here = front_same t a.root e a.term (take k vs) vs (map number_of_row (take k ns)) (map number_of_row ns) xs p q (take_whole k vs count) (ap (map number_of_row) (take_whole k ns (omega (arith, count, level)))) here
+
+-- the same over the rows of columns
+pub values_over : {E : Type 0} (r : Result ColumnData E) (a : Bound) (vs ws ns ms : List Datum) → vs ≡ ws → ns ≡ ms → IfOk r (λ column. map Some column.values ≡ worth a vs ns) → IfOk r (λ column. map Some column.values ≡ worth a ws ms)
+values_over r a vs ws ns ms e f h = subst (λ (rows : List (Option Datum)). IfOk r (λ column. map Some column.values ≡ rows)) (λ i. worth a (e i) (f i)) h
+
+pub fault_over : (a : Bound) (vs ws ns ms : List Datum) (row : ℕ) → vs ≡ ws → ns ≡ ms → IsFirstFault (worth a vs ns) row → IsFirstFault (worth a ws ms) row
+fault_over a vs ws ns ms row e f h = subst (λ (rows : List (Option Datum)). IsFirstFault rows row) (λ i. worth a (e i) (f i)) h

@@ -13,8 +13,8 @@ use Rattle.vx_base.specs.Data.{DataType, bool_type, int_type, utf8_type, struct_
 use Rattle.vx_base.specs.Fits.{Fits, EachFits, TakesNull, IsInside, least_of, greatest_of}
 use Rattle.vx_base.specs.Reading.{fits_leaf}
 use Rattle.vx_expr.specs.declared.mentions.Part.TheVariants.{Root}
-use Rattle.vx_expr.specs.declared.operators.CompareOp.{CompareOp}
-use Rattle.vx_expr.specs.declared.operators.ArithOp.{ArithOp}
+use Rattle.vx_operators.specs.declared.operators.CompareOp.{CompareOp}
+use Rattle.vx_operators.specs.declared.operators.ArithOp.{ArithOp}
 use Rattle.vx_expr.specs.Meaning.{meaning, meanings_in, item_in, field_of, negated, and_of, or_of, comparison_of, null_test_of, value_test_of, arithmetic_of, bound_test_of, exact, if_inside, is_null, one_more_item, struct_of}
 use Rattle.vx_expr.specs.Mentions.{mentions_in, uses_root}
 use Rattle.vx_expr.specs.Terms.{Term, root, literal, get_field, pack, negation, conjunction, disjunction, comparison, null_test, value_test, arithmetic, row_number, bound_test, Terms, no_terms, named}

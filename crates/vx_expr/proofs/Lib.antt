@@ -1,11 +1,13 @@
 pub mod AppliedRows
 pub mod BuiltPairs
+pub mod CellRows
 pub mod ConjunctTruth
 pub mod Conjuncts
 pub mod DistinctNames
 pub mod FieldPlaces
 pub mod FirstMismatches
 pub mod FirstOnes
+pub mod FirstRows
 pub mod FittingMeaning
 pub mod FoundNames
 pub mod Fronts

@@ -10,8 +10,8 @@ use Rattle.vx_expr.specs.declared.binding.BindError.TheVariants.{NoField, TypeMi
 use Rattle.vx_expr.specs.declared.typing.Typed.{Typed}
 use Rattle.vx_expr.specs.declared.expressions.Expr.{Expr}
 use Rattle.vx_expr.specs.declared.expressions.Expr.TheVariants as variants
-use Rattle.vx_expr.specs.declared.operators.CompareOp.{CompareOp}
-use Rattle.vx_expr.specs.declared.operators.ArithOp.{ArithOp}
+use Rattle.vx_operators.specs.declared.operators.CompareOp.{CompareOp}
+use Rattle.vx_operators.specs.declared.operators.ArithOp.{ArithOp}
 use Rattle.vx_expr.specs.Counts.{node_count, nodes_in}
 use Rattle.vx_expr.specs.Refusals.{capped, first_part, behind, unless, refusal, refusal_in, IsRefusal}
 use Rattle.vx_expr.specs.Terms.{Term, pack, Terms, no_terms, named}

@@ -2,8 +2,8 @@
 use Rattle.std.proofs.Common.{◌≡◌, ℕ, Bool, true, false, ◌||◌, Option, Some, None, refl}
 use Rattle.std.specs.Prelude.{IsTrue, IfSome, option_and_then}
 use Rattle.vx_base.specs.Data.{DataType, Datum, null, truth, number, text, structure}
-use Rattle.vx_expr.specs.declared.operators.CompareOp.{CompareOp}
-use Rattle.vx_expr.specs.declared.operators.ArithOp.{ArithOp}
+use Rattle.vx_operators.specs.declared.operators.CompareOp.{CompareOp}
+use Rattle.vx_operators.specs.declared.operators.ArithOp.{ArithOp}
 use Rattle.vx_expr.specs.Meaning.{meaning, is_strict, field_of, negated, bound_test_of, comparison_of, arithmetic_of}
 use Rattle.vx_expr.specs.Terms.{Term, root, literal, get_field, pack, negation, conjunction, disjunction, comparison, null_test, value_test, arithmetic, row_number, bound_test}
 use Rattle.vx_expr.specs.Types.{on_both, type_of}

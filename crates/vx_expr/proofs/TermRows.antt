@@ -1,25 +1,28 @@
 -- What expressions are worth at the rows before the first fault, by their parts.
 use Rattle.std.proofs.Common.{◌≡◌, ℕ, ◌+◌, ◌<◌, ◌≤◌, List, [], ◌∷◌, length, map, take, drop, get_or, replicate, Option, Some, None, option_map, option_and_then, Vec, Result, IfOk, ◌⊎◌, inl, inr, refl, sym, ap, subst, ◌∙◌, arith}
 use Rattle.std.specs.Global.{Global}
-use Rattle.std.proofs.lemmas.List.{length-map, length-replicate, length-take, take-map}
+use Rattle.std.proofs.lemmas.List.{length-map, length-replicate, length-take}
 use Rattle.vx_base.specs.declared.dtypes.DType.{DType}
 use Rattle.vx_base.specs.declared.values.Value.{Value}
 use Rattle.vx_base.specs.ColumnCalls.{natural}
-use Rattle.vx_base.specs.Data.{DataType, Datum, structure, Items, no_items, item}
+use Rattle.vx_base.specs.declared.dtypes.IntKind.{IntKind}
+use Rattle.vx_base.specs.Data.{DataType, bool_type, int_type, utf8_type, struct_type, list_type, Datum, number, structure, Items, no_items, item}
 use Rattle.vx_base.specs.Views.{data_type}
 use Rattle.vx_base.specs.ValueViews.{datum, data_in, items_from}
-use Rattle.vx_expr.specs.declared.cells.Cell.{Cell}
+use Rattle.vx_expr.specs.declared.evaluated.Evaluated.{Evaluated}
 use Rattle.vx_expr.specs.declared.expressions.Expr.{Expr}
 use Rattle.vx_expr.specs.declared.expressions.Expr.TheVariants as variants
-use Rattle.vx_expr.specs.declared.operators.ArithOp.{ArithOp}
-use Rattle.vx_expr.specs.declared.operators.CompareOp.{CompareOp}
+use Rattle.vx_operators.specs.declared.operators.ArithOp.{ArithOp}
+use Rattle.vx_operators.specs.declared.operators.CompareOp.{CompareOp}
 use Rattle.vx_expr.specs.declared.steps.OneStep.{OneStep}
+use Rattle.vx_expr.specs.declared.steps.OneStep.TheVariants.{Field}
 use Rattle.vx_expr.specs.declared.steps.TwoStep.{TwoStep}
-use Rattle.vx_expr.specs.Meaning.{meaning, meanings_in, one_more_item, struct_of}
+use Rattle.vx_expr.specs.declared.steps.TwoStep.TheVariants.{Arith}
+use Rattle.vx_expr.specs.Meaning.{meaning, meanings_in, one_more_item, struct_of, field_of, arithmetic_of}
 use Rattle.vx_expr.specs.Rows.{along, front, front_at, items_made, no_bound}
-use Rattle.vx_expr.specs.Steps.{cell_datum, row_data, one_step, two_step, pair_made, derived_value, pair_value}
+use Rattle.vx_expr.specs.Steps.{evaluated_rows, row_data, one_step, two_step, one_made, pair_made, item_at, kind_in, number_type, part_of, left_of, right_of}
 use Rattle.vx_expr.specs.Terms.{Term, Terms, named}
-use Rattle.vx_expr.specs.Types.{on_both}
+use Rattle.vx_expr.specs.Types.{on_both, type_of}
 use Rattle.vx_expr.specs.TermViews.{term, terms_of}
 use Rattle.vx_expr.proofs.Fronts.{along_no_more_left, front_along_left, front_values, front_numbers, front_constant, front_then, front_pair, continued, put_before, put_behind, continued_more, continued_start, continued_done}
 use Rattle.vx_expr.proofs.Pairs.{left_next, left_none}
@@ -39,49 +42,46 @@ one_named : (t : DataType) (name : List ℕ) (e : Term) (es : Terms) (rows : Lis
 one_named t name e es rows vs ns = (λ i. front (continued rows (λ v n. items_named t name e es v n i) vs ns)) ∙ continued_more (meaning t no_bound e) (items_made t es) rows vs ns
 
 -- the rows so far, and one value more in each
-pub rows_more : (t : DataType) (items : List (List ℕ × Expr)) (i : ℕ) (pair : List ℕ × Expr) (made longer : List (Vec Value Global)) (cells : List Cell) (values : List Value) (numbers : List ℕ) (whole : List (List Datum))
+pub rows_more : (t : DataType) (items : List (List ℕ × Expr)) (i : ℕ) (pair : List ℕ × Expr) (made longer : List (Vec Value Global)) (xs vs : List Datum) (numbers : List ℕ) (whole : List (List Datum))
     → i < length items → pair ≡ get_or items i pair
-    → map cell_datum cells ≡ front_at t (term pair.1) (map datum (take (length made) values)) (take (length made) numbers)
-    → map row_data longer ≡ along put_behind (map row_data made) (map cell_datum cells)
-    → front (continued (map row_data made) (items_made t (terms_of (drop i items))) (map datum values) numbers) ≡ whole
-    → front (continued (map row_data longer) (items_made t (terms_of (drop (i + 1) items))) (map datum values) numbers) ≡ whole
-rows_more t items i pair made longer cells values numbers whole lt is here added so_far =
+    → xs ≡ front_at t (term pair.1) (take (length made) vs) (take (length made) numbers)
+    → map row_data longer ≡ along put_behind (map row_data made) xs
+    → front (continued (map row_data made) (items_made t (terms_of (drop i items))) vs numbers) ≡ whole
+    → front (continued (map row_data longer) (items_made t (terms_of (drop (i + 1) items))) vs numbers) ≡ whole
+rows_more t items i pair made longer xs vs numbers whole lt is here added so_far =
     let next = left_next items i pair lt is in
     let e = term pair.1 in
     let rest = terms_of (drop (i + 1) items) in
-    let vs = map datum values in
     let rows = map row_data made in
-    let there : front_at t e (take (length rows) vs) (take (length rows) numbers) ≡ map cell_datum cells =
-    ap (λ (k : ℕ). front_at t e (take k vs) (take k numbers)) (length-map made row_data) ∙ ap (λ (ws : List Datum). front_at t e ws (take (length made) numbers)) (take-map datum (length made) values) ∙ sym here in
+    let there : front_at t e (take (length rows) vs) (take (length rows) numbers) ≡ xs =
+    ap (λ (k : ℕ). front_at t e (take k vs) (take k numbers)) (length-map made row_data) ∙ sym here in
     ap (λ (rs : List (List Datum)). front (continued rs (items_made t rest) vs numbers)) (added ∙ ap (λ (cs : List Datum). along put_behind rows cs) (sym there))
     ∙ sym (one_named t pair.0 e rest rows vs numbers)
     ∙ ap (λ (es : Terms). front (continued rows (items_made t es) vs numbers)) (sym next)
     ∙ so_far
 
-pub rows_few : (made longer : List (Vec Value Global)) (cells : List Cell) → map row_data longer ≡ along put_behind (map row_data made) (map cell_datum cells) → length longer ≤ length made
-rows_few made longer cells added =
-    omega (arith, length-map longer row_data, ap length added, along_no_more_left put_behind (map row_data made) (map cell_datum cells), length-map made row_data)
+pub rows_few : (made longer : List (Vec Value Global)) (xs : List Datum) → map row_data longer ≡ along put_behind (map row_data made) xs → length longer ≤ length made
+rows_few made longer xs added =
+    omega (arith, length-map longer row_data, ap length added, along_no_more_left put_behind (map row_data made) xs, length-map made row_data)
 
 -- no values yet
-pub rows_start : (t : DataType) (es : Terms) (made : List (Vec Value Global)) (values : List Value) (numbers : List ℕ) → map row_data made ≡ replicate (length values) []
-    → front (continued (map row_data made) (items_made t es) (map datum values) numbers) ≡ front (along (items_made t es) (map datum values) numbers)
-rows_start t es made values numbers e =
-    let vs = map datum values in
-    ap (λ (rs : List (List Datum)). front (continued rs (items_made t es) vs numbers)) (e ∙ ap (λ (k : ℕ). replicate k []) (sym (length-map values datum)))
+pub rows_start : (t : DataType) (es : Terms) (made : List (Vec Value Global)) (count : ℕ) (vs : List Datum) (numbers : List ℕ) → map row_data made ≡ replicate count [] → length vs ≡ count
+    → front (continued (map row_data made) (items_made t es) vs numbers) ≡ front (along (items_made t es) vs numbers)
+rows_start t es made count vs numbers e level =
+    ap (λ (rs : List (List Datum)). front (continued rs (items_made t es) vs numbers)) (e ∙ ap (λ (k : ℕ). replicate k []) (sym level))
     ∙ ap front (continued_start (items_made t es) vs numbers)
 
-pub rows_start_few : (made : List (Vec Value Global)) (values : List Value) → map row_data made ≡ replicate (length values) [] → length made ≤ length values
-rows_start_few made values e = omega (arith, length-map made row_data, ap length e, length-replicate {A = List Datum} (length values) [])
+pub rows_start_few : (made : List (Vec Value Global)) (count : ℕ) → map row_data made ≡ replicate count [] → length made ≤ count
+rows_start_few made count e = omega (arith, length-map made row_data, ap length e, length-replicate {A = List Datum} count [])
 
 -- all values
-pub rows_done : (t : DataType) (items : List (List ℕ × Expr)) (i : ℕ) (es : Terms) (made : List (Vec Value Global)) (values : List Value) (numbers : List ℕ)
-    → length items ≤ i → terms_of items ≡ es → length numbers ≡ length values → length made ≤ length values
-    → front (continued (map row_data made) (items_made t (terms_of (drop i items))) (map datum values) numbers) ≡ front (along (items_made t (terms_of items)) (map datum values) numbers)
-    → map row_data made ≡ front (along (items_made t es) (map datum values) numbers)
-rows_done t items i es made values numbers past whole len few so_far =
-    let vs = map datum values in
+pub rows_done : (t : DataType) (items : List (List ℕ × Expr)) (i : ℕ) (es : Terms) (made : List (Vec Value Global)) (count : ℕ) (vs : List Datum) (numbers : List ℕ)
+    → length items ≤ i → terms_of items ≡ es → length numbers ≡ length vs → length vs ≡ count → length made ≤ count
+    → front (continued (map row_data made) (items_made t (terms_of (drop i items))) vs numbers) ≡ front (along (items_made t (terms_of items)) vs numbers)
+    → map row_data made ≡ front (along (items_made t es) vs numbers)
+rows_done t items i es made count vs numbers past whole len level few so_far =
     let rows = map row_data made in
-    sym (continued_done rows vs numbers (omega (arith, length-map made row_data, length-map values datum)) (omega (arith, length-map made row_data)))
+    sym (continued_done rows vs numbers (omega (arith, length-map made row_data)) (omega (arith, length-map made row_data)))
     ∙ ap (λ (fs : Terms). front (continued rows (items_made t fs) vs numbers)) (sym (left_none items i past))
     ∙ so_far
     ∙ ap (λ (fs : Terms). front (along (items_made t fs) vs numbers)) whole
@@ -118,27 +118,23 @@ struct_front t x es rows vs ns is here =
     ∙ ap (λ (y : Expr). front_at t (term y) vs ns) (sym is)
 
 -- ---- two parts
-pub lefts_few : (t : DataType) (a : Term) (lefts : List Cell) (values : List Value) (numbers : List ℕ) → map cell_datum lefts ≡ front_at t a (map datum values) numbers → length lefts ≤ length values
-lefts_few t a lefts values numbers e = omega (arith, length-map lefts cell_datum, ap length e, front_along_left (meaning t no_bound a) (map datum values) numbers, length-map values datum)
+pub lefts_few : (t : DataType) (a : Term) (xs vs : List Datum) (numbers : List ℕ) → xs ≡ front_at t a vs numbers → length xs ≤ length vs
+lefts_few t a xs vs numbers e = omega (arith, ap length e, front_along_left (meaning t no_bound a) vs numbers)
 
-pub rights_few : (t : DataType) (b : Term) (lefts rights : List Cell) (values : List Value) (numbers : List ℕ) → map cell_datum rights ≡ front_at t b (map datum (take (length lefts) values)) (take (length lefts) numbers) → length rights ≤ length lefts
-rights_few t b lefts rights values numbers e =
-    let firsts = take (length lefts) values in
-    omega (arith, length-map rights cell_datum, ap length e, front_along_left (meaning t no_bound b) (map datum firsts) (take (length lefts) numbers), length-map firsts datum, length-take (length lefts) values)
+pub rights_few : (t : DataType) (b : Term) (k : ℕ) (xs vs : List Datum) (numbers : List ℕ) → xs ≡ front_at t b (take k vs) (take k numbers) → length xs ≤ k
+rights_few t b k xs vs numbers e = omega (arith, ap length e, front_along_left (meaning t no_bound b) (take k vs) (take k numbers), length-take k vs)
 
 -- two parts over the rows: the second over those that the first has
-pub pair_rows : (t : DataType) (a b : Term) (step : TwoStep) (lefts rights : List Cell) (values : List Value) (numbers : List ℕ)
-    → map cell_datum lefts ≡ front_at t a (map datum values) numbers
-    → map cell_datum rights ≡ front_at t b (map datum (take (length lefts) values)) (take (length lefts) numbers)
-    → front (along (two_step step) (map cell_datum lefts) (map cell_datum rights)) ≡ front (along (pair_made step t a b) (map datum values) numbers)
-pair_rows t a b step lefts rights values numbers left right =
-    let vs = map datum values in
+pub pair_rows : (t : DataType) (a b : Term) (step : TwoStep) (lefts rights vs : List Datum) (numbers : List ℕ)
+    → lefts ≡ front_at t a vs numbers
+    → rights ≡ front_at t b (take (length lefts) vs) (take (length lefts) numbers)
+    → front (along (two_step step) lefts rights) ≡ front (along (pair_made step t a b) vs numbers)
+pair_rows t a b step lefts rights vs numbers left right =
     let f = meaning t no_bound a in
     let xs = front (along f vs numbers) in
-    let k : length lefts ≡ length xs = sym (length-map lefts cell_datum) ∙ ap length left in
-    let there : map cell_datum rights ≡ front_at t b (take (length xs) vs) (take (length xs) numbers) =
-    right ∙ ap (λ (ws : List Datum). front_at t b ws (take (length lefts) numbers)) (sym (take-map datum (length lefts) values)) ∙ ap (λ (n : ℕ). front_at t b (take n vs) (take n numbers)) k in
-    ap (λ (ws : List Datum). front (along (two_step step) ws (map cell_datum rights))) left
+    let there : rights ≡ front_at t b (take (length xs) vs) (take (length xs) numbers) =
+    right ∙ ap (λ (n : ℕ). front_at t b (take n vs) (take n numbers)) (ap length left) in
+    ap (λ (ws : List Datum). front (along (two_step step) ws rights)) left
     ∙ ap (λ (ws : List Datum). front (along (two_step step) xs ws)) there
     ∙ front_pair (two_step step) f (meaning t no_bound b) vs numbers
 
@@ -146,73 +142,97 @@ pair_rows t a b step lefts rights values numbers left right =
 abbrev pub IsJoined : Expr → Term → Term → Type 0
 IsJoined x a b = (x ≡ variants.And a b) ⊎ ((x ≡ variants.Or a b) ⊎ (((op : CompareOp) × (x ≡ variants.Compare op a b)) ⊎ ((op : ArithOp) × (x ≡ variants.Arith op a b))))
 
-abbrev JoinedMeans : DataType → Expr → Term → Term → Datum → ℕ → Type 0
-JoinedMeans t x a b v n = meaning t no_bound (term x) v n ≡ on_both (pair_value t (term x)) (meaning t no_bound a v n) (meaning t no_bound b v n)
+lefts_are : (x : Expr) (a b : Term) → IsJoined x a b → left_of (term x) ≡ a
+lefts_are x a b (inl e) = ap (λ (y : Expr). left_of (term y)) e
+lefts_are x a b (inr (inl e)) = ap (λ (y : Expr). left_of (term y)) e
+lefts_are x a b (inr (inr (inl e))) = ap (λ (y : Expr). left_of (term y)) e.1
+lefts_are x a b (inr (inr (inr e))) = ap (λ (y : Expr). left_of (term y)) e.1
 
-joined_means : (t : DataType) (x : Expr) (a b : Term) (v : Datum) (n : ℕ) → IsJoined x a b → JoinedMeans t x a b v n
-joined_means t x a b v n (inl e) = subst (λ (y : Expr). JoinedMeans t y a b v n) (sym e) refl
-joined_means t x a b v n (inr (inl e)) = subst (λ (y : Expr). JoinedMeans t y a b v n) (sym e) refl
-joined_means t x a b v n (inr (inr (inl e))) = subst (λ (y : Expr). JoinedMeans t y a b v n) (sym e.1) refl
-joined_means t x a b v n (inr (inr (inr e))) = subst (λ (y : Expr). JoinedMeans t y a b v n) (sym e.1) refl
+rights_are : (x : Expr) (a b : Term) → IsJoined x a b → right_of (term x) ≡ b
+rights_are x a b (inl e) = ap (λ (y : Expr). right_of (term y)) e
+rights_are x a b (inr (inl e)) = ap (λ (y : Expr). right_of (term y)) e
+rights_are x a b (inr (inr (inl e))) = ap (λ (y : Expr). right_of (term y)) e.1
+rights_are x a b (inr (inr (inr e))) = ap (λ (y : Expr). right_of (term y)) e.1
 
-pub joined_front : (t : DataType) (x : Expr) (a b : Term) (step : TwoStep) (vs : List Datum) (ns : List ℕ) → IsJoined x a b → ((v w : Datum) → two_step step v w ≡ pair_value t (term x) v w)
+pub joined_front : (t : DataType) (x : Expr) (a b : Term) (step : TwoStep) (vs : List Datum) (ns : List ℕ) → IsJoined x a b → ((v : Datum) (n : ℕ) → pair_made step t (left_of (term x)) (right_of (term x)) v n ≡ meaning t no_bound (term x) v n)
     → front (along (pair_made step t a b) vs ns) ≡ front_at t (term x) vs ns
 joined_front t x a b step vs ns is same =
-    (λ i. front (along (λ v n. on_both (λ p q. same p q i) (meaning t no_bound a v n) (meaning t no_bound b v n)) vs ns))
-    ∙ sym (λ i. front (along (λ v n. joined_means t x a b v n is i) vs ns))
+    (λ i. front (along (pair_made step t (sym (lefts_are x a b is) i) (sym (rights_are x a b is) i)) vs ns))
+    ∙ (λ i. front (along (λ v n. same v n i) vs ns))
 
 -- ---- one part
 abbrev pub IsMadeOf : Expr → Term → Type 0
 IsMadeOf x a = ((name : List ℕ) × (x ≡ variants.GetField name a)) ⊎ ((x ≡ variants.Not a) ⊎ ((x ≡ variants.IsNull a) ⊎ ((x ≡ variants.IsNotNull a) ⊎ (x ≡ variants.AtMostBound a))))
 
-abbrev MadeMeans : DataType → Expr → Term → Datum → ℕ → Type 0
-MadeMeans t x a v n = meaning t no_bound (term x) v n ≡ option_and_then (derived_value t (term x)) (meaning t no_bound a v n)
+parts_are : (x : Expr) (a : Term) → IsMadeOf x a → part_of (term x) ≡ a
+parts_are x a (inl e) = ap (λ (y : Expr). part_of (term y)) e.1
+parts_are x a (inr (inl e)) = ap (λ (y : Expr). part_of (term y)) e
+parts_are x a (inr (inr (inl e))) = ap (λ (y : Expr). part_of (term y)) e
+parts_are x a (inr (inr (inr (inl e)))) = ap (λ (y : Expr). part_of (term y)) e
+parts_are x a (inr (inr (inr (inr e)))) = ap (λ (y : Expr). part_of (term y)) e
 
-made_means : (t : DataType) (x : Expr) (a : Term) (v : Datum) (n : ℕ) → IsMadeOf x a → MadeMeans t x a v n
-made_means t x a v n (inl e) = subst (λ (y : Expr). MadeMeans t y a v n) (sym e.1) refl
-made_means t x a v n (inr (inl e)) = subst (λ (y : Expr). MadeMeans t y a v n) (sym e) refl
-made_means t x a v n (inr (inr (inl e))) = subst (λ (y : Expr). MadeMeans t y a v n) (sym e) refl
-made_means t x a v n (inr (inr (inr (inl e)))) = subst (λ (y : Expr). MadeMeans t y a v n) (sym e) refl
-made_means t x a v n (inr (inr (inr (inr e)))) = subst (λ (y : Expr). MadeMeans t y a v n) (sym e) refl
-
-pub made_front : (t : DataType) (x : Expr) (a part : Term) (step : OneStep) (cells : List Cell) (vs : List Datum) (ns : List ℕ) → IsMadeOf x a → part ≡ a → ((v : Datum) → one_step step v ≡ derived_value t (term x) v)
-    → map cell_datum cells ≡ front_at t part vs ns → front (map (one_step step) (map cell_datum cells)) ≡ front_at t (term x) vs ns
-made_front t x a part step cells vs ns is whole same here =
-    ap (λ (ws : List Datum). front (map (one_step step) ws)) (here ∙ ap (λ (e : Term). front_at t e vs ns) whole)
-    ∙ (λ i. front (map (λ v. same v i) (front_at t a vs ns)))
-    ∙ front_then (derived_value t (term x)) (meaning t no_bound a) vs ns
-    ∙ sym (λ i. front (along (λ v n. made_means t x a v n is i) vs ns))
+pub made_front : (t : DataType) (x : Expr) (a part : Term) (step : OneStep) (xs vs : List Datum) (ns : List ℕ) → IsMadeOf x a → part ≡ a → ((v : Datum) (n : ℕ) → one_made step t (part_of (term x)) v n ≡ meaning t no_bound (term x) v n)
+    → xs ≡ front_at t part vs ns → front (map (one_step step) xs) ≡ front_at t (term x) vs ns
+made_front t x a part step xs vs ns is whole same here =
+    ap (λ (ws : List Datum). front (map (one_step step) ws)) (here ∙ ap (λ (e : Term). front_at t e vs ns) (whole ∙ sym (parts_are x a is)))
+    ∙ front_then (one_step step) (meaning t no_bound (part_of (term x))) vs ns
+    ∙ (λ i. front (along (λ v n. same v n i) vs ns))
 
 -- ---- no parts
-as_long : (values : List Value) (ns : List ℕ) → length ns ≡ length values → length ns ≡ length (map datum values)
-as_long values ns len = len ∙ sym (length-map values datum)
+pub root_front : (t : DataType) (x : Expr) (vs : List Datum) (ns : List ℕ) → x ≡ variants.Root → length ns ≡ length vs → vs ≡ front_at t (term x) vs ns
+root_front t x vs ns is len = sym (front_values vs ns len) ∙ ap (λ (y : Expr). front_at t (term y) vs ns) (sym is)
 
-pub root_front : (t : DataType) (x : Expr) (values : List Value) (ns : List ℕ) → x ≡ variants.Root → length ns ≡ length values → map datum values ≡ front_at t (term x) (map datum values) ns
-root_front t x values ns is len = sym (front_values (map datum values) ns (as_long values ns len)) ∙ ap (λ (y : Expr). front_at t (term y) (map datum values) ns) (sym is)
+pub number_front : (t : DataType) (x : Expr) (vs ms : List Datum) (ns : List ℕ) → x ≡ variants.RowIdx → length ns ≡ length vs → map natural ns ≡ ms → ms ≡ front_at t (term x) vs ns
+number_front t x vs ms ns is len same = sym same ∙ sym (front_numbers natural vs ns len) ∙ ap (λ (y : Expr). front_at t (term y) vs ns) (sym is)
 
-pub number_front : (t : DataType) (x : Expr) (values : List Value) (ns : List ℕ) → x ≡ variants.RowIdx → length ns ≡ length values → map natural ns ≡ front_at t (term x) (map datum values) ns
-number_front t x values ns is len = sym (front_numbers natural (map datum values) ns (as_long values ns len)) ∙ ap (λ (y : Expr). front_at t (term y) (map datum values) ns) (sym is)
-
-pub literal_front : (t : DataType) (x : Expr) (v : Value) (s : DType) (values : List Value) (ns : List ℕ) → x ≡ variants.Lit v s → length ns ≡ length values → replicate (length values) (datum v) ≡ front_at t (term x) (map datum values) ns
-literal_front t x v s values ns is len =
-    ap (λ (k : ℕ). replicate k (datum v)) (sym (length-map values datum))
-    ∙ sym (front_constant (datum v) (map datum values) ns (as_long values ns len))
-    ∙ ap (λ (y : Expr). front_at t (term y) (map datum values) ns) (sym is)
+pub literal_front : (t : DataType) (x : Expr) (v : Value) (s : DType) (count : ℕ) (vs : List Datum) (ns : List ℕ) → x ≡ variants.Lit v s → length vs ≡ count → length ns ≡ length vs → replicate count (datum v) ≡ front_at t (term x) vs ns
+literal_front t x v s count vs ns is level len =
+    ap (λ (k : ℕ). replicate k (datum v)) (sym level)
+    ∙ sym (front_constant (datum v) vs ns len)
+    ∙ ap (λ (y : Expr). front_at t (term y) vs ns) (sym is)
 
 -- ---- calls
--- what cells stand for, said in another way
-pub cells_are : {E : Type 0} (r : Result (Vec Cell Global) E) (xs ys : List Datum) → xs ≡ ys → IfOk r (λ cells. map cell_datum cells.items ≡ xs) → IfOk r (λ cells. map cell_datum cells.items ≡ ys)
-cells_are r xs ys e h = subst (λ (zs : List Datum). IfOk r (λ cells. map cell_datum cells.items ≡ zs)) e h
+-- what is worth at the rows, said in another way
+pub rows_are : {E : Type 0} (r : Result Evaluated E) (xs ys : List Datum) → xs ≡ ys → IfOk r (λ made. evaluated_rows made ≡ xs) → IfOk r (λ made. evaluated_rows made ≡ ys)
+rows_are r xs ys e h = subst (λ (zs : List Datum). IfOk r (λ made. evaluated_rows made ≡ zs)) e h
 
--- as many numbers as values, also of the first rows
-pub firsts_long : (values vs : List Value) (numbers ns : List ℕ) (k : ℕ) → length numbers ≡ length values → vs ≡ take k values → ns ≡ take k numbers → length ns ≡ length vs
-firsts_long values vs numbers ns k len e f = omega (arith, length-take k values, length-take k numbers, ap length e, ap length f)
-
--- the cells of an expression over the first rows
-pub over_firsts : (dtype root_dtype : DType) (e b : Term) (cells : List Cell) (values vs : List Value) (numbers ns : List ℕ) (k n : ℕ)
-    → map cell_datum cells ≡ front_at (data_type dtype) e (map datum vs) ns → dtype ≡ root_dtype → e ≡ b → vs ≡ take k values → ns ≡ take k numbers → k ≡ n
-    → map cell_datum cells ≡ front_at (data_type root_dtype) b (map datum (take n values)) (take n numbers)
-over_firsts dtype root_dtype e b cells values vs numbers ns k n here d p q r len =
+-- what an expression is worth at the first rows
+pub over_firsts : (dtype root_dtype : DType) (e b : Term) (xs vs ws : List Datum) (numbers ns : List ℕ) (k n : ℕ)
+    → xs ≡ front_at (data_type dtype) e ws ns → dtype ≡ root_dtype → e ≡ b → ws ≡ take k vs → ns ≡ take k numbers → k ≡ n
+    → xs ≡ front_at (data_type root_dtype) b (take n vs) (take n numbers)
+over_firsts dtype root_dtype e b xs vs ws numbers ns k n here d p q r len =
     here
-    ∙ (λ i. front_at (data_type (d i)) (p i) (map datum (q i)) (r i))
-    ∙ (λ i. front_at (data_type root_dtype) b (map datum (take (len i) values)) (take (len i) numbers))
+    ∙ (λ i. front_at (data_type (d i)) (p i) (q i) (r i))
+    ∙ (λ i. front_at (data_type root_dtype) b (take (len i) vs) (take (len i) numbers))
+
+-- ---- steps
+option_same : {A B : Type 0} (f g : A → Option B) (r : Option A) → ((x : A) → f x ≡ g x) → option_and_then f r ≡ option_and_then g r
+option_same f g None same = refl
+option_same f g (Some x) same = same x
+
+pub field_step : (t : DataType) (x : Expr) (name : List ℕ) (a : Term) (place : Option ℕ) → x ≡ variants.GetField name a → ((v : Datum) → item_at place v ≡ field_of (type_of t a) name v) → (v : Datum) (n : ℕ) → one_made (Field place) t (part_of (term x)) v n ≡ meaning t no_bound (term x) v n
+field_step t x name a place is same v n =
+    ap (λ (y : Expr). one_made (Field place) t (part_of (term y)) v n) is
+    ∙ option_same (item_at place) (field_of (type_of t a) name) (meaning t no_bound a v n) same
+    ∙ ap (λ (y : Expr). meaning t no_bound (term y) v n) (sym is)
+
+number_step : (op : ArithOp) (s : Option DataType) (v w : Datum) → arithmetic_of op (number_type (kind_in s)) v w ≡ arithmetic_of op s v w
+number_step op None (number x) (number y) = refl
+number_step op (Some (bool_type n)) (number x) (number y) = refl
+number_step op (Some (int_type kind n)) (number x) (number y) = refl
+number_step op (Some (utf8_type n)) (number x) (number y) = refl
+number_step op (Some (struct_type ms n)) (number x) (number y) = refl
+number_step op (Some (list_type s n)) (number x) (number y) = refl
+number_step op s v w = refl
+
+both_same : {A B C : Type 0} (f g : A → B → Option C) (r : Option A) (s : Option B) → ((x : A) (y : B) → f x y ≡ g x y) → on_both f r s ≡ on_both g r s
+both_same f g None s same = refl
+both_same f g (Some x) None same = refl
+both_same f g (Some x) (Some y) same = same x y
+
+pub arith_step : (t : DataType) (x : Expr) (op : ArithOp) (a b : Term) (kind : Option IntKind) → x ≡ variants.Arith op a b → kind ≡ kind_in (type_of t a) → (v : Datum) (n : ℕ) → pair_made (Arith op kind) t (left_of (term x)) (right_of (term x)) v n ≡ meaning t no_bound (term x) v n
+arith_step t x op a b kind is e v n =
+    ap (λ (y : Expr). pair_made (Arith op kind) t (left_of (term y)) (right_of (term y)) v n) is
+    ∙ ap (λ (k : Option IntKind). pair_made (Arith op k) t a b v n) e
+    ∙ both_same (arithmetic_of op (number_type (kind_in (type_of t a)))) (arithmetic_of op (type_of t a)) (meaning t no_bound a v n) (meaning t no_bound b v n) (number_step op (type_of t a))
+    ∙ ap (λ (y : Expr). meaning t no_bound (term y) v n) (sym is)

@@ -3,8 +3,8 @@ use Rattle.std.specs.Prelude.{codes, ℤ, pos, negsuc, false}
 use Rattle.vx_base.specs.declared.dtypes.IntKind.TheVariants.{I64}
 use Rattle.vx_base.specs.declared.dtypes.Nullability.TheVariants.{NonNullable, Nullable}
 use Rattle.vx_base.specs.Data.{DataType, bool_type, int_type, struct_type, no_members, member, Datum, null, truth, number, structure, no_items, item}
-use Rattle.vx_expr.specs.declared.operators.CompareOp.TheVariants.{Eq}
-use Rattle.vx_expr.specs.declared.operators.ArithOp.TheVariants.{Div}
+use Rattle.vx_operators.specs.declared.operators.CompareOp.TheVariants.{Eq}
+use Rattle.vx_operators.specs.declared.operators.ArithOp.TheVariants.{Div}
 use Rattle.vx_expr.specs.Bound.{Bound}
 use Rattle.vx_expr.specs.Terms.{Term, root, literal, get_field, negation, conjunction, comparison, arithmetic}
 

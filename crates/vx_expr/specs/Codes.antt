@@ -2,10 +2,10 @@
 use Rattle.std.proofs.Common.{◌≡◌, ℕ, zero, suc, refl, sym, ap, ◌∙◌}
 use base.Stored.{Gv, gnil, gnum, gcons, Coded}
 use Rattle.vx_base.specs.Codes.{coded_name, coded_type, coded_datum}
-use Rattle.vx_expr.specs.declared.operators.CompareOp.{CompareOp}
-use Rattle.vx_expr.specs.declared.operators.CompareOp.TheVariants.{Eq, Ne, Lt, Le, Gt, Ge}
-use Rattle.vx_expr.specs.declared.operators.ArithOp.{ArithOp}
-use Rattle.vx_expr.specs.declared.operators.ArithOp.TheVariants.{Add, Sub, Mul, Div}
+use Rattle.vx_operators.specs.declared.operators.CompareOp.{CompareOp}
+use Rattle.vx_operators.specs.declared.operators.CompareOp.TheVariants.{Eq, Ne, Lt, Le, Gt, Ge}
+use Rattle.vx_operators.specs.declared.operators.ArithOp.{ArithOp}
+use Rattle.vx_operators.specs.declared.operators.ArithOp.TheVariants.{Add, Sub, Mul, Div}
 use Rattle.vx_expr.specs.Terms.{Term, root, literal, get_field, pack, negation, conjunction, disjunction, comparison, null_test, value_test, arithmetic, row_number, bound_test, Terms, no_terms, named}
 
 -- ---- numbers in place of the operators

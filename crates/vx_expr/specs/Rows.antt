@@ -1,23 +1,12 @@
 -- An expression over the rows of a column.
-use Rattle.std.specs.Prelude.{◌≡◌, ℕ, pos, true, List, [], ◌∷◌, map, slice_get, take, Option, Some, None, is_some, option_map}
+use Rattle.std.specs.Prelude.{◌≡◌, ℕ, pos, true, List, map, slice_get, take, Option, Some, None, is_some, option_map}
 use Rattle.std.specs.List.{list_all}
 use Rattle.vx_base.specs.Data.{DataType, Datum, number}
 use Rattle.vx_base.specs.ValueViews.{data_in}
 use Rattle.vx_expr.specs.Bound.{Bound}
 use Rattle.vx_expr.specs.Meaning.{meaning, meanings_in}
 use Rattle.vx_expr.specs.Terms.{Term, Terms}
-
--- row by row, for as many rows as both have
-abbrev pub along : {A B C : Type 0} → (A → B → C) → List A → List B → List C
-along f [] ys = []
-along f (x ∷ xs) [] = []
-along f (x ∷ xs) (y ∷ ys) = f x y ∷ along f xs ys
-
--- the values before the first fault
-abbrev pub front : {A : Type 0} → List (Option A) → List A
-front [] = []
-front (None ∷ rest) = []
-front (Some v ∷ rest) = v ∷ front rest
+pub use Rattle.vx_operators.specs.Rows.{along, front}
 
 -- the number of a row, as a column of numbers has it
 abbrev pub number_of_row : Datum → ℕ

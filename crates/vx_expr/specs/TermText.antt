@@ -3,10 +3,10 @@ use Rattle.std.specs.Prelude.{codes, ℕ, true, false, ◌==◌, ◌||◌, if◌
 use Rattle.std.specs.Fmt.{signed_decimal}
 use Rattle.std.specs.List.{flat_map}
 use Rattle.vx_base.specs.Data.{Datum, null, truth, number, text, structure}
-use Rattle.vx_expr.specs.declared.operators.CompareOp.{CompareOp}
-use Rattle.vx_expr.specs.declared.operators.CompareOp.TheVariants.{Eq, Ne, Lt, Le, Gt, Ge}
-use Rattle.vx_expr.specs.declared.operators.ArithOp.{ArithOp}
-use Rattle.vx_expr.specs.declared.operators.ArithOp.TheVariants.{Add, Sub, Mul, Div}
+use Rattle.vx_operators.specs.declared.operators.CompareOp.{CompareOp}
+use Rattle.vx_operators.specs.declared.operators.CompareOp.TheVariants.{Eq, Ne, Lt, Le, Gt, Ge}
+use Rattle.vx_operators.specs.declared.operators.ArithOp.{ArithOp}
+use Rattle.vx_operators.specs.declared.operators.ArithOp.TheVariants.{Add, Sub, Mul, Div}
 use Rattle.vx_expr.specs.Terms.{Term, root, literal, get_field, pack, negation, conjunction, disjunction, comparison, null_test, value_test, arithmetic, row_number, bound_test, Terms, no_terms, named}
 
 -- the sign of a comparison

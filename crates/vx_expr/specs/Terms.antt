@@ -1,8 +1,8 @@
 -- Expressions as plain data, whatever memory they lie in.
 use Rattle.std.specs.Prelude.{ℕ, List}
 use Rattle.vx_base.specs.Data.{DataType, Datum}
-use Rattle.vx_expr.specs.declared.operators.CompareOp.{CompareOp}
-use Rattle.vx_expr.specs.declared.operators.ArithOp.{ArithOp}
+use Rattle.vx_operators.specs.declared.operators.CompareOp.{CompareOp}
+use Rattle.vx_operators.specs.declared.operators.ArithOp.{ArithOp}
 
 -- A struct's values have names, which are the bytes of texts.
 mutual

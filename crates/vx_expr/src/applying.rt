@@ -1,21 +1,27 @@
-//! Applying a bound expression to a column of root values, row by row.
+//! Applying a bound expression to a column of root values.
 
-ghost use Rattle.std.specs.Prelude.{◌≡◌, ℕ, Some, map, length, IfOk, IsErrOf};
+ghost use Rattle.std.specs.Prelude.{◌≡◌, ℕ, Some, map, length, IfOk, IsErrOf, IsTrue};
 ghost use Rattle.std.specs.List.{AllByRecursion};
 ghost use Rattle.vx_base.specs.Fits.{Fits};
 ghost use Rattle.vx_base.specs.ValueViews.{datum};
+ghost use Rattle.vx_base.specs.Views.{data_type};
 ghost use Rattle.vx_expr.specs.declared.applying.ApplyError.TheVariants as errors;
 ghost use Rattle.vx_expr.specs.Bound.{IsBoundTo};
-ghost use Rattle.vx_expr.specs.Rows.{number_of_row, worth, IsFirstFault};
-ghost use Rattle.vx_expr.specs.Steps.{cell_datum};
+ghost use Rattle.vx_expr.specs.Mentions.{uses_root};
+ghost use Rattle.vx_expr.specs.Rows.{worth, IsFirstFault};
+ghost use Rattle.vx_expr.specs.Steps.{cell_datum, evaluated_rows};
 ghost use Rattle.vx_expr.specs.Types.{row_number_type};
+ghost use Rattle.vx_packed.specs.Slots.{bare};
 
 use crate::bound_expressions::BoundExpression;
 use crate::cells::Cell;
+use crate::evaluated::{Evaluated, own_cells};
 use crate::evaluation::Rows;
 use std::alloc::{AllocError, AllocFailed, Global};
 use thiserror::Error;
-use vx_base::{Column, Value};
+use vx_base::{Column, DType, Value};
+use vx_operators::Worth;
+use vx_packed::{Look, Part};
 
 /// Why an expression has no column over these rows.
 #[derive(Debug, Drop, Error)]
@@ -44,29 +50,6 @@ impl<T: Drop> From<AllocFailed<T>> for ApplyError {
     }
 }
 
-/// The number that a value of a column of row numbers is.
-fn row_number(value: &Value) -> u64
-    requires { Fits row_number_type (datum value.now) }
-    ensures { result ≡ number_of_row (datum value.now) }
-{
-    match value {
-        Value::Int(number) => *number as u64,
-        _ => 0,
-    }
-}
-
-/// The numbers of the rows.
-fn row_numbers(alloc: Global, values: &[Value]) -> Result<Vec<u64>, AllocError>
-    requires { AllByRecursion (Fits row_number_type) (map datum values.now) }
-    ensures { IfOk result (λ numbers. numbers.items ≡ map number_of_row (map datum values.now)) }
-{
-    let mut numbers = Vec::with_capacity(alloc, values.len())?;
-    for value in values {
-        numbers.push(row_number(value))?;
-    }
-    Ok(numbers)
-}
-
 /// The values of the cells, in memory of their own.
 fn values_of(alloc: Global, cells: Vec<Cell<'_>>) -> Result<Vec<Value>, AllocError>
     ensures { IfOk result (λ values. map datum values.items ≡ map cell_datum cells.entry.items) }
@@ -76,6 +59,121 @@ fn values_of(alloc: Global, cells: Vec<Cell<'_>>) -> Result<Vec<Value>, AllocErr
         values.push(cell.into_value(alloc)?)?;
     }
     Ok(values)
+}
+
+/// Whether the rows of a part are those of a leaf dtype, but for nulls.
+fn is_leaf_of(dtype: &DType, part: &Part) -> bool
+    ensures { IsTrue result → part.now.dtype ≡ bare (data_type dtype.now) }
+{
+    match (dtype, part.look()) {
+        (DType::Bool(_), Look::Truths(_, _)) => true,
+        (DType::Int(kind, _), Look::Numbers(_, numbers)) => *kind == numbers.kind(),
+        (DType::Utf8(_), Look::Texts(_, _)) => true,
+        _ => false,
+    }
+}
+
+/// The column of values that fit, which are handed over cell by cell.
+fn cell_column(alloc: Global, dtype: &DType, cells: Vec<Cell<'_>>) -> Result<Column, AllocError>
+    requires { AllByRecursion (Fits (data_type dtype.now)) (map cell_datum cells.items) }
+    ensures dtype { IfOk result (λ column. column.dtype ≡ data_type dtype.now) }
+    ensures values { IfOk result (λ column. column.values ≡ map cell_datum cells.entry.items) }
+{
+    let values = values_of(alloc, cells)?;
+    let dtype = dtype.copy(alloc)?;
+    let column = Column::of_fitting(alloc, dtype, values)?;
+    Ok(column)
+}
+
+/// The column of the rows of a part, which fit. It moves them where they are of a leaf dtype.
+#[tactic(auto, using(vx_packed::proofs::PackedRows::column_of_values))]
+fn part_column(alloc: Global, dtype: &DType, part: Part) -> Result<Column, AllocError>
+    requires { AllByRecursion (Fits (data_type dtype.now)) part.values }
+    ensures dtype { IfOk result (λ column. column.dtype ≡ data_type dtype.now) }
+    ensures values { IfOk result (λ column. column.values ≡ part.values) }
+{
+    if is_leaf_of(dtype, &part) {
+        let dtype = dtype.copy(alloc)?;
+        Ok(Column::of_part(dtype, part))
+    } else {
+        let cells = own_cells(alloc, &part)?;
+        let column = cell_column(alloc, dtype, cells)?;
+        Ok(column)
+    }
+}
+
+/// The rows of a part, in memory of their own.
+#[tactic(auto, using(vx_packed::proofs::PackedRows::whole_range))]
+fn part_copy(alloc: Global, part: &Part) -> Result<Part, AllocError>
+    ensures { IfOk result (λ copied. copied.values ≡ part.now.values) }
+{
+    let copied = part.slice(alloc, 0..part.len())?;
+    Ok(copied)
+}
+
+/// The column of values that fit, wherever they are held.
+fn column_of(alloc: Global, dtype: &DType, made: Evaluated<'_>) -> Result<Column, AllocError>
+    requires { AllByRecursion (Fits (data_type dtype.now)) (evaluated_rows made) }
+    ensures dtype { IfOk result (λ column. column.dtype ≡ data_type dtype.now) }
+    ensures values { IfOk result (λ column. column.values ≡ evaluated_rows made.entry) }
+{
+    match made {
+        Evaluated::Packed(Worth::Made(part)) => {
+            let column = part_column(alloc, dtype, part)?;
+            Ok(column)
+        }
+        Evaluated::Packed(Worth::Lent(part)) => {
+            let copied = part_copy(alloc, part)?;
+            let column = part_column(alloc, dtype, copied)?;
+            Ok(column)
+        }
+        _ => {
+            let cells = made.into_cells(alloc)?;
+            let column = cell_column(alloc, dtype, cells)?;
+            Ok(column)
+        }
+    }
+}
+
+/// The rows of a column, spread.
+#[tactic(auto, using(vx_packed::proofs::PackedRows::all_nullable))]
+fn spread(alloc: Global, column: &Column) -> Result<Part, AllocError>
+    ensures values { IfOk result (λ part. part.values ≡ column.now.values) }
+    ensures fit { AllByRecursion (Fits column.now.dtype) column.now.values }
+{
+    let values = column.to_values(alloc)?;
+    let part = Part::of_values(alloc, column.dtype(), values.as_slice())?;
+    Ok(part)
+}
+
+/// What the expression is worth at each row of parts.
+fn applied(
+    alloc: Global,
+    expression: &BoundExpression,
+    root: &Part,
+    numbers: &Part,
+) -> Result<Column, ApplyError>
+    requires fit { IsTrue (uses_root expression.now.term) → AllByRecursion (Fits expression.now.root) root.now.values }
+    requires numbered { AllByRecursion (Fits row_number_type) numbers.now.values }
+    requires same_rows { length numbers.now.values ≡ length root.now.values }
+    ensures dtype { IfOk result (λ column. column.dtype ≡ expression.now.dtype) }
+    ensures values { IfOk result (λ column. map Some column.values ≡ worth expression.now root.now.values numbers.now.values) }
+    ensures fault { (row : ℕ) → IsErrOf result (ApplyError.EvalFault row) → IsFirstFault (worth expression.now root.now.values numbers.now.values) row }
+{
+    let count = root.len();
+    let rows = Rows {
+        dtype: expression.root_dtype(),
+        root,
+        numbers,
+        count,
+    };
+    let made = expression.expr().evaluated(alloc, rows)?;
+    let found = made.len();
+    if found < count {
+        return Err(ApplyError::EvalFault(found as u64));
+    }
+    let column = column_of(alloc, expression.dtype(), made)?;
+    Ok(column)
 }
 
 /// What the expression is worth at each row, where `root` has the root's values and `numbers` the numbers
@@ -94,21 +192,12 @@ pub fn apply(
     ensures values { IfOk result (λ column. map Some column.values ≡ worth expression.now root.now.values numbers.now.values) }
     ensures fault { (row : ℕ) → IsErrOf result (ApplyError.EvalFault row) → IsFirstFault (worth expression.now root.now.values numbers.now.values) row }
 {
-    let owned = root.to_values(alloc)?;
-    let values = owned.as_slice();
-    let counted = numbers.to_values(alloc)?;
-    let numbers = row_numbers(alloc, counted.as_slice())?;
-    let rows = Rows {
-        dtype: expression.root_dtype(),
-        values,
-        numbers: &numbers,
-    };
-    let cells = expression.expr().evaluated(alloc, rows)?;
-    if cells.len() < values.len() {
-        return Err(ApplyError::EvalFault(cells.len() as u64));
+    match (root.part(), numbers.part()) {
+        (Some(root), Some(numbers)) => applied(alloc, expression, root, numbers),
+        _ => {
+            let root = spread(alloc, root)?;
+            let numbers = spread(alloc, numbers)?;
+            applied(alloc, expression, &root, &numbers)
+        }
     }
-    let made = values_of(alloc, cells)?;
-    let dtype = expression.dtype().copy(alloc)?;
-    let column = Column::of_fitting(alloc, dtype, made)?;
-    Ok(column)
 }

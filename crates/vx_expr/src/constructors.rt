@@ -5,9 +5,9 @@ ghost use Rattle.vx_expr.specs.Terms.{get_field, pack, negation, conjunction, di
 ghost use Rattle.vx_expr.specs.TermViews.{term, terms_of};
 
 use crate::expressions::{Expr, NamedExprs, Operand};
-use crate::operators::{ArithOp, CompareOp};
 use std::alloc::{AllocError, Global};
 use vx_base::Text;
+use vx_operators::{ArithOp, CompareOp};
 
 impl Expr {
     /// The field of that name of a struct.

@@ -1,25 +1,27 @@
-//! Evaluation: the cells of an expression over rows, part by part. Each part is evaluated over all rows
-//! before the first fault of the parts before it.
+//! Evaluation of an expression over rows, part by part. Each part is evaluated over all rows before the
+//! first fault of the parts before it.
 
-ghost use Rattle.std.specs.Prelude.{◌≡◌, ◌≤◌, [], map, length, replicate, take, IfOk};
-ghost use Rattle.vx_base.specs.ColumnCalls.{natural};
+ghost use Rattle.std.specs.Prelude.{◌≡◌, ◌≤◌, ℕ, [], map, length, replicate, take, IfOk};
 ghost use Rattle.vx_base.specs.Data.{Datum, structure};
 ghost use Rattle.vx_base.specs.Views.{data_type};
-ghost use Rattle.vx_base.specs.ValueViews.{datum, items_from};
-ghost use Rattle.vx_expr.specs.Rows.{along, front, front_at, items_made};
-ghost use Rattle.vx_expr.specs.Steps.{cell_datum, one_step, two_step, derived_value, pair_value, item_at, row_data, appended, pair_made, kind_in};
-ghost use Rattle.vx_expr.specs.Meaning.{field_of};
+ghost use Rattle.vx_base.specs.ValueViews.{items_from};
+ghost use Rattle.vx_expr.specs.Rows.{along, front, front_at, items_made, no_bound};
+ghost use Rattle.vx_expr.specs.Steps.{AreRows, cell_datum, evaluated_rows, rows_values, rows_numbers, one_made, part_of, left_of, right_of, item_at, row_data, appended, pair_made, kind_in};
+ghost use Rattle.vx_expr.specs.Meaning.{field_of, meaning};
 ghost use Rattle.vx_expr.specs.Terms.{IsDerived, IsPair};
 ghost use Rattle.vx_expr.specs.Types.{type_of};
 ghost use Rattle.vx_expr.specs.TermViews.{term};
 
 use crate::binding::BindError;
 use crate::cells::Cell;
+use crate::evaluated::{Evaluated, derived, literal, paired};
 use crate::expressions::{Expr, NamedExprs, Operand};
-use crate::steps::{OneStep, TwoStep, one, two};
+use crate::steps::{OneStep, TwoStep};
 use std::alloc::{AllocError, Global};
 use std::collections::VecDeque;
 use vx_base::{DType, IntKind, Text, Value, Values};
+use vx_operators::Worth;
+use vx_packed::Part;
 
 /// The rows that an expression is evaluated over.
 #[derive(Clone, Copy)]
@@ -27,101 +29,41 @@ pub(crate) struct Rows<'a> {
     /// The dtype of the root.
     pub(crate) dtype: &'a DType,
     /// The root's value of each row.
-    pub(crate) values: &'a [Value],
+    pub(crate) root: &'a Part,
     /// The number of each row.
-    pub(crate) numbers: &'a [u64],
+    pub(crate) numbers: &'a Part,
+    /// How many of the rows count.
+    pub(crate) count: usize,
 }
 
 impl<'a> Rows<'a> {
     /// The first rows.
+    #[tactic(auto, using(crate::proofs::FirstRows::first_values, crate::proofs::FirstRows::first_numbers, crate::proofs::FirstRows::first_are))]
     fn first(self, rows: usize) -> Rows<'a>
-        requires values { rows ≤ length self.values.now }
-        requires numbers { rows ≤ length self.numbers.now }
+        requires rows { AreRows self }
+        requires inside { rows ≤ self.count }
+        ensures rows { AreRows result }
         ensures dtype { result.dtype.now ≡ self.entry.dtype.now }
-        ensures values { result.values.now ≡ take rows self.entry.values.now }
-        ensures numbers { result.numbers.now ≡ take rows self.entry.numbers.now }
+        ensures count { result.count ≡ rows }
+        ensures values { rows_values result ≡ take rows (rows_values self.entry) }
+        ensures numbers { rows_numbers result ≡ take rows (rows_numbers self.entry) }
     {
         Rows {
             dtype: self.dtype,
-            values: &self.values[..rows],
-            numbers: &self.numbers[..rows],
+            root: self.root,
+            numbers: self.numbers,
+            count: rows,
         }
     }
 }
 
-/// The root's value of each row.
-fn root_cells<'a>(alloc: Global, values: &'a [Value]) -> Result<Vec<Cell<'a>>, AllocError>
-    ensures { IfOk result (λ cells. map cell_datum cells.items ≡ map datum values.now) }
+/// The first rows of a part, where they stand as far as these are all.
+fn first_rows<'a>(alloc: Global, part: &'a Part, rows: usize) -> Result<Evaluated<'a>, AllocError>
+    requires { rows ≤ length part.now.values }
+    ensures { IfOk result (λ made. evaluated_rows made ≡ take rows part.now.values) }
 {
-    let mut cells = Vec::with_capacity(alloc, values.len())?;
-    for value in values {
-        cells.push(Cell::of(value))?;
-    }
-    Ok(cells)
-}
-
-/// The number of each row.
-fn number_cells<'a>(alloc: Global, numbers: &[u64]) -> Result<Vec<Cell<'a>>, AllocError>
-    ensures { IfOk result (λ cells. map cell_datum cells.items ≡ map natural numbers.now) }
-{
-    let mut cells = Vec::with_capacity(alloc, numbers.len())?;
-    for number in numbers {
-        cells.push(Cell::Number(i128::from(*number)))?;
-    }
-    Ok(cells)
-}
-
-/// The same value at each row.
-fn literal_cells<'a>(
-    alloc: Global,
-    value: &'a Value,
-    rows: usize,
-) -> Result<Vec<Cell<'a>>, AllocError>
-    ensures { IfOk result (λ cells. map cell_datum cells.items ≡ replicate rows (datum value.now)) }
-{
-    let mut cells = Vec::with_capacity(alloc, rows)?;
-    for _row in 0..rows {
-        cells.push(Cell::of(value))?;
-    }
-    Ok(cells)
-}
-
-/// The step with each value before the first fault.
-fn one_each<'a>(
-    alloc: Global,
-    step: OneStep,
-    cells: Vec<Cell<'a>>,
-) -> Result<Vec<Cell<'a>>, AllocError>
-    ensures { IfOk result (λ made. map cell_datum made.items ≡ front (map (one_step step) (map cell_datum cells.entry.items))) }
-{
-    let mut made = Vec::with_capacity(alloc, cells.len())?;
-    for cell in cells {
-        match one(alloc, step, cell)? {
-            Some(cell) => made.push(cell)?,
-            None => return Ok(made),
-        }
-    }
-    Ok(made)
-}
-
-/// The step with the values of each row before the first fault.
-fn two_each<'a>(
-    alloc: Global,
-    step: TwoStep,
-    lefts: &[Cell<'_>],
-    rights: &[Cell<'_>],
-) -> Result<Vec<Cell<'a>>, AllocError>
-    requires { length rights.now ≤ length lefts.now }
-    ensures { IfOk result (λ made. map cell_datum made.items ≡ front (along (two_step step) (map cell_datum lefts.now) (map cell_datum rights.now))) }
-{
-    let mut made = Vec::with_capacity(alloc, rights.len())?;
-    for (row, right) in rights.iter().enumerate() {
-        match two(step, &lefts[row], right) {
-            Some(cell) => made.push(cell)?,
-            None => return Ok(made),
-        }
-    }
-    Ok(made)
+    let worth = Worth::Lent(part).first(alloc, rows)?;
+    Ok(Evaluated::Packed(worth))
 }
 
 /// So many rows without values, with room for that many each.
@@ -208,10 +150,11 @@ fn kind_of(alloc: Global, operand: &Operand, root: &DType) -> Result<Option<IntK
 }
 
 impl Expr {
-    /// What this expression of one part does with that part's value.
+    /// What this expression of one part does with that part's value, which gives what the expression is worth.
+    #[tactic(auto, using(crate::proofs::TermRows::field_step))]
     fn one_step(&self, alloc: Global, root: &DType) -> Result<OneStep, AllocError>
         requires { IsDerived (term self.now) }
-        ensures { IfOk result (λ step. (v : Datum) → one_step step v ≡ derived_value (data_type root.now) (term self.now) v) }
+        ensures { IfOk result (λ step. (v : Datum) (n : ℕ) → one_made step (data_type root.now) (part_of (term self.now)) v n ≡ meaning (data_type root.now) no_bound (term self.now) v n) }
     {
         match self {
             Expr::GetField(name, operand) => Ok(OneStep::Field(place_in(
@@ -225,10 +168,11 @@ impl Expr {
         }
     }
 
-    /// What this expression of two parts does with their values.
+    /// What this expression of two parts does with their values, which gives what the expression is worth.
+    #[tactic(auto, using(crate::proofs::TermRows::arith_step))]
     fn two_step(&self, alloc: Global, root: &DType) -> Result<TwoStep, AllocError>
         requires { IsPair (term self.now) }
-        ensures { IfOk result (λ step. (v w : Datum) → two_step step v w ≡ pair_value (data_type root.now) (term self.now) v w) }
+        ensures { IfOk result (λ step. (v : Datum) (n : ℕ) → pair_made step (data_type root.now) (left_of (term self.now)) (right_of (term self.now)) v n ≡ meaning (data_type root.now) no_bound (term self.now) v n) }
     {
         match self {
             Expr::And(_, _) => Ok(TwoStep::And),
@@ -245,22 +189,25 @@ impl Expr {
         &'a self,
         alloc: Global,
         rows: Rows<'a>,
-    ) -> Result<Vec<Cell<'a>>, AllocError>
-        requires { length rows.numbers.now ≡ length rows.values.now }
-        ensures { IfOk result (λ cells. map cell_datum cells.items ≡ front_at (data_type rows.entry.dtype.now) (term self.now) (map datum rows.entry.values.now) rows.entry.numbers.now) }
+    ) -> Result<Evaluated<'a>, AllocError>
+        requires { AreRows rows }
+        ensures { IfOk result (λ made. evaluated_rows made ≡ front_at (data_type rows.entry.dtype.now) (term self.now) (rows_values rows.entry) (rows_numbers rows.entry)) }
     {
         match self {
-            Expr::Root => root_cells(alloc, rows.values),
-            Expr::RowIdx => number_cells(alloc, rows.numbers),
-            Expr::Lit(value, _) => literal_cells(alloc, value, rows.values.len()),
-            Expr::Pack(items) => struct_cells(alloc, items.rows(alloc, rows)?),
+            Expr::Root => first_rows(alloc, rows.root, rows.count),
+            Expr::RowIdx => first_rows(alloc, rows.numbers, rows.count),
+            Expr::Lit(value, dtype) => literal(alloc, value, dtype, rows.count),
+            Expr::Pack(items) => {
+                let cells = struct_cells(alloc, items.rows(alloc, rows)?)?;
+                Ok(Evaluated::Cells(cells))
+            }
             Expr::GetField(_, operand)
             | Expr::Not(operand)
             | Expr::IsNull(operand)
             | Expr::IsNotNull(operand)
             | Expr::AtMostBound(operand) => {
                 let step = self.one_step(alloc, rows.dtype)?;
-                one_each(alloc, step, operand.expr().evaluated(alloc, rows)?)
+                derived(alloc, step, operand.expr().evaluated(alloc, rows)?)
             }
             Expr::And(left, right)
             | Expr::Or(left, right)
@@ -282,13 +229,13 @@ impl Operand {
         right: &'a Operand,
         rows: Rows<'a>,
         step: TwoStep,
-    ) -> Result<Vec<Cell<'a>>, AllocError>
-        requires { length rows.numbers.now ≡ length rows.values.now }
-        ensures { IfOk result (λ cells. map cell_datum cells.items ≡ front (along (pair_made step (data_type rows.entry.dtype.now) self.now right.now) (map datum rows.entry.values.now) rows.entry.numbers.now)) }
+    ) -> Result<Evaluated<'a>, AllocError>
+        requires { AreRows rows }
+        ensures { IfOk result (λ made. evaluated_rows made ≡ front (along (pair_made step (data_type rows.entry.dtype.now) self.now right.now) (rows_values rows.entry) (rows_numbers rows.entry))) }
     {
         let lefts = self.expr().evaluated(alloc, rows)?;
         let rights = right.expr().evaluated(alloc, rows.first(lefts.len()))?;
-        two_each(alloc, step, &lefts, &rights)
+        paired(alloc, step, lefts, rights)
     }
 }
 
@@ -296,13 +243,14 @@ impl NamedExprs {
     /// The values of all named expressions at the rows before the first fault, row by row.
     #[cycle(evaluation)]
     fn rows<'a>(&'a self, alloc: Global, rows: Rows<'a>) -> Result<VecDeque<Vec<Value>>, AllocError>
-        requires { length rows.numbers.now ≡ length rows.values.now }
-        ensures { IfOk result (λ made. map row_data made.items ≡ front (along (items_made (data_type rows.entry.dtype.now) self.now) (map datum rows.entry.values.now) rows.entry.numbers.now)) }
+        requires { AreRows rows }
+        ensures { IfOk result (λ made. map row_data made.items ≡ front (along (items_made (data_type rows.entry.dtype.now) self.now) (rows_values rows.entry) (rows_numbers rows.entry))) }
     {
         let items = self.items();
-        let mut made = empty_rows(alloc, rows.values.len(), items.len())?;
+        let mut made = empty_rows(alloc, rows.count, items.len())?;
         for item in items {
-            let cells = item.1.evaluated(alloc, rows.first(made.len()))?;
+            let found = item.1.evaluated(alloc, rows.first(made.len()))?;
+            let cells = found.into_cells(alloc)?;
             made = longer_rows(alloc, made, cells)?;
         }
         Ok(made)

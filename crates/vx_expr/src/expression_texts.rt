@@ -9,37 +9,33 @@ ghost use Rattle.vx_expr.specs.TermText.{compare_sign, arith_sign, quoted_byte, 
 ghost use Rattle.vx_expr.specs.TermViews.{term};
 
 use crate::expressions::{Expr, NamedExprs, Operand};
-use crate::operators::{ArithOp, CompareOp};
 use std::alloc::{AllocError, Global};
 use vx_base::Value;
+use vx_operators::{ArithOp, CompareOp};
 
-impl CompareOp {
-    /// The sign between the operands.
-    fn sign(&self) -> &'static [u8]
-        ensures { result.now ≡ compare_sign self.now }
-    {
-        match self {
-            CompareOp::Eq => b"=",
-            CompareOp::Ne => b"!=",
-            CompareOp::Lt => b"<",
-            CompareOp::Le => b"<=",
-            CompareOp::Gt => b">",
-            CompareOp::Ge => b">=",
-        }
+/// The sign between the operands of a comparison.
+fn compare_sign(op: CompareOp) -> &'static [u8]
+    ensures { result.now ≡ compare_sign op }
+{
+    match op {
+        CompareOp::Eq => b"=",
+        CompareOp::Ne => b"!=",
+        CompareOp::Lt => b"<",
+        CompareOp::Le => b"<=",
+        CompareOp::Gt => b">",
+        CompareOp::Ge => b">=",
     }
 }
 
-impl ArithOp {
-    /// The sign between the operands.
-    fn sign(&self) -> &'static [u8]
-        ensures { result.now ≡ arith_sign self.now }
-    {
-        match self {
-            ArithOp::Add => b"+",
-            ArithOp::Sub => b"-",
-            ArithOp::Mul => b"*",
-            ArithOp::Div => b"/",
-        }
+/// The sign between the operands of arithmetic.
+fn arith_sign(op: ArithOp) -> &'static [u8]
+    ensures { result.now ≡ arith_sign op }
+{
+    match op {
+        ArithOp::Add => b"+",
+        ArithOp::Sub => b"-",
+        ArithOp::Mul => b"*",
+        ArithOp::Div => b"/",
     }
 }
 
@@ -172,8 +168,8 @@ impl Expr {
             Expr::AtMostBound(operand) => operand.write_call(alloc, b"at_most_bound(", out),
             Expr::And(left, right) => left.write_pair(alloc, b"and", right, out),
             Expr::Or(left, right) => left.write_pair(alloc, b"or", right, out),
-            Expr::Compare(op, left, right) => left.write_pair(alloc, op.sign(), right, out),
-            Expr::Arith(op, left, right) => left.write_pair(alloc, op.sign(), right, out),
+            Expr::Compare(op, left, right) => left.write_pair(alloc, compare_sign(*op), right, out),
+            Expr::Arith(op, left, right) => left.write_pair(alloc, arith_sign(*op), right, out),
         }
     }
 }

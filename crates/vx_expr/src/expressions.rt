@@ -6,10 +6,10 @@ ghost use Rattle.vx_base.specs.ValueViews.{datum};
 ghost use Rattle.vx_expr.specs.Terms.{negation, conjunction, disjunction, comparison, null_test, value_test, arithmetic, bound_test, get_field};
 ghost use Rattle.vx_expr.specs.TermViews.{term, terms_of};
 
-use crate::operators::{ArithOp, CompareOp};
 use std::alloc::{AllocError, Global};
 use std::marker::Model;
 use vx_base::{DType, Text, Value};
+use vx_operators::{ArithOp, CompareOp};
 
 /// What is computed of a row: of its root value, its number and a bound.
 #[cycle(expressions)]

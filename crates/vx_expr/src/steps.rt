@@ -1,18 +1,17 @@
 //! Steps: what is done with the values of the parts of an expression at a row.
 
 ghost use Rattle.std.specs.Prelude.{◌≡◌, IfOk, option_map, option_and_then, slice_get};
-ghost use Rattle.vx_expr.specs.Meaning.{if_inside, negated, and_of, or_of, comparison_of, bound_test_of};
+ghost use Rattle.vx_expr.specs.Meaning.{if_inside, exact, negated, and_of, or_of, comparison_of, arithmetic_of, bound_test_of};
 ghost use Rattle.vx_expr.specs.Rows.{no_bound};
-ghost use Rattle.vx_expr.specs.Steps.{cell_datum, seen_datum, one_step, two_step, joined_number, item_at, exact_inside};
+ghost use Rattle.vx_expr.specs.Steps.{cell_datum, seen_datum, one_step, two_step, number_type, item_at};
 ghost use Rattle.vx_base.specs.Data.{number};
 ghost use Rattle.vx_base.specs.ValueViews.{datum, data_in};
 ghost use Rattle.vx_base.specs.declared.dtypes.IntKind.{IntKind};
 
 use crate::cells::{Cell, Seen};
-use crate::operators::{ArithOp, CompareOp};
 use std::alloc::{AllocError, Global};
-use std::cmp::Ordering;
 use vx_base::{IntKind, Value, Values};
+use vx_operators::{ArithOp, CompareOp};
 
 /// What is done with the value of one part.
 #[derive(Clone, Copy)]
@@ -137,24 +136,6 @@ fn one_true(left: Seen<'_>, right: Seen<'_>) -> Option<Cell<'static>>
     }
 }
 
-impl CompareOp {
-    ghost use Rattle.vx_expr.specs.Meaning.{holds};
-
-    /// Whether the operator asks for this order.
-    fn holds(self, order: Ordering) -> bool
-        ensures { result ≡ holds self order }
-    {
-        match self {
-            CompareOp::Eq => order.is_eq(),
-            CompareOp::Ne => order.is_ne(),
-            CompareOp::Lt => order.is_lt(),
-            CompareOp::Le => order.is_le(),
-            CompareOp::Gt => order.is_gt(),
-            CompareOp::Ge => order.is_ge(),
-        }
-    }
-}
-
 /// How two values compare: null where one is null.
 fn compared(op: CompareOp, left: Seen<'_>, right: Seen<'_>) -> Option<Cell<'static>>
     ensures { option_map cell_datum result ≡ comparison_of op (seen_datum left.entry) (seen_datum right.entry) }
@@ -171,7 +152,7 @@ fn compared(op: CompareOp, left: Seen<'_>, right: Seen<'_>) -> Option<Cell<'stat
 
 /// The exact result. None where there is none, or where it lies outside each kind.
 fn exact_number(op: ArithOp, left: i128, right: i128) -> Option<i128>
-    ensures { (kind : IntKind) → option_and_then (if_inside kind) result ≡ exact_inside op kind left right }
+    ensures { (kind : IntKind) → option_and_then (if_inside kind) result ≡ option_and_then (if_inside kind) (exact op left right) }
 {
     match op {
         ArithOp::Add => left.checked_add(right),
@@ -194,7 +175,7 @@ fn if_inside(kind: IntKind, found: i128) -> Option<i128>
 
 /// The result inside the kind. None where there is none.
 fn exact_inside(op: ArithOp, kind: IntKind, left: i128, right: i128) -> Option<i128>
-    ensures { option_map number result ≡ exact_inside op kind left right }
+    ensures { option_map number result ≡ option_and_then (if_inside kind) (exact op left right) }
 {
     if_inside(kind, exact_number(op, left, right)?)
 }
@@ -206,7 +187,7 @@ fn joined(
     left: Seen<'_>,
     right: Seen<'_>,
 ) -> Option<Cell<'static>>
-    ensures { option_map cell_datum result ≡ joined_number op kind (seen_datum left.entry) (seen_datum right.entry) }
+    ensures { option_map cell_datum result ≡ arithmetic_of op (number_type kind) (seen_datum left.entry) (seen_datum right.entry) }
 {
     match (left, right) {
         (Seen::Null, _) | (_, Seen::Null) => Some(Cell::Null),

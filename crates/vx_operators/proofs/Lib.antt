@@ -1,0 +1,7 @@
+mod LiftedRows
+mod LogicRows
+mod NumberRows
+mod SideRows
+mod SingleRows
+mod Somes
+mod Steps

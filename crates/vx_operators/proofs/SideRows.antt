@@ -1,0 +1,43 @@
+-- One value at each row, and the rows of the sides of an operator.
+use Rattle.std.specs.Prelude.{slice_get}
+use Rattle.std.proofs.Common.{◌≡◌, ℕ, zero, suc, ◌<◌, ◌≤◌, ℤ, pos, Bool, true, false, List, [], ◌∷◌, length, map, take, replicate, Some, refl, sym, ap, ◌∙◌, arith}
+use Rattle.std.proofs.lemmas.List.{length-map, length-replicate}
+use Rattle.vx_types.specs.Data.{Datum, null, number}
+use Rattle.vx_types.specs.Reading.{where_valid}
+use Rattle.vx_operators.specs.declared.sides.Side.{Side}
+use Rattle.vx_operators.specs.declared.sides.Side.TheVariants.{Rows, One, Null}
+use Rattle.vx_operators.specs.Sides.{side_numbers, side_rows, IsSide}
+
+pub get_same : {X : Type 0} (rows : ℕ) (x : X) (row : ℕ) → row < length (replicate rows x) → slice_get (replicate rows x) row ≡ Some x
+get_same zero x row lt = absurd (omega arith)
+get_same (suc rows) x zero lt = refl
+get_same (suc rows) x (suc row) lt = get_same rows x row (omega arith)
+
+pub take_same : {X : Type 0} (n rows : ℕ) (x : X) → n ≤ rows → take n (replicate rows x) ≡ replicate n x
+take_same zero rows x le = refl
+take_same (suc n) zero x le = absurd (omega arith)
+take_same {X} (suc n) (suc rows) x le = ap (λ (xs : List X). x ∷ xs) (take_same n rows x (omega arith))
+
+-- ---- a number, or none, at each row
+pub numbers_same : (rows : ℕ) (z : ℤ) → where_valid (replicate rows true) (map number (replicate rows z)) ≡ replicate rows (number z)
+numbers_same zero z = refl
+numbers_same (suc rows) z = ap (λ (vs : List Datum). number z ∷ vs) (numbers_same rows z)
+
+pub nulls_same : (rows : ℕ) (z : ℤ) → where_valid (replicate rows false) (map number (replicate rows z)) ≡ replicate rows null
+nulls_same zero z = refl
+nulls_same (suc rows) z = ap (λ (vs : List Datum). null ∷ vs) (nulls_same rows z)
+
+-- ---- how many rows
+valid_len : (mask : List Bool) (vs : List Datum) → length mask ≡ length vs → length (where_valid mask vs) ≡ length vs
+valid_len [] [] e = refl
+valid_len (bit ∷ mask) (v ∷ vs) e = omega (arith, valid_len mask vs (omega arith))
+valid_len [] (v ∷ vs) e = absurd (omega arith)
+valid_len (bit ∷ mask) [] e = absurd (omega arith)
+
+pub side_count : {X : Type 0} (seen : X → ℤ) (side : Side X) → IsSide side → length (side_rows seen side) ≡ length (side_numbers seen side)
+side_count seen (Rows valid numbers) e =
+    valid_len valid.now (map number (map seen numbers.now)) (e ∙ sym (length-map numbers.now seen) ∙ sym (length-map (map seen numbers.now) number)) ∙ length-map (map seen numbers.now) number
+side_count seen (One z rows) e =
+    valid_len (replicate rows true) (map number (replicate rows (seen z))) (length-replicate rows true ∙ sym (length-replicate rows (seen z)) ∙ sym (length-map (replicate rows (seen z)) number)) ∙ length-map (replicate rows (seen z)) number
+side_count seen (Null rows) e =
+    valid_len (replicate rows false) (map number (replicate rows (pos 0))) (length-replicate rows false ∙ sym (length-replicate rows (pos 0)) ∙ sym (length-map (replicate rows (pos 0)) number)) ∙ length-map (replicate rows (pos 0)) number

@@ -1,0 +1,56 @@
+-- Rows that are made one by one: one row more, and no rows left.
+use Rattle.std.specs.Prelude.{slice_get}
+use Rattle.std.proofs.Common.{◌≡◌, ℕ, zero, suc, ◌+◌, ◌<◌, Bool, cond, map, get_or, drop, refl, Some, None, append_assoc, List, [], ◌∷◌, ◌++◌, length, Option, sym, ap, ◌∙◌, arith}
+use Rattle.std.proofs.lemmas.List.{append-nil, drop_more, map-append}
+use Rattle.vx_operators.specs.Rows.{along, front}
+use Rattle.vx_operators.specs.Kernels.{of_two}
+
+abbrev or_else : {X : Type 0} → Option X → X → X
+or_else None d = d
+or_else (Some x) d = x
+
+there : {X : Type 0} (xs : List X) (i : ℕ) (x : X) → slice_get xs i ≡ Some x → i < length xs
+there [] i x e = absurd cc
+there (y ∷ xs) zero x e = omega arith
+there (y ∷ xs) (suc i) x e = omega (arith, there xs i x e)
+
+there_is : {X : Type 0} (xs : List X) (i : ℕ) (x : X) → slice_get xs i ≡ Some x → get_or xs i x ≡ x
+there_is [] i x e = refl
+there_is (y ∷ xs) zero x e = ap (λ r. or_else r x) e
+there_is (y ∷ xs) (suc i) x e = there_is xs i x e
+
+got : {X : Type 0} (xs : List X) (i : ℕ) (x : X) → slice_get xs i ≡ Some x → drop i xs ≡ x ∷ drop (i + 1) xs
+got {X} xs i x e = drop_more xs i x (there xs i x e) ∙ ap (λ (y : X). y ∷ drop (i + 1) xs) (there_is xs i x e)
+
+-- ---- row by row
+pub more_along : {X Y Z : Type 0} (f : X → Y → Z) (xs : List X) (ys : List Y) (out longer whole : List Z) (i : ℕ) (x : X) (y : Y) (z : Z) → slice_get xs i ≡ Some x → slice_get ys i ≡ Some y
+    → z ≡ f x y → longer ≡ out ++ z ∷ [] → out ++ along f (drop i xs) (drop i ys) ≡ whole → longer ++ along f (drop (i + 1) xs) (drop (i + 1) ys) ≡ whole
+more_along {Z = Z} f xs ys out longer whole i x y z e d here p h =
+    let rest = along f (drop (i + 1) xs) (drop (i + 1) ys) in
+    let one = got xs i x e in
+    let two = got ys i y d in
+    let more = rw (one, two) at h in
+    ap (λ (zs : List Z). zs ++ rest) p ∙ append_assoc out (z ∷ []) rest ∙ ap (λ (r : Z). out ++ r ∷ rest) here ∙ more
+
+-- ---- as far as the first fault
+pub more_joined : {X Y Z T : Type 0} (seen : T → Z) (op : X → Y → Option Z) (blank : Z) (mask : List Bool) (xs : List X) (ys : List Y) (out longer : List T) (whole : List Z) (i : ℕ) (bit : Bool) (x : X) (y : Y) (z : T) → slice_get mask i ≡ Some bit → slice_get xs i ≡ Some x → slice_get ys i ≡ Some y
+    → Some (seen z) ≡ cond bit (op x y) (Some blank) → longer ≡ out ++ z ∷ [] → map seen out ++ front (of_two op blank (drop i mask) (drop i xs) (drop i ys)) ≡ whole
+    → map seen longer ++ front (of_two op blank (drop (i + 1) mask) (drop (i + 1) xs) (drop (i + 1) ys)) ≡ whole
+more_joined {X} {Y} {Z} {T} seen op blank mask xs ys out longer whole i bit x y z b e d here p h =
+    let rest = of_two op blank (drop (i + 1) mask) (drop (i + 1) xs) (drop (i + 1) ys) in
+    let none = got mask i bit b in
+    let one = got xs i x e in
+    let two = got ys i y d in
+    let more = rw (none, one, two) at h in
+    ap (λ (zs : List T). map seen zs ++ front rest) p ∙ ap (λ (zs : List Z). zs ++ front rest) (map-append seen out (z ∷ [])) ∙ append_assoc (map seen out) (seen z ∷ []) (front rest)
+    ∙ ap (λ (r : Option Z). map seen out ++ front (r ∷ rest)) here ∙ more
+
+pub joined_fault : {X Y Z T : Type 0} (seen : T → Z) (op : X → Y → Option Z) (blank : Z) (mask : List Bool) (xs : List X) (ys : List Y) (out : List T) (whole : List Z) (i : ℕ) (bit : Bool) (x : X) (y : Y) → slice_get mask i ≡ Some bit → slice_get xs i ≡ Some x → slice_get ys i ≡ Some y
+    → None ≡ cond bit (op x y) (Some blank) → map seen out ++ front (of_two op blank (drop i mask) (drop i xs) (drop i ys)) ≡ whole → map seen out ≡ whole
+joined_fault {X} {Y} {Z} {T} seen op blank mask xs ys out whole i bit x y b e d here h =
+    let rest = of_two op blank (drop (i + 1) mask) (drop (i + 1) xs) (drop (i + 1) ys) in
+    let none = got mask i bit b in
+    let one = got xs i x e in
+    let two = got ys i y d in
+    let more = rw (none, one, two) at h in
+    sym (append-nil (map seen out)) ∙ ap (λ (r : Option Z). map seen out ++ front (r ∷ rest)) here ∙ more

@@ -1,0 +1,6 @@
+pub mod Kernels
+pub mod Logic
+pub mod Operators
+pub mod Rows
+pub mod Sides
+pub mod Worths

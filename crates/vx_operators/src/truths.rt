@@ -1,0 +1,104 @@
+//! Truth values: which rows have one, and which of them hold true. Three-valued logic is made of whole
+//! masks. A row without a truth value holds false.
+
+ghost use Rattle.std.specs.Prelude.{◌≡◌, List, Some, false, length, map, IfOk};
+ghost use Rattle.vx_types.specs.Data.{Datum, truth};
+ghost use Rattle.vx_types.specs.Reading.{where_valid};
+ghost use Rattle.vx_types.specs.Segment.{is_value};
+ghost use Rattle.vx_words.specs.Rows.{NullsHold};
+ghost use Rattle.vx_operators.specs.Operators.{and_of, or_of, negated, null_test_of, value_test_of};
+ghost use Rattle.vx_operators.specs.Rows.{along};
+
+use std::alloc::{AllocError, Global};
+use vx_words::Mask;
+
+/// Truth values of the rows of a column.
+#[derive(Drop)]
+pub(crate) struct Truths {
+    /// The rows that have one.
+    pub(crate) validity: Mask,
+    /// The rows that hold true.
+    pub(crate) values: Mask,
+}
+
+/// Whether both are true: false where one is false, else null where one is null.
+#[tactic(auto, using(crate::proofs::NumberRows::both_len, crate::proofs::LogicRows::either_len, crate::proofs::LogicRows::without_len, crate::proofs::LogicRows::and_rows_again, crate::proofs::LogicRows::and_held))]
+pub(crate) fn and(alloc: Global, left: &Truths, right: &Truths) -> Result<Truths, AllocError>
+    requires left { length left.now.validity ≡ length left.now.values }
+    requires right { length right.now.validity ≡ length right.now.values }
+    requires rows { length left.now.validity ≡ length right.now.validity }
+    requires left_held { NullsHold false left.now.validity left.now.values }
+    requires right_held { NullsHold false right.now.validity right.now.values }
+    ensures rows { IfOk result (λ truths. length truths.validity ≡ length truths.values) }
+    ensures values { IfOk result (λ truths. map Some (where_valid truths.validity (map truth truths.values)) ≡ along and_of (where_valid left.now.validity (map truth left.now.values)) (where_valid right.now.validity (map truth right.now.values))) }
+    ensures held { IfOk result (λ truths. NullsHold false truths.validity truths.values) }
+{
+    let known = left.validity.and(alloc, &right.validity)?;
+    let left_false = left.validity.without(alloc, &left.values)?;
+    let right_false = right.validity.without(alloc, &right.values)?;
+    let one_false = left_false.either(alloc, &right_false)?;
+    let validity = known.either(alloc, &one_false)?;
+    let values = left.values.and(alloc, &right.values)?;
+    Ok(Truths { validity, values })
+}
+
+/// Whether one is true: true where one is true, else null where one is null.
+#[tactic(auto, using(crate::proofs::NumberRows::both_len, crate::proofs::LogicRows::either_len, crate::proofs::LogicRows::or_rows_again, crate::proofs::LogicRows::or_held))]
+pub(crate) fn or(alloc: Global, left: &Truths, right: &Truths) -> Result<Truths, AllocError>
+    requires left { length left.now.validity ≡ length left.now.values }
+    requires right { length right.now.validity ≡ length right.now.values }
+    requires rows { length left.now.validity ≡ length right.now.validity }
+    requires left_held { NullsHold false left.now.validity left.now.values }
+    requires right_held { NullsHold false right.now.validity right.now.values }
+    ensures rows { IfOk result (λ truths. length truths.validity ≡ length truths.values) }
+    ensures values { IfOk result (λ truths. map Some (where_valid truths.validity (map truth truths.values)) ≡ along or_of (where_valid left.now.validity (map truth left.now.values)) (where_valid right.now.validity (map truth right.now.values))) }
+    ensures held { IfOk result (λ truths. NullsHold false truths.validity truths.values) }
+{
+    let known = left.validity.and(alloc, &right.validity)?;
+    let values = left.values.either(alloc, &right.values)?;
+    let validity = known.either(alloc, &values)?;
+    Ok(Truths { validity, values })
+}
+
+/// The opposite truth values.
+#[tactic(auto, using(crate::proofs::LogicRows::not_rows_again, crate::proofs::LogicRows::not_held, crate::proofs::LogicRows::without_len))]
+pub(crate) fn not(alloc: Global, truths: &Truths) -> Result<Truths, AllocError>
+    requires { length truths.now.validity ≡ length truths.now.values }
+    ensures rows { IfOk result (λ made. length made.validity ≡ length made.values) }
+    ensures values { IfOk result (λ made. map Some (where_valid made.validity (map truth made.values)) ≡ map negated (where_valid truths.now.validity (map truth truths.now.values))) }
+    ensures held { IfOk result (λ made. NullsHold false made.validity made.values) }
+{
+    let values = truths.validity.without(alloc, &truths.values)?;
+    let validity = truths.validity.copy(alloc)?;
+    Ok(Truths { validity, values })
+}
+
+/// Which rows have no value.
+#[tactic(auto, using(crate::proofs::LogicRows::null_rows, crate::proofs::LogicRows::full_len, crate::proofs::LogicRows::full_held, crate::proofs::LogicRows::without_len))]
+pub(crate) fn is_null(alloc: Global, validity: &Mask) -> Result<Truths, AllocError>
+    ensures rows { IfOk result (λ made. length made.validity ≡ length made.values) }
+    ensures held { IfOk result (λ made. NullsHold false made.validity made.values) }
+    ensures values { IfOk result (λ made. (values : List Datum) → map is_value values ≡ validity.now → map Some (where_valid made.validity (map truth made.values)) ≡ map null_test_of values) }
+{
+    let all = Mask::new_true(alloc, validity.len())?;
+    let values = all.without(alloc, validity)?;
+    Ok(Truths {
+        validity: all,
+        values,
+    })
+}
+
+/// Which rows have a value.
+#[tactic(auto, using(crate::proofs::LogicRows::value_rows, crate::proofs::LogicRows::full_len, crate::proofs::LogicRows::full_held))]
+pub(crate) fn is_not_null(alloc: Global, validity: &Mask) -> Result<Truths, AllocError>
+    ensures rows { IfOk result (λ made. length made.validity ≡ length made.values) }
+    ensures held { IfOk result (λ made. NullsHold false made.validity made.values) }
+    ensures values { IfOk result (λ made. (values : List Datum) → map is_value values ≡ validity.now → map Some (where_valid made.validity (map truth made.values)) ≡ map value_test_of values) }
+{
+    let all = Mask::new_true(alloc, validity.len())?;
+    let values = validity.copy(alloc)?;
+    Ok(Truths {
+        validity: all,
+        values,
+    })
+}
