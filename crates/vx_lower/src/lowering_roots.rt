@@ -40,6 +40,17 @@ fn lower_root(
     }
 }
 
+/// For how many plans room is made at once: where all fields are kept, two for each node, which is the most that there
+/// can be, and nearly as many as there are in a tree of leaves; else for none, since most nodes may not be lowered.
+fn room(tree: &LayoutTree, kept: &Kept) -> u32
+    ensures { result ≤ 2 * length tree.now }
+{
+    match kept {
+        Kept::All => tree.len().saturating_mul(2),
+        Kept::Fields(_) => 0,
+    }
+}
+
 /// Lowers a tree: its rows without the fields of the root that aren't kept. The plans are numbered by their place,
 /// children first, and the root is the last of them. It is refused for want of memory alone.
 ///
@@ -59,7 +70,7 @@ pub fn lower(alloc: Global, tree: &LayoutTree, kept: &Kept) -> Result<Lowered, A
     ensures reads { IfOk result (λ made. HasTreeReads (subtree tree.now 0) (kept_data kept.now) (plan_at made.table (number_of made.root))) }
 {
     let _count = tree.len();
-    let mut table = PlanTable::new(alloc);
+    let mut table = PlanTable::with_capacity(alloc, room(tree, kept))?;
     let root = lower_root(alloc, tree, kept, &mut table)?;
     Ok(Lowered { table, root })
 }

@@ -48,7 +48,7 @@ fn is_bound(nodes: &[PlanNode], node: &PlanNode) -> bool
 {
     match &node.kind {
         PlanKind::Eval(expression) => match child_in(nodes, &node.children, 0) {
-            Some(child) => expression.is_root_bound_to(child.dtype()),
+            Some(child) => expression.bound().is_root_bound_to(child.dtype()),
             None => false,
         },
         _ => true,
@@ -60,7 +60,7 @@ fn has_no_row_index(node: &PlanNode) -> bool
     ensures { IsTrue result ↔ HasNoRowIndex node.now.kind }
 {
     match &node.kind {
-        PlanKind::Eval(expression) => !expression.uses_row_idx(),
+        PlanKind::Eval(expression) => !expression.bound().uses_row_idx(),
         _ => true,
     }
 }

@@ -22,23 +22,30 @@ impl PlanRef {
     }
 }
 
+/// How children are kept: an only child takes no memory of its own.
+#[derive(Debug, Drop)]
+enum ChildPlans {
+    One(PlanRef),
+    Many(Vec<PlanRef>),
+}
+
 /// The children of a plan, in order, seen as their numbers.
 #[derive(Debug, Drop)]
 pub struct PlanChildren {
-    plans: Vec<PlanRef>,
+    plans: ChildPlans,
 }
 
 impl Model for PlanChildren {
-    ghost use Rattle.std.specs.Prelude.{List, ℕ, map};
+    ghost use Rattle.std.specs.Prelude.{List, ℕ};
     ghost use Rattle.std.specs.Coded.{coded_list, coded_ℕ};
 
     ghost Value = { List ℕ };
 
     ghost coded = { coded_list coded_ℕ };
 
-    ghost use Rattle.vx_plan.specs.Refs.{number_of};
+    ghost use Rattle.vx_plan.specs.Refs.{child_numbers};
 
-    ghost view = { λ a. map number_of a.plans.items };
+    ghost view = { λ a. child_numbers a.plans };
 }
 
 impl PlanChildren {
@@ -46,28 +53,54 @@ impl PlanChildren {
     pub fn from(children: Vec<PlanRef>) -> PlanChildren
         ensures { result ≡ map number_of children.items }
     {
-        PlanChildren { plans: children }
+        PlanChildren {
+            plans: ChildPlans::Many(children),
+        }
+    }
+
+    /// The children as a slice.
+    fn as_slice(&self) -> &[PlanRef]
+        ensures { map number_of result.now ≡ self.now }
+    {
+        match &self.plans {
+            ChildPlans::One(plan) => slice::from_ref(plan),
+            ChildPlans::Many(plans) => plans.as_slice(),
+        }
+    }
+
+    /// The same children as a list.
+    fn into_vec(self, alloc: Global) -> Result<Vec<PlanRef>, AllocError>
+        ensures { IfOk result (λ plans. map number_of plans.items ≡ self) }
+    {
+        match self.plans {
+            ChildPlans::One(plan) => {
+                let mut plans = Vec::with_capacity(alloc, 2)?;
+                plans.push(plan)?;
+                Ok(plans)
+            }
+            ChildPlans::Many(plans) => Ok(plans),
+        }
     }
 
     /// How many there are.
     pub fn len(&self) -> usize
         ensures { result ≡ length self.now }
     {
-        self.plans.len()
+        self.as_slice().len()
     }
 
     /// Whether there are none.
     pub fn is_empty(&self) -> bool
         ensures { IsTrue result ↔ (length self.now ≡ 0) }
     {
-        self.plans.is_empty()
+        self.as_slice().is_empty()
     }
 
     /// The child at a place, and `None` past the last.
     pub fn get(&self, place: usize) -> Option<PlanRef>
         ensures { option_map number_of result ≡ slice_get self.now place }
     {
-        self.plans.get(place).copied()
+        self.as_slice().get(place).copied()
     }
 
     /// The number of the child at a place.
@@ -75,31 +108,31 @@ impl PlanChildren {
         requires { place < length self.now }
         ensures { slice_get self.now place ≡ Some result }
     {
-        self.plans[place].0
+        self.as_slice()[place].0
     }
 
     /// The children, one after another.
     pub fn iter(&self) -> slice::Iter<'_, PlanRef>
         ensures { map number_of (iter_rest result) ≡ self.now }
     {
-        self.plans.iter()
+        self.as_slice().iter()
     }
 
     /// The same children in a list of their own.
     pub fn to_vec(&self, alloc: Global) -> Result<Vec<PlanRef>, AllocError>
         ensures { IfOk result (λ copied. map number_of copied.items ≡ self.now) }
     {
-        self.plans.as_slice().to_vec(alloc)
+        self.as_slice().to_vec(alloc)
     }
 }
 
-/// The plan as the only child.
-pub(crate) fn one_child(alloc: Global, plan: PlanRef) -> Result<PlanChildren, AllocError>
-    ensures { IfOk result (λ children. children ≡ number_of plan ∷ []) }
+/// The plan as the only child. It takes no memory.
+pub(crate) fn one_child(plan: PlanRef) -> PlanChildren
+    ensures { result ≡ number_of plan ∷ [] }
 {
-    let mut plans = Vec::with_capacity(alloc, 1)?;
-    plans.push(plan)?;
-    Ok(PlanChildren { plans })
+    PlanChildren {
+        plans: ChildPlans::One(plan),
+    }
 }
 
 /// The two plans as children.
@@ -113,19 +146,23 @@ pub(crate) fn two_children(
     let mut plans = Vec::with_capacity(alloc, 2)?;
     plans.push(first)?;
     plans.push(second)?;
-    Ok(PlanChildren { plans })
+    Ok(PlanChildren::from(plans))
 }
 
 /// The children, and the validity behind them where one is given.
 pub(crate) fn with_validity(
+    alloc: Global,
     children: PlanChildren,
     validity: Option<PlanRef>,
 ) -> Result<PlanChildren, AllocError>
     ensures { IfOk result (λ all. all ≡ children ++ given_validity (option_map number_of validity)) }
 {
-    let mut plans = children.plans;
-    if let Some(plan) = validity {
-        plans.push(plan)?;
+    match validity {
+        Some(plan) => {
+            let mut plans = children.into_vec(alloc)?;
+            plans.push(plan)?;
+            Ok(PlanChildren::from(plans))
+        }
+        None => Ok(children),
     }
-    Ok(PlanChildren { plans })
 }

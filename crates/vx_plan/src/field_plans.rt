@@ -58,7 +58,7 @@ impl PackPlan {
         ensures refused { IfErr result (RefusedBy (packed_node (data_type (arc_value dtype)) row_count field_plans (option_map number_of validity)) (nodes_at table.old (field_plans ++ given_validity (option_map number_of validity)))) }
     {
         let has_validity = validity.is_some();
-        let children = with_validity(field_plans, validity)?;
+        let children = with_validity(alloc, field_plans, validity)?;
         let node = PlanNode {
             kind: PlanKind::Pack { has_validity },
             dtype,

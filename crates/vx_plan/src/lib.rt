@@ -2,7 +2,7 @@
 //! read, and which segments it reaches.
 //!
 //! - Plans by number, and the table that holds them: [`PlanRef`], [`PlanChildren`], [`PlanTable`] with [`PlanError`];
-//!   the nodes inside are [`PlanNode`] of a [`PlanKind`], and keep each [`PlanRule`].
+//!   the nodes inside are [`PlanNode`] of a [`PlanKind`], which may hold an [`EvalExpression`], and keep each [`PlanRule`].
 //! - The kinds of plan, with their constructors: [`ConcatPlan`], [`EvalPlan`], [`FilterPlan`], [`PackPlan`],
 //!   [`TakePlan`], [`SharePlan`], [`ListPackPlan`], [`RowIdxPlan`], [`SegmentScanPlan`], [`ZonedPlan`],
 //!   [`LegacyStatsPlan`]; which of them a plan is: [`PlanId`].
@@ -40,7 +40,7 @@ pub use children::{PlanChildren, PlanRef};
 pub use errors::PlanError;
 pub use kinds::PlanId;
 pub use laws::{alike_plans_are_worth_the_same, plans_are_alike, plans_unfold, reached_is_read};
-pub use nodes::{PlanKind, PlanNode};
+pub use nodes::{EvalExpression, PlanKind, PlanNode};
 pub use plan_types::{
     ConcatPlan, EvalPlan, FilterPlan, LegacyStatsPlan, ListPackPlan, PackPlan, RowIdxPlan,
     SegmentScanPlan, SharePlan, TakePlan, ZonedPlan,

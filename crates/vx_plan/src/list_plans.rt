@@ -37,7 +37,7 @@ impl ListPackPlan {
         let has_validity = validity.is_some();
         let element = Element::of(alloc, table.dtype(elements).copy(alloc)?)?;
         let dtype = Arc::new(alloc, DType::List(element, nullability))?;
-        let children = with_validity(two_children(alloc, elements, offsets)?, validity)?;
+        let children = with_validity(alloc, two_children(alloc, elements, offsets)?, validity)?;
         let node = PlanNode {
             kind: PlanKind::ListPack { has_validity },
             dtype,

@@ -1,14 +1,49 @@
 //! The nodes of a table of plans.
 
-ghost use Rattle.std.specs.Prelude.{◌≡◌};
+ghost use Rattle.std.specs.Prelude.{◌≡◌, IfOk};
 ghost use Rattle.vx_base.specs.Views.{data_type};
 ghost use Rattle.std.specs.Arc.{arc_value};
 
 use crate::children::PlanChildren;
-use std::alloc::Global;
+use std::alloc::{AllocError, Global};
+use std::marker::Model;
 use std::sync::Arc;
 use vx_base::DType;
 use vx_expr::{BoundExpression, Statistics};
+
+/// An expression in memory of its own, seen as that expression: few plans have one, and no other plan has to have room
+/// for it.
+#[derive(Debug, Drop)]
+pub struct EvalExpression {
+    bound: Box<BoundExpression>,
+}
+
+impl Model for EvalExpression {
+    ghost use Rattle.vx_expr.specs.Bound.{Bound, coded_bound};
+
+    ghost Value = { Bound };
+
+    ghost coded = { coded_bound };
+
+    ghost view = { λ a. a.bound.value };
+}
+
+impl EvalExpression {
+    /// The expression, moved into memory of its own.
+    pub fn of(alloc: Global, expression: BoundExpression) -> Result<EvalExpression, AllocError>
+        ensures { IfOk result (λ moved. moved ≡ expression) }
+    {
+        let bound = Box::new(alloc, expression)?;
+        Ok(EvalExpression { bound })
+    }
+
+    /// The expression. It takes no memory.
+    pub fn bound(&self) -> &BoundExpression
+        ensures { result.now ≡ self.now }
+    {
+        &self.bound
+    }
+}
 
 /// What a plan does, and what its children are, in order.
 #[derive(Debug, Drop)]
@@ -16,7 +51,7 @@ pub enum PlanKind {
     /// The rows of its children, one child after another.
     Concat,
     /// The expression at each row of its child.
-    Eval(BoundExpression),
+    Eval(EvalExpression),
     /// The rows of its child.
     Filter,
     /// Structs of one field for each child, but the last one where a validity was given: that says which

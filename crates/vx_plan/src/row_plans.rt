@@ -13,7 +13,7 @@ ghost use Rattle.vx_plan.specs.Tables.{IsAdded, IsChildAt};
 
 use crate::children::{PlanChildren, PlanRef, one_child};
 use crate::errors::PlanError;
-use crate::nodes::{PlanKind, PlanNode};
+use crate::nodes::{EvalExpression, PlanKind, PlanNode};
 use crate::plan_types::{EvalPlan, FilterPlan, RowIdxPlan, SegmentScanPlan, SharePlan};
 use crate::tables::PlanTable;
 use std::alloc::{AllocError, Global};
@@ -111,7 +111,7 @@ fn like(
     ensures { IfOk result (λ node. IsLikeChild kind table.now (number_of child) (node_data node)) }
 {
     let dtype = table.shared_dtype(child)?;
-    let children = one_child(alloc, child)?;
+    let children = one_child(child);
     Ok(PlanNode {
         kind,
         dtype,
@@ -186,7 +186,8 @@ impl EvalPlan {
         ensures refused { IfErr result (RefusedBy (eval_node table.old expression (number_of child)) (nodes_at table.old (number_of child ∷ []))) }
     {
         let dtype = Arc::new(alloc, expression.dtype().copy(alloc)?)?;
-        let children = one_child(alloc, child)?;
+        let expression = EvalExpression::of(alloc, expression)?;
+        let children = one_child(child);
         let node = PlanNode {
             kind: PlanKind::Eval(expression),
             dtype,
@@ -204,7 +205,7 @@ impl EvalPlan {
         ensures { (node_at table.now (number_of self.plan)).kind ≡ Eval result.now }
     {
         match &table.node(self.plan.0).kind {
-            PlanKind::Eval(expression) => expression,
+            PlanKind::Eval(expression) => expression.bound(),
             _ => unreachable!(),
         }
     }

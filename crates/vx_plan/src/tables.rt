@@ -66,6 +66,16 @@ impl PlanTable {
         }
     }
 
+    /// A table of no plans, with room for so many, so that it takes no memory as these are added.
+    pub fn with_capacity(alloc: Global, plans: u32) -> Result<PlanTable, AllocError>
+        ensures empty { IfOk result (λ table. table ≡ []) }
+        ensures good { IfOk result IsGoodTable }
+    {
+        Ok(PlanTable {
+            nodes: Vec::with_capacity(alloc, plans as usize)?,
+        })
+    }
+
     /// How many plans there are.
     pub fn len(&self) -> u32
         ensures count { result ≡ length self.now }

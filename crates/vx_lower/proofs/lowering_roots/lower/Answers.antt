@@ -22,8 +22,8 @@ lower_root-requires-clause-can c =
     record {
       tree = good;
       known = good.nonempty;
-      room = omega (arith, small, count, c.len-count.ensures.few, ap length c.new-table.ensures.empty);
-      good = c.new-table.ensures.good;
+      room = omega (arith, small, count, c.len-count.ensures.few, ap length c.in_ok-table.ensures.empty);
+      good = c.in_ok-table.ensures.good;
     }
 
 pub returns-clause-small : goal.returns-clause-small
@@ -32,14 +32,14 @@ returns-clause-small c =
     let good = c.len-count.ensures.good in
     let small = lowered_size (subtree nodes 0) (kept_data c.args.kept.now) (good_sound nodes good 0 good.nonempty) in
     let count = tree_has_each_node nodes good in
-    omega (arith, small, count, c.in_ok-root.ensures.count, ap length c.new-table.ensures.empty)
+    omega (arith, small, count, c.in_ok-root.ensures.count, ap length c.in_ok-table.ensures.empty)
 
 pub returns-clause-dtype : goal.returns-clause-dtype
 returns-clause-dtype c =
     let nodes = c.args.tree.now in
     let good = c.len-count.ensures.good in
     let p : Plan = lowered (subtree nodes 0) (kept_data c.args.kept.now) in
-    let is : plan_at c.lower_root.new.table (number_of c.in_ok-root.root) ≡ numbered 0 p = c.in_ok-root.ensures.plan_is ∙ ap (λ (table : List Node). numbered (length table) p) c.new-table.ensures.empty in
+    let is : plan_at c.lower_root.new.table (number_of c.in_ok-root.root) ≡ numbered 0 p = c.in_ok-root.ensures.plan_is ∙ ap (λ (table : List Node). numbered (length table) p) c.in_ok-table.ensures.empty in
     keeps_type (subtree nodes 0) (kept_data c.args.kept.now) (plan_at c.lower_root.new.table (number_of c.in_ok-root.root)) (good_sound nodes good 0 good.nonempty) is
 
 pub returns-clause-rows : goal.returns-clause-rows
@@ -47,7 +47,7 @@ returns-clause-rows c =
     let nodes = c.args.tree.now in
     let good = c.len-count.ensures.good in
     let p : Plan = lowered (subtree nodes 0) (kept_data c.args.kept.now) in
-    let is : plan_at c.lower_root.new.table (number_of c.in_ok-root.root) ≡ numbered 0 p = c.in_ok-root.ensures.plan_is ∙ ap (λ (table : List Node). numbered (length table) p) c.new-table.ensures.empty in
+    let is : plan_at c.lower_root.new.table (number_of c.in_ok-root.root) ≡ numbered 0 p = c.in_ok-root.ensures.plan_is ∙ ap (λ (table : List Node). numbered (length table) p) c.in_ok-table.ensures.empty in
     keeps_rows (subtree nodes 0) (kept_data c.args.kept.now) (plan_at c.lower_root.new.table (number_of c.in_ok-root.root)) (good_sound nodes good 0 good.nonempty) is
 
 pub returns-clause-values : goal.returns-clause-values
@@ -56,7 +56,7 @@ returns-clause-values c =
     let good = c.len-count.ensures.good in
     let kept : KeptFields = kept_data c.args.kept.now in
     let p : Plan = lowered (subtree nodes 0) kept in
-    let is : plan_at c.lower_root.new.table (number_of c.in_ok-root.root) ≡ numbered 0 p = c.in_ok-root.ensures.plan_is ∙ ap (λ (table : List Node). numbered (length table) p) c.new-table.ensures.empty in
+    let is : plan_at c.lower_root.new.table (number_of c.in_ok-root.root) ≡ numbered 0 p = c.in_ok-root.ensures.plan_is ∙ ap (λ (table : List Node). numbered (length table) p) c.in_ok-table.ensures.empty in
     keeps_values (subtree nodes 0) kept (plan_at c.lower_root.new.table (number_of c.in_ok-root.root)) (good_sound nodes good 0 good.nonempty) (tree_names nodes good) (tree_may nodes good kept c.requires.kept) is
 
 pub returns-clause-reads : goal.returns-clause-reads
@@ -64,5 +64,5 @@ returns-clause-reads c =
     let nodes = c.args.tree.now in
     let good = c.len-count.ensures.good in
     let p : Plan = lowered (subtree nodes 0) (kept_data c.args.kept.now) in
-    let is : plan_at c.lower_root.new.table (number_of c.in_ok-root.root) ≡ numbered 0 p = c.in_ok-root.ensures.plan_is ∙ ap (λ (table : List Node). numbered (length table) p) c.new-table.ensures.empty in
+    let is : plan_at c.lower_root.new.table (number_of c.in_ok-root.root) ≡ numbered 0 p = c.in_ok-root.ensures.plan_is ∙ ap (λ (table : List Node). numbered (length table) p) c.in_ok-table.ensures.empty in
     keeps_reads (subtree nodes 0) (kept_data c.args.kept.now) (plan_at c.lower_root.new.table (number_of c.in_ok-root.root)) (good_sound nodes good 0 good.nonempty) is
