@@ -8,48 +8,55 @@ ghost use Rattle.vx_base.specs.Segment.{IsShort};
 ghost use Rattle.vx_base.specs.ValueViews.{datum};
 
 use crate::built::texts_or_nulls;
-use anyhow::{Context, Error, Result};
-use std::alloc::Global;
-use std::fmt::Write;
+use crate::fields::number_of;
+use std::alloc::{AllocError, Global};
 use vx_base::{Column, Text, Value, decode, encode};
-use vx_notation::{number_of, write_value};
+use vx_notation::write_value;
 
 /// The text of a row: its number, and null at each seventh row.
-fn value_at(alloc: Global, row: u64) -> Result<Value> {
+fn value_at(alloc: Global, row: u64) -> Result<Value, AllocError> {
     if row % 7 == 6 {
         return Ok(Value::Null);
     }
-    Ok(Value::Text(Text::from_string(format!(in alloc; "row {row}")?)))
+    let text = format!(in alloc; "row {row}")?;
+    Ok(Value::Text(Text::from_string(text)))
 }
 
-/// The texts of the rows of a range.
-fn texts_of(alloc: Global, from: u64, to: u64) -> Result<Column>
-    ensures { IfOk result (λ column. column.dtype ≡ utf8_type Nullable) }
-{
+/// The values of the rows of a range.
+fn values_of(alloc: Global, from: u64, to: u64) -> Result<Vec<Value>, AllocError> {
     let mut values = Vec::new(alloc);
     for row in from..to {
         let value = value_at(alloc, row)?;
         values.push(value)?;
     }
-    match Column::try_of(alloc, texts_or_nulls(), values) {
+    Ok(values)
+}
+
+/// The texts of the rows of a range.
+fn texts_of(alloc: Global, from: u64, to: u64) -> Result<Column, AllocError>
+    ensures { IfOk result (λ column. column.dtype ≡ utf8_type Nullable) }
+{
+    match Column::try_of(alloc, texts_or_nulls(), values_of(alloc, from, to)?) {
         Ok(column) => Ok(column),
-        Err(_) => Err(Error::msg("values that fit the dtype")),
+        Err(_) => Err(AllocError),
     }
 }
 
-/// Appends how many rows there are, and the last one.
-fn write_told(alloc: Global, column: &Column, out: &mut String) -> Result<()> {
+/// Appends how many rows there are, and the last one; of none nothing.
+fn write_told(alloc: Global, column: &Column, out: &mut String) -> Result<(), AllocError> {
     let rows = column.len();
     if rows == 0 {
-        return Err(Error::msg("a row"));
+        return Ok(());
     }
-    let last = column.get(alloc, rows - 1)?;
     write!(out, "{rows} rows, the last ")?;
-    write_value(&last, out)
+    match write_value(&column.get(alloc, rows - 1)?, out) {
+        Ok(()) => Ok(()),
+        Err(_) => Err(AllocError),
+    }
 }
 
 /// The parts of a column, of two rows each.
-fn parts_of(alloc: Global, count: u64) -> Result<Vec<Column>>
+fn parts_of(alloc: Global, count: u64) -> Result<Vec<Column>, AllocError>
     ensures { IfOk result (λ parts. AllByRecursion (λ part. part.dtype ≡ utf8_type Nullable) parts.items) }
 {
     let mut parts = Vec::new(alloc);
@@ -62,21 +69,19 @@ fn parts_of(alloc: Global, count: u64) -> Result<Vec<Column>>
 }
 
 /// The column of that many parts.
-fn joined_column(alloc: Global, count: u64) -> Result<Column> {
+fn joined_column(alloc: Global, count: u64) -> Result<Column, AllocError> {
     let parts = parts_of(alloc, count)?;
-    Ok(Column::concat(alloc, texts_or_nulls(), parts)?)
+    Column::concat(alloc, texts_or_nulls(), parts)
 }
 
 /// The column of that many parts, which is the same as that of all its rows at once.
-fn joined(alloc: Global, count: u64) -> Result<String> {
+fn write_joined(alloc: Global, count: u64, out: &mut String) -> Result<(), AllocError> {
     let column = joined_column(alloc, count)?;
-    let is_same = texts_of(alloc, 0, count.saturating_mul(2))?.same(&column);
-    if !is_same {
-        return Err(Error::msg("the same rows"));
+    let whole = texts_of(alloc, 0, count.saturating_mul(2))?;
+    if !whole.same(&column) {
+        return out.push_str("other rows");
     }
-    let mut text = String::new(alloc);
-    write_told(alloc, &column, &mut text)?;
-    Ok(text)
+    write_told(alloc, &column, out)
 }
 
 /// Whether the value's text, if it is one, has a length that a segment can hold.
@@ -102,43 +107,40 @@ fn are_short(values: &[Value]) -> bool
 }
 
 /// Appends what is told of the column that these bytes are read as, which is the same.
-fn write_read(alloc: Global, column: &Column, bytes: &[u8], out: &mut String) -> Result<()>
+fn write_read(
+    alloc: Global,
+    column: &Column,
+    bytes: &[u8],
+    out: &mut String,
+) -> Result<(), AllocError>
     requires { column.now.dtype ≡ utf8_type Nullable }
 {
-    let read = decode(alloc, column.dtype(), column.len(), bytes)?;
-    if !read.same(column) {
-        return Err(Error::msg("the same rows"));
+    write!(out, "{} bytes, ", bytes.len())?;
+    match decode(alloc, column.dtype(), column.len(), bytes) {
+        Ok(read) if read.same(column) => write_told(alloc, &read, out),
+        _ => out.push_str("other rows"),
     }
-    write_told(alloc, &read, out)
 }
 
-/// How many bytes a column is written as, and what is read of them.
-fn coded_column(alloc: Global, column: &Column) -> Result<String>
+/// How many bytes the column is written as, and what is read of them.
+fn write_coded(alloc: Global, column: &Column, out: &mut String) -> Result<(), AllocError>
     requires { column.now.dtype ≡ utf8_type Nullable }
 {
     let values = column.to_values(alloc)?;
     if !are_short(values.as_slice()) {
-        return Err(Error::msg("short texts"));
+        return Ok(());
     }
     let bytes = encode(alloc, column)?;
-    let mut text = format!(in alloc; "{} bytes, ", bytes.len())?;
-    write_read(alloc, column, bytes.as_slice(), &mut text)?;
-    Ok(text)
-}
-
-/// The column of that many rows, which is read from what it is written as.
-fn coded(alloc: Global, count: u64) -> Result<String> {
-    let column = texts_of(alloc, 0, count)?;
-    coded_column(alloc, &column)
+    write_read(alloc, column, bytes.as_slice(), out)
 }
 
 /// The answer to `big joined COUNT` and `big coded COUNT`.
-pub(crate) fn big(alloc: Global, rest: &str) -> Result<String> {
-    let (word, count) = rest.split_once(' ').context("a word and a count")?;
-    let count = number_of(count)?;
+pub(crate) fn write_big(alloc: Global, rest: &str, out: &mut String) -> Result<(), AllocError> {
+    let (word, count) = rest.split_once(' ').unwrap_or((rest, ""));
+    let count = number_of(count);
     match word {
-        "joined" => joined(alloc, count),
-        "coded" => coded(alloc, count),
-        _ => Err(Error::msg("`joined` or `coded`")),
+        "joined" => write_joined(alloc, count, out),
+        "coded" => write_coded(alloc, &texts_of(alloc, 0, count)?, out),
+        _ => Ok(()),
     }
 }

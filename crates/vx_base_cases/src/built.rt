@@ -1,6 +1,6 @@
 //! Columns that are made of columns: look-ups and structs.
 
-ghost use Rattle.std.specs.Prelude.{◌≡◌, ◌∷◌, [], length, map, IsTrue, IfOk};
+ghost use Rattle.std.specs.Prelude.{◌≡◌, ◌∷◌, [], length, map, IsTrue};
 ghost use Rattle.std.specs.List.{AllByRecursion};
 ghost use Rattle.std.specs.Option.{ForSome};
 ghost use Rattle.vx_base.specs.declared.dtypes.IntKind.TheVariants.{U64};
@@ -11,21 +11,20 @@ ghost use Rattle.vx_base.specs.Views.{data_type};
 ghost use Rattle.vx_base.specs.ValueViews.{datum};
 
 use crate::column_calls::column;
-use crate::fields::three;
+use crate::fields::{number_of, three, two};
 use crate::mask_calls::mask_of;
-use anyhow::{Error, Result};
 use std::alloc::Global;
 use vx_base::{Column, DType, Field, Fields, IntKind, Mask, Nullability, Text, Value};
-use vx_notation::{column_of, dtype_of, number_of, two};
+use vx_notation::{column_of, dtype_of};
 
 /// Whether the codes are unsigned numbers.
 fn is_unsigned(dtype: &DType) -> bool
     ensures { IsTrue result → IsUnsigned (data_type dtype.now) }
 {
-    match dtype {
-        DType::Int(IntKind::U8 | IntKind::U16 | IntKind::U32 | IntKind::U64, _) => true,
-        _ => false,
-    }
+    matches!(
+        dtype,
+        DType::Int(IntKind::U8 | IntKind::U16 | IntKind::U32 | IntKind::U64, _)
+    )
 }
 
 /// Whether the code is below the count.
@@ -51,35 +50,35 @@ fn are_below(codes: &[Value], count: usize) -> bool
 }
 
 /// The values at codes.
-fn looked_up(alloc: Global, codes: &Column, values: &Column) -> Result<Column> {
-    let numbers = codes.to_values(alloc)?;
+fn looked_up(alloc: Global, codes: &Column, values: &Column) -> Option<Column> {
+    let numbers = codes.to_values(alloc).ok()?;
     if !is_unsigned(codes.dtype()) || !are_below(numbers.as_slice(), values.len() as usize) {
-        return Err(Error::msg("codes of values"));
+        return None;
     }
-    Ok(Column::look_up(alloc, codes, values)?)
+    Column::look_up(alloc, codes, values).ok()
 }
 
 /// The values at codes, each column with its dtype before it.
-pub(crate) fn look_up(alloc: Global, rest: &str) -> Result<Column> {
-    let (dtype, codes, values) = three(rest)?;
+pub(crate) fn look_up(alloc: Global, rest: &str) -> Option<Column> {
+    let (dtype, codes, values) = three(rest);
     let values = column(alloc, values)?;
-    let dtype = dtype_of(alloc, dtype)?;
-    let codes = column_of(alloc, dtype, codes)?;
+    let dtype = dtype_of(alloc, dtype).ok()?;
+    let codes = column_of(alloc, dtype, codes).ok()?;
     looked_up(alloc, &codes, &values)
 }
 
-/// A validity of so many rows: none where the word is `all`.
-fn validity_of(alloc: Global, word: &str, rows: u64) -> Result<Option<Mask>>
-    ensures { IfOk result (λ validity. ForSome validity (λ mask. length mask ≡ rows)) }
+/// Whether a validity of so many rows is written: where the word is `all` none, else as many bits.
+fn validity_of(alloc: Global, word: &str, rows: u64) -> Option<Option<Mask>>
+    ensures { ForSome result (λ validity. ForSome validity (λ mask. length mask ≡ rows)) }
 {
     if word == "all" {
-        return Ok(None);
+        return Some(None);
     }
     let mask = mask_of(alloc, word)?;
     if mask.len() == rows {
-        Ok(Some(mask))
+        Some(Some(mask))
     } else {
-        Err(Error::msg("as many bits as rows"))
+        None
     }
 }
 
@@ -98,48 +97,49 @@ pub(crate) fn texts_or_nulls() -> DType
 }
 
 /// The fields of these two dtypes, a number and a text.
-fn two_fields(alloc: Global) -> Result<Fields>
-    ensures { IfOk result (λ fields. fields ≡ member (97 ∷ []) (int_type U64 NonNullable) (member (98 ∷ []) (utf8_type Nullable) no_members)) }
+fn two_fields(alloc: Global) -> Option<Fields>
+    ensures { ForSome result (λ fields. fields ≡ member (97 ∷ []) (int_type U64 NonNullable) (member (98 ∷ []) (utf8_type Nullable) no_members)) }
 {
     let first = Field {
-        name: Text::from_string(String::from_str(alloc, "a")?),
+        name: Text::from_string(String::from_str(alloc, "a").ok()?),
         dtype: DType::Int(IntKind::U64, Nullability::NonNullable),
     };
     let second = Field {
-        name: Text::from_string(String::from_str(alloc, "b")?),
+        name: Text::from_string(String::from_str(alloc, "b").ok()?),
         dtype: DType::Utf8(Nullability::Nullable),
     };
-    Ok(Fields::from_vec(vec![in alloc; first, second]?))
+    let fields = vec![in alloc; first, second].ok()?;
+    Some(Fields::from_vec(fields))
 }
 
 /// The structs of a validity, numbers and texts.
-fn packed(alloc: Global, validity: &str, numbers: Column, texts: Column) -> Result<Column>
+fn packed(alloc: Global, validity: &str, numbers: Column, texts: Column) -> Option<Column>
     requires numbers { numbers.dtype ≡ int_type U64 NonNullable }
     requires texts { texts.dtype ≡ utf8_type Nullable }
 {
     let rows = numbers.len();
     if texts.len() != rows {
-        return Err(Error::msg("as many texts as numbers"));
+        return None;
     }
-    let parts = vec![in alloc; numbers, texts]?;
+    let parts = vec![in alloc; numbers, texts].ok()?;
     let validity = validity_of(alloc, validity, rows)?;
     let fields = two_fields(alloc)?;
-    Ok(Column::pack(alloc, fields, parts, validity, rows)?)
+    Column::pack(alloc, fields, parts, validity, rows).ok()
 }
 
 /// The structs of a validity, numbers and texts, `{a=u64, b=utf8?}`.
-pub(crate) fn pack(alloc: Global, rest: &str) -> Result<Column> {
-    let (validity, numbers, texts) = three(rest)?;
-    let numbers = column_of(alloc, plain_numbers(), numbers)?;
-    let texts = column_of(alloc, texts_or_nulls(), texts)?;
+pub(crate) fn pack(alloc: Global, rest: &str) -> Option<Column> {
+    let (validity, numbers, texts) = three(rest);
+    let numbers = column_of(alloc, plain_numbers(), numbers).ok()?;
+    let texts = column_of(alloc, texts_or_nulls(), texts).ok()?;
     packed(alloc, validity, numbers, texts)
 }
 
 /// The structs of a validity and no fields.
-pub(crate) fn pack_none(alloc: Global, rest: &str) -> Result<Column> {
-    let (validity, rows) = two(rest)?;
-    let rows = number_of(rows)?;
+pub(crate) fn pack_none(alloc: Global, rest: &str) -> Option<Column> {
+    let (validity, rows) = two(rest);
+    let rows = number_of(rows);
     let validity = validity_of(alloc, validity, rows)?;
     let fields = Fields::from_vec(Vec::new(alloc));
-    Ok(Column::pack(alloc, fields, Vec::new(alloc), validity, rows)?)
+    Column::pack(alloc, fields, Vec::new(alloc), validity, rows).ok()
 }

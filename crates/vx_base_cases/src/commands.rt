@@ -1,28 +1,30 @@
 //! The commands.
 
-use crate::big::big;
-use crate::column_calls::of_columns;
-use crate::desks::Desk;
-use crate::dtype_calls::of_dtypes;
-use crate::errors::error_text;
-use crate::mask_calls::of_masks;
-use crate::segments::segment;
-use crate::sources::{of_memory, of_scripts};
-use crate::streams::of_streams;
-use anyhow::Result;
-use std::alloc::Global;
-use std::fmt::Write;
+use crate::big::write_big;
+use crate::column_calls::write_of_columns;
+use crate::desks::{Desk, new_desk};
+use crate::dtype_calls::write_of_dtypes;
+use crate::errors::write_error;
+use crate::mask_calls::write_of_masks;
+use crate::segments::write_segment;
+use crate::sources::{set_memory, set_script, write_of_memory, write_of_scripts};
+use crate::streams::{set_sink, set_stream, write_of_streams};
+use std::alloc::{AllocError, Global};
+use vx_base::SegmentSource;
 
-/// The answer to a line: none to an empty one and to a remark.
-fn answer(alloc: Global, desk: &mut Desk, line: &str) -> Result<String> {
-    if line.is_empty() || line.starts_with("# ") {
-        return Ok(String::new(alloc));
-    }
-    let (command, rest) = line.split_once(' ').unwrap_or((line, ""));
+/// Appends the answer to a command that asks.
+fn write_answer(
+    alloc: Global,
+    desk: &mut Desk,
+    command: &str,
+    rest: &str,
+    out: &mut String,
+) -> Result<(), AllocError> {
+    out.push_str(" => ")?;
     match command {
-        "read" => segment(alloc, rest),
+        "read" => write_segment(alloc, rest, out),
         "dtype" | "same_dtype" | "kind" | "find" | "field" | "field_count" => {
-            of_dtypes(alloc, command, rest)
+            write_of_dtypes(alloc, command, rest, out)
         }
         "mask"
         | "all_true"
@@ -35,39 +37,59 @@ fn answer(alloc: Global, desk: &mut Desk, line: &str) -> Result<String> {
         | "chosen"
         | "behind"
         | "ranked"
-        | "words" => of_masks(alloc, command, rest),
-        "memory" | "fetch" | "forget" | "asked" => of_memory(alloc, desk, command, rest),
-        "script" | "request" | "poll" | "clear" | "counts" => of_scripts(
-            alloc, desk, command, rest,
-        ),
-        "stream" | "next" | "sink" | "put" | "written" => of_streams(alloc, desk, command, rest),
-        "error" => error_text(alloc, rest),
-        "big" => big(alloc, rest),
-        _ => of_columns(alloc, desk, command, rest),
+        | "words" => write_of_masks(alloc, command, rest, out),
+        "fetch" | "forget" | "asked" => write_of_memory(&mut desk.memory, command, rest, out),
+        "request" | "poll" | "counts" => write_of_scripts(&mut desk.script, command, rest, out),
+        "next" | "put" | "written" => write_of_streams(alloc, desk, command, rest, out),
+        "error" => write_error(rest, out),
+        "big" => write_big(alloc, rest, out),
+        _ => write_of_columns(alloc, &mut desk.column, command, rest, out),
     }
 }
 
-/// Appends a line, with its answer behind `=>`.
-fn write_answer(alloc: Global, desk: &mut Desk, line: &str, out: &mut String) -> Result<()> {
-    out.push_str(line)?;
-    let answered = answer(alloc, desk, line)?;
-    if !answered.is_empty() {
-        write!(out, " => {answered}")?;
+/// Does what a line sets, or appends the answer to it. Words that set nothing end all output.
+fn write_line(
+    alloc: Global,
+    desk: &mut Desk,
+    line: &str,
+    out: &mut String,
+) -> Result<(), AllocError> {
+    let (command, rest) = line.split_once(' ').unwrap_or((line, ""));
+    match command {
+        "" | "#" => Ok(()),
+        "memory" => set_memory(alloc, &mut desk.memory, rest),
+        "script" => set_script(alloc, &mut desk.script, rest),
+        "stream" => set_stream(alloc, &mut desk.stream, rest),
+        "sink" => set_sink(alloc, &mut desk.sink, rest),
+        "clear" => {
+            desk.script.clear();
+            Ok(())
+        }
+        _ => write_answer(alloc, desk, command, rest, out),
     }
-    out.push('\n')?;
-    Ok(())
 }
 
 /// Appends each line with its answer, over what is set so far.
-fn write_all(alloc: Global, desk: &mut Desk, lines: &str, out: &mut String) -> Result<()> {
+fn write_all(
+    alloc: Global,
+    desk: &mut Desk,
+    lines: &str,
+    out: &mut String,
+) -> Result<(), AllocError> {
     for line in lines.lines() {
-        write_answer(alloc, desk, line, out)?;
+        out.push_str(line)?;
+        write_line(alloc, desk, line, out)?;
+        out.push('\n')?;
     }
     Ok(())
 }
 
 /// Appends each line with its answer.
-pub(crate) fn write_answers(alloc: Global, lines: &str, out: &mut String) -> Result<()> {
-    let mut desk = Desk::new(alloc)?;
+pub(crate) fn write_answers(
+    alloc: Global,
+    lines: &str,
+    out: &mut String,
+) -> Result<(), AllocError> {
+    let mut desk = new_desk(alloc)?;
     write_all(alloc, &mut desk, lines, out)
 }

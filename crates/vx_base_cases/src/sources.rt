@@ -1,149 +1,153 @@
 //! Sources over memory, one of them with a script: reads that are started, polled and forgotten.
 
-use crate::desks::Desk;
-use crate::fields::{bytes_of, hexadecimal};
-use anyhow::{Context, Error, Result};
-use std::alloc::Global;
-use std::fmt::Write;
+use crate::fields::{bytes_of, number_of, write_bytes};
+use std::alloc::{AllocError, Global};
 use vx_base::{
     AskedRange, MemorySource, Script, ScriptSource, SegmentLocation, SegmentSource, SourceError,
 };
-use vx_notation::{number_of, numbers_of, two};
+use vx_notation::numbers_of;
 
 /// The location that is written as its offset and its length.
-fn location_of(words: &str) -> Result<SegmentLocation> {
-    let (offset, length) = words.split_once(' ').context("an offset and a length")?;
-    let offset = number_of(offset)?;
-    let length = length.parse::<u32>().context("a length")?;
-    Ok(SegmentLocation {
-        offset,
-        length,
+fn location_of(words: &str) -> SegmentLocation {
+    let (offset, length) = words.split_once(' ').unwrap_or((words, ""));
+    SegmentLocation {
+        offset: number_of(offset),
+        length: length.parse::<u32>().unwrap_or(0),
         alignment: 1,
-    })
+    }
 }
 
-/// What a poll answered.
-fn polled_text(alloc: Global, polled: Result<Option<Vec<u8>>, SourceError>) -> Result<String> {
+/// Appends what a poll answered.
+fn write_polled(
+    polled: &Result<Option<Vec<u8>>, SourceError>,
+    out: &mut String,
+) -> Result<(), AllocError> {
     match polled {
-        Ok(Some(bytes)) => hexadecimal(alloc, bytes.as_slice()),
-        Ok(None) => Ok(String::from_str(alloc, "goes on")?),
-        Err(error) => Ok(format!(in alloc; "{error}")?),
+        Ok(Some(bytes)) => write_bytes(bytes.as_slice(), out),
+        Ok(None) => out.push_str("goes on"),
+        Err(error) => write!(out, "{error}"),
     }
 }
 
-/// How often a source failed and found nothing, and what it was asked for.
-fn counts(alloc: Global, faults: u64, idle: u64, asked: &[AskedRange]) -> Result<String> {
-    let mut text = format!(in alloc; "{faults} faults, {idle} idle, asked")?;
+/// Appends how often a source failed and found nothing, and what it was asked for.
+fn write_counts(
+    faults: u64,
+    idle: u64,
+    asked: &[AskedRange],
+    out: &mut String,
+) -> Result<(), AllocError> {
+    write!(out, "{faults} faults, {idle} idle, asked")?;
     for range in asked {
-        write!(text, " {}+{}", range.offset, range.length)?;
+        write!(out, " {}+{}", range.offset, range.length)?;
     }
-    Ok(text)
+    Ok(())
 }
 
 /// Starts a read of the file in memory, and polls it once.
-fn fetch(alloc: Global, source: &mut MemorySource, rest: &str) -> Result<String> {
-    let ticket = source.request(0, location_of(rest)?)?;
-    let polled = source.poll(ticket);
-    let text = polled_text(alloc, polled)?;
-    Ok(format!(in alloc; "ticket {ticket}: {text}, {} faults", source.faults())?)
+fn write_fetched(
+    source: &mut MemorySource,
+    at: SegmentLocation,
+    out: &mut String,
+) -> Result<(), AllocError> {
+    let Ok(ticket) = source.request(0, at) else {
+        return Ok(());
+    };
+    write!(out, "ticket {ticket}: ")?;
+    write_polled(&source.poll(ticket), out)?;
+    write!(out, ", {} faults", source.faults())
 }
 
 /// Starts a read of the file in memory, and forgets it.
-fn forget(alloc: Global, source: &mut MemorySource, rest: &str) -> Result<String> {
-    let ticket = source.request(0, location_of(rest)?)?;
+fn write_forgotten(
+    source: &mut MemorySource,
+    at: SegmentLocation,
+    out: &mut String,
+) -> Result<(), AllocError> {
+    let Ok(ticket) = source.request(0, at) else {
+        return Ok(());
+    };
     source.clear();
-    Ok(format!(in alloc; "ticket {ticket}")?)
+    write!(out, "ticket {ticket}")
+}
+
+/// The numbers between blanks; what can't be read is want of memory.
+fn list_of(alloc: Global, words: &str) -> Result<Vec<u64>, AllocError> {
+    match numbers_of(alloc, words.trim(), ' ') {
+        Ok(numbers) => Ok(numbers),
+        Err(_) => Err(AllocError),
+    }
 }
 
 /// The script that is written as the requests that fail, the polls that fail, the waits and the order.
-fn script_of(alloc: Global, rest: &str) -> Result<Script> {
-    let (requests, polls) = two(rest)?;
-    let (polls, waits) = two(polls)?;
-    let (waits, order) = two(waits)?;
+fn script_of(alloc: Global, rest: &str) -> Result<Script, AllocError> {
+    let (requests, rest) = rest.split_once('|').unwrap_or((rest, ""));
+    let (polls, rest) = rest.split_once('|').unwrap_or((rest, ""));
+    let (waits, order) = rest.split_once('|').unwrap_or((rest, ""));
     Ok(Script {
-        fail_requests: numbers_of(alloc, requests, ' ')?,
-        fail_polls: numbers_of(alloc, polls, ' ')?,
-        waits: numbers_of(alloc, waits, ' ')?,
-        order: numbers_of(alloc, order, ' ')?,
+        fail_requests: list_of(alloc, requests)?,
+        fail_polls: list_of(alloc, polls)?,
+        waits: list_of(alloc, waits)?,
+        order: list_of(alloc, order)?,
     })
 }
 
-/// Starts a read of the file with a script.
-fn request(alloc: Global, source: &mut ScriptSource, rest: &str) -> Result<String> {
-    match source.request(0, location_of(rest)?) {
-        Ok(ticket) => Ok(format!(in alloc; "ticket {ticket}")?),
-        Err(error) => Ok(format!(in alloc; "{error}")?),
-    }
-}
-
-/// Polls a read of the file with a script.
-fn poll(alloc: Global, source: &mut ScriptSource, rest: &str) -> Result<String> {
-    let ticket = number_of(rest)?;
-    if !source.is_in_flight(ticket) {
-        return Ok(String::from_str(alloc, "not in flight")?);
-    }
-    let polled = source.poll(ticket);
-    polled_text(alloc, polled)
-}
-
 /// Sets the file in memory.
-fn set_memory(alloc: Global, source: &mut MemorySource, rest: &str) -> Result<()> {
-    let bytes = bytes_of(alloc, rest)?;
-    *source = MemorySource::new(alloc, bytes);
+pub(crate) fn set_memory(
+    alloc: Global,
+    source: &mut MemorySource,
+    rest: &str,
+) -> Result<(), AllocError> {
+    *source = MemorySource::new(alloc, bytes_of(alloc, rest)?);
     Ok(())
 }
 
 /// Sets the script of the file of the bytes 10 to 15.
-fn set_script(alloc: Global, source: &mut ScriptSource, rest: &str) -> Result<()> {
-    let bytes = bytes_of(alloc, "0a 0b 0c 0d 0e 0f")?;
+pub(crate) fn set_script(
+    alloc: Global,
+    source: &mut ScriptSource,
+    rest: &str,
+) -> Result<(), AllocError> {
     let script = script_of(alloc, rest)?;
+    let bytes = [10, 11, 12, 13, 14, 15].to_vec(alloc)?;
     *source = ScriptSource::new(alloc, bytes, script);
     Ok(())
 }
 
 /// The answer to a command about the source over memory.
-pub(crate) fn of_memory(
-    alloc: Global,
-    desk: &mut Desk,
+pub(crate) fn write_of_memory(
+    source: &mut MemorySource,
     command: &str,
     rest: &str,
-) -> Result<String> {
+    out: &mut String,
+) -> Result<(), AllocError> {
     match command {
-        "memory" => {
-            set_memory(alloc, &mut desk.memory, rest)?;
-            Ok(String::new(alloc))
-        }
-        "fetch" => fetch(alloc, &mut desk.memory, rest),
-        "forget" => forget(alloc, &mut desk.memory, rest),
-        _ => {
-            let memory = &desk.memory;
-            counts(alloc, memory.faults(), memory.idle(), memory.asked())
-        }
+        "fetch" => write_fetched(source, location_of(rest), out),
+        "forget" => write_forgotten(source, location_of(rest), out),
+        _ => write_counts(source.faults(), source.idle(), source.asked(), out),
     }
 }
 
+/// Polls a read of the file with a script.
+fn write_poll(source: &mut ScriptSource, ticket: u64, out: &mut String) -> Result<(), AllocError> {
+    if !source.is_in_flight(ticket) {
+        return out.push_str("not in flight");
+    }
+    write_polled(&source.poll(ticket), out)
+}
+
 /// The answer to a command about the source with a script, whose file has the bytes 10 to 15.
-pub(crate) fn of_scripts(
-    alloc: Global,
-    desk: &mut Desk,
+pub(crate) fn write_of_scripts(
+    source: &mut ScriptSource,
     command: &str,
     rest: &str,
-) -> Result<String> {
+    out: &mut String,
+) -> Result<(), AllocError> {
     match command {
-        "script" => {
-            set_script(alloc, &mut desk.script, rest)?;
-            Ok(String::new(alloc))
-        }
-        "request" => request(alloc, &mut desk.script, rest),
-        "poll" => poll(alloc, &mut desk.script, rest),
-        "clear" => {
-            desk.script.clear();
-            Ok(String::new(alloc))
-        }
-        "counts" => {
-            let script = &desk.script;
-            counts(alloc, script.faults(), script.idle(), script.asked())
-        }
-        _ => Err(Error::msg("a command")),
+        "request" => match source.request(0, location_of(rest)) {
+            Ok(ticket) => write!(out, "ticket {ticket}"),
+            Err(error) => write!(out, "{error}"),
+        },
+        "poll" => write_poll(source, number_of(rest), out),
+        _ => write_counts(source.faults(), source.idle(), source.asked(), out),
     }
 }

@@ -1,83 +1,89 @@
 //! Streams over memory: one that is read and one that is written.
 
-ghost use Rattle.std.specs.Prelude.{◌<◌, IfOk};
+ghost use Rattle.std.specs.Prelude.{◌<◌};
 
 use crate::desks::Desk;
-use crate::fields::{bytes_of, hexadecimal, three};
-use anyhow::{Context, Error, Result};
-use std::alloc::Global;
-use std::fmt::Write;
-use vx_base::{BytesSink, BytesSource, Sink, Source};
-use vx_notation::{numbers_of, two};
+use crate::fields::{bytes_of, three, two, write_bytes};
+use std::alloc::{AllocError, Global};
+use vx_base::{BytesSink, BytesSource, Sink, Source, StreamError};
+use vx_notation::numbers_of;
 
-/// A count that is not 0.
-fn size_of(word: &str) -> Result<usize>
-    ensures { IfOk result (λ size. 0 < size) }
+/// A count that is not 0; any other word is 1.
+fn size_of(word: &str) -> usize
+    ensures { 0 < result }
 {
-    let size = word.parse::<usize>().context("a size")?;
-    if size == 0 {
-        return Err(Error::msg("a size of at least 1"));
+    match word.parse::<usize>() {
+        Ok(size) if 0 < size => size,
+        _ => 1,
     }
-    Ok(size)
 }
 
-/// The next piece of the stream that is read.
-fn next(alloc: Global, stream: &mut BytesSource, rest: &str) -> Result<String> {
-    let mut text = match stream.read(size_of(rest)?) {
-        Ok(piece) => hexadecimal(alloc, piece.as_slice())?,
-        Err(error) => format!(in alloc; "{error}")?,
-    };
-    write!(text, ", {} faults", stream.faults())?;
-    Ok(text)
+/// Appends what a read gave.
+fn write_next(piece: &Result<Vec<u8>, StreamError>, out: &mut String) -> Result<(), AllocError> {
+    match piece {
+        Ok(piece) => write_bytes(piece.as_slice(), out),
+        Err(error) => write!(out, "{error}"),
+    }
 }
 
-/// Hands a piece to the stream that is written.
-fn put(alloc: Global, stream: &mut BytesSink, rest: &str) -> Result<String> {
-    let mut text = match stream.write(bytes_of(alloc, rest)?.as_slice()) {
-        Ok(count) => format!(in alloc; "took {count}")?,
-        Err(error) => format!(in alloc; "{error}")?,
-    };
-    write!(text, ", {} faults", stream.faults())?;
-    Ok(text)
+/// Appends what a write took.
+fn write_taken(taken: &Result<usize, StreamError>, out: &mut String) -> Result<(), AllocError> {
+    match taken {
+        Ok(count) => write!(out, "took {count}"),
+        Err(error) => write!(out, "{error}"),
+    }
+}
+
+/// The numbers between blanks; what can't be read is want of memory.
+fn fails_of(alloc: Global, words: &str) -> Result<Vec<u64>, AllocError> {
+    match numbers_of(alloc, words, ' ') {
+        Ok(numbers) => Ok(numbers),
+        Err(_) => Err(AllocError),
+    }
 }
 
 /// Sets the stream that is read.
-fn set_stream(alloc: Global, stream: &mut BytesSource, rest: &str) -> Result<()> {
-    let (piece, fails, bytes) = three(rest)?;
-    let piece = size_of(piece)?;
+pub(crate) fn set_stream(
+    alloc: Global,
+    stream: &mut BytesSource,
+    rest: &str,
+) -> Result<(), AllocError> {
+    let (piece, fails, bytes) = three(rest);
     let bytes = bytes_of(alloc, bytes)?;
-    let fails = numbers_of(alloc, fails, ' ')?;
-    *stream = BytesSource::new(alloc, bytes, piece, fails);
+    let fails = fails_of(alloc, fails)?;
+    *stream = BytesSource::new(alloc, bytes, size_of(piece), fails);
     Ok(())
 }
 
 /// Sets the stream that is written.
-fn set_sink(alloc: Global, stream: &mut BytesSink, rest: &str) -> Result<()> {
-    let (piece, fails) = two(rest)?;
-    let piece = size_of(piece)?;
-    let fails = numbers_of(alloc, fails, ' ')?;
-    *stream = BytesSink::new(alloc, piece, fails);
+pub(crate) fn set_sink(
+    alloc: Global,
+    stream: &mut BytesSink,
+    rest: &str,
+) -> Result<(), AllocError> {
+    let (piece, fails) = two(rest);
+    let fails = fails_of(alloc, fails)?;
+    *stream = BytesSink::new(alloc, size_of(piece), fails);
     Ok(())
 }
 
 /// The answer to a command about streams.
-pub(crate) fn of_streams(
+pub(crate) fn write_of_streams(
     alloc: Global,
     desk: &mut Desk,
     command: &str,
     rest: &str,
-) -> Result<String> {
+    out: &mut String,
+) -> Result<(), AllocError> {
     match command {
-        "stream" => {
-            set_stream(alloc, &mut desk.stream, rest)?;
-            Ok(String::new(alloc))
+        "next" => {
+            write_next(&desk.stream.read(size_of(rest)), out)?;
+            write!(out, ", {} faults", desk.stream.faults())
         }
-        "sink" => {
-            set_sink(alloc, &mut desk.sink, rest)?;
-            Ok(String::new(alloc))
+        "put" => {
+            write_taken(&desk.sink.write(bytes_of(alloc, rest)?.as_slice()), out)?;
+            write!(out, ", {} faults", desk.sink.faults())
         }
-        "next" => next(alloc, &mut desk.stream, rest),
-        "put" => put(alloc, &mut desk.sink, rest),
-        _ => hexadecimal(alloc, desk.sink.written()),
+        _ => write_bytes(desk.sink.written(), out),
     }
 }

@@ -1,87 +1,118 @@
 //! The commands.
 
 use crate::desks::Desk;
-use crate::errors::{error_text, refusal};
-use crate::filters::asked_of_filter;
-use crate::queries::asked;
-use crate::words::spelled;
-use anyhow::{Context, Result};
-use std::alloc::Global;
-use vx_base::DType;
-use vx_expr::{BindError, BoundExpression, bind};
+use crate::errors::{write_error, write_refusal};
+use crate::filters::{bound_of, write_new_filter, write_of_filter};
+use crate::queries::write_told;
+use std::alloc::{AllocError, Global};
+use vx_expr::{BindError, BoundExpression};
 use vx_notation::dtype_of;
 
-/// The words bound to the dtype, or the same expression where there are none. None where the words spell no
-/// expression.
-fn bound_by(
+/// The expression that is bound to a dtype; a dtype that can't be read is want of memory.
+fn rebound(
     alloc: Global,
     before: &BoundExpression,
-    root: &DType,
-    words: &str,
-) -> Option<Result<BoundExpression, BindError>> {
-    if words.is_empty() {
-        return Some(Ok(before.copy(alloc).ok()?));
+    dtype: &str,
+) -> Result<BoundExpression, BindError> {
+    match dtype_of(alloc, dtype) {
+        Ok(dtype) => before.rebind(alloc, &dtype),
+        Err(_) => Err(BindError::Memory),
     }
-    let expr = spelled(alloc, words)?;
-    Some(bind(alloc, &expr, root))
 }
 
-/// The expression that the command speaks of. None where there is none.
-fn spoken_of(
+/// The expression that the command sets.
+fn made(
     alloc: Global,
-    before: &BoundExpression,
-    root: &DType,
+    desk: &Desk,
     command: &str,
     rest: &str,
-) -> Option<Result<BoundExpression, BindError>> {
+) -> Result<BoundExpression, BindError> {
+    let before = &desk.expression;
     match command {
-        "new_root" => Some(Ok(BoundExpression::new_root(alloc, root.copy(alloc).ok()?).ok()?)),
-        "as_root" => {
-            if before.uses_root() {
-                return None;
-            }
-            Some(Ok(before.row_idx_as_root(alloc).ok()?))
-        }
-        "over_row_idx" => Some(Ok(before.over_row_idx(alloc).ok()?)),
-        "rebind" => Some(before.rebind(alloc, &dtype_of(alloc, rest).ok()?)),
-        "takes" => Some(Ok(before.copy(alloc).ok()?)),
-        _ => bound_by(alloc, before, root, rest),
+        "as_root" if before.uses_root() => Err(BindError::Memory),
+        "as_root" => Ok(before.row_idx_as_root(alloc)?),
+        "over_row_idx" => Ok(before.over_row_idx(alloc)?),
+        "rebind" => rebound(alloc, before, rest),
+        _ => bound_of(alloc, desk.rows.dtype(), rest),
     }
 }
 
 /// The answer to a command about an expression, which is kept.
-fn asked_of_expression(
+fn write_asked(
     alloc: Global,
     desk: &mut Desk,
     command: &str,
     rest: &str,
-) -> Result<String> {
-    let spoken = spoken_of(alloc, &desk.expression, desk.rows.dtype(), command, rest);
-    match spoken.context("an expression")? {
+    out: &mut String,
+) -> Result<(), AllocError> {
+    match made(alloc, desk, command, rest) {
         Ok(bound) => {
-            let answered = asked(alloc, desk, &bound, command, rest)?;
             desk.expression = bound;
-            Ok(answered)
+            write_told(alloc, desk, command, rest, out)
         }
-        Err(error) => refusal(alloc, error),
+        Err(error) => write_refusal(&error, out),
     }
 }
 
-/// The answer to a line: none to an empty one, to a remark, and to one that only sets something.
-pub(crate) fn answer(alloc: Global, desk: &mut Desk, line: &str) -> Result<String> {
+/// The answer to a question.
+fn write_answer(
+    alloc: Global,
+    desk: &mut Desk,
+    command: &str,
+    rest: &str,
+    out: &mut String,
+) -> Result<(), AllocError> {
+    out.push_str(" => ")?;
+    match command {
+        "error" => write_error(alloc, rest, out),
+        "filter" => write_new_filter(alloc, desk, rest, out),
+        "report" | "next" | "is_dynamic" => {
+            write_of_filter(alloc, &mut desk.filter, command, rest, out)
+        }
+        "takes" => write_told(alloc, desk, command, rest, out),
+        "as_root" | "over_row_idx" => write_asked(alloc, desk, command, rest, out),
+        _ if rest.is_empty() => write_told(alloc, desk, command, rest, out),
+        _ => write_asked(alloc, desk, command, rest, out),
+    }
+}
+
+/// Sets the root itself as the expression.
+fn set_root(alloc: Global, desk: &mut Desk) -> Result<(), AllocError> {
+    desk.expression = BoundExpression::new_root(alloc, desk.rows.dtype().copy(alloc)?)?;
+    Ok(())
+}
+
+/// Does what a line sets, or appends the answer to it.
+fn write_line(
+    alloc: Global,
+    desk: &mut Desk,
+    line: &str,
+    out: &mut String,
+) -> Result<(), AllocError> {
     let (command, rest) = line.split_once(' ').unwrap_or((line, ""));
     match command {
-        "" | "#" => Ok(String::new(alloc)),
-        "root" | "rows" | "count" => {
-            desk.set_rows(alloc, command, rest)?;
-            Ok(String::new(alloc))
-        }
+        "" | "#" => Ok(()),
+        "root" | "rows" | "count" => desk.set_rows(alloc, command, rest),
         "from" => {
-            desk.first_row = rest.parse::<u64>().context("the number of a row")?;
-            Ok(String::new(alloc))
+            desk.first_row = rest.parse::<u64>().unwrap_or(0);
+            Ok(())
         }
-        "error" => error_text(alloc, rest),
-        "filter" | "report" | "next" | "is_dynamic" => asked_of_filter(alloc, desk, command, rest),
-        _ => asked_of_expression(alloc, desk, command, rest),
+        "new_root" => set_root(alloc, desk),
+        _ => write_answer(alloc, desk, command, rest, out),
     }
+}
+
+/// Appends each line with its answer.
+pub(crate) fn write_answers(
+    alloc: Global,
+    lines: &str,
+    out: &mut String,
+) -> Result<(), AllocError> {
+    let mut desk = Desk::new(alloc)?;
+    for line in lines.lines() {
+        out.push_str(line)?;
+        write_line(alloc, &mut desk, line, out)?;
+        out.push('\n')?;
+    }
+    Ok(())
 }

@@ -5,8 +5,7 @@ ghost use Rattle.vx_base.specs.declared.dtypes.IntKind.TheVariants.{U64};
 ghost use Rattle.vx_base.specs.declared.dtypes.Nullability.TheVariants.{NonNullable};
 ghost use Rattle.vx_base.specs.Data.{int_type};
 
-use anyhow::{Context, Result};
-use std::alloc::Global;
+use std::alloc::{AllocError, Global};
 use vx_base::{Column, DType, Nullability};
 use vx_expr::{BoundExpression, FilterExpr};
 use vx_notation::{column_of, dtype_of};
@@ -22,20 +21,39 @@ pub(crate) struct Desk {
     pub(crate) filter: Option<FilterExpr>,
 }
 
-/// The numbers of so many rows.
-pub(crate) fn numbers_of(alloc: Global, first: u64, rows: u64) -> Result<Column>
+/// The numbers of so many rows, without those past the greatest number.
+pub(crate) fn numbers_of(alloc: Global, first: u64, rows: u64) -> Result<Column, AllocError>
     ensures { IfOk result (λ column. column.dtype ≡ int_type U64 NonNullable) }
 {
-    let end = first.checked_add(rows).context("a number for each row")?;
-    let numbers: Vec<u64> = (first..end).collect(alloc)?;
-    Ok(Column::from_numbers(alloc, numbers)?)
+    let numbers: Vec<u64> = (first..first.saturating_add(rows)).collect(alloc)?;
+    Column::from_numbers(alloc, numbers)
+}
+
+/// The rows that a command makes: none of a dtype, those of values, or so many numbers. None of words that write
+/// none.
+fn rows_of(alloc: Global, before: &DType, command: &str, words: &str) -> Option<Column> {
+    match command {
+        "root" => Column::empty(alloc, dtype_of(alloc, words).ok()?).ok(),
+        "rows" => column_of(alloc, before.copy(alloc).ok()?, words).ok(),
+        _ => numbers_of(alloc, 0, words.parse::<u64>().unwrap_or(0)).ok(),
+    }
+}
+
+/// No rows of truth values.
+fn no_rows(alloc: Global) -> Result<Column, AllocError> {
+    Column::empty(alloc, DType::Bool(Nullability::NonNullable))
+}
+
+/// The root itself, of truth values.
+fn root_itself(alloc: Global) -> Result<BoundExpression, AllocError> {
+    BoundExpression::new_root(alloc, DType::Bool(Nullability::NonNullable))
 }
 
 impl Desk {
     /// No rows of truth values, and the root itself.
-    pub(crate) fn new(alloc: Global) -> Result<Desk> {
-        let rows = Column::empty(alloc, DType::Bool(Nullability::NonNullable))?;
-        let expression = BoundExpression::new_root(alloc, DType::Bool(Nullability::NonNullable))?;
+    pub(crate) fn new(alloc: Global) -> Result<Desk, AllocError> {
+        let rows = no_rows(alloc)?;
+        let expression = root_itself(alloc)?;
         Ok(Desk {
             rows,
             first_row: 0,
@@ -44,19 +62,20 @@ impl Desk {
         })
     }
 
-    /// The rows that the command makes: none of a dtype, those of values, or so many numbers.
-    fn rows_of(&self, alloc: Global, command: &str, rest: &str) -> Result<Column> {
-        match command {
-            "root" => Ok(Column::empty(alloc, dtype_of(alloc, rest)?)?),
-            "rows" => column_of(alloc, self.rows.dtype().copy(alloc)?, rest),
-            _ => numbers_of(alloc, 0, rest.parse::<u64>().context("a count of rows")?),
+    /// Sets the rows, which are numbered from 0. Words that write none end all output.
+    pub(crate) fn set_rows(
+        &mut self,
+        alloc: Global,
+        command: &str,
+        words: &str,
+    ) -> Result<(), AllocError> {
+        match rows_of(alloc, self.rows.dtype(), command, words) {
+            Some(rows) => {
+                self.rows = rows;
+                self.first_row = 0;
+                Ok(())
+            }
+            None => Err(AllocError),
         }
-    }
-
-    /// Sets the rows, which are numbered from 0.
-    pub(crate) fn set_rows(&mut self, alloc: Global, command: &str, rest: &str) -> Result<()> {
-        self.rows = self.rows_of(alloc, command, rest)?;
-        self.first_row = 0;
-        Ok(())
     }
 }

@@ -1,39 +1,34 @@
 //! Refusals, and the texts of errors.
 
-use anyhow::{Error, Result};
-use std::alloc::Global;
+use std::alloc::{AllocError, Global};
 use vx_base::Text;
 use vx_expr::{ApplyError, BindError};
-use vx_notation::text_of;
 
-/// How a refusal is printed.
-pub(crate) fn refusal(alloc: Global, error: BindError) -> Result<String> {
+/// How a refusal is printed; want of memory, and a line that can't be read, is nothing.
+pub(crate) fn write_refusal(error: &BindError, out: &mut String) -> Result<(), AllocError> {
     match error {
-        BindError::NoField(name) => Ok(format!(in alloc; "no field \"{}\"", name.as_str())?),
-        BindError::TypeMismatch(place) => Ok(format!(in alloc; "mismatch at {place}")?),
-        BindError::TooDeep => Ok(String::from_str(alloc, "too deep")?),
-        BindError::Memory => Err(Error::msg("memory")),
+        BindError::NoField(name) => write!(out, "no field \"{}\"", name.as_str()),
+        BindError::TypeMismatch(place) => write!(out, "mismatch at {place}"),
+        BindError::TooDeep => out.push_str("too deep"),
+        BindError::Memory => Ok(()),
     }
 }
 
-/// The error of that name.
-fn bind_error(name: &str, field: Text) -> BindError {
-    match name {
-        "no_field" => BindError::NoField(field),
-        "mismatch" => BindError::TypeMismatch(3),
-        "too_deep" => BindError::TooDeep,
-        _ => BindError::Memory,
-    }
+/// The text of a missing field `a b`.
+fn write_no_field(alloc: Global, out: &mut String) -> Result<(), AllocError> {
+    let field = Text::from_string(String::from_str(alloc, "a b")?);
+    write!(out, "{}", BindError::NoField(field))
 }
 
 /// The text of the error of that name. The field is `a b`, the part is 3, and the row is 7.
-pub(crate) fn error_text(alloc: Global, name: &str) -> Result<String> {
+pub(crate) fn write_error(alloc: Global, name: &str, out: &mut String) -> Result<(), AllocError> {
     match name {
-        "fault" => Ok(format!(in alloc; "{}", ApplyError::EvalFault(7))?),
-        "apply_memory" => Ok(format!(in alloc; "{}", ApplyError::Memory)?),
-        _ => {
-            let field = text_of(alloc, "a b")?;
-            Ok(format!(in alloc; "{}", bind_error(name, field))?)
-        }
+        "no_field" => write_no_field(alloc, out),
+        "mismatch" => write!(out, "{}", BindError::TypeMismatch(3)),
+        "too_deep" => write!(out, "{}", BindError::TooDeep),
+        "memory" => write!(out, "{}", BindError::Memory),
+        "fault" => write!(out, "{}", ApplyError::EvalFault(7)),
+        "apply_memory" => write!(out, "{}", ApplyError::Memory),
+        _ => Ok(()),
     }
 }

@@ -5,14 +5,12 @@ ghost use Rattle.vx_base.specs.ColumnCalls.{IsBool};
 ghost use Rattle.vx_base.specs.Views.{data_type};
 
 use crate::desks::Desk;
-use crate::queries::shown;
+use crate::queries::{write_dtype, write_text};
 use crate::words::{counted, spelled};
-use anyhow::{Context, Error, Result};
-use std::alloc::Global;
-use std::fmt::Write;
+use std::alloc::{AllocError, Global};
 use vx_base::DType;
-use vx_expr::{BoundExpression, FilterExpr, bind};
-use vx_notation::dtype_text;
+use vx_expr::{BindError, BoundExpression, FilterExpr, bind};
+use vx_notation::bits_of;
 
 /// Whether it is a dtype of truth values.
 fn is_bool(dtype: &DType) -> bool
@@ -21,10 +19,19 @@ fn is_bool(dtype: &DType) -> bool
     matches!(dtype, DType::Bool(_))
 }
 
+/// The expression that the words spell, bound to the root.
+pub(crate) fn bound_of(
+    alloc: Global,
+    root: &DType,
+    words: &str,
+) -> Result<BoundExpression, BindError> {
+    let expr = spelled(alloc, words)?;
+    bind(alloc, &expr, root)
+}
+
 /// The filter that the words spell. None where they spell none.
 fn filter_of(alloc: Global, root: &DType, words: &str) -> Option<FilterExpr> {
-    let expr = spelled(alloc, words)?;
-    let bound = bind(alloc, &expr, root).ok()?;
+    let bound = bound_of(alloc, root, words).ok()?;
     if !is_bool(bound.dtype()) {
         return None;
     }
@@ -32,24 +39,23 @@ fn filter_of(alloc: Global, root: &DType, words: &str) -> Option<FilterExpr> {
 }
 
 /// Reports to a conjunct, as the number of it and the permille, `0:900`, or so many times the same,
-/// `0:900^10`. None where there is no such conjunct.
-fn report(filter: &mut FilterExpr, word: &str) -> Option<()> {
+/// `0:900^10`. To no such conjunct there is none.
+fn report(filter: &mut FilterExpr, word: &str) -> Result<(), AllocError> {
     let (word, times) = counted(word);
-    let times = times.parse::<u64>().ok()?;
-    let (conjunct, permille) = word.split_once(':')?;
-    let conjunct = conjunct.parse::<usize>().ok()?;
-    let permille = permille.parse::<u64>().ok()?;
+    let (conjunct, permille) = word.split_once(':').unwrap_or((word, ""));
+    let conjunct = conjunct.parse::<usize>().unwrap_or(usize::MAX);
+    let permille = permille.parse::<u64>().unwrap_or(0);
     for _time in 0..times {
         if filter.conjuncts().len() <= conjunct {
-            return None;
+            return Ok(());
         }
-        filter.report_selectivity(conjunct, permille).ok()?;
+        filter.report_selectivity(conjunct, permille)?;
     }
-    Some(())
+    Ok(())
 }
 
 /// Appends the ordering of the conjuncts.
-fn write_ordering(filter: &FilterExpr, out: &mut String) -> Result<()> {
+fn write_ordering(filter: &FilterExpr, out: &mut String) -> Result<(), AllocError> {
     out.push_str("order")?;
     for conjunct in filter.ordering() {
         write!(out, " {conjunct}")?;
@@ -57,85 +63,103 @@ fn write_ordering(filter: &FilterExpr, out: &mut String) -> Result<()> {
     Ok(())
 }
 
-/// Appends a conjunct with its dtype.
-fn write_conjunct(alloc: Global, conjunct: &BoundExpression, out: &mut String) -> Result<()> {
-    let text = shown(alloc, conjunct)?;
-    let dtype = dtype_text(alloc, conjunct.dtype())?;
-    write!(out, "{text}: {dtype}; ")?;
-    Ok(())
+/// Appends a conjunct with its dtype, or that it takes other roots.
+fn write_conjunct(
+    alloc: Global,
+    root: &DType,
+    conjunct: &BoundExpression,
+    out: &mut String,
+) -> Result<(), AllocError> {
+    if !conjunct.is_root_bound_to(root) {
+        return out.push_str("another root; ");
+    }
+    write_text(alloc, conjunct, out)?;
+    out.push_str(": ")?;
+    write_dtype(alloc, conjunct.dtype(), out)?;
+    out.push_str("; ")
 }
 
 /// The conjuncts with their dtypes, and their ordering.
-fn conjuncts(alloc: Global, root: &DType, filter: &FilterExpr) -> Result<String> {
-    let mut out = String::new(alloc);
+fn write_filter(
+    alloc: Global,
+    root: &DType,
+    filter: &FilterExpr,
+    out: &mut String,
+) -> Result<(), AllocError> {
     for conjunct in filter.conjuncts() {
-        if !conjunct.is_root_bound_to(root) {
-            return Err(Error::msg("a conjunct of the filter's root"));
-        }
-        write_conjunct(alloc, conjunct, &mut out)?;
+        write_conjunct(alloc, root, conjunct, out)?;
     }
-    write_ordering(filter, &mut out)?;
-    Ok(out)
+    write_ordering(filter, out)
 }
 
 /// The next of the conjuncts that remain: a bit for each of them, as `101`.
-fn next(alloc: Global, filter: &FilterExpr, bits: &str) -> Result<String> {
-    let remaining: Vec<bool> = bits.chars().map(|bit| bit == '1').collect(alloc)?;
+fn write_next(filter: &FilterExpr, remaining: &[bool], out: &mut String) -> Result<(), AllocError> {
     if filter.conjuncts().len() != remaining.len() {
-        return Err(Error::msg("a bit for each conjunct"));
+        return Ok(());
     }
-    match filter.next_conjunct(remaining.as_slice()) {
-        Some(conjunct) => Ok(format!(in alloc; "{conjunct}")?),
-        None => Ok(String::from_str(alloc, "none")?),
+    match filter.next_conjunct(remaining) {
+        Some(conjunct) => write!(out, "{conjunct}"),
+        None => out.push_str("none"),
     }
 }
 
-/// Whether the conjunct depends on the bound. None where there is no such conjunct.
-fn is_dynamic(filter: &FilterExpr, conjunct: &str) -> Option<bool> {
-    let conjunct = conjunct.parse::<usize>().ok()?;
+/// Whether the conjunct depends on the bound.
+fn write_is_dynamic(
+    filter: &FilterExpr,
+    conjunct: usize,
+    out: &mut String,
+) -> Result<(), AllocError> {
     if filter.conjuncts().len() <= conjunct {
-        return None;
+        return Ok(());
     }
-    Some(filter.dynamic_updates(conjunct))
+    let answer = filter.dynamic_updates(conjunct);
+    out.push_str(if answer { "yes" } else { "no" })
 }
 
 /// The ordering after these reports.
-fn reported(alloc: Global, filter: &mut FilterExpr, words: &str) -> Result<String> {
+fn write_reported(
+    filter: &mut FilterExpr,
+    words: &str,
+    out: &mut String,
+) -> Result<(), AllocError> {
     for word in words.split_whitespace() {
-        report(filter, word).context("a report to a conjunct")?;
+        report(filter, word)?;
     }
-    let mut out = String::new(alloc);
-    write_ordering(filter, &mut out)?;
-    Ok(out)
+    write_ordering(filter, out)
 }
 
-/// The answer to a command about the filter.
-fn about(alloc: Global, filter: &mut FilterExpr, command: &str, rest: &str) -> Result<String> {
+/// The answer to a command about the filter that is set; without one nothing.
+pub(crate) fn write_of_filter(
+    alloc: Global,
+    filter: &mut Option<FilterExpr>,
+    command: &str,
+    words: &str,
+    out: &mut String,
+) -> Result<(), AllocError> {
+    let Some(filter) = filter else {
+        return Ok(());
+    };
     match command {
-        "report" => reported(alloc, filter, rest),
-        "next" => next(alloc, filter, rest),
-        _ => {
-            let answer = is_dynamic(filter, rest).context("a conjunct")?;
-            Ok(String::from_str(alloc, if answer { "yes" } else { "no" })?)
-        }
+        "report" => write_reported(filter, words, out),
+        "next" => write_next(
+            filter,
+            &bits_of(alloc, words).unwrap_or(Vec::new(alloc)),
+            out,
+        ),
+        _ => write_is_dynamic(filter, words.parse::<usize>().unwrap_or(usize::MAX), out),
     }
 }
 
-/// The answer to a command about filters.
-pub(crate) fn asked_of_filter(
+/// Sets the filter that the words spell, and tells it.
+pub(crate) fn write_new_filter(
     alloc: Global,
     desk: &mut Desk,
-    command: &str,
-    rest: &str,
-) -> Result<String> {
-    if command == "filter" {
-        let filter = filter_of(alloc, desk.rows.dtype(), rest).context("a filter")?;
-        let answer = conjuncts(alloc, desk.rows.dtype(), &filter)?;
-        desk.filter = Some(filter);
-        return Ok(answer);
-    }
-    match &mut desk.filter {
-        Some(filter) => about(alloc, filter, command, rest),
-        None => Err(Error::msg("a filter before its question")),
+    words: &str,
+    out: &mut String,
+) -> Result<(), AllocError> {
+    desk.filter = filter_of(alloc, desk.rows.dtype(), words);
+    match &desk.filter {
+        Some(filter) => write_filter(alloc, desk.rows.dtype(), filter, out),
+        None => Ok(()),
     }
 }

@@ -1,125 +1,176 @@
 //! What is asked of an expression.
 
 use crate::desks::{Desk, numbers_of};
-use anyhow::{Error, Result};
 use std::alloc::{AllocError, Global};
-use std::fmt::Write;
-use vx_base::Column;
+use vx_base::{Column, DType, Value};
 use vx_expr::{ApplyError, BoundExpression, apply};
 use vx_notation::{column_text, dtype_of, dtype_text, write_value};
 
-/// The letters of printed bytes, with `\n` for a line's end.
-fn in_one_line(alloc: Global, printed: &str) -> Result<String, AllocError> {
-    let mut text = String::new(alloc);
+/// Appends the printed form of a dtype.
+pub(crate) fn write_dtype(
+    alloc: Global,
+    dtype: &DType,
+    out: &mut String,
+) -> Result<(), AllocError> {
+    match dtype_text(alloc, dtype) {
+        Ok(text) => out.push_str(text.as_str()),
+        Err(_) => Ok(()),
+    }
+}
+
+/// Appends printed letters, with `\n` for a line's end.
+fn write_letters(printed: &str, out: &mut String) -> Result<(), AllocError> {
     for letter in printed.chars() {
         if letter == '\n' {
-            text.push_str("\\n")?;
+            out.push_str("\\n")?;
         } else {
-            text.push(letter)?;
+            out.push(letter)?;
         }
     }
-    Ok(text)
+    Ok(())
+}
+
+/// The printed form of a copy.
+fn text_of_copy(alloc: Global, bound: &BoundExpression) -> Result<Vec<u8>, AllocError> {
+    let copied = bound.copy(alloc)?;
+    copied.text(alloc)
 }
 
 /// The printed form of an expression, which is that of its copies.
-pub(crate) fn shown(alloc: Global, bound: &BoundExpression) -> Result<String> {
+pub(crate) fn write_text(
+    alloc: Global,
+    bound: &BoundExpression,
+    out: &mut String,
+) -> Result<(), AllocError> {
+    let copied = text_of_copy(alloc, bound)?;
     let text = bound.text(alloc)?;
-    let copied = bound.copy(alloc)?.text(alloc)?;
     if text.as_slice() != copied.as_slice() {
-        return Err(Error::msg("a copy that is printed in another way"));
+        return out.push_str("printed in another way than a copy");
     }
     match String::from_utf8(text) {
-        Ok(printed) => Ok(in_one_line(alloc, printed.as_str())?),
-        Err(_) => Err(Error::msg("printed letters")),
+        Ok(printed) => write_letters(printed.as_str(), out),
+        Err(_) => Ok(()),
     }
-}
-
-/// The word where it holds, else nothing.
-fn word_if(holds: bool, word: &'static str) -> &'static str {
-    if holds { word } else { "" }
 }
 
 /// What the expression looks at.
-fn looks(alloc: Global, bound: &BoundExpression) -> Result<String, AllocError> {
-    let itself = word_if(bound.is_root(), "itself ");
-    let strict = word_if(bound.is_strict(), "strict ");
-    let root = word_if(bound.uses_root(), "root ");
-    let row_idx = word_if(bound.uses_row_idx(), "row_idx ");
-    let limit = word_if(bound.uses_bound(), "bound ");
-    let words = format!(in alloc; "{itself}{strict}{root}{row_idx}{limit}")?;
-    if words.is_empty() {
-        return String::from_str(alloc, "nothing");
+fn write_looks(bound: &BoundExpression, out: &mut String) -> Result<(), AllocError> {
+    let looks = [
+        (bound.is_root(), "itself"),
+        (bound.is_strict(), "strict"),
+        (bound.uses_root(), "root"),
+        (bound.uses_row_idx(), "row_idx"),
+        (bound.uses_bound(), "bound"),
+    ];
+    let mut blank = "";
+    for (holds, word) in looks {
+        if holds {
+            write!(out, "{blank}{word}")?;
+            blank = " ";
+        }
     }
-    String::from_str(alloc, words.as_str().trim_end())
+    if blank.is_empty() {
+        out.push_str("nothing")
+    } else {
+        Ok(())
+    }
 }
 
 /// The names of the fields that are got from the root.
-fn fields(alloc: Global, bound: &BoundExpression) -> Result<String> {
+fn write_fields(
+    alloc: Global,
+    bound: &BoundExpression,
+    out: &mut String,
+) -> Result<(), AllocError> {
     let Some(names) = bound.named_fields(alloc)? else {
-        return Ok(String::from_str(alloc, "the whole root")?);
+        return out.push_str("the whole root");
     };
-    let mut out = String::from_str(alloc, "fields")?;
+    out.push_str("fields")?;
     for name in &names {
         write!(out, " {}", name.as_str())?;
     }
-    Ok(out)
+    Ok(())
+}
+
+/// Appends a value, where there is one.
+fn write_end(value: Option<&Value>, out: &mut String) -> Result<(), AllocError> {
+    out.push(' ')?;
+    match value {
+        Some(value) if write_value(value, out).is_ok() => Ok(()),
+        _ => Err(AllocError),
+    }
 }
 
 /// How many values the column has, with the first and the last.
-fn ends(alloc: Global, column: &Column) -> Result<String> {
+fn write_ends(alloc: Global, column: &Column, out: &mut String) -> Result<(), AllocError> {
     let values = column.to_values(alloc)?;
-    let mut out = format!(in alloc; "{} rows:", values.len())?;
-    for value in [values.first(), values.last()] {
-        if let Some(value) = value {
-            out.push(' ')?;
-            write_value(value, &mut out)?;
-        }
-    }
-    Ok(out)
+    write!(out, "{} rows:", values.len())?;
+    write_end(values.first(), out)?;
+    write_end(values.last(), out)
 }
 
-/// What the expression gives over the rows, whole or by its ends.
-fn gives(alloc: Global, desk: &Desk, bound: &BoundExpression, whole: bool) -> Result<String> {
+/// What the expression gives over the rows; rows that it can't be asked of are want of memory.
+fn applied(alloc: Global, desk: &Desk) -> Result<Column, ApplyError> {
     let numbers = numbers_of(alloc, desk.first_row, desk.rows.len())?;
-    let is_bound = bound.is_root_bound_to(desk.rows.dtype());
+    let is_bound = desk.expression.is_root_bound_to(desk.rows.dtype());
     if numbers.len() != desk.rows.len() || !is_bound {
-        return Err(Error::msg("rows of the root's dtype"));
+        return Err(ApplyError::Memory);
     }
-    match apply(alloc, bound, &desk.rows, &numbers) {
-        Ok(column) if whole => column_text(alloc, &column),
-        Ok(column) => ends(alloc, &column),
-        Err(ApplyError::EvalFault(row)) => Ok(format!(in alloc; "fault at row {row}")?),
-        Err(ApplyError::Memory) => Err(Error::msg("memory")),
+    apply(alloc, &desk.expression, &desk.rows, &numbers)
+}
+
+/// The column, whole or by its ends, or its first fault; want of memory is nothing.
+fn write_given(
+    alloc: Global,
+    given: &Result<Column, ApplyError>,
+    whole: bool,
+    out: &mut String,
+) -> Result<(), AllocError> {
+    match given {
+        Ok(column) if !whole => write_ends(alloc, column, out),
+        Ok(column) => match column_text(alloc, column) {
+            Ok(text) => out.push_str(text.as_str()),
+            Err(_) => Ok(()),
+        },
+        Err(ApplyError::EvalFault(row)) => write!(out, "fault at row {row}"),
+        Err(ApplyError::Memory) => Ok(()),
     }
 }
 
-/// Whether the expression, and its copy, takes roots of that dtype.
-fn takes(alloc: Global, desk: &Desk, copied: &BoundExpression, text: &str) -> Result<String> {
-    let dtype = dtype_of(alloc, text)?;
-    let takes = desk.expression.is_root_bound_to(&dtype);
-    if copied.is_root_bound_to(&dtype) != takes {
-        return Err(Error::msg("a copy that takes other roots"));
+/// Whether the expression, and its copy, takes roots of a dtype.
+fn write_takes(
+    alloc: Global,
+    bound: &BoundExpression,
+    dtype: &DType,
+    out: &mut String,
+) -> Result<(), AllocError> {
+    let takes = bound.is_root_bound_to(dtype);
+    let copied = bound.copy(alloc)?;
+    if copied.is_root_bound_to(dtype) != takes {
+        return out.push_str("another answer than of a copy");
     }
-    Ok(String::from_str(alloc, if takes { "yes" } else { "no" })?)
+    out.push_str(if takes { "yes" } else { "no" })
 }
 
-/// The answer to a command about an expression that was bound for it.
-pub(crate) fn asked(
+/// The answer to a question about the expression.
+pub(crate) fn write_told(
     alloc: Global,
     desk: &Desk,
-    bound: &BoundExpression,
     command: &str,
     rest: &str,
-) -> Result<String> {
+    out: &mut String,
+) -> Result<(), AllocError> {
     match command {
-        "new_root" => Ok(String::new(alloc)),
-        "dtype" | "rebind" => dtype_text(alloc, bound.dtype()),
-        "text" | "as_root" | "over_row_idx" => shown(alloc, bound),
-        "looks" => Ok(looks(alloc, bound)?),
-        "fields" => fields(alloc, bound),
-        "gives" => gives(alloc, desk, bound, true),
-        "ends" => gives(alloc, desk, bound, false),
-        "takes" => takes(alloc, desk, bound, rest),
-        _ => Err(Error::msg("a command")),
+        "dtype" | "rebind" => write_dtype(alloc, desk.expression.dtype(), out),
+        "text" | "as_root" | "over_row_idx" => write_text(alloc, &desk.expression, out),
+        "looks" => write_looks(&desk.expression, out),
+        "fields" => write_fields(alloc, &desk.expression, out),
+        "gives" => write_given(alloc, &applied(alloc, desk), true, out),
+        "ends" => write_given(alloc, &applied(alloc, desk), false, out),
+        "takes" => match dtype_of(alloc, rest) {
+            Ok(dtype) => write_takes(alloc, &desk.expression, &dtype, out),
+            Err(_) => Ok(()),
+        },
+        _ => Ok(()),
     }
 }

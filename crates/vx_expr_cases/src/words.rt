@@ -1,8 +1,9 @@
-//! Expressions as words, each part before the whole.
+//! Expressions as words, each part before the whole. A word that is none ends all output.
 
 use std::alloc::{AllocError, Global};
+use vx_base::{DType, Nullability, Text, Value};
 use vx_expr::{ArithOp, CompareOp, Expr};
-use vx_notation::{dtype_of, text_of, value_of};
+use vx_notation::{dtype_of, value_of};
 
 /// What a word makes of the two parts before it.
 #[derive(Clone, Copy)]
@@ -32,8 +33,23 @@ fn sign_of(word: &str) -> Option<Sign> {
     }
 }
 
-/// The expression that a sign between two parts makes of them.
-fn of_two(alloc: Global, sign: Sign, left: Expr, right: Expr) -> Result<Expr, AllocError> {
+/// The literal that is written as value and dtype; what is none has no dtype.
+fn literal(alloc: Global, value: &str, dtype: &str) -> Expr {
+    let value = value_of(alloc, value).unwrap_or(Value::Null);
+    let dtype = dtype_of(alloc, dtype).unwrap_or(DType::Bool(Nullability::NonNullable));
+    Expr::Lit(value, dtype)
+}
+
+/// The last of the parts; where there is none, an expression that has no dtype.
+fn popped(parts: &mut Vec<Expr>) -> Expr {
+    let none = Expr::Lit(Value::Null, DType::Bool(Nullability::NonNullable));
+    parts.pop().unwrap_or(none)
+}
+
+/// The expression that a sign makes of the last two parts.
+fn of_two(alloc: Global, sign: Sign, parts: &mut Vec<Expr>) -> Result<Expr, AllocError> {
+    let right = popped(parts);
+    let left = popped(parts);
     match sign {
         Sign::And => Expr::and(alloc, left, right),
         Sign::Or => Expr::or(alloc, left, right),
@@ -42,85 +58,89 @@ fn of_two(alloc: Global, sign: Sign, left: Expr, right: Expr) -> Result<Expr, Al
     }
 }
 
-/// The expression that a word makes of one part. None where there is no such word.
-fn of_one(alloc: Global, word: &str, part: Expr) -> Option<Expr> {
+/// The expression that a word makes of one part.
+fn of_one(alloc: Global, word: &str, part: Expr) -> Result<Expr, AllocError> {
     match word {
-        "not" => Expr::negation(alloc, part).ok(),
-        "is_null" => Expr::is_null(alloc, part).ok(),
-        "is_not_null" => Expr::is_not_null(alloc, part).ok(),
-        "at_most_bound" => Expr::at_most_bound(alloc, part).ok(),
-        _ => None,
+        "not" => Expr::negation(alloc, part),
+        "is_null" => Expr::is_null(alloc, part),
+        "is_not_null" => Expr::is_not_null(alloc, part),
+        "at_most_bound" => Expr::at_most_bound(alloc, part),
+        _ => Err(AllocError),
     }
 }
 
-/// The field of the part, by its name.
-fn field_of(alloc: Global, name: &str, part: Expr) -> Option<Expr> {
-    let name = text_of(alloc, name).ok()?;
-    Expr::get_field(alloc, name, part).ok()
-}
-
-/// The literal that is written as value and dtype.
-fn literal(alloc: Global, value: &str, dtype: &str) -> Option<Expr> {
-    let value = value_of(alloc, value).ok()?;
-    let dtype = dtype_of(alloc, dtype).ok()?;
-    Some(Expr::Lit(value, dtype))
+/// The field of that name of the last part.
+fn field_of(alloc: Global, name: &str, parts: &mut Vec<Expr>) -> Result<Expr, AllocError> {
+    let name = Text::from_string(String::from_str(alloc, name)?);
+    Expr::get_field(alloc, name, popped(parts))
 }
 
 /// The struct of the last parts, by the names between commas.
-fn of_named(alloc: Global, names: &str, parts: &mut Vec<Expr>) -> Option<Expr> {
+fn of_named(alloc: Global, names: &str, parts: &mut Vec<Expr>) -> Result<Expr, AllocError> {
     let mut items = Vec::new(alloc);
     for name in names.rsplit(',') {
-        let part = parts.pop()?;
-        let name = text_of(alloc, name).ok()?;
-        items.push((name, part)).ok()?;
+        let name = String::from_str(alloc, name)?;
+        items.push((Text::from_string(name), popped(parts)))?;
     }
     items.reverse();
-    Some(Expr::pack(items))
-}
-
-/// The expression that a word makes of the last part or the last two.
-fn of_parts(alloc: Global, word: &str, parts: &mut Vec<Expr>) -> Option<Expr> {
-    let last = parts.pop()?;
-    if let Some(sign) = sign_of(word) {
-        return of_two(alloc, sign, parts.pop()?, last).ok();
-    }
-    match word.strip_prefix('.') {
-        Some(name) => field_of(alloc, name, last),
-        None => of_one(alloc, word, last),
-    }
+    Ok(Expr::pack(items))
 }
 
 /// The expression that a word makes of the last parts.
-fn made_of(alloc: Global, word: &str, parts: &mut Vec<Expr>) -> Option<Expr> {
+fn of_parts(alloc: Global, word: &str, parts: &mut Vec<Expr>) -> Result<Expr, AllocError> {
+    if let Some(sign) = sign_of(word) {
+        return of_two(alloc, sign, parts);
+    }
+    if let Some(name) = word.strip_prefix('.') {
+        return field_of(alloc, name, parts);
+    }
+    match word.strip_prefix('{') {
+        Some(names) => of_named(alloc, names.strip_suffix('}').unwrap_or(names), parts),
+        None => of_one(alloc, word, popped(parts)),
+    }
+}
+
+/// The expression that a word makes.
+fn made_of(alloc: Global, word: &str, parts: &mut Vec<Expr>) -> Result<Expr, AllocError> {
     if let Some((value, dtype)) = word.rsplit_once(':') {
-        return literal(alloc, value, dtype);
+        return Ok(literal(alloc, value, dtype));
     }
     match word {
-        "$" => Some(Expr::Root),
-        "#row_idx" => Some(Expr::RowIdx),
-        "{}" => Some(Expr::pack(Vec::new(alloc))),
-        _ => match word.strip_prefix('{') {
-            Some(names) => of_named(alloc, names.strip_suffix('}')?, parts),
-            None => of_parts(alloc, word, parts),
-        },
+        "$" => Ok(Expr::Root),
+        "#row_idx" => Ok(Expr::RowIdx),
+        "{}" => Ok(Expr::pack(Vec::new(alloc))),
+        _ => of_parts(alloc, word, parts),
     }
 }
 
 /// The word without its count, and how often it is meant, as a number: `not^3` is `not not not`.
-pub(crate) fn counted(word: &str) -> (&str, &str) {
-    word.split_once('^').unwrap_or((word, "1"))
+pub(crate) fn counted(word: &str) -> (&str, u64) {
+    match word.split_once('^') {
+        Some((word, times)) => (word, times.parse::<u64>().unwrap_or(0)),
+        None => (word, 1),
+    }
 }
 
-/// The expression that the words spell. None where they spell none, or memory runs out.
-pub(crate) fn spelled(alloc: Global, words: &str) -> Option<Expr> {
+/// Puts what a word makes in the place of its parts, as often as it is meant.
+fn push_word(alloc: Global, word: &str, parts: &mut Vec<Expr>) -> Result<(), AllocError> {
+    let (word, times) = counted(word);
+    for _time in 0..times {
+        let made = made_of(alloc, word, parts)?;
+        parts.push(made)?;
+    }
+    Ok(())
+}
+
+/// The expression that the words spell.
+pub(crate) fn spelled(alloc: Global, words: &str) -> Result<Expr, AllocError> {
     let mut parts = Vec::new(alloc);
     for word in words.split_whitespace() {
-        let (word, times) = counted(word);
-        for _time in 0..times.parse::<u64>().ok()? {
-            let made = made_of(alloc, word, &mut parts)?;
-            parts.push(made).ok()?;
-        }
+        push_word(alloc, word, &mut parts)?;
     }
-    let whole = parts.pop()?;
-    if parts.is_empty() { Some(whole) } else { None }
+    let whole = popped(&mut parts);
+    if parts.is_empty() {
+        Ok(whole)
+    } else {
+        Err(AllocError)
+    }
 }

@@ -1,71 +1,62 @@
 //! Dtypes as words, each part before the whole.
 
-use anyhow::{Context, Error, Result};
 use std::alloc::Global;
 use vx_base::{DType, Element, Field, Fields, Nullability};
 use vx_notation::{dtype_of, text_of};
 
-/// The last of the parts.
-fn last_part(parts: &mut Vec<DType>) -> Result<DType> {
-    parts.pop().context("a dtype before the whole")
-}
-
 /// The fields of the last parts, by the names between commas.
-fn fields_of(alloc: Global, names: &str, parts: &mut Vec<DType>) -> Result<Fields> {
+fn fields_of(alloc: Global, names: &str, parts: &mut Vec<DType>) -> Option<Fields> {
     let mut fields = Vec::new(alloc);
     if names.is_empty() {
-        return Ok(Fields::from_vec(fields));
+        return Some(Fields::from_vec(fields));
     }
     for name in names.rsplit(',') {
-        let dtype = last_part(parts)?;
-        let name = text_of(alloc, name)?;
-        fields.push(Field { name, dtype })?;
+        let name = text_of(alloc, name).ok()?;
+        let dtype = parts.pop()?;
+        fields.push(Field { name, dtype }).ok()?;
     }
     fields.reverse();
-    Ok(Fields::from_vec(fields))
+    Some(Fields::from_vec(fields))
 }
 
 /// The dtype that a word makes of the last parts: `list`, or a struct by its names, as `(a,b)`, with `?` at the
 /// end where it takes nulls. Any other word is a dtype by itself.
-fn made_of(alloc: Global, word: &str, parts: &mut Vec<DType>) -> Result<DType> {
+fn made_of(alloc: Global, word: &str, parts: &mut Vec<DType>) -> Option<DType> {
     let (name, nullability) = match word.strip_suffix('?') {
         Some(name) => (name, Nullability::Nullable),
         None => (word, Nullability::NonNullable),
     };
     if name == "list" {
-        return Ok(DType::List(Element::of(alloc, last_part(parts)?)?, nullability));
+        let element = Element::of(alloc, parts.pop()?).ok()?;
+        return Some(DType::List(element, nullability));
     }
-    match name.strip_prefix('(') {
-        Some(rest) => {
-            let names = rest.strip_suffix(')').context("`)` after the names")?;
-            Ok(DType::Struct(fields_of(alloc, names, parts)?, nullability))
+    match name.split_once('(') {
+        Some((_, names)) => {
+            let names = names.strip_suffix(')').unwrap_or(names);
+            Some(DType::Struct(fields_of(alloc, names, parts)?, nullability))
         }
-        None => dtype_of(alloc, word),
+        None => dtype_of(alloc, word).ok(),
     }
 }
 
-/// The word without its count, and how often it is meant: `list^3` is `list list list`.
-fn repeated(word: &str) -> Result<(&str, u64)> {
-    match word.split_once('^') {
-        Some((word, times)) => Ok((word, times.parse::<u64>().context("a count")?)),
-        None => Ok((word, 1)),
+/// Puts what a word makes in the place of its parts. With a count it is meant as often: `list^3` is `list list list`.
+fn push_made(alloc: Global, word: &str, parts: &mut Vec<DType>) -> Option<()> {
+    let (word, times) = word.split_once('^').unwrap_or((word, "1"));
+    for _time in 0..times.parse::<u64>().unwrap_or(0) {
+        let made = made_of(alloc, word, parts)?;
+        parts.push(made).ok()?;
     }
+    Some(())
 }
 
 /// The dtype that the words spell.
-pub(crate) fn dtype_in(alloc: Global, words: &str) -> Result<DType> {
+pub(crate) fn dtype_in(alloc: Global, words: &str) -> Option<DType> {
     let mut parts = Vec::new(alloc);
     for word in words.split_whitespace() {
-        let (word, times) = repeated(word)?;
-        for _time in 0..times {
-            let made = made_of(alloc, word, &mut parts)?;
-            parts.push(made)?;
-        }
+        push_made(alloc, word, &mut parts)?;
     }
-    let whole = last_part(&mut parts)?;
-    if parts.is_empty() {
-        Ok(whole)
-    } else {
-        Err(Error::msg("one dtype"))
+    if parts.len() > 1 {
+        return None;
     }
+    parts.pop()
 }

@@ -1,42 +1,41 @@
 //! Expressions as words, each part before the whole: `$` is the root, `.a` a field of the last part, `=` compares the
 //! last two, and `#row_idx` is the row's number.
 
-use anyhow::{Context, Error, Result};
 use std::alloc::Global;
 use vx_expr::{CompareOp, Expr};
 use vx_notation::text_of;
 
-/// The expression that a word makes of the last parts.
-fn made_of(alloc: Global, word: &str, parts: &mut Vec<Expr>) -> Result<Expr> {
+/// The expression that a word makes of the last two parts.
+fn joined(alloc: Global, word: &str, left: Expr, right: Expr) -> Option<Expr> {
     match word {
-        "$" => return Ok(Expr::Root),
-        "#row_idx" => return Ok(Expr::RowIdx),
-        _ => {}
-    }
-    let part = parts.pop().context("a part before the whole")?;
-    if let Some(name) = word.strip_prefix('.') {
-        return Ok(Expr::get_field(alloc, text_of(alloc, name)?, part)?);
-    }
-    match word {
-        "is_null" => Ok(Expr::is_null(alloc, part)?),
-        "=" => {
-            let left = parts.pop().context("two parts before `=`")?;
-            Ok(Expr::compare(alloc, CompareOp::Eq, left, part)?)
-        }
-        "and" => {
-            let left = parts.pop().context("two parts before `and`")?;
-            Ok(Expr::and(alloc, left, part)?)
-        }
-        _ => Err(Error::msg("a word of an expression")),
+        "=" => Expr::compare(alloc, CompareOp::Eq, left, right).ok(),
+        "and" => Expr::and(alloc, left, right).ok(),
+        _ => None,
     }
 }
 
+/// The expression that a word makes of the last parts.
+fn made_of(alloc: Global, word: &str, parts: &mut Vec<Expr>) -> Option<Expr> {
+    match word {
+        "$" => return Some(Expr::Root),
+        "#row_idx" => return Some(Expr::RowIdx),
+        "is_null" => return Expr::is_null(alloc, parts.pop()?).ok(),
+        _ => {}
+    }
+    if let Some(name) = word.strip_prefix('.') {
+        let name = text_of(alloc, name).ok()?;
+        return Expr::get_field(alloc, name, parts.pop()?).ok();
+    }
+    let right = parts.pop()?;
+    joined(alloc, word, parts.pop()?, right)
+}
+
 /// The expression that the words spell.
-pub(crate) fn spelled(alloc: Global, words: &str) -> Result<Expr> {
+pub(crate) fn expression_of(alloc: Global, words: &str) -> Option<Expr> {
     let mut parts = Vec::new(alloc);
     for word in words.split_whitespace() {
         let made = made_of(alloc, word, &mut parts)?;
-        parts.push(made)?;
+        parts.push(made).ok()?;
     }
-    parts.pop().context("an expression")
+    parts.pop()
 }

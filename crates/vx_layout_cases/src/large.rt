@@ -1,18 +1,21 @@
 //! Lists of very many nodes.
 
-use anyhow::Result;
-use std::alloc::Global;
-use vx_base::{DType, Field, Fields, Nullability};
+use std::alloc::{AllocError, Global};
+use vx_base::{DType, Field, Fields, Nullability, Text};
 use vx_layout::{LayoutKind, LayoutNode};
-use vx_notation::text_of;
 
-/// Truth values that are never null.
-fn truths() -> DType {
-    DType::Bool(Nullability::NonNullable)
+/// A node of truth values that are never null.
+fn truths(kind: LayoutKind, row_count: u64, children: Vec<u32>) -> LayoutNode {
+    LayoutNode {
+        kind,
+        dtype: DType::Bool(Nullability::NonNullable),
+        row_count,
+        children,
+    }
 }
 
 /// The numbers from 1 to the count.
-fn numbers(alloc: Global, count: u32) -> Result<Vec<u32>> {
+fn numbers(alloc: Global, count: u32) -> Result<Vec<u32>, AllocError> {
     let mut numbers = Vec::new(alloc);
     for number in 0..count {
         numbers.push(number.saturating_add(1))?;
@@ -21,88 +24,57 @@ fn numbers(alloc: Global, count: u32) -> Result<Vec<u32>> {
 }
 
 /// The root, and so many flat nodes of one row, each over a segment of its own.
-fn over_flats(alloc: Global, root: LayoutNode, count: u32) -> Result<Vec<LayoutNode>> {
-    let mut nodes = Vec::new(alloc);
-    nodes.push(root)?;
+fn over_flats(alloc: Global, root: LayoutNode, count: u32) -> Option<Vec<LayoutNode>> {
+    let mut nodes = vec![in alloc; root].ok()?;
     for segment in 0..count {
         let kind = LayoutKind::Flat { segment };
-        nodes.push(LayoutNode {
-            kind,
-            dtype: truths(),
-            row_count: 1,
-            children: Vec::new(alloc),
-        })?;
+        nodes.push(truths(kind, 1, Vec::new(alloc))).ok()?;
     }
-    Ok(nodes)
-}
-
-/// A chunked node of so many flat ones.
-pub(crate) fn chunks(alloc: Global, count: u32) -> Result<Vec<LayoutNode>> {
-    let (kind, children) = (LayoutKind::Chunked, numbers(alloc, count)?);
-    let root = LayoutNode {
-        kind,
-        dtype: truths(),
-        row_count: u64::from(count),
-        children,
-    };
-    over_flats(alloc, root, count)
+    Some(nodes)
 }
 
 /// So many chunked nodes, each the only chunk of the one before it, and a flat node in the last.
-pub(crate) fn levels(alloc: Global, count: u32) -> Result<Vec<LayoutNode>> {
+fn levels(alloc: Global, count: u32) -> Option<Vec<LayoutNode>> {
     let mut nodes = Vec::new(alloc);
-    for number in numbers(alloc, count)? {
-        let mut children = Vec::new(alloc);
-        children.push(number)?;
-        let kind = LayoutKind::Chunked;
-        nodes.push(LayoutNode {
-            kind,
-            dtype: truths(),
-            row_count: 1,
-            children,
-        })?;
+    for number in 0..count {
+        let children = vec![in alloc; number.saturating_add(1)].ok()?;
+        nodes.push(truths(LayoutKind::Chunked, 1, children)).ok()?;
     }
     let kind = LayoutKind::Flat { segment: 0 };
-    nodes.push(LayoutNode {
-        kind,
-        dtype: truths(),
-        row_count: 1,
-        children: Vec::new(alloc),
-    })?;
-    Ok(nodes)
+    nodes.push(truths(kind, 1, Vec::new(alloc))).ok()?;
+    Some(nodes)
 }
 
-/// The fields `f1`, `f2` and so on, behind them the last one.
-fn fields(alloc: Global, count: u32, last: &str) -> Result<Fields> {
+/// A struct of the fields `f1`, `f2` and so on, behind them the last one.
+fn fields_type(alloc: Global, count: u32, last: &str) -> Option<DType> {
     let mut fields = Vec::new(alloc);
-    for number in 1..count {
-        let name = format!(in alloc; "f{number}")?;
-        let name = text_of(alloc, name.as_str())?;
-        fields.push(Field {
-            name,
-            dtype: truths(),
-        })?;
+    for number in 1..count.saturating_add(1) {
+        let name = if number < count {
+            format!(in alloc; "f{number}")
+        } else {
+            String::from_str(alloc, last)
+        };
+        let name = Text::from_string(name.ok()?);
+        let dtype = DType::Bool(Nullability::NonNullable);
+        fields.push(Field { name, dtype }).ok()?;
     }
-    let name = text_of(alloc, last)?;
-    fields.push(Field {
-        name,
-        dtype: truths(),
-    })?;
-    Ok(Fields::from_vec(fields))
+    let fields = Fields::from_vec(fields);
+    Some(DType::Struct(fields, Nullability::NonNullable))
 }
 
-/// A struct of so many fields, at least one, each of them a flat node.
-pub(crate) fn structs(alloc: Global, count: u32, last: &str) -> Result<Vec<LayoutNode>> {
-    let dtype = DType::Struct(fields(alloc, count, last)?, Nullability::NonNullable);
-    let (kind, children) = (LayoutKind::Struct, numbers(alloc, count)?);
-    over_flats(
-        alloc,
-        LayoutNode {
-            kind,
-            dtype,
-            row_count: 1,
-            children,
-        },
-        count,
-    )
+/// The nodes of a command: so many `chunks` or `fields`, each a flat node, or so many `levels`.
+pub(crate) fn large(alloc: Global, command: &str, words: &str) -> Option<Vec<LayoutNode>> {
+    let (count, last) = words.split_once(' ').unwrap_or((words, ""));
+    let count = count.parse::<u32>().unwrap_or(0);
+    if command == "levels" {
+        return levels(alloc, count);
+    }
+    let children = numbers(alloc, count).ok()?;
+    let mut root = truths(LayoutKind::Chunked, u64::from(count), children);
+    if command == "fields" {
+        root.kind = LayoutKind::Struct;
+        root.row_count = 1;
+        root.dtype = fields_type(alloc, count, last)?;
+    }
+    over_flats(alloc, root, count)
 }

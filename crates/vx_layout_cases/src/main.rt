@@ -10,19 +10,13 @@ mod kinds;
 mod large;
 mod nodes;
 
-use commands::{Desk, answer};
+use commands::write_answers;
+use std::io;
 
-fn main(rt: HostRuntime) -> anyhow::Result<()> {
+fn main(rt: HostRuntime) -> io::Result<()> {
     let alloc = rt.alloc();
-    let mut desk = Desk { tree: None };
-    for line in rt.lines(alloc) {
-        let line = line?;
-        let answered = answer(alloc, &mut desk, line.as_str())?;
-        if answered.is_empty() {
-            println!(rt; "{line}")?;
-        } else {
-            println!(rt; "{line} => {answered}")?;
-        }
-    }
-    Ok(())
+    let lines = io::read_to_string(alloc, rt.reader())?;
+    let mut out = String::new(alloc);
+    let _all = write_answers(alloc, lines.as_str(), &mut out);
+    print!(rt; "{out}")
 }

@@ -3,152 +3,188 @@
 ghost use Rattle.std.specs.Prelude.{◌<◌, length};
 ghost use Rattle.vx_plan.specs.Refs.{number_of};
 
-use anyhow::Result;
-use std::alloc::Global;
-use std::fmt::Write;
-use vx_expr::Statistic;
+use std::alloc::{AllocError, Global};
+use vx_base::Fields;
+use vx_expr::{BoundExpression, Statistic, Statistics};
 use vx_notation::dtype_text;
 use vx_plan::{PlanRef, PlanTable};
 
 /// The kind, dtype and rows of a plan, and its children by their names.
-pub(crate) fn plan_text(alloc: Global, table: &PlanTable, plan: PlanRef) -> Result<String>
+pub(crate) fn write_plan(
+    alloc: Global,
+    table: &PlanTable,
+    plan: PlanRef,
+    out: &mut String,
+) -> Result<(), AllocError>
     requires { number_of plan < length table.now }
 {
-    let dtype = dtype_text(alloc, table.dtype(plan))?;
     let rows = table.row_count(plan);
-    let mut out = format!(in alloc; "{}({dtype}, rows={rows})", table.id(plan).text())?;
+    let Ok(dtype) = dtype_text(alloc, table.dtype(plan)) else {
+        return Err(AllocError);
+    };
+    write!(out, "{}({dtype}, rows={rows})", table.id(plan).text())?;
     for place in 0..table.child_count(plan) {
+        let child = table.child_required(plan, place).0;
         let name = table.child_name(alloc, plan, place)?;
-        let child = table.child_required(plan, place);
-        write!(out, " {}:{}", name.as_str(), child.0)?;
+        write!(out, " {}:{child}", name.as_str())?;
     }
-    Ok(out)
+    Ok(())
 }
 
-/// What is got from a plan of chunks, of an expression, or of one other plan.
-fn write_one(alloc: Global, table: &PlanTable, plan: PlanRef, out: &mut String) -> Result<()>
+/// Appends the first row of each chunk.
+fn write_offsets(offsets: &[u64], out: &mut String) -> Result<(), AllocError> {
+    out.push_str("concat")?;
+    for offset in offsets {
+        write!(out, " {offset}")?;
+    }
+    Ok(())
+}
+
+/// Appends an expression, and the plan that it is over.
+fn write_expression(
+    alloc: Global,
+    expression: &BoundExpression,
+    child: PlanRef,
+    out: &mut String,
+) -> Result<(), AllocError> {
+    match String::from_utf8(expression.text(alloc)?) {
+        Ok(text) => write!(out, "eval {text} over {}", child.0),
+        Err(_) => out.push_str("eval of a name that is no text"),
+    }
+}
+
+/// What is got from a plan of chunks, of an expression, or of one other plan; else nothing.
+fn write_one(
+    alloc: Global,
+    table: &PlanTable,
+    plan: PlanRef,
+    out: &mut String,
+) -> Result<(), AllocError>
     requires { number_of plan < length table.now }
 {
     if let Some(concat) = table.as_concat(plan) {
-        out.push_str("concat")?;
-        for offset in concat.row_offsets(table) {
-            write!(out, " {offset}")?;
-        }
+        return write_offsets(concat.row_offsets(table), out);
     }
     if let Some(eval) = table.as_eval(plan) {
-        let text = eval.expression(table).text(alloc)?;
-        match String::from_utf8(text) {
-            Ok(text) => write!(out, "eval {text} over {}", eval.child_plan(table).0)?,
-            Err(_) => out.push_str("eval of a name that is no text")?,
-        }
+        return write_expression(alloc, eval.expression(table), eval.child_plan(table), out);
     }
     if let Some(filter) = table.as_filter(plan) {
-        write!(out, "filter {}", filter.child_plan(table).0)?;
+        return write!(out, "filter {}", filter.child_plan(table).0);
     }
     if let Some(share) = table.as_share(plan) {
-        write!(out, "share {}", share.child_plan(table).0)?;
+        return write!(out, "share {}", share.child_plan(table).0);
     }
     Ok(())
 }
 
-/// Appends the number of a validity, and `-` for none.
-fn write_validity(validity: Option<PlanRef>, out: &mut String) -> Result<()> {
+/// Appends a plan, and `-` for none.
+fn write_validity(validity: Option<PlanRef>, out: &mut String) -> Result<(), AllocError> {
     match validity {
-        Some(plan) => write!(out, " validity {}", plan.0)?,
-        None => out.push_str(" validity -")?,
+        Some(plan) => write!(out, " validity {}", plan.0),
+        None => out.push_str(" validity -"),
+    }
+}
+
+/// Appends how many fields there are, and their names.
+fn write_fields(count: usize, fields: &Fields, out: &mut String) -> Result<(), AllocError> {
+    write!(out, "pack of {count}:")?;
+    for field in fields.items() {
+        write!(out, " {}", field.name.as_str())?;
     }
     Ok(())
 }
 
-/// What is got from a plan of structs, of a look-up, of lists, or of a leaf.
-fn write_many(table: &PlanTable, plan: PlanRef, out: &mut String) -> Result<()>
+/// What is got from a plan of structs, of a look-up, of lists, or of a leaf; else nothing.
+fn write_many(table: &PlanTable, plan: PlanRef, out: &mut String) -> Result<(), AllocError>
     requires { number_of plan < length table.now }
 {
     if let Some(pack) = table.as_pack(plan) {
-        write!(out, "pack of {}:", pack.nfields(table))?;
-        for field in pack.fields(table).items() {
-            write!(out, " {}", field.name.as_str())?;
-        }
-        write_validity(pack.validity(table), out)?;
+        write_fields(pack.nfields(table), pack.fields(table), out)?;
+        return write_validity(pack.validity(table), out);
     }
     if let Some(take) = table.as_take(plan) {
-        write!(
-            out,
-            "take codes {} values {}",
-            take.codes(table).0,
-            take.values(table).0
-        )?;
+        let (codes, values) = (take.codes(table).0, take.values(table).0);
+        return write!(out, "take codes {codes} values {values}");
     }
     if let Some(list) = table.as_list_pack(plan) {
         let (elements, offsets) = (list.elements(table).0, list.offsets(table).0);
         write!(out, "list_pack elements {elements} offsets {offsets}")?;
-        write_validity(list.validity(table), out)?;
+        return write_validity(list.validity(table), out);
     }
     if table.as_row_idx(plan).is_some() {
-        out.push_str("row_idx")?;
+        return out.push_str("row_idx");
     }
     if let Some(scan) = table.as_segment_scan(plan) {
-        write!(out, "segment_scan {}", scan.segment_id(table))?;
+        return write!(out, "segment_scan {}", scan.segment_id(table));
     }
     Ok(())
 }
 
-/// Appends the statistics, one sign each.
-fn write_stats(stats: &[Statistic], out: &mut String) -> Result<()> {
-    for stat in stats {
-        out.push_str(match stat {
-            Statistic::Min => "<",
-            Statistic::Max => ">",
-            Statistic::NullCount => "0",
-        })?;
+/// Appends what plans of zones are called, their length, their zones, and the statistics as one sign each.
+fn write_stats(
+    name: &str,
+    len: u64,
+    zones: PlanRef,
+    stats: &Statistics,
+    out: &mut String,
+) -> Result<(), AllocError> {
+    write!(out, "{name} by {len} zones {} stats ", zones.0)?;
+    for stat in stats.items() {
+        let sign = match stat {
+            Statistic::Min => '<',
+            Statistic::Max => '>',
+            Statistic::NullCount => '0',
+        };
+        out.push(sign)?;
     }
     Ok(())
 }
 
-/// What is got from a plan of zones.
-fn write_zones(table: &PlanTable, plan: PlanRef, out: &mut String) -> Result<()>
+/// What is got from a plan of zones; else nothing.
+fn write_zones(table: &PlanTable, plan: PlanRef, out: &mut String) -> Result<(), AllocError>
     requires { number_of plan < length table.now }
 {
-    if let Some(zoned) = table.as_zoned(plan) {
-        write!(
-            out,
-            "zoned by {} zones {} stats ",
-            zoned.zone_len(table),
-            zoned.zones_plan(table).0
-        )?;
-        write_stats(zoned.stats(table).items(), out)?;
-        if let Some(data) = zoned.data_plan(table) {
-            write!(out, " data {}", data.0)?;
-        }
+    let data = if let Some(zoned) = table.as_zoned(plan) {
+        let (len, zones) = (zoned.zone_len(table), zoned.zones_plan(table));
+        write_stats("zoned", len, zones, zoned.stats(table), out)?;
+        zoned.data_plan(table)
+    } else if let Some(legacy) = table.as_legacy_stats(plan) {
+        let (len, zones) = (legacy.zone_len(table), legacy.zones_plan(table));
+        write_stats("legacy_stats", len, zones, legacy.stats(table), out)?;
+        Some(legacy.data_plan(table))
+    } else {
+        None
+    };
+    match data {
+        Some(data) => write!(out, " data {}", data.0),
+        None => Ok(()),
     }
-    if let Some(legacy) = table.as_legacy_stats(plan) {
-        let (len, zones) = (legacy.zone_len(table), legacy.zones_plan(table).0);
-        write!(out, "legacy_stats by {len} zones {zones} stats ")?;
-        write_stats(legacy.stats(table).items(), out)?;
-        write!(out, " data {}", legacy.data_plan(table).0)?;
-    }
-    Ok(())
 }
 
 /// What the calls of a plan's own kind give.
-pub(crate) fn parts_text(alloc: Global, table: &PlanTable, plan: PlanRef) -> Result<String>
+pub(crate) fn write_parts(
+    alloc: Global,
+    table: &PlanTable,
+    plan: PlanRef,
+    out: &mut String,
+) -> Result<(), AllocError>
     requires { number_of plan < length table.now }
 {
-    let mut out = String::new(alloc);
-    write_one(alloc, table, plan, &mut out)?;
-    write_many(table, plan, &mut out)?;
-    write_zones(table, plan, &mut out)?;
-    Ok(out)
+    write_one(alloc, table, plan, out)?;
+    write_many(table, plan, out)?;
+    write_zones(table, plan, out)
 }
 
-/// All plans of the table, one behind the other.
-pub(crate) fn table_text(alloc: Global, table: &PlanTable) -> Result<String> {
+/// All plans of a table of fewer than a hundred, one behind the other.
+pub(crate) fn state_text(alloc: Global, table: &PlanTable) -> Result<String, AllocError> {
     let mut out = String::new(alloc);
-    for number in 0..table.len() {
-        let text = plan_text(alloc, table, PlanRef(number))?;
-        write!(out, "{text};")?;
-        let text = parts_text(alloc, table, PlanRef(number))?;
-        write!(out, "{text};")?;
+    if table.len() < 100 {
+        for number in 0..table.len() {
+            write_plan(alloc, table, PlanRef(number), &mut out)?;
+            out.push(';')?;
+            write_parts(alloc, table, PlanRef(number), &mut out)?;
+            out.push(';')?;
+        }
     }
     Ok(out)
 }

@@ -1,97 +1,135 @@
 //! The commands, over one table of plans.
 
-use crate::asking::{parts_text, plan_text, table_text};
+ghost use Rattle.std.specs.Prelude.{◌<◌, length};
+ghost use Rattle.vx_plan.specs.Refs.{number_of};
+
+use crate::asking::{state_text, write_parts, write_plan};
 use crate::making::made;
-use crate::reaching::{reached, rooted};
+use crate::reaching::{write_reached, write_rooted};
 use crate::words::{number_at, numbers_of, plan_at};
-use anyhow::{Context, Error, Result};
-use std::alloc::Global;
-use vx_plan::{PlanError, PlanRef, PlanTable};
+use std::alloc::{AllocError, Global};
+use vx_plan::{PlanChildren, PlanError, PlanRef, PlanTable};
 
 /// The number of the new plan, or the rule that it breaks; the table is then the one that it was.
-fn added(
+fn write_added(
     alloc: Global,
     table: &mut PlanTable,
     command: &str,
     numbers: &[u64],
     rest: &str,
-) -> Result<String> {
+    out: &mut String,
+) -> Result<(), AllocError> {
     if table.len() >= 4294967292 {
-        return Err(Error::msg("fewer plans"));
+        return Ok(());
     }
-    let before = if table.len() < 100 {
-        table_text(alloc, table)?
-    } else {
-        String::new(alloc)
-    };
-    match made(alloc, table, command, numbers, rest)? {
-        Ok(plan) => Ok(format!(in alloc; "{}", plan.0)?),
-        Err(PlanError::Memory) => Err(Error::msg("memory")),
+    let before = state_text(alloc, table)?;
+    match made(alloc, table, command, numbers, rest) {
+        Ok(plan) => write!(out, "{}", plan.0),
         Err(PlanError::BadPlan { rule }) => {
-            let after = if table.len() < 100 {
-                table_text(alloc, table)?
+            let after = state_text(alloc, table)?;
+            if before.as_str() == after.as_str() {
+                write!(out, "breaks rule {rule}")
             } else {
-                String::new(alloc)
-            };
-            if before.as_str() != after.as_str() {
-                return Err(Error::msg("the table as it was"));
+                out.push_str("another table")
             }
-            Ok(format!(in alloc; "breaks rule {rule}")?)
         }
+        Err(PlanError::Memory) => Err(AllocError),
     }
 }
 
 /// The child of a plan at a place.
-fn child(alloc: Global, table: &PlanTable, numbers: &[u64]) -> Result<String> {
-    let plan = plan_at(table, numbers, 0)?;
-    let place = usize::try_from(number_at(numbers, 1)?).context("a place")?;
-    match table.child(plan, place) {
-        Some(child) => Ok(format!(in alloc; "{}", child.0)?),
-        None => Ok(String::from_str(alloc, "none")?),
+fn write_child(
+    table: &PlanTable,
+    plan: PlanRef,
+    place: u64,
+    out: &mut String,
+) -> Result<(), AllocError>
+    requires { number_of plan < length table.now }
+{
+    match table.child(plan, usize::try_from(place).unwrap_or(0)) {
+        Some(child) => write!(out, "{}", child.0),
+        None => out.push_str("none"),
     }
 }
 
-/// The children of a plan, one after another, in a list of their own, and how many there are.
-fn children(alloc: Global, table: &PlanTable, numbers: &[u64]) -> Result<String> {
-    let plan = plan_at(table, numbers, 0)?;
-    let children = table.children(plan);
+/// How many children there are: the same number, and the same children, one by one and in a list of their own.
+fn write_children(
+    alloc: Global,
+    children: &PlanChildren,
+    out: &mut String,
+) -> Result<(), AllocError> {
     let copied = children.to_vec(alloc)?;
     let mut same = copied.len() == children.len() && children.is_empty() == copied.is_empty();
     for (place, child) in children.iter().enumerate() {
-        same = same && children.get(place) == Some(*child);
-        same = same
-            && copied
-                .get(place)
-                .copied()
-                .map_or(false, |other| PlanRef::ptr_eq(other, *child));
+        let other = copied.get(place).copied().unwrap_or(PlanRef(u32::MAX));
+        same = same && children.get(place) == Some(*child) && PlanRef::ptr_eq(other, *child);
     }
     if same {
-        Ok(format!(in alloc; "{} children", children.len())?)
+        write!(out, "{} children", children.len())
     } else {
-        Err(Error::msg("the same children"))
+        out.push_str("other children")
     }
 }
 
-/// The answer to a line: none to an empty one and to a remark.
-pub(crate) fn answer(alloc: Global, table: &mut PlanTable, line: &str) -> Result<String> {
-    if line.is_empty() || line.starts_with("# ") {
-        return Ok(String::new(alloc));
+/// The answer to a question about a plan of the table.
+fn write_asked(
+    alloc: Global,
+    table: &PlanTable,
+    command: &str,
+    numbers: &[u64],
+    rest: &str,
+    out: &mut String,
+) -> Result<(), AllocError> {
+    let Ok(plan) = plan_at(table, numbers, 0) else {
+        return Ok(());
+    };
+    match command {
+        "plan" => write_plan(alloc, table, plan, out),
+        "parts" => write_parts(alloc, table, plan, out),
+        "child" => write_child(table, plan, number_at(numbers, 1), out),
+        "children" => write_children(alloc, table.children(plan), out),
+        _ => write_reached(alloc, table, plan, numbers, rest, out),
     }
+}
+
+/// Appends the answer to a line; to one that can't be read nothing.
+fn write_answer(
+    alloc: Global,
+    table: &mut PlanTable,
+    line: &str,
+    out: &mut String,
+) -> Result<(), AllocError> {
     let (front, rest) = line.split_once(" | ").unwrap_or((line, ""));
     let (command, words) = front.split_once(' ').unwrap_or((front, ""));
     let numbers = numbers_of(alloc, words)?;
     match command {
         "new" => {
             *table = PlanTable::new(alloc);
-            Ok(String::from_str(alloc, "0 plans")?)
+            out.push_str("0 plans")
         }
-        "len" => Ok(format!(in alloc; "{} plans", table.len())?),
-        "plan" => plan_text(alloc, table, plan_at(table, &numbers, 0)?),
-        "parts" => parts_text(alloc, table, plan_at(table, &numbers, 0)?),
-        "child" => child(alloc, table, &numbers),
-        "children" => children(alloc, table, &numbers),
-        "reach" => reached(alloc, table, plan_at(table, &numbers, 0)?, &numbers, rest),
-        "at" => rooted(alloc, &numbers, rest),
-        _ => added(alloc, table, command, &numbers, rest),
+        "len" => write!(out, "{} plans", table.len()),
+        "at" => write_rooted(&numbers, rest, out),
+        "plan" | "parts" | "child" | "children" | "reach" => {
+            write_asked(alloc, table, command, &numbers, rest, out)
+        }
+        _ => write_added(alloc, table, command, &numbers, rest, out),
     }
+}
+
+/// Appends each line with its answer.
+pub(crate) fn write_answers(
+    alloc: Global,
+    lines: &str,
+    out: &mut String,
+) -> Result<(), AllocError> {
+    let mut table = PlanTable::new(alloc);
+    for line in lines.lines() {
+        out.push_str(line)?;
+        if !line.is_empty() && !line.starts_with("# ") {
+            out.push_str(" => ")?;
+            write_answer(alloc, &mut table, line, out)?;
+        }
+        out.push('\n')?;
+    }
+    Ok(())
 }

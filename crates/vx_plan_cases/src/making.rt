@@ -1,39 +1,52 @@
 //! Commands that add a plan.
 
 ghost use Rattle.std.specs.Prelude.{◌<◌, length};
+ghost use Rattle.vx_plan.specs.Refs.{number_of};
 
-use crate::expressions::spelled;
-use crate::words::{number_at, plan_at, plans_from, statistics_of, times};
-use anyhow::{Context, Error, Result};
+use crate::expressions::expression_of;
+use crate::words::{UNREAD, number_at, plan_at, plans_from, statistics_of, times};
 use std::alloc::Global;
 use vx_base::{DType, Nullability};
-use vx_expr::bind;
+use vx_expr::{BoundExpression, bind};
 use vx_notation::dtype_of;
 use vx_plan::{
     ConcatPlan, EvalPlan, FilterPlan, LegacyStatsPlan, ListPackPlan, PackPlan, PlanError, PlanRef,
     PlanTable, RowIdxPlan, SegmentScanPlan, SharePlan, TakePlan, ZonedPlan,
 };
 
-/// A plan, or why it is refused.
-type Made = Result<PlanRef, PlanError>;
+/// The dtype that is written so.
+fn dtype_in(alloc: Global, text: &str) -> Result<DType, PlanError> {
+    match dtype_of(alloc, text) {
+        Ok(dtype) => Ok(dtype),
+        Err(_) => Err(UNREAD),
+    }
+}
 
-/// A plan of a segment's rows, or of the numbers of rows.
-fn leaf(
+/// A plan of a segment's rows.
+fn scan(
     alloc: Global,
     table: &mut PlanTable,
-    command: &str,
     numbers: &[u64],
     rest: &str,
-) -> Result<Made>
+) -> Result<PlanRef, PlanError>
     requires { length table.old < 4294967292 }
 {
-    let rows = number_at(numbers, 0)?;
-    if command == "row_idx" {
-        return Ok(RowIdxPlan::new(alloc, table, rows).map(|plan| plan.into_plan()));
+    let rows = number_at(numbers, 0);
+    let segment = u32::try_from(number_at(numbers, 1)).unwrap_or(0);
+    let dtype = dtype_in(alloc, rest)?;
+    Ok(SegmentScanPlan::new(alloc, table, dtype, rows, segment)?.into_plan())
+}
+
+/// The expression that is spelled so, bound to a dtype.
+fn bound_of(alloc: Global, dtype: &str, words: &str) -> Result<BoundExpression, PlanError> {
+    let dtype = dtype_in(alloc, dtype)?;
+    let Some(expression) = expression_of(alloc, words) else {
+        return Err(UNREAD);
+    };
+    match bind(alloc, &expression, &dtype) {
+        Ok(bound) => Ok(bound),
+        Err(_) => Err(UNREAD),
     }
-    let segment = u32::try_from(number_at(numbers, 1)?).context("a segment")?;
-    let dtype = dtype_of(alloc, rest)?;
-    Ok(SegmentScanPlan::new(alloc, table, dtype, rows, segment).map(|plan| plan.into_plan()))
 }
 
 /// A plan over one other.
@@ -43,33 +56,27 @@ fn over(
     command: &str,
     numbers: &[u64],
     rest: &str,
-) -> Result<Made>
+) -> Result<PlanRef, PlanError>
     requires { length table.old < 4294967292 }
 {
     let child = plan_at(table, numbers, 0)?;
     match command {
-        "filter" => return Ok(FilterPlan::new(alloc, table, child).map(|plan| plan.into_plan())),
-        "share" => return Ok(SharePlan::new(alloc, table, child).map(|plan| plan.into_plan())),
+        "filter" => return Ok(FilterPlan::new(alloc, table, child)?.into_plan()),
+        "share" => return Ok(SharePlan::new(alloc, table, child)?.into_plan()),
         _ => {}
     }
-    let (dtype, words) = rest
-        .split_once(" | ")
-        .context("an expression behind its dtype")?;
-    let dtype = dtype_of(alloc, dtype)?;
-    let expression = spelled(alloc, words)?;
-    match bind(alloc, &expression, &dtype) {
-        Ok(bound) => Ok(EvalPlan::try_new(alloc, table, bound, child).map(|plan| plan.into_plan())),
-        Err(_) => Err(Error::msg("an expression over the dtype")),
-    }
+    let (dtype, words) = rest.split_once(" | ").unwrap_or((rest, ""));
+    let bound = bound_of(alloc, dtype, words)?;
+    Ok(EvalPlan::try_new(alloc, table, bound, child)?.into_plan())
 }
 
 /// A plan of codes and values.
-fn taking(alloc: Global, table: &mut PlanTable, numbers: &[u64]) -> Result<Made>
+fn taking(alloc: Global, table: &mut PlanTable, numbers: &[u64]) -> Result<PlanRef, PlanError>
     requires { length table.old < 4294967292 }
 {
     let codes = plan_at(table, numbers, 0)?;
     let values = plan_at(table, numbers, 1)?;
-    Ok(TakePlan::new(alloc, table, codes, values).map(|plan| plan.into_plan()))
+    Ok(TakePlan::new(alloc, table, codes, values)?.into_plan())
 }
 
 /// A plan of data and zones.
@@ -79,28 +86,47 @@ fn zones(
     command: &str,
     numbers: &[u64],
     rest: &str,
-) -> Result<Made>
+) -> Result<PlanRef, PlanError>
     requires { length table.old < 4294967292 }
 {
     let column = plan_at(table, numbers, 0)?;
     let zones = plan_at(table, numbers, 1)?;
-    let len = number_at(numbers, 2)?;
+    let len = number_at(numbers, 2);
     let stats = statistics_of(alloc, rest)?;
     if command == "zoned" {
-        let made = ZonedPlan::new(alloc, table, column, zones, len, stats);
-        return Ok(made.map(|plan| plan.into_plan()));
+        return Ok(ZonedPlan::new(alloc, table, column, zones, len, stats)?.into_plan());
     }
-    let made = LegacyStatsPlan::new(alloc, table, column, zones, len, stats);
-    Ok(made.map(|plan| plan.into_plan()))
+    Ok(LegacyStatsPlan::new(alloc, table, column, zones, len, stats)?.into_plan())
 }
 
-/// The plans from a place on as chunks, of the dtype.
-fn chunks(alloc: Global, table: &mut PlanTable, numbers: &[u64], rest: &str) -> Result<Made>
+/// The plans as chunks, of the dtype.
+fn chunks(
+    alloc: Global,
+    table: &mut PlanTable,
+    numbers: &[u64],
+    rest: &str,
+) -> Result<PlanRef, PlanError>
     requires { length table.old < 4294967292 }
 {
+    let dtype = dtype_in(alloc, rest)?;
     let children = plans_from(alloc, table, numbers, 0)?;
-    let dtype = dtype_of(alloc, rest)?;
-    Ok(ConcatPlan::try_new(alloc, table, dtype, children).map(|plan| plan.into_plan()))
+    Ok(ConcatPlan::try_new(alloc, table, dtype, children)?.into_plan())
+}
+
+/// One plan as so many chunks, of the dtype.
+fn repeated(
+    alloc: Global,
+    table: &mut PlanTable,
+    numbers: &[u64],
+    rest: &str,
+) -> Result<PlanRef, PlanError>
+    requires { length table.old < 4294967292 }
+{
+    let count = number_at(numbers, 0);
+    let child = plan_at(table, numbers, 1)?;
+    let dtype = dtype_in(alloc, rest)?;
+    let children = times(alloc, table, child, count)?;
+    Ok(ConcatPlan::try_new(alloc, table, dtype, children)?.into_plan())
 }
 
 /// Structs of the rows that stand first, and of the fields behind them; with `?` a validity stands between.
@@ -110,30 +136,21 @@ fn structs(
     command: &str,
     numbers: &[u64],
     rest: &str,
-) -> Result<Made>
+) -> Result<PlanRef, PlanError>
     requires { length table.old < 4294967292 }
 {
-    let rows = number_at(numbers, 0)?;
-    let DType::Struct(fields, nullability) = dtype_of(alloc, rest)? else {
-        return Err(Error::msg("a struct"));
+    let rows = number_at(numbers, 0);
+    let validity = if command == "pack" {
+        None
+    } else {
+        Some(plan_at(table, numbers, 1)?)
     };
-    if command == "pack" {
-        let children = plans_from(alloc, table, numbers, 1)?;
-        let made = PackPlan::try_new(alloc, table, fields, nullability, rows, children, None);
-        return Ok(made.map(|plan| plan.into_plan()));
-    }
-    let validity = plan_at(table, numbers, 1)?;
-    let children = plans_from(alloc, table, numbers, 2)?;
-    let made = PackPlan::try_new(
-        alloc,
-        table,
-        fields,
-        nullability,
-        rows,
-        children,
-        Some(validity),
-    );
-    Ok(made.map(|plan| plan.into_plan()))
+    let first = if command == "pack" { 1 } else { 2 };
+    let children = plans_from(alloc, table, numbers, first)?;
+    let DType::Struct(fields, nulls) = dtype_in(alloc, rest)? else {
+        return Err(UNREAD);
+    };
+    Ok(PackPlan::try_new(alloc, table, fields, nulls, rows, children, validity)?.into_plan())
 }
 
 /// Lists of so many rows, with elements and offsets; with `?` a validity follows.
@@ -143,15 +160,15 @@ fn lists(
     command: &str,
     numbers: &[u64],
     rest: &str,
-) -> Result<Made>
+) -> Result<PlanRef, PlanError>
     requires { length table.old < 4294967292 }
 {
-    let nullability = if rest == "?" {
+    let nulls = if rest == "?" {
         Nullability::Nullable
     } else {
         Nullability::NonNullable
     };
-    let rows = number_at(numbers, 0)?;
+    let rows = number_at(numbers, 0);
     let elements = plan_at(table, numbers, 1)?;
     let offsets = plan_at(table, numbers, 2)?;
     let validity = if command == "list" {
@@ -159,19 +176,7 @@ fn lists(
     } else {
         Some(plan_at(table, numbers, 3)?)
     };
-    let made = ListPackPlan::try_new(alloc, table, nullability, rows, elements, offsets, validity);
-    Ok(made.map(|plan| plan.into_plan()))
-}
-
-/// One plan as so many chunks, of the dtype.
-fn repeated(alloc: Global, table: &mut PlanTable, numbers: &[u64], rest: &str) -> Result<Made>
-    requires { length table.old < 4294967292 }
-{
-    let count = number_at(numbers, 0)?;
-    let child = plan_at(table, numbers, 1)?;
-    let children = times(alloc, table, child, count)?;
-    let dtype = dtype_of(alloc, rest)?;
-    Ok(ConcatPlan::try_new(alloc, table, dtype, children).map(|plan| plan.into_plan()))
+    Ok(ListPackPlan::try_new(alloc, table, nulls, rows, elements, offsets, validity)?.into_plan())
 }
 
 /// Adds the plan of a command.
@@ -181,11 +186,12 @@ pub(crate) fn made(
     command: &str,
     numbers: &[u64],
     rest: &str,
-) -> Result<Made>
+) -> Result<PlanRef, PlanError>
     requires { length table.old < 4294967292 }
 {
     match command {
-        "scan" | "row_idx" => leaf(alloc, table, command, numbers, rest),
+        "scan" => scan(alloc, table, numbers, rest),
+        "row_idx" => Ok(RowIdxPlan::new(alloc, table, number_at(numbers, 0))?.into_plan()),
         "filter" | "share" | "eval" => over(alloc, table, command, numbers, rest),
         "take" => taking(alloc, table, numbers),
         "zoned" | "legacy" => zones(alloc, table, command, numbers, rest),
@@ -193,6 +199,6 @@ pub(crate) fn made(
         "repeat" => repeated(alloc, table, numbers, rest),
         "pack" | "pack?" => structs(alloc, table, command, numbers, rest),
         "list" | "list?" => lists(alloc, table, command, numbers, rest),
-        _ => Err(Error::msg("a command")),
+        _ => Err(UNREAD),
     }
 }

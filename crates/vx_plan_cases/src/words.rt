@@ -1,37 +1,42 @@
 //! The words of a command: numbers, plans of the table, statistics.
 
-ghost use Rattle.std.specs.Prelude.{◌<◌, length, map, IfOk};
+ghost use Rattle.std.specs.Prelude.{◌<◌, length, IfOk};
 ghost use Rattle.vx_plan.specs.Refs.{number_of};
 ghost use Rattle.vx_plan.specs.Tables.{AreIn};
 
-use anyhow::{Context, Error, Result};
-use std::alloc::Global;
+use std::alloc::{AllocError, Global};
 use vx_expr::{Statistic, Statistics};
-use vx_plan::{PlanChildren, PlanRef, PlanTable};
+use vx_plan::{PlanChildren, PlanError, PlanRef, PlanTable};
 
-/// The numbers between blanks.
-pub(crate) fn numbers_of(alloc: Global, words: &str) -> Result<Vec<u64>> {
+/// What a line that can't be read is refused by: the rules of plans are counted from 1.
+pub(crate) const UNREAD: PlanError = PlanError::BadPlan { rule: 0 };
+
+/// The numbers between blanks; what is no number is 0.
+pub(crate) fn numbers_of(alloc: Global, words: &str) -> Result<Vec<u64>, AllocError> {
     let mut numbers = Vec::new(alloc);
     for word in words.split_whitespace() {
-        numbers.push(word.parse::<u64>().context("a number")?)?;
+        numbers.push(word.parse::<u64>().unwrap_or(0))?;
     }
     Ok(numbers)
 }
 
-/// The number at a place.
-pub(crate) fn number_at(numbers: &[u64], place: usize) -> Result<u64> {
-    numbers.get(place).copied().context("one number more")
+/// The number at a place; where there is none, 0.
+pub(crate) fn number_at(numbers: &[u64], place: usize) -> u64 {
+    numbers.get(place).copied().unwrap_or(0)
 }
 
 /// The plan of the number at a place.
-pub(crate) fn plan_at(table: &PlanTable, numbers: &[u64], place: usize) -> Result<PlanRef>
+pub(crate) fn plan_at(
+    table: &PlanTable,
+    numbers: &[u64],
+    place: usize,
+) -> Result<PlanRef, PlanError>
     ensures { IfOk result (λ plan. number_of plan < length table.now) }
 {
-    let number = number_at(numbers, place)?;
-    if number >= u64::from(table.len()) {
-        return Err(Error::msg("a plan of the table"));
+    match numbers.get(place) {
+        Some(number) if *number < u64::from(table.len()) => Ok(PlanRef(*number as u32)),
+        _ => Err(UNREAD),
     }
-    Ok(PlanRef(number as u32))
 }
 
 /// The plans of the numbers from a place on.
@@ -40,7 +45,7 @@ pub(crate) fn plans_from(
     table: &PlanTable,
     numbers: &[u64],
     first: usize,
-) -> Result<PlanChildren>
+) -> Result<PlanChildren, PlanError>
     ensures { IfOk result (λ children. AreIn table.now children) }
 {
     let mut plans = Vec::new(alloc);
@@ -57,7 +62,7 @@ pub(crate) fn times(
     table: &PlanTable,
     plan: PlanRef,
     count: u64,
-) -> Result<PlanChildren>
+) -> Result<PlanChildren, PlanError>
     requires { number_of plan < length table.now }
     ensures { IfOk result (λ children. AreIn table.now children) }
 {
@@ -69,16 +74,17 @@ pub(crate) fn times(
     Ok(PlanChildren::from(plans))
 }
 
-/// The statistics of these names, between commas; `-` is none.
-pub(crate) fn statistics_of(alloc: Global, names: &str) -> Result<Statistics> {
+/// The statistics of these names, between commas; a word that names none is none.
+pub(crate) fn statistics_of(alloc: Global, names: &str) -> Result<Statistics, AllocError> {
     let mut statistics = Vec::new(alloc);
     for name in names.split(',') {
-        match name {
-            "min" => statistics.push(Statistic::Min)?,
-            "max" => statistics.push(Statistic::Max)?,
-            "null_count" => statistics.push(Statistic::NullCount)?,
-            _ => {}
-        }
+        let statistic = match name {
+            "min" => Statistic::Min,
+            "max" => Statistic::Max,
+            "null_count" => Statistic::NullCount,
+            _ => continue,
+        };
+        statistics.push(statistic)?;
     }
     Ok(Statistics::from_vec(statistics))
 }

@@ -1,0 +1,21 @@
+//! Cases of lowered plans, of plans of expressions, and of the text of plans: reads a command a line, and prints the
+//! line with its answer.
+//!
+//! A line that is empty or begins with `# ` is printed as it is. The commands stand in `README.md`.
+#![tactic(auto)]
+
+mod commands;
+mod expressions;
+mod texts;
+mod trees;
+
+use commands::write_answers;
+use std::io;
+
+fn main(rt: HostRuntime) -> io::Result<()> {
+    let alloc = rt.alloc();
+    let lines = io::read_to_string(alloc, rt.reader())?;
+    let mut out = String::new(alloc);
+    let _all = write_answers(alloc, lines.as_str(), &mut out);
+    print!(rt; "{out}")
+}
