@@ -1,11 +1,16 @@
--- The lines of rows that are looked at one by one.
-use Rattle.std.proofs.Common.{◌≡◌, ℕ, zero, suc, ◌+◌, ◌<◌, ℤ, pos, List, [], ◌∷◌, ◌++◌, length, take, get_or, Some, refl, sym, ap, ◌∙◌, arith, append_assoc}
+-- The lines of rows that are looked at one by one, and of numbers that lie packed.
+use Rattle.std.proofs.Common.{◌≡◌, ℕ, zero, suc, ◌+◌, ◌<◌, ℤ, pos, Bool, true, false, List, [], ◌∷◌, ◌++◌, length, map, take, get_or, Some, refl, sym, ap, ◌∙◌, arith, append_assoc}
 use Rattle.std.specs.Prelude.{slice_get}
 use Rattle.std.specs.Fmt.{signed_decimal}
+use Rattle.std.specs.List.{All}
 use Rattle.std.proofs.lemmas.List.{append-nil, take_more}
 use Rattle.vx_base.specs.Cells.{struct_at}
-use Rattle.vx_base.specs.Data.{Datum, Items, null}
+use Rattle.vx_base.specs.Data.{Datum, Items, null, number}
+use Rattle.vx_base.specs.Reading.{where_valid}
 use Rattle.vx_base.specs.Segment.{number_in}
+use Rattle.vx_packed.specs.declared.numbers.Numbers.{Numbers}
+use Rattle.vx_packed.specs.declared.numbers.Numbers.TheVariants.{I64}
+use Rattle.vx_packed.specs.Numbers.{numbers_in}
 use Rattle.scan_commands.specs.Output.{line, lines}
 
 -- a struct has no number
@@ -33,3 +38,20 @@ pub row_more : (vs : List Datum) (row : ℕ) (v : Datum) (z : ℤ) (front before
 row_more vs row v z front before after at is pushed h =
     pushed ∙ ap (λ (y : ℤ). before ++ (signed_decimal y ++ 10 ∷ [])) is ∙ ap (λ (bytes : List ℕ). bytes ++ line v) h ∙ append_assoc front (lines (take row vs)) (line v) ∙ ap (λ (bytes : List ℕ). front ++ bytes) (sym (lines_more (take row vs) v))
     ∙ ap (λ (w : Datum). front ++ lines (take row vs ++ w ∷ [])) (sym (found vs row v at)) ∙ ap (λ (ws : List Datum). front ++ lines ws) (sym (take_more vs row null (inside vs row v at)))
+
+-- ---- packed numbers
+all_there : (valid : List Bool) (numbers : List ℤ) → All (λ bit. bit ≡ true) valid → length valid ≡ length numbers → where_valid valid (map number numbers) ≡ map number numbers
+all_there [] [] h e = refl
+all_there [] (z ∷ numbers) h e = absurd (omega arith)
+all_there (bit ∷ valid) [] h e = absurd (omega arith)
+all_there (true ∷ valid) (z ∷ numbers) h e = ap (λ (rest : List Datum). number z ∷ rest) (all_there valid numbers (λ k d lt. h (suc k) d (omega (arith, lt))) (omega arith))
+all_there (false ∷ valid) (z ∷ numbers) h e = let none : false ≡ true = h zero true (omega arith) in absurd cc
+
+as_they_are : (numbers : List ℤ) → map (λ z. z) numbers ≡ numbers
+as_they_are [] = refl
+as_they_are (z ∷ numbers) = ap (λ (rest : List ℤ). z ∷ rest) (as_they_are numbers)
+
+pub each_valid : (valid : List Bool) (packed : Numbers) (numbers taken : List ℤ) (values rows : List Datum) → packed ≡ I64 numbers → All (λ bit. bit ≡ true) valid → length valid ≡ length (numbers_in packed) → where_valid valid (map number (numbers_in packed)) ≡ rows → rows ≡ values → map (λ z. z) taken ≡ numbers → values ≡ map number taken
+each_valid valid packed numbers taken values rows is h e seen here lent =
+    let whole : numbers_in packed ≡ taken = ap numbers_in is ∙ sym lent ∙ as_they_are taken in
+    sym here ∙ sym seen ∙ all_there valid (numbers_in packed) h e ∙ ap (map number) whole

@@ -9,6 +9,7 @@
 
 mod answers;
 mod by_hand;
+mod column_lines;
 mod faults;
 mod form;
 mod numbers;

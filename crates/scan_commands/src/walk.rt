@@ -1,25 +1,22 @@
 //! Walking a layout: its leaves are read in the order of their rows, each in a read of its own, and the
 //! lines of their values are gathered.
 
-ghost use Rattle.std.specs.Prelude.{◌≡◌, ◌<◌, ◌++◌, ◌∷◌, [], ℕ, OnOk, Some, length, slice_get, string_bytes};
-ghost use Rattle.std.specs.Fmt.{signed_decimal};
+ghost use Rattle.std.specs.Prelude.{◌≡◌, ◌<◌, ℕ, OnOk, Some, length, slice_get, string_bytes};
 ghost use Rattle.std.specs.List.{AllByRecursion};
 ghost use Rattle.vx_base.specs.Data.{int_type};
-ghost use Rattle.vx_base.specs.Segment.{number_in};
-ghost use Rattle.vx_base.specs.Cells.{cell_datum};
 ghost use Rattle.vx_base.specs.Views.{data_type};
 ghost use Rattle.vx_base.specs.declared.dtypes.IntKind.TheVariants.{I64};
 ghost use Rattle.vx_base.specs.declared.dtypes.Nullability.TheVariants.{NonNullable};
 ghost use Rattle.vx_layout.specs.Trees.{leaf, subtree};
 ghost use Rattle.scan_commands.specs.Answer.{AllLocated};
-ghost use Rattle.scan_commands.specs.Output.{lines};
 ghost use Rattle.scan_commands.specs.Segments.{Asks};
 ghost use Rattle.scan_commands.specs.Walk.{AsksOnly, IsRangeIn, LeafGives, WalkGives};
 
+use crate::column_lines::append_lines;
 use crate::faults::ScanFault;
 use crate::segments::read_segment;
-use std::alloc::{AllocError, Global};
-use vx_base::{Cell, Column, DecodeError, SegmentLocation, SegmentSource, decode};
+use std::alloc::Global;
+use vx_base::{Column, DecodeError, SegmentLocation, SegmentSource, decode};
 use vx_layout::{LayoutKind, LayoutNode, LayoutTree};
 
 /// Reads the leaves below a node, and appends a line for each row. All nodes are flat and chunked ones.
@@ -106,34 +103,5 @@ fn read_leaf<S: SegmentSource>(
         Ok(column) => Ok(column),
         Err(DecodeError::BadSegment) => Err(ScanFault::BadSegment),
         Err(DecodeError::Memory) => Err(ScanFault::Memory),
-    }
-}
-
-/// Appends a line for each value of a column of numbers.
-#[tactic(auto, using(crate::proofs::Lines::row_more))]
-fn append_lines(text: &mut String, column: &Column) -> Result<(), AllocError>
-    ensures { OnOk result (string_bytes text.new ≡ string_bytes text.old ++ lines column.now.values) }
-{
-    for row in 0..column.len() {
-        append_line(text, number_of(column.cell(row)))?;
-    }
-    Ok(())
-}
-
-/// Appends a number in decimal and a newline.
-fn append_line(text: &mut String, number: i128) -> Result<(), AllocError>
-    ensures { OnOk result (string_bytes text.new ≡ string_bytes text.old ++ (signed_decimal number ++ 10 ∷ [])) }
-{
-    writeln!(text, "{number}")
-}
-
-/// The number of a value.
-#[tactic(auto, using(crate::proofs::Lines::no_number))]
-fn number_of(cell: Cell<'_>) -> i128
-    ensures { result ≡ number_in (cell_datum cell.entry) }
-{
-    match cell {
-        Cell::Int(number) => number,
-        _ => 0,
     }
 }

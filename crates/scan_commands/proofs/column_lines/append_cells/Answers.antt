@@ -3,7 +3,7 @@ use Rattle.std.specs.Int.{w128}
 use Rattle.std.proofs.lemmas.Int.{to_z-of_z}
 use Rattle.vx_base.specs.Cells.{cell_datum}
 use Rattle.scan_commands.proofs.Lines.{row_more}
-use Rattle.scan_commands.proofs.walk.append_lines.Goals as goal
+use Rattle.scan_commands.proofs.column_lines.append_cells.Goals as goal
 
 pub loop-row-preserved : goal.loop-row-preserved
 loop-row-preserved c =
