@@ -1,0 +1,66 @@
+-- What is true of a scan before its first step.
+use Rattle.std.proofs.Common.{◌≡◌, ◌<◌, inl, ⊎_elim, List, [], Some, length, sym, subst}
+use Rattle.std.specs.List.{AllByRecursion}
+use Rattle.vx_plan.specs.Nodes.{Node}
+use Rattle.vx_plan.specs.Rules.{node_at}
+use Rattle.vx_rows.specs.SegmentLeaves.{Bytes, leaves_of}
+use Rattle.vx_steps.specs.declared.jobs.ActiveSplit.{ActiveSplit}
+use Rattle.vx_steps.specs.declared.jobs.Job.{Job}
+use Rattle.vx_steps.specs.declared.jobs.Progress.{Progress}
+use Rattle.vx_steps.specs.Agreement.{Agrees}
+use Rattle.vx_steps.specs.Held.{AreMade, AreTyped, FitsOffset, HaveLeaves}
+use Rattle.vx_steps.specs.Jobs.{IsActive, IsGood, IsTold, IsUnstarted}
+use Rattle.vx_steps.specs.KeptData.{Kept}
+use Rattle.vx_steps.specs.Kept.{kept_at}
+use Rattle.vx_steps.specs.Needs.{Among}
+use Rattle.vx_steps.specs.ReadTableData.{Wanted}
+use Rattle.vx_steps.specs.Splits.{IsInside}
+use Rattle.vx_steps.specs.Wholes.{UsesGiven}
+
+pub typed_none : (nodes : List Node) (kept : List Kept) → kept ≡ [] → AreTyped nodes kept
+typed_none nodes kept none = subst (AreTyped nodes) (sym none) (λ n column at. absurd cc)
+
+uses_empty : (given : List Kept) → UsesGiven given [] []
+uses_empty given = record { grows = λ n column at. at; only = λ n column at. inl at }
+
+-- what was used is typed where what was handed in is
+pub used_typed : (nodes : List Node) (given used : List Kept) → UsesGiven given [] used → AreTyped nodes given → AreTyped nodes used
+used_typed nodes given used uses typed n column at = ⊎_elim (λ (none : kept_at [] n ≡ Some column). absurd cc) (λ (e : kept_at given n ≡ Some column). typed n column e) (uses.only n column at)
+
+uses_none : (given used : List Kept) → used ≡ [] → UsesGiven given [] used
+uses_none given used none = subst (UsesGiven given []) (sym none) (uses_empty given)
+
+actives_none : (nodes : List Node) (job : Job) (progress : Progress) → progress.active.items ≡ [] → (active : ActiveSplit) → Among active progress.active.items → IsActive nodes job progress.leaves progress.reads.wanted active
+actives_none nodes job progress none active among = absurd (subst (λ (actives : List ActiveSplit). Among active actives) none among)
+
+-- Before the first step a scan is good whatever is handed in, where that is typed and the numbers of rows fit.
+pub good_unstarted : (nodes : List Node) (job : Job) (progress : Progress) → IsUnstarted progress → job.plan < length nodes → AllByRecursion (IsInside (node_at nodes job.plan).rows) job.splits.items → FitsOffset nodes job.offset → AreTyped nodes job.given → AreTyped nodes progress.leaves → IsGood nodes job progress
+good_unstarted nodes job progress unstarted known inside fits given leaves = record {
+  known = known;
+  inside = inside;
+  fits = fits;
+  typed_given = given;
+  typed_leaves = leaves;
+  typed_made = typed_none nodes progress.wholes.made unstarted.made;
+  uses = uses_none job.given progress.wholes.used unstarted.used;
+  actives = actives_none nodes job progress unstarted.active;
+}
+
+pub good_with_given : (nodes : List Node) (job new : Job) (progress : Progress) (given : List Kept) → IsUnstarted progress → IsGood nodes job progress → AreTyped nodes given → new ≡ record { plan = job.plan; splits = job.splits; given = given; max_active = job.max_active; offset = job.offset } → IsGood nodes new progress
+good_with_given nodes job new progress given unstarted good typed is =
+    subst (λ (j : Job). IsGood nodes j progress) (sym is)
+    (good_unstarted nodes (record { plan = job.plan; splits = job.splits; given = given; max_active = job.max_active; offset = job.offset }) progress unstarted good.known good.inside good.fits typed good.typed_leaves)
+
+pub good_with_leaves : (nodes : List Node) (job : Job) (progress new : Progress) (leaves : List Kept) → IsUnstarted progress → IsGood nodes job progress → AreTyped nodes leaves → new ≡ record { next = progress.next; active = progress.active; reads = progress.reads; leaves = leaves; wholes = progress.wholes } → IsGood nodes job new
+good_with_leaves nodes job progress new leaves unstarted good typed is =
+    let still : IsUnstarted (record { next = progress.next; active = progress.active; reads = progress.reads; leaves = leaves; wholes = progress.wholes }) = record { next = unstarted.next; active = unstarted.active; wanted = unstarted.wanted; made = unstarted.made; used = unstarted.used } in
+    subst (λ (p : Progress). IsGood nodes job p) (sym is)
+    (good_unstarted nodes job (record { next = progress.next; active = progress.active; reads = progress.reads; leaves = leaves; wholes = progress.wholes }) still good.known good.inside good.fits good.typed_given typed)
+
+-- And it is that of any outside whose leaves were handed in.
+pub told_unstarted : (nodes : List Node) (job : Job) (progress : Progress) (outside : Bytes) → IsUnstarted progress → HaveLeaves nodes progress.leaves (leaves_of outside) → IsTold nodes job progress outside
+told_unstarted nodes job progress outside unstarted have = record {
+  bytes = subst (λ (wanted : List Wanted). Agrees wanted outside) (sym unstarted.wanted) (λ place w bytes at is. absurd cc);
+  leaves_are = have;
+  made_are = subst (λ (made : List Kept). AreMade nodes job.offset made (leaves_of outside)) (sym unstarted.made) (λ n column at. absurd cc);
+}

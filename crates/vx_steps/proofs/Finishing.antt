@@ -1,0 +1,390 @@
+-- What an active split that is tried comes to.
+use Rattle.std.proofs.Common.{◌≡◌, Global, Vec, set, ℕ, zero, suc, ◌+◌, ◌<◌, ◌≤◌, ◌==◌, inl, inr, ⊎_elim, Bool, true, false, List, [], ◌∷◌, ◌++◌, map, drop, Option, Some, None, Result, Ok, Err, length, get_or, refl, sym, ap, ◌∙◌, subst, arith}
+use Rattle.std.specs.Prelude.{if◌then◌else◌, IfOk, IfErr, IfSome}
+use Rattle.std.specs.List.{slice_get, AllByRecursion, remove}
+use Rattle.vx_base.specs.Columns.{ColumnData}
+use Rattle.vx_steps.specs.declared.errors.StepError.{StepError}
+use Rattle.vx_steps.specs.declared.errors.StepError.TheVariants.{BadSegment, Unsupported, BadCode, EvalFault, Memory}
+use Rattle.vx_steps.specs.declared.jobs.Job.{Job}
+use Rattle.vx_steps.specs.declared.jobs.ActiveSplit.{ActiveSplit}
+use Rattle.vx_steps.specs.declared.jobs.Progress.{Progress}
+use Rattle.vx_steps.specs.declared.leaf_reads.LeafRead.{LeafRead}
+use Rattle.vx_steps.specs.declared.progress.Turn.{Turn}
+use Rattle.vx_steps.specs.declared.progress.Turn.TheVariants.{Read, Output, Waiting, Done}
+use Rattle.vx_steps.specs.declared.reads.ReadRequest.{ReadRequest}
+use Rattle.vx_steps.specs.declared.splits.Split.{Split}
+use Rattle.vx_plan.specs.Nodes.{Node}
+use Rattle.vx_plan.specs.Rules.{node_at}
+use Rattle.vx_rows.specs.SegmentLeaves.{Bytes, leaves_of}
+use Rattle.vx_steps.specs.Kept.{kept_at, IsKept}
+use Rattle.vx_steps.specs.KeptData.{Kept}
+use Rattle.vx_steps.specs.Needs.{Among, AreLeaves}
+use Rattle.vx_steps.specs.Wants.{AreNeeds, IsAsked}
+use Rattle.vx_steps.specs.declared.wholes.Wholes.{Wholes}
+use Rattle.vx_steps.specs.Wholes.{AddsAsked, AddsOnly, Asks, KeepsValues, UsesGiven}
+use Rattle.vx_steps.specs.ReadTableData.{Wanted, ReadsData}
+use Rattle.vx_steps.specs.ReadTable.{bytes_of, HandsOut, StandsAt}
+use Rattle.vx_steps.specs.Delivered.{KeepsLeaves, LacksNeed}
+use Rattle.vx_steps.specs.Splits.{IsInside}
+use Rattle.vx_steps.specs.Turns.{HasNeedCause, IsOutput, IsRefusal, LeavesWholes, ReadsFor}
+use Rattle.vx_steps.specs.Jobs.{numbers_from, number_of_active, left_of, IsActive, IsAskedFor, IsGood, KeepsTold, KeepsWholes, OnlyKeeps, Starts}
+use Rattle.vx_steps.specs.Steps.{GivesOutput, GoesOn, HandsRead, HasCauseIn, HasSplitCause, HoldsAll, TakesTurn, work_left, IsActiveOutput, IsHeldAt, IsHeldUp, IsMissing, IsStepRefusal}
+use Rattle.std.proofs.lemmas.List.{set-get_or}
+use Rattle.std.proofs.lemmas.List.Edits.{length-remove, remove-append_left}
+use Rattle.vx_steps.proofs.Decoding.{not_kept_before}
+use Rattle.vx_steps.proofs.Keeping.{got_inside, same_got}
+use Rattle.vx_steps.proofs.Starting.{got_at}
+use Rattle.vx_steps.proofs.Turning.{leaves_before}
+
+pub got_among : {X : Type 0} (xs : List X) (i : ℕ) (x : X) → slice_get xs i ≡ Some x → Among x xs
+got_among [] i x h = cc
+got_among (y ∷ xs) zero x h = inl cc
+got_among (y ∷ xs) (suc i) x h = inr (got_among xs i x h)
+
+all_got : {X : Type 0} (P : X → Type 0) (xs : List X) (i : ℕ) (x : X) → AllByRecursion P xs → slice_get xs i ≡ Some x → P x
+all_got P [] i x all h = cc
+all_got P (y ∷ xs) zero x all h =
+    let e : y ≡ x = cc in
+    subst P e all.0
+all_got P (y ∷ xs) (suc i) x all h = all_got P xs i x all.1 h
+
+-- the active split at a place, and its split
+pub record HasParts (nodes : List Node) (job : Job) (progress : Progress) (place : ℕ) (active : ActiveSplit) (split : Split) : Type 0 where
+  pub active_at : slice_get progress.active.items place ≡ Some active
+  pub split_at : slice_get job.splits.items active.split ≡ Some split
+  pub inside : IsInside (node_at nodes job.plan).rows split
+  pub needs : AreNeeds (ReadsFor nodes job split) active.needs
+  pub are_leaves : AreLeaves nodes active.needs
+  pub asked : (need : LeafRead) → Among need active.needs → kept_at progress.leaves need.leaf ≡ None → IsAsked progress.reads.wanted need.segment
+
+pub active_at : (nodes : List Node) (job : Job) (progress : Progress) (place : ℕ) (active : ActiveSplit) → IsGood nodes job progress → place < length progress.active.items → active ≡ get_or progress.active.items place active →
+    IsActive nodes job progress.leaves progress.reads.wanted active
+active_at nodes job progress place active good inside is = good.actives active (got_among progress.active.items place active (got_at progress.active.items place active inside is))
+
+pub split_inside : (nodes : List Node) (job : Job) (progress : Progress) (place : ℕ) (active : ActiveSplit) → IsGood nodes job progress → place < length progress.active.items → active ≡ get_or progress.active.items place active → active.split < length job.splits.items
+split_inside nodes job progress place active good inside is = got_inside job.splits.items active.split (active_at nodes job progress place active good inside is).split (active_at nodes job progress place active good inside is).at
+
+pub parts_of : (nodes : List Node) (job : Job) (progress : Progress) (place : ℕ) (active : ActiveSplit) (split : Split) → IsGood nodes job progress → place < length progress.active.items → active ≡ get_or progress.active.items place active → split ≡ get_or job.splits.items active.split split →
+    HasParts nodes job progress place active split
+parts_of nodes job progress place active split good inside is split_is =
+    let a = active_at nodes job progress place active good inside is in
+    let here = got_at job.splits.items active.split split (split_inside nodes job progress place active good inside is) split_is in
+    let P : Split → Type 0 = λ s. HasParts nodes job progress place active s in
+    let own : P a.split = record {
+      active_at = got_at progress.active.items place active inside is;
+      split_at = a.at;
+      inside = all_got (IsInside (node_at nodes job.plan).rows) job.splits.items active.split a.split good.inside a.at;
+      needs = a.needs;
+      are_leaves = a.are_leaves;
+      asked = a.asked;
+    } in
+    subst P (same_got (slice_get job.splits.items active.split) a.split split a.at here) own
+
+pub split_rows : (rows : ℕ) (split : Split) → IsInside rows split → split.rows.start + length split.mask ≤ rows
+split_rows rows split inside = omega arith
+
+pub uses_then : (given old mid new : List Kept) → UsesGiven given old mid → UsesGiven given mid new → UsesGiven given old new
+uses_then given old mid new first second = record {
+  grows = λ n column at. second.grows n column (first.grows n column at);
+  only = λ n column at. ⊎_elim (λ (e : kept_at mid n ≡ Some column). first.only n column e) (λ (e : kept_at given n ≡ Some column). inr e) (second.only n column at);
+}
+
+-- the active split at a place, with what is the same in place of its needs
+pub same_active : (xs : List ActiveSplit) (place : ℕ) (a b : ActiveSplit) → place < length xs → a ≡ get_or xs place a → b ≡ get_or xs place b → a ≡ b
+same_active xs place a b inside a_is b_is = same_got (slice_get xs place) a b (got_at xs place a inside a_is) (got_at xs place b inside b_is)
+
+pub same_actives : (xs : List ActiveSplit) (place : ℕ) (a : ActiveSplit) (needs : List LeafRead) → a ≡ get_or xs place a → needs ≡ a.needs → set xs place (record { split = a.split; needs = needs }) ≡ xs
+same_actives xs place a needs is same =
+    ap (λ (n : List LeafRead). set xs place (record { split = a.split; needs = n })) same
+    ∙ ap (set xs place) is
+    ∙ set-get_or xs place a
+
+pub good_tried : (nodes : List Node) (job : Job) (old : Progress) (active : Vec ActiveSplit Global) (leaves : List Kept) (wholes : Wholes) → active.items ≡ old.active.items → KeepsLeaves nodes old.reads.wanted old.leaves leaves → KeepsValues nodes leaves job.offset old.wholes.made wholes.made → UsesGiven job.given old.wholes.used wholes.used → IsGood nodes job old →
+    IsGood nodes job (record { next = old.next; active = active; reads = old.reads; leaves = leaves; wholes = wholes })
+good_tried nodes job old active leaves wholes same keeps values uses good = record {
+  known = good.known;
+  inside = good.inside;
+  fits = good.fits;
+  typed_given = good.typed_given;
+  typed_leaves = keeps.typed good.typed_leaves;
+  typed_made = values.typed good.typed_made;
+  uses = uses_then job.given [] old.wholes.used wholes.used good.uses uses;
+  actives = λ a m. active_keeps a (good.actives a (subst (λ (xs : List ActiveSplit). Among a xs) same m));
+}
+  where
+    active_keeps : (a : ActiveSplit) → IsActive nodes job old.leaves old.reads.wanted a → IsActive nodes job leaves old.reads.wanted a
+    active_keeps a is = record {
+      split = is.split;
+      at = is.at;
+      needs = is.needs;
+      are_leaves = is.are_leaves;
+      asked = λ need among none. is.asked need among (not_kept_before nodes old.reads.wanted old.leaves leaves keeps need.leaf none);
+    }
+
+-- a split that is tried keeps what lies outside
+pub keeps_tried : (nodes : List Node) (job : Job) (old : Progress) (actives : Vec ActiveSplit Global) (leaves : List Kept) (wholes : Wholes) → actives.items ≡ old.active.items → KeepsLeaves nodes old.reads.wanted old.leaves leaves → KeepsValues nodes leaves job.offset old.wholes.made wholes.made → UsesGiven job.given old.wholes.used wholes.used →
+    (place : ℕ) (active : ActiveSplit) (split : Split) → HasParts nodes job old place active split → AddsAsked nodes job.given job.plan split.rows.start split.mask old.wholes wholes → OnlyKeeps nodes job old (record { next = old.next; active = actives; reads = old.reads; leaves = leaves; wholes = wholes })
+keeps_tried nodes job old actives leaves wholes same keeps values uses place active split parts asked = record {
+  next = refl;
+  active = same;
+  reads = refl;
+  told = λ outside is.
+      let have = keeps.right outside is.bytes is.leaves_are in
+      record { bytes = is.bytes; leaves_are = have; made_are = values.right (leaves_of outside) have is.made_are };
+  wholes = record {
+    made = values.grows;
+    used = uses.grows;
+    made_only = only_asked old.wholes.made wholes.made asked.made;
+    used_only = only_asked old.wholes.used wholes.used asked.used;
+  };
+}
+  where
+    only_asked : (before after : List Kept) → AddsOnly (Asks nodes job.given job.plan split.rows.start split.mask) before after → AddsOnly (IsAskedFor nodes job) before after
+    only_asked before after only n kept = ⊎_elim (λ (k : IsKept before n). inl k) (λ (a : Asks nodes job.given job.plan split.rows.start split.mask n). inr (record { number = active.split; split = split; at = parts.split_at; asks = a })) (only n kept)
+
+missing_here : (w : Wanted) (segment : ℕ) → w.segment ≡ segment → w.bytes ≡ None → Some w ≡ Some (record { segment = segment; bytes = None })
+missing_here w segment e none = ap (λ (s : ℕ). Some (record { segment = s; bytes = w.bytes })) e ∙ ap (λ (b : Option (List ℕ)). Some (record { segment = segment; bytes = b })) none
+
+asked_later : (w : Wanted) (wanted : List Wanted) (segment place : ℕ) → (w.segment == segment) ≡ false → StandsAt (w ∷ wanted) segment place → IsAsked wanted segment
+asked_later w wanted segment zero e h = absurd (grind arith)
+asked_later w wanted segment (suc place) e h = (place, h)
+
+missing_by : (w : Wanted) (wanted : List Wanted) (segment : ℕ) (b : Bool) → (w.segment == segment) ≡ b → IsAsked (w ∷ wanted) segment → (IsAsked wanted segment → bytes_of wanted segment ≡ None → IsMissing wanted segment) → (if b then w.bytes else bytes_of wanted segment) ≡ None → IsMissing (w ∷ wanted) segment
+missing_by w wanted segment true e asked later none =
+    let same : w.segment ≡ segment = grind arith in
+    (0, missing_here w segment same none)
+missing_by w wanted segment false e asked later none =
+    let m = later (asked_later w wanted segment asked.0 e asked.1) none in
+    (suc m.0, m.1)
+
+pub missing_first : (wanted : List Wanted) (segment : ℕ) → IsAsked wanted segment → bytes_of wanted segment ≡ None → IsMissing wanted segment
+missing_first [] segment asked none = absurd asked.1
+missing_first (w ∷ wanted) segment asked none = missing_by w wanted segment (w.segment == segment) refl asked (λ a n. missing_first wanted segment a n) none
+
+pub output_up : (nodes : List Node) (job : Job) (old new : Progress) (place : ℕ) (active : ActiveSplit) (split : Split) (result : Result (Option ColumnData) StepError) → HasParts nodes job old place active split →
+    IfOk result (λ output. IfSome output (IsOutput nodes job split old.reads.wanted old.leaves old.wholes.made new.wholes)) → IfOk result (λ output. IfSome output (IsActiveOutput nodes job old new place))
+output_up nodes job old new place active split (Ok (Some column)) parts right = record { active = active; active_at = parts.active_at; split = split; split_at = parts.split_at; output = right }
+output_up nodes job old new place active split (Ok None) parts right = tt
+output_up nodes job old new place active split (Err error) parts right = tt
+
+pub held_up : (nodes : List Node) (job : Job) (old : Progress) (place : ℕ) (active : ActiveSplit) (split : Split) (result : Result (Option ColumnData) StepError) → HasParts nodes job old place active split →
+    IfOk result (λ output. output ≡ None → LacksNeed old.reads.wanted old.leaves active.needs) → IfOk result (λ output. output ≡ None → IsHeldAt old place)
+held_up nodes job old place active split (Ok (Some column)) parts waiting = λ e. absurd cc
+held_up nodes job old place active split (Ok None) parts waiting = λ e a at.
+    let w = waiting refl in
+    let P : ActiveSplit → Type 0 = λ x. IsHeldUp old.reads.wanted x in
+    let here : P active = (w.0, w.1, missing_first old.reads.wanted (w.0).segment (parts.asked w.0 w.1 w.2) w.3) in
+    subst P (same_got (slice_get old.active.items place) active a parts.active_at at) here
+held_up nodes job old place active split (Err error) parts waiting = tt
+
+pub cause_of_split : (nodes : List Node) (job : Job) (old new : Progress) (place : ℕ) (active : ActiveSplit) (split : Split) (result : Result (Option ColumnData) StepError) → HasParts nodes job old place active split → new.reads ≡ old.reads →
+    IfErr result (IsRefusal nodes job split active.needs old.reads.wanted old.leaves old.wholes.made) → IfErr result (LeavesWholes nodes job split old.reads.wanted old.leaves old.wholes.made new.wholes) → IfErr result (IsStepRefusal nodes job old new)
+cause_of_split nodes job old new place active split (Ok output) parts same cause left = tt
+cause_of_split nodes job old new place active split (Err error) parts same cause left = inr (record {
+  number = active.split;
+  split = split;
+  at = parts.split_at;
+  cause = subst (λ (r : ReadsData). HasSplitCause nodes job old r.wanted split error) (sym same) (λ outside is. by outside error (cause outside is));
+  left = left;
+})
+  where
+    by : (outside : Bytes) (error : StepError) → HasNeedCause nodes job split active.needs old.reads.wanted outside error → HasCauseIn nodes job old.reads.wanted split outside error
+    by outside (BadSegment segment) (need, among, torn) = (need, parts.needs.only need among, torn.0, torn.1)
+    by outside (Unsupported list) h = h
+    by outside (BadCode node row) h = h
+    by outside (EvalFault row) h = h
+    by outside Memory h = tt
+
+-- ---- a split is finished
+
+among_later : {X : Type 0} (ys : List X) (i : ℕ) (x : X) → Among x (drop i ys) → Among x ys
+among_later [] zero x h = absurd h
+among_later [] (suc i) x h = absurd h
+among_later (y ∷ ys) zero x h = h
+among_later (y ∷ ys) (suc i) x h = inr (among_later ys i x h)
+
+pub among_removed : {X : Type 0} (xs : List X) (i : ℕ) (x : X) → Among x (remove xs i) → Among x xs
+among_removed [] zero x h = absurd h
+among_removed [] (suc i) x h = absurd h
+among_removed (y ∷ ys) zero x h = inr (among_later ys zero x h)
+among_removed (y ∷ ys) (suc i) x h = ⊎_elim (λ (e : y ≡ x). inl e) (λ (m : Among x (remove ys i)). inr (among_removed ys i x m)) h
+
+map_later : (xs : List ActiveSplit) (i : ℕ) → map number_of_active (drop i xs) ≡ drop i (map number_of_active xs)
+map_later [] zero = refl
+map_later [] (suc i) = refl
+map_later (x ∷ xs) zero = refl
+map_later (x ∷ xs) (suc i) = map_later xs i
+
+map_removed : (xs : List ActiveSplit) (i : ℕ) → map number_of_active (remove xs i) ≡ remove (map number_of_active xs) i
+map_removed [] zero = refl
+map_removed [] (suc i) = refl
+map_removed (x ∷ xs) zero = map_later xs zero
+map_removed (x ∷ xs) (suc i) = ap (λ (ns : List ℕ). x.split ∷ ns) (map_removed xs i)
+
+map_length : (xs : List ActiveSplit) → length (map number_of_active xs) ≡ length xs
+map_length [] = refl
+map_length (x ∷ xs) = ap suc (map_length xs)
+
+left_removed : (xs : List ActiveSplit) (more : List ℕ) (i : ℕ) → i < length xs → map number_of_active (remove xs i) ++ more ≡ remove (map number_of_active xs ++ more) i
+left_removed xs more i inside =
+    let e = map_length xs in
+    let within : i < length (map number_of_active xs) = omega arith in
+    ap (λ (ns : List ℕ). ns ++ more) (map_removed xs i) ∙ sym (remove-append_left (map number_of_active xs) more i within)
+
+got_mapped : (xs : List ActiveSplit) (more : List ℕ) (i : ℕ) (x : ActiveSplit) → slice_get xs i ≡ Some x → slice_get (map number_of_active xs ++ more) i ≡ Some x.split
+got_mapped [] more i x h = absurd cc
+got_mapped (y ∷ xs) more zero x h =
+    let e : y ≡ x = cc in
+    ap (λ (a : ActiveSplit). Some a.split) e
+got_mapped (y ∷ xs) more (suc i) x h = got_mapped xs more i x h
+
+pub wholes_none : (nodes : List Node) (job : Job) (wholes : Wholes) → KeepsWholes nodes job wholes wholes
+wholes_none nodes job wholes = record { made = λ n column at. at; used = λ n column at. at; made_only = λ n kept. inl kept; used_only = λ n kept. inl kept }
+
+only_then : (P : ℕ → Type 0) (old mid new : List Kept) → AddsOnly P old mid → AddsOnly P mid new → AddsOnly P old new
+only_then P old mid new first second n kept = ⊎_elim (λ (k : IsKept mid n). first n k) (λ (p : P n). inr p) (second n kept)
+
+pub wholes_then : (nodes : List Node) (job : Job) (old mid new : Wholes) → KeepsWholes nodes job old mid → KeepsWholes nodes job mid new → KeepsWholes nodes job old new
+wholes_then nodes job old mid new first second = record {
+  made = λ n column at. second.made n column (first.made n column at);
+  used = λ n column at. second.used n column (first.used n column at);
+  made_only = only_then (IsAskedFor nodes job) old.made mid.made new.made first.made_only second.made_only;
+  used_only = only_then (IsAskedFor nodes job) old.used mid.used new.used first.used_only second.used_only;
+}
+
+pub gives_output : (nodes : List Node) (job : Job) (first mid tried new : Progress) (place : ℕ) (column : ColumnData) (active : ActiveSplit) → OnlyKeeps nodes job first mid → IsActiveOutput nodes job mid tried place column → OnlyKeeps nodes job mid tried →
+    place < length tried.active.items → active ≡ get_or tried.active.items place active → new.active.items ≡ remove tried.active.items place → new.next ≡ tried.next → new.reads ≡ tried.reads → new.wholes ≡ tried.wholes → GivesOutput nodes job first new active.split column
+gives_output nodes job first mid tried new place column active before out after inside is removed next reads wholes =
+    let now_mid : tried.active.items ≡ mid.active.items = after.active in
+    let now_first : tried.active.items ≡ first.active.items = now_mid ∙ before.active in
+    let got = got_at tried.active.items place active inside is in
+    let G : List ActiveSplit → Type 0 = λ xs. slice_get xs place ≡ Some active in
+    let same = same_got (slice_get mid.active.items place) out.active active out.active_at (subst G now_mid got) in
+    let S : ActiveSplit → Type 0 = λ a. slice_get job.splits.items a.split ≡ Some out.split in
+    let N : ℕ → Type 0 = λ n. map number_of_active new.active.items ++ numbers_from n (drop n job.splits.items) ≡ map number_of_active (remove first.active.items place) ++ numbers_from first.next (drop first.next job.splits.items) in
+    let to_first : new.next ≡ first.next = next ∙ (after.next ∙ before.next) in
+    let less : place < length first.active.items = subst (λ (xs : List ActiveSplit). place < length xs) now_first inside in
+    let actives : new.active.items ≡ remove first.active.items place = removed ∙ ap (λ (xs : List ActiveSplit). remove xs place) now_first in
+    let rest : N first.next = ap (λ (xs : List ActiveSplit). map number_of_active xs ++ numbers_from first.next (drop first.next job.splits.items)) actives in
+    record {
+      place = place;
+      at = got_mapped first.active.items (numbers_from first.next (drop first.next job.splits.items)) place active (subst G now_first got);
+      left = subst N (sym to_first) rest ∙ left_removed first.active.items (numbers_from first.next (drop first.next job.splits.items)) place less;
+      split = out.split;
+      split_at = subst S same out.split_at;
+      output = subst (λ (w : Wholes). IsOutput nodes job out.split first.reads.wanted first.leaves first.wholes.made w column) (sym wholes) (record {
+        dtype = out.output.dtype;
+        count = out.output.count;
+        right = λ outside told. out.output.right outside (before.told outside told);
+        there = out.output.there;
+      });
+      handed = ap (λ r. r.handed) (reads ∙ (after.reads ∙ before.reads));
+    }
+
+pub keeps_none : (nodes : List Node) (job : Job) (progress : Progress) → OnlyKeeps nodes job progress progress
+keeps_none nodes job progress = record { next = refl; active = refl; reads = refl; told = λ outside is. is; wholes = wholes_none nodes job progress.wholes }
+
+pub only_keeps_then : (nodes : List Node) (job : Job) (old mid new : Progress) → OnlyKeeps nodes job old mid → OnlyKeeps nodes job mid new → OnlyKeeps nodes job old new
+only_keeps_then nodes job old mid new first second = record {
+  next = second.next ∙ first.next;
+  active = second.active ∙ first.active;
+  reads = second.reads ∙ first.reads;
+  told = λ outside is. second.told outside (first.told outside is);
+  wholes = wholes_then nodes job old.wholes mid.wholes new.wholes first.wholes second.wholes;
+}
+
+pub held_before : (nodes : List Node) (job : Job) (old mid : Progress) (place : ℕ) → OnlyKeeps nodes job old mid → IsHeldAt mid place → IsHeldAt old place
+held_before nodes job old mid place keeps held a at =
+    let G : List ActiveSplit → Type 0 = λ xs. slice_get xs place ≡ Some a in
+    let H : List Wanted → Type 0 = λ wanted. IsHeldUp wanted a in
+    subst H (ap (λ r. r.wanted) keeps.reads) (held a (subst G (sym keeps.active) at))
+
+among_at : {X : Type 0} (xs : List X) (x : X) → Among x xs → (i : ℕ) × (i < length xs) × (slice_get xs i ≡ Some x)
+among_at [] x h = absurd h
+among_at (y ∷ xs) x (inl e) = (0, omega arith, ap Some e)
+among_at (y ∷ xs) x (inr h) =
+    let at = among_at xs x h in
+    (suc at.0, omega arith, at.2)
+
+pub holds_all : (nodes : List Node) (job : Job) (old new : Progress) → OnlyKeeps nodes job old new → ((place : ℕ) → place < length old.active.items → IsHeldAt old place) → HoldsAll old new
+holds_all nodes job old new keeps held = record {
+  next = keeps.next;
+  active = keeps.active;
+  held = λ a m.
+      let M : List ActiveSplit → Type 0 = λ xs. Among a xs in
+      let H : List Wanted → Type 0 = λ wanted. IsHeldUp wanted a in
+      let at = among_at old.active.items a (subst M keeps.active m) in
+      subst H (sym (ap (λ r. r.wanted) keeps.reads)) (held at.0 at.1 a at.2);
+}
+
+pub refusal_before : (nodes : List Node) (job : Job) (old mid new : Progress) (error : StepError) → KeepsTold nodes job old mid → IsStepRefusal nodes job mid new error → IsStepRefusal nodes job old new error
+refusal_before nodes job old mid new error keeps (inl e) = inl e
+refusal_before nodes job old mid new error keeps (inr r) = inr (record {
+  number = r.number;
+  split = r.split;
+  at = r.at;
+  cause = λ outside is. r.cause outside (keeps outside is);
+  left = leaves_before nodes job r.split old.reads.wanted mid.reads.wanted old.leaves mid.leaves old.wholes.made mid.wholes.made new.wholes error keeps r.left;
+})
+
+-- ---- a step
+
+pub starts_reads : (nodes : List Node) (job : Job) (old new : Progress) (reads : ReadsData) → reads ≡ new.reads → Starts nodes job old new → Starts nodes job old (record { next = new.next; active = new.active; reads = reads; leaves = new.leaves; wholes = new.wholes })
+starts_reads nodes job old new reads e starts =
+    let P : ReadsData → Type 0 = λ r. Starts nodes job old (record { next = new.next; active = new.active; reads = r; leaves = new.leaves; wholes = new.wholes }) in
+    subst P (sym e) starts
+
+pub told_reads : (nodes : List Node) (job : Job) (old new : Progress) (reads : ReadsData) → reads ≡ new.reads → KeepsTold nodes job old new → KeepsTold nodes job old (record { next = new.next; active = new.active; reads = reads; leaves = new.leaves; wholes = new.wholes })
+told_reads nodes job old new reads e told =
+    let P : ReadsData → Type 0 = λ r. KeepsTold nodes job old (record { next = new.next; active = new.active; reads = r; leaves = new.leaves; wholes = new.wholes }) in
+    subst P (sym e) told
+
+pub gives_later : (nodes : List Node) (job : Job) (old mid new : Progress) (number : ℕ) (column : ColumnData) → Starts nodes job old mid → KeepsTold nodes job old mid → GivesOutput nodes job mid new number column → GivesOutput nodes job old new number column
+gives_later nodes job old mid new number column starts told gives =
+    let A : List ℕ → Type 0 = λ ns. slice_get ns gives.place ≡ Some number in
+    record {
+      place = gives.place;
+      at = subst A starts.left gives.at;
+      left = gives.left ∙ ap (λ (ns : List ℕ). remove ns gives.place) starts.left;
+      split = gives.split;
+      split_at = gives.split_at;
+      output = record {
+        dtype = gives.output.dtype;
+        count = gives.output.count;
+        right = λ outside is. gives.output.right outside (told outside is);
+        there = gives.output.there;
+      };
+      handed = gives.handed ∙ starts.handed;
+    }
+
+some_number : (xs : List ActiveSplit) (more : List ℕ) → (length xs ≡ 0 → ⊥) → map number_of_active xs ++ more ≡ [] → ⊥
+some_number [] more some none = some refl
+some_number (x ∷ xs) more some none = cc
+
+pub hands_read : (nodes : List Node) (job : Job) (old mid : Progress) (reads : ReadsData) (request : ReadRequest) → Starts nodes job old mid → HandsOut mid.reads reads request → (length mid.active.items ≡ 0 → ⊥) →
+    HandsRead job old (record { next = mid.next; active = mid.active; reads = reads; leaves = mid.leaves; wholes = mid.wholes }) request
+hands_read nodes job old mid reads request starts hands some =
+    let S : List Wanted → Type 0 = λ ws. (place : ℕ) → StandsAt ws request.segment_id place → place ≡ request.id.0 in
+    record {
+      number = hands.number ∙ starts.handed;
+      handed = hands.handed ∙ ap (λ (n : ℕ). n + 1) starts.handed;
+      bounded = hands.bounded;
+      segment = ap (λ (ws : List Wanted). slice_get ws request.id.0) hands.wanted ∙ (ap (slice_get mid.reads.wanted) hands.number ∙ hands.segment);
+      first = subst S (sym hands.wanted) (λ place stands. hands.first place stands ∙ sym hands.number);
+      some_left = λ none. some_number mid.active.items (numbers_from mid.next (drop mid.next job.splits.items)) some (starts.left ∙ none);
+      left = starts.left;
+    }
+
+-- each read and each output lowers what is left
+pub turn_lowers : (nodes : List Node) (job : Job) (old new : Progress) (turn : Turn) → TakesTurn nodes job old new turn → GoesOn turn → work_left job new < work_left job old
+turn_lowers nodes job old new (Read request) takes goes =
+    let same = ap length takes.left in
+    omega arith
+turn_lowers nodes job old new (Output number column) takes goes =
+    let less = ap length takes.left in
+    let inside = got_inside (left_of job old) takes.place number takes.at in
+    let removed = length-remove (left_of job old) takes.place inside in
+    let handed = takes.handed in
+    omega arith
+turn_lowers nodes job old new Waiting takes goes = absurd goes
+turn_lowers nodes job old new Done takes goes = absurd goes

@@ -1,0 +1,123 @@
+-- Kept columns of which the first are indexed.
+use Rattle.std.proofs.Common.{◌≡◌, ℕ, zero, suc, ◌-◌, ◌<◌, ◌≤◌, ◌==◌, Bool, true, false, cond, List, [], ◌∷◌, ◌++◌, map, take, drop, Option, Some, None, Result, Ok, Err, ⊎_elim, length, get_or, refl, sym, ap, ◌∙◌, subst, arith}
+use Rattle.std.specs.Prelude.{IsSomeAnd, OnErr, if◌then◌else◌}
+use Rattle.std.specs.List.{slice_get}
+use Rattle.std.proofs.Math.ListN.{length-drop}
+use Rattle.std.proofs.lemmas.Bool.{cases_eq}
+use Rattle.std.specs.BTreeMap.{BTreeMap, get}
+use Rattle.std.specs.Ordering.{nat_cmp}
+use Rattle.vx_plan.specs.Refs.{number_of}
+use Rattle.vx_steps.specs.declared.kept.KeptValue.{KeptValue}
+use Rattle.vx_steps.specs.KeptData.{Kept}
+use Rattle.vx_steps.specs.Kept.{kept_at, kept_data, IsPlace}
+use Rattle.vx_steps.proofs.Keeping.{step_new, kept_new, kept_old, got_old, place_old, is_place_other, places_more, got_inside, same_got}
+
+take_none : {X : Type 0} (xs : List X) → take zero xs ≡ []
+take_none [] = refl
+take_none (x ∷ xs) = refl
+
+pub take_all : {X : Type 0} (xs : List X) (i : ℕ) → length xs ≤ i → take i xs ≡ xs
+take_all [] zero h = refl
+take_all [] (suc i) h = refl
+take_all (x ∷ xs) zero h = absurd (omega arith)
+take_all (x ∷ xs) (suc i) h = ap (λ ys. x ∷ ys) (take_all xs i (omega arith))
+
+take_drop : {X : Type 0} (xs : List X) (i : ℕ) → take i xs ++ drop i xs ≡ xs
+take_drop [] zero = refl
+take_drop [] (suc i) = refl
+take_drop (x ∷ xs) zero = refl
+take_drop (x ∷ xs) (suc i) = ap (λ ys. x ∷ ys) (take_drop xs i)
+
+map_drop : (xs : List KeptValue) (i : ℕ) → map kept_data (drop i xs) ≡ drop i (map kept_data xs)
+map_drop [] zero = refl
+map_drop [] (suc i) = refl
+map_drop (x ∷ xs) zero = refl
+map_drop (x ∷ xs) (suc i) = map_drop xs i
+
+got_data : (xs : List KeptValue) (i : ℕ) (x : KeptValue) → i < length xs → x ≡ get_or xs i x → slice_get (map kept_data xs) i ≡ Some (kept_data x)
+got_data [] i x h is = absurd (omega arith)
+got_data (y ∷ xs) zero x h is = ap (λ (v : KeptValue). Some (kept_data v)) (sym is)
+got_data (y ∷ xs) (suc i) x h is = got_data xs i x (omega arith) is
+
+pub first_at : (xs : List KeptValue) (i : ℕ) (x : KeptValue) (n : ℕ) → i < length xs → x ≡ get_or xs i x → (number_of x.node) ≡ n → kept_at (map kept_data (take i xs)) n ≡ None → Some x.column ≡ kept_at (map kept_data xs) n
+first_at [] i x n h is same none = absurd (omega arith)
+first_at (y ∷ xs) zero x n h is same none =
+    let e : ((number_of x.node) == n) ≡ true = grind arith in
+    sym (ap (λ (v : KeptValue). kept_at (kept_data v ∷ map kept_data xs) n) (sym is) ∙ ap (λ (b : Bool). if b then Some x.column else kept_at (map kept_data xs) n) e)
+first_at (y ∷ xs) (suc i) x n h is same none = sym (step_new ((number_of y.node) == n) y.column (kept_at (map kept_data (take i xs)) n) (kept_at (map kept_data xs) n) (Some x.column) (λ e. sym (first_at xs i x n (omega arith) is same e)) none)
+
+pub not_at : (xs : List KeptValue) (i : ℕ) (x : KeptValue) (n : ℕ) → i < length xs → x ≡ get_or xs i x → ((number_of x.node) ≡ n → ⊥) → kept_at (map kept_data (take i xs)) n ≡ None → kept_at (map kept_data (take (suc i) xs)) n ≡ None
+not_at [] i x n h is apart none = absurd (omega arith)
+not_at (y ∷ xs) zero x n h is apart none =
+    let e : ((number_of x.node) == n) ≡ false = grind arith in
+    let P : List KeptValue → Type 0 = λ ys. kept_at (kept_data y ∷ map kept_data ys) n ≡ None in
+    subst P (sym (take_none xs)) (ap (λ (v : KeptValue). kept_at (kept_data v ∷ []) n) (sym is) ∙ ap (λ (b : Bool). if b then Some x.column else None) e)
+not_at (y ∷ xs) (suc i) x n h is apart none = step_new ((number_of y.node) == n) y.column (kept_at (map kept_data (take i xs)) n) (kept_at (map kept_data (take (suc i) xs)) n) None (λ e. not_at xs i x n (omega arith) is apart e) none
+
+length_data : (xs : List KeptValue) → length (map kept_data xs) ≡ length xs
+length_data [] = refl
+length_data (x ∷ xs) = ap suc (length_data xs)
+
+pub found_place : (xs : List KeptValue) (indexed place n : ℕ) (x : KeptValue) → x ≡ get_or xs place x → IsPlace (take indexed (map kept_data xs)) n (Some place) → Some x.column ≡ kept_at (map kept_data xs) n
+found_place xs indexed place n x is placed = by (slice_get (take indexed (map kept_data xs)) place) refl placed
+  where
+    by : (o : Option Kept) → slice_get (take indexed (map kept_data xs)) place ≡ o → IsSomeAnd o (λ k. kept_at (take indexed (map kept_data xs)) n ≡ Some k.column) → Some x.column ≡ kept_at (map kept_data xs) n
+    by None e h = absurd h
+    by (Some k) e h =
+        let rest = drop indexed (map kept_data xs) in
+        let whole = take_drop (map kept_data xs) indexed in
+        let G : List Kept → Type 0 = λ ks. slice_get ks place ≡ Some k in
+        let K : List Kept → Type 0 = λ ks. kept_at ks n ≡ Some k.column in
+        let got = subst G whole (got_old (take indexed (map kept_data xs)) rest place k e) in
+        let count = length_data xs in
+        let less = got_inside (map kept_data xs) place k got in
+        let inside : place < length xs = omega arith in
+        let same = same_got (slice_get (map kept_data xs) place) k (kept_data x) got (got_data xs place x inside is) in
+        sym (subst K whole (kept_old (take indexed (map kept_data xs)) rest n k.column h) ∙ ap (λ (v : Kept). Some v.column) same)
+
+pub found_rest : (xs : List KeptValue) (indexed n : ℕ) → kept_at (take indexed (map kept_data xs)) n ≡ None → kept_at (map kept_data (drop indexed xs)) n ≡ kept_at (map kept_data xs) n
+found_rest xs indexed n none = ap (λ (ks : List Kept). kept_at ks n) (map_drop xs indexed) ∙ (sym (kept_new (take indexed (map kept_data xs)) (drop indexed (map kept_data xs)) n none) ∙ ap (λ (ks : List Kept). kept_at ks n) (take_drop (map kept_data xs) indexed))
+
+pub rest_whole : {X : Type 0} (xs : List X) (i : ℕ) → take (length xs - i) (drop i xs) ≡ drop i xs
+rest_whole xs i = take_all (drop i xs) (length xs - i) (omega (arith, length-drop i xs))
+
+take_one : {X : Type 0} (xs : List X) (i : ℕ) (x : X) → slice_get xs i ≡ Some x → take (suc i) xs ≡ take i xs ++ x ∷ []
+take_one [] i x h = absurd cc
+take_one (y ∷ xs) zero x h =
+    let e : y ≡ x = cc in
+    ap (λ ys. y ∷ ys) (take_none xs) ∙ ap (λ z. z ∷ []) e
+take_one (y ∷ xs) (suc i) x h = ap (λ ys. y ∷ ys) (take_one xs i x h)
+
+length_taken : {X : Type 0} (xs : List X) (i : ℕ) → i < length xs → length (take i xs) ≡ i
+length_taken [] i h = absurd (omega arith)
+length_taken (x ∷ xs) zero h = refl
+length_taken (x ∷ xs) (suc i) h = ap suc (length_taken xs i (omega arith))
+
+same_places : (places : BTreeMap ℕ ℕ) (kept : List Kept) (k : Kept) → (get nat_cmp places k.node ≡ None → ⊥) → ((n : ℕ) → IsPlace kept n (get nat_cmp places n)) → (n : ℕ) → (o : Option ℕ) → get nat_cmp places n ≡ o → IsPlace kept n o → IsPlace (kept ++ k ∷ []) n o
+same_places places kept k present placed n (Some place) e h = place_old kept (k ∷ []) n (slice_get kept place) place refl h
+same_places places kept k present placed n None e h =
+    ⊎_elim (λ (same : k.node ≡ n). absurd (present (ap (get nat_cmp places) same ∙ e))) (λ (apart : k.node ≡ n → ⊥). let f : (k.node == n) ≡ false = grind arith in is_place_other kept k.node k.column n f None h) (cases_eq k.node n)
+
+pub index_same : (places : BTreeMap ℕ ℕ) (xs : List KeptValue) (i : ℕ) (x : KeptValue) → i < length xs → x ≡ get_or xs i x → (get nat_cmp places (number_of x.node) ≡ None → ⊥) → ((n : ℕ) → IsPlace (take i (map kept_data xs)) n (get nat_cmp places n)) → (n : ℕ) → IsPlace (take (suc i) (map kept_data xs)) n (get nat_cmp places n)
+index_same places xs i x inside is present placed n =
+    let P : List Kept → Type 0 = λ ks. IsPlace ks n (get nat_cmp places n) in
+    subst P (sym (take_one (map kept_data xs) i (kept_data x) (got_data xs i x inside is))) (same_places places (take i (map kept_data xs)) (kept_data x) present placed n (get nat_cmp places n) refl (placed n))
+
+pub index_more : (old new : BTreeMap ℕ ℕ) (xs : List KeptValue) (i : ℕ) (x : KeptValue) → i < length xs → x ≡ get_or xs i x → get nat_cmp old (number_of x.node) ≡ None → ((n : ℕ) → IsPlace (take i (map kept_data xs)) n (get nat_cmp old n)) → ((n : ℕ) → get nat_cmp new n ≡ cond ((number_of x.node) == n) (Some i) (get nat_cmp old n)) →
+    (n : ℕ) → IsPlace (take (suc i) (map kept_data xs)) n (get nat_cmp new n)
+index_more old new xs i x inside is absent placed put n =
+    let P : List Kept → Type 0 = λ ks. IsPlace ks n (get nat_cmp new n) in
+    let N : Option ℕ → Type 0 = λ o. IsPlace (take i (map kept_data xs)) (number_of x.node) o in
+    let count = length_data xs in
+    let taken : length (take i (map kept_data xs)) ≡ i = length_taken (map kept_data xs) i (omega arith) in
+    subst P (sym (take_one (map kept_data xs) i (kept_data x) (got_data xs i x inside is))) (places_more old new (take i (map kept_data xs)) (number_of x.node) x.column placed (subst N absent (placed (number_of x.node))) (λ m. put m ∙ ap (λ (c : ℕ). cond ((number_of x.node) == m) (Some c) (get nat_cmp old m)) (sym taken)) n)
+
+pub on_err : {A E : Type 0} (r : Result A E) (P : Type 0) → P → OnErr r P
+on_err (Ok a) P p = tt
+on_err (Err e) P p = p
+
+pub places_unchanged : (old new : BTreeMap ℕ ℕ) (kept : List Kept) → new.entries ≡ old.entries → ((n : ℕ) → IsPlace kept n (get nat_cmp old n)) → (n : ℕ) → IsPlace kept n (get nat_cmp new n)
+places_unchanged old new kept same placed n =
+    let P : Option ℕ → Type 0 = IsPlace kept n in
+    let e : get nat_cmp new n ≡ get nat_cmp old n = rw same in
+    subst P (sym e) (placed n)

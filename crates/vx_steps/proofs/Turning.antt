@@ -1,0 +1,72 @@
+-- What a split comes to, from what its column comes to.
+use Rattle.std.proofs.Common.{◌⊎◌, inl, inr, ⊎_elim, ℕ, Bool, List}
+use Rattle.vx_plan.specs.Nodes.{Node}
+use Rattle.vx_rows.specs.SegmentLeaves.{Bytes}
+use Rattle.vx_steps.specs.declared.errors.StepError.{StepError}
+use Rattle.vx_steps.specs.declared.errors.StepError.TheVariants.{BadSegment, Unsupported, BadCode, EvalFault, Memory}
+use Rattle.vx_steps.specs.declared.jobs.Job.{Job}
+use Rattle.vx_steps.specs.declared.leaf_reads.LeafRead.{LeafRead}
+use Rattle.vx_steps.specs.declared.splits.Split.{Split}
+use Rattle.vx_steps.specs.Delivered.{IsOf, SomeTornCause}
+use Rattle.vx_steps.specs.KeptData.{Kept}
+use Rattle.vx_steps.specs.ReadTableData.{Wanted}
+use Rattle.vx_steps.specs.Turns.{FailsInWholes, HasNeedCause, HasRowCause, IsRefusal, LeavesWholes}
+use Rattle.vx_steps.specs.Wholes.{AddsAsked, AreThere, KeepsValues, UsesGiven}
+use Rattle.vx_steps.specs.declared.wholes.Wholes.{Wholes}
+
+pub values_none : (nodes : List Node) (leaves : List Kept) (offset : ℕ) (old : List Kept) → KeepsValues nodes leaves offset old old
+values_none nodes leaves offset old = record { grows = λ n column at. at; typed = λ typed. typed; right = λ by have are. are }
+
+pub used_none : (given old : List Kept) → UsesGiven given old old
+used_none given old = record { grows = λ n column at. at; only = λ n column at. inl at }
+
+pub asked_none : (nodes : List Node) (given : List Kept) (plan start : ℕ) (bits : List Bool) (old : Wholes) → AddsAsked nodes given plan start bits old old
+asked_none nodes given plan start bits old = record { used = λ n kept. inl kept; made = λ n kept. inl kept }
+
+-- a refusal of decoding is one of the split
+pub torn_refusal : (nodes : List Node) (job : Job) (split : Split) (needs : List LeafRead) (wanted : List Wanted) (leaves made : List Kept) (error : StepError) → SomeTornCause nodes wanted needs error → IsRefusal nodes job split needs wanted leaves made error
+torn_refusal nodes job split needs wanted leaves made (BadSegment segment) torn = λ outside is. torn
+torn_refusal nodes job split needs wanted leaves made (Unsupported list) torn = absurd torn
+torn_refusal nodes job split needs wanted leaves made (BadCode take row) torn = absurd torn
+torn_refusal nodes job split needs wanted leaves made (EvalFault row) torn = absurd torn
+torn_refusal nodes job split needs wanted leaves made Memory torn = λ outside is. tt
+
+need_cause : (nodes : List Node) (job : Job) (split : Split) (needs : List LeafRead) (wanted : List Wanted) (outside : Bytes) (error : StepError) → HasRowCause nodes job split outside error → HasNeedCause nodes job split needs wanted outside error
+need_cause nodes job split needs wanted outside (BadSegment segment) cause = absurd cause
+need_cause nodes job split needs wanted outside (Unsupported list) cause = cause
+need_cause nodes job split needs wanted outside (BadCode take row) cause = cause
+need_cause nodes job split needs wanted outside (EvalFault row) cause = cause
+need_cause nodes job split needs wanted outside Memory cause = tt
+
+-- and so is one of its column
+pub row_refusal : (nodes : List Node) (job : Job) (split : Split) (needs : List LeafRead) (wanted : List Wanted) (leaves made : List Kept) (error : StepError) → ((outside : Bytes) → IsOf nodes job.offset wanted leaves made outside → HasRowCause nodes job split outside error) → IsRefusal nodes job split needs wanted leaves made error
+row_refusal nodes job split needs wanted leaves made error cause = λ outside is. need_cause nodes job split needs wanted outside error (cause outside is)
+
+-- ---- what a refusal leaves
+
+pub torn_leaves : (nodes : List Node) (job : Job) (split : Split) (needs : List LeafRead) (wanted : List Wanted) (leaves made : List Kept) (after : Wholes) (error : StepError) → SomeTornCause nodes wanted needs error → LeavesWholes nodes job split wanted leaves made after error
+torn_leaves nodes job split needs wanted leaves made after (BadSegment segment) torn = tt
+torn_leaves nodes job split needs wanted leaves made after (Unsupported list) torn = absurd torn
+torn_leaves nodes job split needs wanted leaves made after (BadCode take row) torn = absurd torn
+torn_leaves nodes job split needs wanted leaves made after (EvalFault row) torn = absurd torn
+torn_leaves nodes job split needs wanted leaves made after Memory torn = tt
+
+pub row_leaves : (nodes : List Node) (job : Job) (split : Split) (wanted : List Wanted) (leaves made : List Kept) (after : Wholes) (error : StepError) → AreThere nodes job.given after job.plan split.rows.start split.mask ⊎ FailsInWholes nodes job split wanted leaves made error → LeavesWholes nodes job split wanted leaves made after error
+row_leaves nodes job split wanted leaves made after (BadSegment segment) left = tt
+row_leaves nodes job split wanted leaves made after (Unsupported list) left = left
+row_leaves nodes job split wanted leaves made after (BadCode take row) left = left
+row_leaves nodes job split wanted leaves made after (EvalFault row) left = left
+row_leaves nodes job split wanted leaves made after Memory left = tt
+
+fails_before : (nodes : List Node) (job : Job) (split : Split) (wanted mid_wanted : List Wanted) (leaves mid_leaves made mid_made : List Kept) (after : Wholes) (error : StepError) → ((outside : Bytes) → IsOf nodes job.offset wanted leaves made outside → IsOf nodes job.offset mid_wanted mid_leaves mid_made outside) →
+    AreThere nodes job.given after job.plan split.rows.start split.mask ⊎ FailsInWholes nodes job split mid_wanted mid_leaves mid_made error → AreThere nodes job.given after job.plan split.rows.start split.mask ⊎ FailsInWholes nodes job split wanted leaves made error
+fails_before nodes job split wanted mid_wanted leaves mid_leaves made mid_made after error keeps left =
+    ⊎_elim (λ (there : AreThere nodes job.given after job.plan split.rows.start split.mask). inl there) (λ (fails : FailsInWholes nodes job split mid_wanted mid_leaves mid_made error). inr (λ outside is. fails outside (keeps outside is))) left
+
+pub leaves_before : (nodes : List Node) (job : Job) (split : Split) (wanted mid_wanted : List Wanted) (leaves mid_leaves made mid_made : List Kept) (after : Wholes) (error : StepError) → ((outside : Bytes) → IsOf nodes job.offset wanted leaves made outside → IsOf nodes job.offset mid_wanted mid_leaves mid_made outside) →
+    LeavesWholes nodes job split mid_wanted mid_leaves mid_made after error → LeavesWholes nodes job split wanted leaves made after error
+leaves_before nodes job split wanted mid_wanted leaves mid_leaves made mid_made after (BadSegment segment) keeps left = tt
+leaves_before nodes job split wanted mid_wanted leaves mid_leaves made mid_made after (Unsupported list) keeps left = fails_before nodes job split wanted mid_wanted leaves mid_leaves made mid_made after (Unsupported list) keeps left
+leaves_before nodes job split wanted mid_wanted leaves mid_leaves made mid_made after (BadCode take row) keeps left = fails_before nodes job split wanted mid_wanted leaves mid_leaves made mid_made after (BadCode take row) keeps left
+leaves_before nodes job split wanted mid_wanted leaves mid_leaves made mid_made after (EvalFault row) keeps left = fails_before nodes job split wanted mid_wanted leaves mid_leaves made mid_made after (EvalFault row) keeps left
+leaves_before nodes job split wanted mid_wanted leaves mid_leaves made mid_made after Memory keeps left = tt

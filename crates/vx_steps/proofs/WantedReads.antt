@@ -1,0 +1,232 @@
+-- The wanted segments: each stands at one place, which the map of places has.
+use Rattle.std.proofs.Common.{◌≡◌, ℕ, zero, suc, ◌+◌, ◌<◌, ◌==◌, ◌⊎◌, inl, inr, ⊎_elim, Bool, true, false, cond, List, [], ◌∷◌, ◌++◌, Option, Some, None, length, map, get_or, set, refl, sym, ap, ◌∙◌, subst, arith}
+use Rattle.std.specs.Prelude.{IsSomeAnd, if◌then◌else◌}
+use Rattle.std.specs.List.{slice_get}
+use Rattle.std.specs.Option.{option_map, is_some}
+use Rattle.std.specs.Ordering.{nat_cmp}
+use Rattle.std.specs.BTreeMap.{BTreeMap, get}
+use Rattle.std.proofs.lemmas.Bool.{cases_eq}
+use Rattle.std.proofs.lemmas.List.{length-map}
+use Rattle.std.proofs.lemmas.Option.{slice_get-map, slice_get-get_or}
+use Rattle.vx_steps.specs.declared.reads.WantedSegment.{WantedSegment}
+use Rattle.vx_steps.specs.ReadTableData.{Wanted, wanted_data}
+use Rattle.vx_steps.specs.ReadTable.{StandsAt, AreReads, bytes_of}
+
+pub wanted_at : (ws : List WantedSegment) (i : ℕ) (w : WantedSegment) → i < length ws → w ≡ get_or ws i w → slice_get (map wanted_data ws) i ≡ Some (wanted_data w)
+wanted_at ws i w inside is =
+    slice_get-map wanted_data ws i ∙ ap (option_map wanted_data) (slice_get-get_or ws i w inside) ∙ ap (λ (v : WantedSegment). Some (wanted_data v)) (sym is)
+
+pub stands_is : (wanted : List Wanted) (segment place : ℕ) (w : Wanted) → slice_get wanted place ≡ Some w → StandsAt wanted segment place → w.segment ≡ segment
+stands_is wanted segment place w at stands =
+    let P : Option Wanted → Type 0 = λ o. IsSomeAnd o (λ v. v.segment ≡ segment) in
+    let here : P (Some w) = subst P at stands in
+    here
+
+pub is_standing : (wanted : List Wanted) (place : ℕ) (w : Wanted) → slice_get wanted place ≡ Some w → (segment : ℕ) → w.segment ≡ segment → StandsAt wanted segment place
+is_standing wanted place w at segment is =
+    let P : Option Wanted → Type 0 = λ o. IsSomeAnd o (λ v. v.segment ≡ segment) in
+    subst P (sym at) is
+
+got_inside : {X : Type 0} (xs : List X) (i : ℕ) (x : X) → slice_get xs i ≡ Some x → i < length xs
+got_inside [] i x at = absurd cc
+got_inside (y ∷ xs) zero x at = omega arith
+got_inside (y ∷ xs) (suc i) x at = omega (arith, got_inside xs i x at)
+
+standing_inside : (wanted : List Wanted) (segment place : ℕ) → (o : Option Wanted) → slice_get wanted place ≡ o → IsSomeAnd o (λ w. w.segment ≡ segment) → place < length wanted
+standing_inside wanted segment place None e h = absurd h
+standing_inside wanted segment place (Some w) e h = got_inside wanted place w e
+
+pub place_inside : (places : BTreeMap ℕ ℕ) (ws : List WantedSegment) (handed : ℕ) → AreReads places (map wanted_data ws) handed → (segment place : ℕ) → get nat_cmp places segment ≡ Some place → place < length ws
+place_inside places ws handed reads segment place e =
+    let wanted = map wanted_data ws in
+    let count : length wanted ≡ length ws = grind (arith, length-map) in
+    let inside : place < length wanted = standing_inside wanted segment place (slice_get wanted place) refl (reads.stands segment place e) in
+    omega arith
+
+-- a segment stands at one place
+pub one_place : (places : BTreeMap ℕ ℕ) (wanted : List Wanted) (handed : ℕ) → AreReads places wanted handed → (i j : ℕ) (v w : Wanted) → slice_get wanted i ≡ Some v → slice_get wanted j ≡ Some w → v.segment ≡ w.segment → i ≡ j
+one_place places wanted handed reads i j v w at_i at_j same =
+    let p : get nat_cmp places v.segment ≡ Some i = reads.placed i v at_i in
+    let q : get nat_cmp places w.segment ≡ Some j = reads.placed j w at_j in
+    let r : get nat_cmp places v.segment ≡ get nat_cmp places w.segment = ap (get nat_cmp places) same in
+    let both : Some i ≡ Some j = sym p ∙ r ∙ q in
+    cc
+
+bytes_step : (b : Bool) (x y : Option (List ℕ)) → b ≡ false → (if b then x else y) ≡ y
+bytes_step b x y e = ap (λ (c : Bool). if c then x else y) e
+
+eq_false : (a b : ℕ) → (a ≡ b → ⊥) → (a == b) ≡ false
+eq_false a b h = grind arith
+
+eq_true : (a b : ℕ) → a ≡ b → (a == b) ≡ true
+eq_true a b h = grind arith
+
+bytes_first : (wanted : List Wanted) (place : ℕ) (w : Wanted) → slice_get wanted place ≡ Some w → ((i : ℕ) (v : Wanted) → slice_get wanted i ≡ Some v → v.segment ≡ w.segment → i ≡ place) → bytes_of wanted w.segment ≡ w.bytes
+bytes_first [] place w at only = absurd cc
+bytes_first (v ∷ wanted) zero w at only =
+    let same : v ≡ w = cc in
+    let e : (v.segment == w.segment) ≡ true = eq_true v.segment w.segment (ap (λ (x : Wanted). x.segment) same) in
+    ap (λ (c : Bool). if c then v.bytes else bytes_of wanted w.segment) e ∙ ap (λ (x : Wanted). x.bytes) same
+bytes_first (v ∷ wanted) (suc place) w at only =
+    let e : (v.segment == w.segment) ≡ false = eq_false v.segment w.segment (λ same. absurd (let z : 0 ≡ suc place = only 0 v refl same in omega arith)) in
+    bytes_step (v.segment == w.segment) v.bytes (bytes_of wanted w.segment) e ∙ bytes_first wanted place w at (λ i x at_i same. let z : suc i ≡ suc place = only (suc i) x at_i same in omega arith)
+
+pub bytes_at : (places : BTreeMap ℕ ℕ) (wanted : List Wanted) (handed : ℕ) → AreReads places wanted handed → (segment place : ℕ) (w : Wanted) → get nat_cmp places segment ≡ Some place → slice_get wanted place ≡ Some w → bytes_of wanted segment ≡ w.bytes
+bytes_at places wanted handed reads segment place w e at =
+    let is : w.segment ≡ segment = stands_is wanted segment place w at (reads.stands segment place e) in
+    ap (bytes_of wanted) (sym is) ∙ bytes_first wanted place w at (λ i v at_i same. one_place places wanted handed reads i place v w at_i at same)
+
+bytes_nowhere : (wanted : List Wanted) (segment : ℕ) → ((i : ℕ) (v : Wanted) → slice_get wanted i ≡ Some v → v.segment ≡ segment → ⊥) → bytes_of wanted segment ≡ None
+bytes_nowhere [] segment none = refl
+bytes_nowhere (v ∷ wanted) segment none =
+    let e : (v.segment == segment) ≡ false = eq_false v.segment segment (λ same. none 0 v refl same) in
+    bytes_step (v.segment == segment) v.bytes (bytes_of wanted segment) e ∙ bytes_nowhere wanted segment (λ i x at same. none (suc i) x at same)
+
+some_none : (i : ℕ) → Some i ≡ None → ⊥
+some_none i h = cc
+
+pub no_place : (places : BTreeMap ℕ ℕ) (wanted : List Wanted) (handed : ℕ) → AreReads places wanted handed → (segment : ℕ) → get nat_cmp places segment ≡ None → (i : ℕ) (v : Wanted) → slice_get wanted i ≡ Some v → v.segment ≡ segment → ⊥
+no_place places wanted handed reads segment none i v at same = some_none i (sym (reads.placed i v at) ∙ ap (get nat_cmp places) same ∙ none)
+
+pub bytes_none : (places : BTreeMap ℕ ℕ) (wanted : List Wanted) (handed : ℕ) → AreReads places wanted handed → (segment : ℕ) → get nat_cmp places segment ≡ None → bytes_of wanted segment ≡ None
+bytes_none places wanted handed reads segment none = bytes_nowhere wanted segment (no_place places wanted handed reads segment none)
+
+-- ---- one more
+
+pub got_pushed : {X : Type 0} (xs : List X) (y : X) (i : ℕ) (x : X) → slice_get (xs ++ y ∷ []) i ≡ Some x → (slice_get xs i ≡ Some x) ⊎ ((i ≡ length xs) × (y ≡ x))
+got_pushed [] y zero x h = inr (refl, cc)
+got_pushed [] y (suc i) x h = absurd cc
+got_pushed (z ∷ xs) y zero x h = inl h
+got_pushed (z ∷ xs) y (suc i) x h = ⊎_elim (λ (e : slice_get xs i ≡ Some x). inl e) (λ (e : (i ≡ length xs) × (y ≡ x)). inr (ap suc e.0, e.1)) (got_pushed xs y i x h)
+
+pub pushed_old : {X : Type 0} (xs : List X) (y : X) (i : ℕ) (x : X) → slice_get xs i ≡ Some x → slice_get (xs ++ y ∷ []) i ≡ Some x
+pushed_old [] y i x h = absurd cc
+pushed_old (z ∷ xs) y zero x h = h
+pushed_old (z ∷ xs) y (suc i) x h = pushed_old xs y i x h
+
+pub pushed_new : {X : Type 0} (xs : List X) (y : X) → slice_get (xs ++ y ∷ []) (length xs) ≡ Some y
+pushed_new [] y = refl
+pushed_new (z ∷ xs) y = pushed_new xs y
+
+length_pushed : {X : Type 0} (xs : List X) (y : X) → length (xs ++ y ∷ []) ≡ length xs + 1
+length_pushed [] y = refl
+length_pushed (z ∷ xs) y = omega (arith, length_pushed xs y)
+
+standing_pushed : (wanted : List Wanted) (y : Wanted) (segment place : ℕ) (o : Option Wanted) → slice_get wanted place ≡ o → IsSomeAnd o (λ w. w.segment ≡ segment) → StandsAt (wanted ++ y ∷ []) segment place
+standing_pushed wanted y segment place None e h = absurd h
+standing_pushed wanted y segment place (Some w) e h = is_standing (wanted ++ y ∷ []) place w (pushed_old wanted y place w e) segment h
+
+pub one_more : (old new : BTreeMap ℕ ℕ) (wanted : List Wanted) (handed segment : ℕ) → AreReads old wanted handed → get nat_cmp old segment ≡ None → ((n : ℕ) → get nat_cmp new n ≡ cond (segment == n) (Some (length wanted)) (get nat_cmp old n)) →
+    AreReads new (wanted ++ record { segment = segment; bytes = None } ∷ []) handed
+one_more old new wanted handed segment reads none put = record {
+  placed = λ i w at. ⊎_elim (λ (e : slice_get wanted i ≡ Some w). old_place i w e) (λ (e : (i ≡ length wanted) × (more ≡ w)). new_place i w e.0 e.1) (got_pushed wanted more i w at);
+  stands = λ s p e. by_test s p (segment == s) refl (sym (put s) ∙ e);
+  handed_inside = omega (arith, reads.handed_inside, length_pushed wanted more);
+  not_yet = λ i w past at. ⊎_elim (λ (e : slice_get wanted i ≡ Some w). reads.not_yet i w past e) (λ (e : (i ≡ length wanted) × (more ≡ w)). ap (λ (x : Wanted). x.bytes) (sym e.1)) (got_pushed wanted more i w at);
+}
+  where
+    more : Wanted
+    more = record { segment = segment; bytes = None }
+
+    old_place : (i : ℕ) (w : Wanted) → slice_get wanted i ≡ Some w → get nat_cmp new w.segment ≡ Some i
+    old_place i w at =
+        let apart : (segment == w.segment) ≡ false = eq_false segment w.segment (λ same. no_place old wanted handed reads segment none i w at (sym same)) in
+        put w.segment ∙ ap (λ (b : Bool). cond b (Some (length wanted)) (get nat_cmp old w.segment)) apart ∙ reads.placed i w at
+
+    new_place : (i : ℕ) (w : Wanted) → i ≡ length wanted → record { segment = segment; bytes = None } ≡ w → get nat_cmp new w.segment ≡ Some i
+    new_place i w last is =
+        let same : (segment == w.segment) ≡ true = eq_true segment w.segment (ap (λ (x : Wanted). x.segment) is) in
+        put w.segment ∙ ap (λ (b : Bool). cond b (Some (length wanted)) (get nat_cmp old w.segment)) same ∙ ap Some (sym last)
+
+    by_test : (s p : ℕ) (b : Bool) → (segment == s) ≡ b → cond (segment == s) (Some (length wanted)) (get nat_cmp old s) ≡ Some p → StandsAt (wanted ++ record { segment = segment; bytes = None } ∷ []) s p
+    by_test s p true is e =
+        let here : Some (length wanted) ≡ Some p = sym (ap (λ (b : Bool). cond b (Some (length wanted)) (get nat_cmp old s)) is) ∙ e in
+        let last : length wanted ≡ p = cc in
+        let same : segment ≡ s = grind arith in
+        let P : ℕ → Type 0 = λ k. slice_get (wanted ++ record { segment = segment; bytes = None } ∷ []) k ≡ Some (record { segment = segment; bytes = None }) in
+        is_standing (wanted ++ record { segment = segment; bytes = None } ∷ []) p (record { segment = segment; bytes = None }) (subst P last (pushed_new wanted (record { segment = segment; bytes = None }))) s same
+    by_test s p false is e =
+        let there : get nat_cmp old s ≡ Some p = sym (ap (λ (b : Bool). cond b (Some (length wanted)) (get nat_cmp old s)) is) ∙ e in
+        standing_pushed wanted (record { segment = segment; bytes = None }) s p (slice_get wanted p) refl (reads.stands s p there)
+
+-- ---- bytes that come
+
+set_here : {X : Type 0} (xs : List X) (i : ℕ) (x y : X) → slice_get xs i ≡ Some y → slice_get (set xs i x) i ≡ Some x
+set_here [] i x y h = absurd cc
+set_here (z ∷ xs) zero x y h = refl
+set_here (z ∷ xs) (suc i) x y h = set_here xs i x y h
+
+pub set_there : {X : Type 0} (xs : List X) (i j : ℕ) (x : X) → (i ≡ j → ⊥) → slice_get (set xs i x) j ≡ slice_get xs j
+set_there [] i j x h = refl
+set_there (z ∷ xs) zero zero x h = absurd (h refl)
+set_there (z ∷ xs) zero (suc j) x h = refl
+set_there (z ∷ xs) (suc i) zero x h = refl
+set_there (z ∷ xs) (suc i) (suc j) x h = set_there xs i j x (λ e. h (ap suc e))
+
+length_set : {X : Type 0} (xs : List X) (i : ℕ) (x : X) → length (set xs i x) ≡ length xs
+length_set [] i x = refl
+length_set (z ∷ xs) zero x = refl
+length_set (z ∷ xs) (suc i) x = ap suc (length_set xs i x)
+
+pub map_set : {X Y : Type 0} (f : X → Y) (xs : List X) (i : ℕ) (x : X) → map f (set xs i x) ≡ set (map f xs) i (f x)
+map_set f [] i x = refl
+map_set f (z ∷ xs) zero x = refl
+map_set f (z ∷ xs) (suc i) x = ap (λ (ys : List _). f z ∷ ys) (map_set f xs i x)
+
+pub bytes_came : (places : BTreeMap ℕ ℕ) (wanted : List Wanted) (handed : ℕ) → AreReads places wanted handed → (place : ℕ) (w : Wanted) (bytes : List ℕ) → place < handed → slice_get wanted place ≡ Some w → AreReads places (set wanted place (record { segment = w.segment; bytes = Some bytes })) handed
+bytes_came places wanted handed reads place w bytes before at = record {
+  placed = λ i v e. ⊎_elim (λ (same : place ≡ i). here i v same e) (λ (apart : place ≡ i → ⊥). reads.placed i v (sym (set_there wanted place i came apart) ∙ e)) (cases_eq place i);
+  stands = λ s p e. ⊎_elim (λ (same : place ≡ p). there s p same (reads.stands s p e)) (λ (apart : place ≡ p → ⊥). subst (λ (o : Option Wanted). IsSomeAnd o (λ v. v.segment ≡ s)) (sym (set_there wanted place p came apart)) (reads.stands s p e)) (cases_eq place p);
+  handed_inside = omega (arith, reads.handed_inside, length_set wanted place came);
+  not_yet = λ i v past e. reads.not_yet i v past (sym (set_there wanted place i came (λ same. absurd (omega arith))) ∙ e);
+}
+  where
+    came : Wanted
+    came = record { segment = w.segment; bytes = Some bytes }
+
+    here : (i : ℕ) (v : Wanted) → place ≡ i → slice_get (set wanted place (record { segment = w.segment; bytes = Some bytes })) i ≡ Some v → get nat_cmp places v.segment ≡ Some i
+    here i v same e =
+        let came2 : Wanted = record { segment = w.segment; bytes = Some bytes } in
+        let P : ℕ → Type 0 = λ k. slice_get (set wanted place came2) k ≡ Some came2 in
+        let is : Some came2 ≡ Some v = sym (subst P same (set_here wanted place came2 w at)) ∙ e in
+        let named : came2 ≡ v = cc in
+        let segment : w.segment ≡ v.segment = ap (λ (x : Wanted). x.segment) named in
+        ap (get nat_cmp places) (sym segment) ∙ reads.placed place w at ∙ ap Some same
+
+    there : (s p : ℕ) → place ≡ p → StandsAt wanted s p → StandsAt (set wanted place (record { segment = w.segment; bytes = Some bytes })) s p
+    there s p same stands =
+        let came2 : Wanted = record { segment = w.segment; bytes = Some bytes } in
+        let P : ℕ → Type 0 = λ k. slice_get (set wanted place came2) k ≡ Some came2 in
+        let Q : ℕ → Type 0 = λ k. slice_get wanted k ≡ Some w in
+        is_standing (set wanted place came2) p came2 (subst P same (set_here wanted place came2 w at)) s (stands_is wanted s p w (subst Q same at) stands)
+
+-- ---- what is handed out next
+
+pub wanted_with : (w : Wanted) → w.bytes ≡ None → w ≡ record { segment = w.segment; bytes = None }
+wanted_with w none = ap (λ (b : Option (List ℕ)). record { segment = w.segment; bytes = b }) none
+
+pub not_handed : (places : BTreeMap ℕ ℕ) (wanted : List Wanted) (handed : ℕ) → AreReads places wanted handed → (w : Wanted) → slice_get wanted handed ≡ Some w → slice_get wanted handed ≡ Some (record { segment = w.segment; bytes = None })
+not_handed places wanted handed reads w at = at ∙ ap Some (wanted_with w (reads.not_yet handed w (omega arith) at))
+
+pub only_place : (places : BTreeMap ℕ ℕ) (wanted : List Wanted) (handed : ℕ) → AreReads places wanted handed → (i j : ℕ) (w : Wanted) → slice_get wanted j ≡ Some w → StandsAt wanted w.segment i → i ≡ j
+only_place places wanted handed reads i j w at stands = by_get (slice_get wanted i) refl stands
+  where
+    by_get : (o : Option Wanted) → slice_get wanted i ≡ o → IsSomeAnd o (λ v. v.segment ≡ w.segment) → i ≡ j
+    by_get None e h = absurd h
+    by_get (Some v) e h = one_place places wanted handed reads i j v w e at h
+
+pub none_is : {X : Type 0} (o : Option X) → is_some o ≡ false → o ≡ None
+none_is None h = refl
+none_is (Some x) h = absurd cc
+
+-- the one segment at a place, of which no bytes came
+pub still_none : (wanted : List Wanted) (place : ℕ) (v w : Wanted) → slice_get wanted place ≡ Some v → slice_get wanted place ≡ Some w → w.bytes ≡ None → slice_get wanted place ≡ Some (record { segment = v.segment; bytes = None })
+still_none wanted place v w at_v at_w none =
+    let both : Some v ≡ Some w = sym at_v ∙ at_w in
+    let same : v ≡ w = cc in
+    at_v ∙ ap Some (wanted_with v (ap (λ (x : Wanted). x.bytes) same ∙ none))
+
+pub is_still : (wanted : List Wanted) (place segment : ℕ) → slice_get wanted place ≡ Some (record { segment = segment; bytes = None }) → IsSomeAnd (slice_get wanted place) (λ w. w.bytes ≡ None)
+is_still wanted place segment at =
+    let P : Option Wanted → Type 0 = λ o. IsSomeAnd o (λ w. w.bytes ≡ None) in
+    subst P (sym at) refl

@@ -1,0 +1,132 @@
+-- Faults inside whole values that selected rows ask for.
+use Rattle.std.proofs.Common.{◌≡◌, ℕ, ◌+◌, ◌-◌, inl, inr, Bool, true, false, List, Option, Some, None, length, refl, sym, subst, arith}
+use Rattle.std.specs.Prelude.{nat_lt}
+use Rattle.std.specs.Bool.{MatchBool}
+use Rattle.vx_base.specs.Columns.{ColumnData}
+use Rattle.vx_rows.specs.Derivations.{Leaves}
+use Rattle.vx_plan.specs.Nodes.{Node}
+use Rattle.vx_plan.specs.Plans.{Plan, Plans, PlanValidity, no_plans, plan, all_valid, valid_as, no_plan, plan_head, plan_at, concat_plan, eval_plan, filter_plan, pack_plan, take_plan, share_plan, list_plan, row_idx_plan, scan_plan, zoned_plan}
+use Rattle.vx_plan.specs.Refs.{number_of}
+use Rattle.vx_plan.specs.Rules.{node_at}
+use Rattle.vx_steps.specs.declared.errors.StepError.{StepError}
+use Rattle.vx_steps.specs.declared.errors.StepError.TheVariants.{Unsupported, BadSegment, BadCode, EvalFault, Memory}
+use Rattle.vx_steps.specs.Computed.{else_kept, kept_in, HasCause, HasWholeCause}
+use Rattle.vx_steps.specs.Given.{Handed}
+use Rattle.vx_steps.specs.Held.{Held, handed_in}
+use Rattle.vx_steps.specs.KeptData.{Kept}
+use Rattle.vx_steps.specs.Kept.{kept_at}
+use Rattle.vx_steps.specs.Needs.{NoneGiven}
+use Rattle.vx_steps.specs.Rows.{SelectsSome}
+use Rattle.vx_steps.specs.Visits.{Test, Visits, VisitsIn, VisitsField, VisitsValidity, SomeVisit, SomeWholeVisit, HasBadCode, HasEvalFault, IsListRead}
+use Rattle.vx_steps.specs.Wholes.{FailsInside, HasInsideCause, Inside, KeepsValues, WholeFails}
+use Rattle.vx_steps.proofs.ComputedRows.{VisitsUp}
+use Rattle.vx_steps.proofs.Keeping.{got_inside}
+use Rattle.vx_steps.proofs.Shaping.{IsSharePlan, IsTakePlan}
+use Rattle.vx_steps.proofs.Visiting.{up_shared, up_values}
+use Rattle.vx_steps.proofs.WholeMaking.{holding}
+
+-- ---- while whole values are made each visit is inside them
+
+match_weaker : (b : Bool) (A B C D : Type 0) → (A → C) → (B → D) → MatchBool b A B → MatchBool b C D
+match_weaker true A B C D to more a = to a
+match_weaker false A B C D to more b = more b
+
+mutual
+  inside : (P : Test) (p : Plan) (row : ℕ) → Visits P None p row → Visits (Inside P) None p row
+  inside P (no_plan head) row v = v
+  inside P (concat_plan head children) row (inl v) = inl v
+  inside P (concat_plan head children) row (inr v) = inr (inside_in P children row v)
+  inside P (eval_plan head e child) row (inl v) = inl v
+  inside P (eval_plan head e child) row (inr v) = inr (inside P child row v)
+  inside P (filter_plan head child) row (inl v) = inl v
+  inside P (filter_plan head child) row (inr v) = inr (inside P child row v)
+  inside P (pack_plan head children validity) row (inl v) = inl v
+  inside P (pack_plan head children validity) row (inr (inl v)) = inr (inl (inside_fields P children row v))
+  inside P (pack_plan head children validity) row (inr (inr v)) = inr (inr (inside_validity P validity row v))
+  inside P (take_plan head codes values) row (inl v) = inl v
+  inside P (take_plan head codes values) row (inr (inl v)) = inr (inl (inside P codes row v))
+  inside P (take_plan head codes values) row (inr (inr (none, (other, less, v)))) = inr (inr (none, (other, less, inside P values other v)))
+  inside P (share_plan head child) row (inl v) = inl v
+  inside P (share_plan head child) row (inr (none, (other, less, v))) = inr (none, (other, less, inside P child other v))
+  inside P (list_plan head elements offsets validity) row v = v
+  inside P (row_idx_plan head) row v = v
+  inside P (scan_plan head segment) row v = v
+  inside P (zoned_plan head zones content table) row (inl v) = inl v
+  inside P (zoned_plan head zones content table) row (inr v) = inr (inside P content row v)
+
+  inside_in : (P : Test) (ps : Plans) (row : ℕ) → VisitsIn P None ps row → VisitsIn (Inside P) None ps row
+  inside_in P no_plans row v = v
+  inside_in P (plan first rest) row v =
+      match_weaker (nat_lt row (plan_head first).rows) (Visits P None first row) (VisitsIn P None rest (row - (plan_head first).rows)) (Visits (Inside P) None first row) (VisitsIn (Inside P) None rest (row - (plan_head first).rows)) (inside P first row) (inside_in P rest (row - (plan_head first).rows)) v
+
+  inside_fields : (P : Test) (ps : Plans) (row : ℕ) → VisitsField P None ps row → VisitsField (Inside P) None ps row
+  inside_fields P no_plans row v = v
+  inside_fields P (plan first rest) row (inl v) = inl (inside P first row v)
+  inside_fields P (plan first rest) row (inr v) = inr (inside_fields P rest row v)
+
+  inside_validity : (P : Test) (validity : PlanValidity) (row : ℕ) → VisitsValidity P None validity row → VisitsValidity (Inside P) None validity row
+  inside_validity P all_valid row v = v
+  inside_validity P (valid_as p) row v = inside P p row v
+
+some_inside : (P : Test) (p : Plan) (start : ℕ) (bits : List Bool) → SomeVisit P None p start bits → SomeVisit (Inside P) None p start bits
+some_inside P p start bits r = (r.0, r.1, inside P p (start + r.0) r.2)
+
+cause_inside : (leaves : Leaves) (offset : ℕ) (p : Plan) (start : ℕ) (bits : List Bool) (fault : StepError) → HasCause leaves None offset p start bits fault → HasInsideCause leaves None offset p start bits fault
+cause_inside leaves offset p start bits (Unsupported n) h = some_inside (IsListRead (number_of n)) p start bits h
+cause_inside leaves offset p start bits (BadSegment s) h = absurd h
+cause_inside leaves offset p start bits (BadCode n at) h = some_inside (HasBadCode leaves offset (number_of n) at) p start bits h
+cause_inside leaves offset p start bits (EvalFault at) h = some_inside (HasEvalFault leaves offset at) p start bits h
+cause_inside leaves offset p start bits Memory h = tt
+
+-- ---- up from a child
+
+inside_up : (leaves : Leaves) (offset : ℕ) (handed : Handed) (p : Plan) (start : ℕ) (bits : List Bool) (handed2 : Handed) (q : Plan) (start2 : ℕ) (bits2 : List Bool) → VisitsUp handed p start bits handed2 q start2 bits2 →
+    (fault : StepError) → HasInsideCause leaves handed offset p start bits fault → HasInsideCause leaves handed2 offset q start2 bits2 fault
+inside_up leaves offset handed p start bits handed2 q start2 bits2 up (Unsupported n) h = up (Inside (IsListRead (number_of n))) h
+inside_up leaves offset handed p start bits handed2 q start2 bits2 up (BadSegment s) h = absurd h
+inside_up leaves offset handed p start bits handed2 q start2 bits2 up (BadCode n at) h = up (Inside (HasBadCode leaves offset (number_of n) at)) h
+inside_up leaves offset handed p start bits handed2 q start2 bits2 up (EvalFault at) h = up (Inside (HasEvalFault leaves offset at)) h
+inside_up leaves offset handed p start bits handed2 q start2 bits2 up Memory h = tt
+
+-- the child's fault is the plan's
+pub inside_by : (h : Held) (child start : ℕ) (bits : List Bool) (n start2 : ℕ) (bits2 : List Bool) → VisitsUp (handed_in h) (plan_at h.nodes child) start bits (handed_in h) (plan_at h.nodes n) start2 bits2 → (error : StepError) → FailsInside h child start bits error → FailsInside h n start2 bits2 error
+inside_by h child start bits n start2 bits2 up error fails by are = inside_up by h.offset (handed_in h) (plan_at h.nodes child) start bits (handed_in h) (plan_at h.nodes n) start2 bits2 up error (fails by are)
+
+-- by more values it is by the leaves that the old ones are by
+pub still_inside : (nodes : List Node) (leaves : List Kept) (given : Option (List Kept)) (offset : ℕ) (old new : List Kept) → KeepsValues nodes leaves offset old new → (n start : ℕ) (bits : List Bool) (error : StepError) → FailsInside (holding nodes leaves given offset new) n start bits error → FailsInside (holding nodes leaves given offset old) n start bits error
+still_inside nodes leaves given offset old new keeps n start bits error fails by are = fails by (record { leaves_are = are.leaves_are; made_are = keeps.right by are.leaves_are are.made_are })
+
+-- ---- whole values
+
+memory_inside : (h : Held) (n start : ℕ) (bits : List Bool) (error : StepError) → error ≡ Memory → FailsInside h n start bits error
+memory_inside h n start bits error memory =
+    let F : StepError → Type 0 = λ e. FailsInside h n start bits e in
+    subst F (sym memory) (λ by are. tt)
+
+none_kept : (a b : Option ColumnData) → else_kept a b ≡ None → a ≡ None
+none_kept None b e = refl
+none_kept (Some c) b e = absurd cc
+
+none_for : (given : Option (List Kept)) (n : ℕ) → kept_in given n ≡ None → NoneGiven given n
+none_for None n e = tt
+none_for (Some kept) n e = e
+
+-- a place of all rows is a row
+whole_row : (P : Test) (p : Plan) (bits : List Bool) (rows : ℕ) → length bits ≡ rows → SomeVisit P None p 0 bits → SomeWholeVisit P p rows
+whole_row P p bits rows long r = (0 + r.0, omega (arith, got_inside bits r.0 true r.1), r.2)
+
+pub values_inside : (h : Held) (n codes values start : ℕ) (bits : List Bool) (error : StepError) → IsTakePlan h.nodes n codes values → SelectsSome bits → WholeFails h values values error → FailsInside h n start bits error
+values_inside h n codes values start bits error over some (inl memory) by are = memory_inside h n start bits error memory by are
+values_inside h n codes values start bits error over some (inr (none, computed)) by are =
+    let w : HasWholeCause by h.offset (plan_at h.nodes values) (node_at h.nodes values).rows error = computed by are in
+    let not_given : NoneGiven h.given values = none_for h.given values (none_kept (kept_in h.given values) (kept_at h.made values) none) in
+    inside_up by h.offset None (plan_at h.nodes values) 0 w.0 (handed_in h) (plan_at h.nodes n) start bits (λ P r. up_values h.nodes h.given n codes values start bits over some not_given P (whole_row P (plan_at h.nodes values) w.0 (node_at h.nodes values).rows w.1 r)) error
+    (cause_inside by h.offset (plan_at h.nodes values) 0 w.0 error w.2)
+
+pub shared_inside : (h : Held) (n child start : ℕ) (bits : List Bool) (error : StepError) → IsSharePlan h.nodes n child → SelectsSome bits → WholeFails h n child error → FailsInside h n start bits error
+shared_inside h n child start bits error over some (inl memory) by are = memory_inside h n start bits error memory by are
+shared_inside h n child start bits error over some (inr (none, computed)) by are =
+    let w : HasWholeCause by h.offset (plan_at h.nodes child) (node_at h.nodes child).rows error = computed by are in
+    let not_given : NoneGiven h.given n = none_for h.given n (none_kept (kept_in h.given n) (kept_at h.made n) none) in
+    inside_up by h.offset None (plan_at h.nodes child) 0 w.0 (handed_in h) (plan_at h.nodes n) start bits (λ P r. up_shared h.nodes h.given n child start bits over some not_given P (whole_row P (plan_at h.nodes child) w.0 (node_at h.nodes child).rows w.1 r)) error
+    (cause_inside by h.offset (plan_at h.nodes child) 0 w.0 error w.2)

@@ -1,0 +1,25 @@
+use Rattle.std.proofs.Common.{sym, ◌∙◌}
+use Rattle.vx_steps.specs.Kept.{kept_at}
+use Rattle.vx_steps.proofs.Shaping.{leaf_plan}
+use Rattle.vx_steps.proofs.Decoding.{keeps_none, decoded_keeps, none_kept, kept_here}
+use Rattle.vx_steps.proofs.leaves.decode_need.Goals as goal
+
+pub returns-in_err-keep-clause-keeps : goal.returns-in_err-keep-clause-keeps
+returns-in_err-keep-clause-keeps c = rw c.in_err-keep.ensures.as_before (keeps_none c.args.table.now c.args.reads.now.wanted c.args.leaves.now)
+
+pub returns-clause-keeps : goal.returns-clause-keeps
+returns-clause-keeps c =
+    let nodes = c.args.table.now in
+    let need = c.args.need in
+    let column = c.in-Ok.column in
+    let none = none_kept c.find.result (kept_at c.args.leaves.now need.leaf) c.find.ensures (sym c.if-is_some.ensures) in
+    let read = rw (c.dtype.ensures, c.row_count.ensures) at c.in-Ok.ensures.read in
+    rw c.in_ok-keep.ensures.kept (decoded_keeps nodes c.args.reads.now.wanted c.args.leaves.now need c.in-Some.bytes.now column c.requires.known c.requires.leaf none (sym c.in-Some.ensures) (c.in-Ok.ensures.dtype ∙ c.dtype.ensures) (c.in-Ok.ensures.spelled.count ∙ c.row_count.ensures) read)
+
+pub returns-clause-there : goal.returns-clause-there
+returns-clause-there c =
+    let none = none_kept c.find.result (kept_at c.args.leaves.now c.args.need.leaf) c.find.ensures (sym c.if-is_some.ensures) in
+    rw c.in_ok-keep.ensures.kept (kept_here c.args.leaves.now c.args.need.leaf c.in-Ok.column none)
+
+pub decode-requires : goal.decode-requires
+decode-requires c = record { leaf = rw c.dtype.ensures (leaf_plan c.args.table.now c.args.need.leaf c.args.need.segment c.requires.known c.requires.leaf).leaf }

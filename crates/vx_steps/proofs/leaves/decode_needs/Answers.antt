@@ -1,0 +1,32 @@
+use Rattle.vx_steps.proofs.Decoding.{keeps_then, torn_up, kept_more, not_kept_before}
+use Rattle.vx_steps.proofs.Needing.{need_at, need_is, need_among}
+use Rattle.vx_steps.proofs.leaves.decode_needs.Goals as goal
+
+pub loop-need-preserved : goal.loop-need-preserved
+loop-need-preserved c =
+    let needs = c.args.needs.now in
+    let i = c.loop-need.need-index in
+    let there = rw c.in-Ok-true.field-0-test at c.in-Ok-true.ensures.there in
+    record {
+      keeps = keeps_then c.args.table.now c.args.reads.now.wanted c.args.leaves.now c.loop-need.leaves c.decode_need.new.leaves c.loop-need.invariant.keeps c.in-Ok-true.ensures.keeps;
+      all = kept_more c.args.table.now c.args.reads.now.wanted c.loop-need.leaves c.decode_need.new.leaves needs i (need_at needs i) c.loop-need-test.true (need_is needs i c.loop-need-test.true) c.loop-need.invariant.all c.in-Ok-true.ensures.keeps there;
+    }
+
+pub returns-in-Ok-false-clause-keeps : goal.returns-in-Ok-false-clause-keeps
+returns-in-Ok-false-clause-keeps c = keeps_then c.args.table.now c.args.reads.now.wanted c.args.leaves.now c.loop-need.leaves c.decode_need.new.leaves c.loop-need.invariant.keeps c.in-Ok-false.ensures.keeps
+
+pub returns-in-Ok-false-clause-none : goal.returns-in-Ok-false-clause-none
+returns-in-Ok-false-clause-none c =
+    let needs = c.args.needs.now in
+    let i = c.loop-need.need-index in
+    let there = rw c.in-Ok-false.field-0-test at c.in-Ok-false.ensures.there in
+    λ _. (need_at needs i, need_among needs i (need_at needs i) c.loop-need-test.true (need_is needs i c.loop-need-test.true), not_kept_before c.args.table.now c.args.reads.now.wanted c.args.leaves.now c.loop-need.leaves c.loop-need.invariant.keeps (need_at needs i).leaf there.0, there.1)
+
+pub returns-in-Err-clause-keeps : goal.returns-in-Err-clause-keeps
+returns-in-Err-clause-keeps c = keeps_then c.args.table.now c.args.reads.now.wanted c.args.leaves.now c.loop-need.leaves c.decode_need.new.leaves c.loop-need.invariant.keeps c.in-Err.ensures.keeps
+
+pub returns-in-Err-clause-torn : goal.returns-in-Err-clause-torn
+returns-in-Err-clause-torn c =
+    let needs = c.args.needs.now in
+    let i = c.loop-need.need-index in
+    torn_up c.args.table.now c.args.reads.now.wanted needs (need_at needs i) c.in-Err.error (need_among needs i (need_at needs i) c.loop-need-test.true (need_is needs i c.loop-need-test.true)) c.in-Err.ensures.torn

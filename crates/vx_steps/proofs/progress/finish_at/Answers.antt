@@ -1,0 +1,75 @@
+use Rattle.std.proofs.Common.{rules, ◌≡◌, ◌<◌, Global, Vec, length, refl, subst}
+use Rattle.std.specs.Prelude.{IfOk, IfErr, None}
+use Rattle.std.specs.Vec.{with_item}
+use Rattle.vx_plan.specs.Rules.{node_at}
+use Rattle.vx_steps.specs.declared.jobs.ActiveSplit.{ActiveSplit}
+use Rattle.vx_steps.specs.declared.jobs.Progress.{Progress}
+use Rattle.vx_steps.specs.Delivered.{LacksNeed}
+use Rattle.vx_steps.specs.Needs.{AreLeaves}
+use Rattle.vx_steps.specs.Turns.{IsRefusal, ReadsFor}
+use Rattle.vx_steps.specs.Wants.{AreNeeds}
+use Rattle.vx_steps.proofs.Finishing.{split_inside, parts_of, split_rows, same_active, same_actives, good_tried, keeps_tried, output_up, held_up, cause_of_split}
+use Rattle.vx_steps.proofs.progress.finish_at.Goals as goal
+
+pub index-split-requires : goal.index-split-requires
+index-split-requires c =
+    let inside : c.index.result.now.split < length c.args.job.now.splits.items = split_inside c.args.table.now c.args.job.now c.args.progress.now c.args.place c.index.result.now c.requires.good c.requires.place c.index.ensures in
+    search rules
+
+pub finish_split-requires-clause-inside : goal.finish_split-requires-clause-inside
+finish_split-requires-clause-inside c =
+    let parts = parts_of c.args.table.now c.args.job.now c.args.progress.now c.args.place c.index.result.now c.index-split.result.now c.requires.good c.requires.place c.index.ensures c.index-split.ensures in
+    split_rows (node_at c.args.table.now c.args.job.now.plan).rows c.index-split.result.now parts.inside
+
+pub finish_split-requires-clause-needs : goal.finish_split-requires-clause-needs
+finish_split-requires-clause-needs c =
+    let parts = parts_of c.args.table.now c.args.job.now c.args.progress.now c.args.place c.index.result.now c.index-split.result.now c.requires.good c.requires.place c.index.ensures c.index-split.ensures in
+    let same = same_active c.args.progress.now.active.items c.args.place c.index.result.now c.index_mut.result.now c.requires.place c.index.ensures c.index_mut.ensures.value in
+    let P : ActiveSplit → Type 0 = λ active. AreNeeds (ReadsFor c.args.table.now c.args.job.now c.index-split.result.now) active.needs in
+    subst P same parts.needs
+
+pub finish_split-requires-clause-needed_leaves : goal.finish_split-requires-clause-needed_leaves
+finish_split-requires-clause-needed_leaves c =
+    let parts = parts_of c.args.table.now c.args.job.now c.args.progress.now c.args.place c.index.result.now c.index-split.result.now c.requires.good c.requires.place c.index.ensures c.index-split.ensures in
+    let same = same_active c.args.progress.now.active.items c.args.place c.index.result.now c.index_mut.result.now c.requires.place c.index.ensures c.index_mut.ensures.value in
+    let P : ActiveSplit → Type 0 = λ active. AreLeaves c.args.table.now active.needs in
+    subst P same parts.are_leaves
+
+pub returns-clause-good : goal.returns-clause-good
+returns-clause-good c =
+    let progress = c.args.progress.now in
+    let active : Vec ActiveSplit Global = with_item progress.active c.args.place (record { split = c.index_mut.result.now.split; needs = c.finish_split.new.needs }) in
+    let same = same_actives progress.active.items c.args.place c.index_mut.result.now c.finish_split.new.needs c.index_mut.ensures.value c.finish_split.ensures.same in
+    good_tried c.args.table.now c.args.job.now progress active c.finish_split.new.leaves c.finish_split.new.wholes same c.finish_split.ensures.keeps c.finish_split.ensures.made c.finish_split.ensures.used c.requires.good
+
+pub returns-clause-keeps : goal.returns-clause-keeps
+returns-clause-keeps c =
+    let progress = c.args.progress.now in
+    let active : Vec ActiveSplit Global = with_item progress.active c.args.place (record { split = c.index_mut.result.now.split; needs = c.finish_split.new.needs }) in
+    let same = same_actives progress.active.items c.args.place c.index_mut.result.now c.finish_split.new.needs c.index_mut.ensures.value c.finish_split.ensures.same in
+    let parts = parts_of c.args.table.now c.args.job.now c.args.progress.now c.args.place c.index.result.now c.index-split.result.now c.requires.good c.requires.place c.index.ensures c.index-split.ensures in
+    keeps_tried c.args.table.now c.args.job.now progress active c.finish_split.new.leaves c.finish_split.new.wholes same c.finish_split.ensures.keeps c.finish_split.ensures.made c.finish_split.ensures.used c.args.place c.index.result.now c.index-split.result.now parts c.finish_split.ensures.asked
+
+pub returns-clause-output : goal.returns-clause-output
+returns-clause-output c =
+    let progress = c.args.progress.now in
+    let new : Progress = record { next = progress.next; active = with_item progress.active c.args.place (record { split = c.index_mut.result.now.split; needs = c.finish_split.new.needs }); reads = progress.reads; leaves = c.finish_split.new.leaves; wholes = c.finish_split.new.wholes } in
+    let parts = parts_of c.args.table.now c.args.job.now c.args.progress.now c.args.place c.index.result.now c.index-split.result.now c.requires.good c.requires.place c.index.ensures c.index-split.ensures in
+    output_up c.args.table.now c.args.job.now progress new c.args.place c.index.result.now c.index-split.result.now c.finish_split.result parts c.finish_split.ensures.output
+
+pub returns-clause-held : goal.returns-clause-held
+returns-clause-held c =
+    let progress = c.args.progress.now in
+    let same = same_active progress.active.items c.args.place c.index_mut.result.now c.index.result.now c.requires.place c.index_mut.ensures.value c.index.ensures in
+    let parts = parts_of c.args.table.now c.args.job.now c.args.progress.now c.args.place c.index.result.now c.index-split.result.now c.requires.good c.requires.place c.index.ensures c.index-split.ensures in
+    let P : ActiveSplit → Type 0 = λ active. IfOk c.finish_split.result (λ output. output ≡ None → LacksNeed progress.reads.wanted progress.leaves active.needs) in
+    held_up c.args.table.now c.args.job.now progress c.args.place c.index.result.now c.index-split.result.now c.finish_split.result parts (subst P same c.finish_split.ensures.waiting)
+
+pub returns-clause-cause : goal.returns-clause-cause
+returns-clause-cause c =
+    let progress = c.args.progress.now in
+    let new : Progress = record { next = progress.next; active = with_item progress.active c.args.place (record { split = c.index_mut.result.now.split; needs = c.finish_split.new.needs }); reads = progress.reads; leaves = c.finish_split.new.leaves; wholes = c.finish_split.new.wholes } in
+    let same = same_active progress.active.items c.args.place c.index_mut.result.now c.index.result.now c.requires.place c.index_mut.ensures.value c.index.ensures in
+    let parts = parts_of c.args.table.now c.args.job.now c.args.progress.now c.args.place c.index.result.now c.index-split.result.now c.requires.good c.requires.place c.index.ensures c.index-split.ensures in
+    let P : ActiveSplit → Type 0 = λ active. IfErr c.finish_split.result (IsRefusal c.args.table.now c.args.job.now c.index-split.result.now active.needs progress.reads.wanted progress.leaves progress.wholes.made) in
+    cause_of_split c.args.table.now c.args.job.now progress new c.args.place c.index.result.now c.index-split.result.now c.finish_split.result parts refl (subst P same c.finish_split.ensures.cause) c.finish_split.ensures.left

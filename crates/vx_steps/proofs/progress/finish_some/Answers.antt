@@ -1,0 +1,47 @@
+use Rattle.std.proofs.Common.{rules, ◌≡◌, ◌<◌, below_more, length, refl, ◌∙◌}
+use Rattle.vx_steps.specs.Steps.{IsHeldAt}
+use Rattle.vx_steps.proofs.Finishing.{among_removed, wholes_then, gives_output, only_keeps_then, held_before, holds_all, refusal_before}
+use Rattle.vx_steps.proofs.progress.finish_some.Goals as goal
+
+pub returns-in-Ok-Some-clause-good : goal.returns-in-Ok-Some-clause-good
+returns-in-Ok-Some-clause-good c =
+    let good = c.in-Ok-Some.ensures.good in
+    record {
+      known = good.known;
+      inside = good.inside;
+      fits = good.fits;
+      typed_given = good.typed_given;
+      typed_leaves = good.typed_leaves;
+      typed_made = good.typed_made;
+      uses = good.uses;
+      actives = λ a m. good.actives a (among_removed c.finish_at.new.progress.active.items c.loop-place.place a (rw c.remove-active.ensures.items at m));
+    }
+
+pub returns-in-Ok-Some-clause-told : goal.returns-in-Ok-Some-clause-told
+returns-in-Ok-Some-clause-told c = λ outside is. c.in-Ok-Some.ensures.keeps.told outside (c.loop-place.invariant.keeps.told outside is)
+
+pub returns-in-Ok-Some-clause-output : goal.returns-in-Ok-Some-clause-output
+returns-in-Ok-Some-clause-output c =
+    let inside : c.loop-place.place < length c.args.progress.now.active.items = search rules in
+    let same : c.finish_at.new.progress.active.items ≡ c.args.progress.now.active.items = c.in-Ok-Some.ensures.keeps.active ∙ c.loop-place.invariant.keeps.active in
+    let within : c.loop-place.place < length c.finish_at.new.progress.active.items = rw same inside in
+    gives_output c.args.table.now c.args.job.now c.args.progress.now c.loop-place.progress c.finish_at.new.progress (record { next = c.finish_at.new.progress.next; active = c.remove-active.new.self; reads = c.finish_at.new.progress.reads; leaves = c.finish_at.new.progress.leaves; wholes = c.finish_at.new.progress.wholes }) c.loop-place.place c.in-Ok-Some.column c.remove-active.result c.loop-place.invariant.keeps (rw c.in-Ok-Some.field-0-is at c.in-Ok-Some.ensures.output) c.in-Ok-Some.ensures.keeps within c.remove-active.ensures.value c.remove-active.ensures.items refl refl refl
+
+pub returns-in-Err-clause-told : goal.returns-in-Err-clause-told
+returns-in-Err-clause-told c = λ outside is. c.in-Err.ensures.keeps.told outside (c.loop-place.invariant.keeps.told outside is)
+
+pub returns-in-Err-clause-cause : goal.returns-in-Err-clause-cause
+returns-in-Err-clause-cause c = refusal_before c.args.table.now c.args.job.now c.args.progress.now c.loop-place.progress c.finish_at.new.progress c.in-Err.error c.loop-place.invariant.keeps.told c.in-Err.ensures.cause
+
+pub loop-place-preserved : goal.loop-place-preserved
+loop-place-preserved c = record {
+  good = c.in-Ok-None.ensures.good;
+  keeps = only_keeps_then c.args.table.now c.args.job.now c.args.progress.now c.loop-place.progress c.finish_at.new.progress c.loop-place.invariant.keeps c.in-Ok-None.ensures.keeps;
+  held = below_more (IsHeldAt c.args.progress.now) c.loop-place.place c.loop-place.invariant.held (held_before c.args.table.now c.args.job.now c.args.progress.now c.loop-place.progress c.loop-place.place c.loop-place.invariant.keeps (c.in-Ok-None.ensures.held c.in-Ok-None.field-0-is));
+}
+
+pub returns-clause-none : goal.returns-clause-none
+returns-clause-none c = λ e. holds_all c.args.table.now c.args.job.now c.args.progress.now c.loop-place.progress c.loop-place.invariant.keeps (λ place less. let passed : place < c.loop-place.place = search rules in c.loop-place.invariant.held place passed)
+
+pub returns-in-Ok-Some-clause-wholes : goal.returns-in-Ok-Some-clause-wholes
+returns-in-Ok-Some-clause-wholes c = wholes_then c.args.table.now c.args.job.now c.args.progress.now.wholes c.loop-place.progress.wholes c.finish_at.new.progress.wholes c.loop-place.invariant.keeps.wholes c.in-Ok-Some.ensures.keeps.wholes

@@ -1,0 +1,120 @@
+-- How far a scan is: which splits are left, and what is true at each step.
+use Rattle.std.specs.Prelude.{◌≡◌, ℕ, ◌+◌, ◌<◌, ◌⊎◌, ◌==◌, if◌then◌else◌, List, [], ◌∷◌, ◌++◌, length, map, drop, Some, None}
+use Rattle.std.specs.List.{slice_get, AllByRecursion}
+use Rattle.vx_base.specs.Columns.{ColumnData}
+use Rattle.vx_base.specs.Masks.{true_count}
+use Rattle.vx_plan.specs.Nodes.{Node}
+use Rattle.vx_plan.specs.Rules.{node_at}
+use Rattle.vx_rows.specs.SegmentLeaves.{Bytes}
+use Rattle.vx_steps.specs.declared.jobs.ActiveSplit.{ActiveSplit}
+use Rattle.vx_steps.specs.declared.jobs.Job.{Job}
+use Rattle.vx_steps.specs.declared.jobs.Progress.{Progress}
+use Rattle.vx_steps.specs.declared.leaf_reads.LeafRead.{LeafRead}
+use Rattle.vx_steps.specs.declared.splits.Split.{Split}
+use Rattle.vx_steps.specs.declared.wholes.Wholes.{Wholes}
+use Rattle.vx_steps.specs.Delivered.{IsOf}
+use Rattle.vx_steps.specs.Held.{AreTyped, FitsOffset}
+use Rattle.vx_steps.specs.KeptData.{Kept}
+use Rattle.vx_steps.specs.Kept.{kept_at}
+use Rattle.vx_steps.specs.Needs.{Among, AreLeaves}
+use Rattle.vx_steps.specs.ReadTableData.{Wanted}
+use Rattle.vx_steps.specs.Splits.{IsInside}
+use Rattle.vx_steps.specs.Turns.{ReadsFor}
+use Rattle.vx_steps.specs.Wants.{AreNeeds, Grows, IsAsked}
+use Rattle.vx_steps.specs.Wholes.{AddsOnly, Asks, UsesGiven}
+
+-- the numbers of the splits that select a row, counted from k on
+abbrev pub numbers_from : ℕ → List Split → List ℕ
+numbers_from k [] = []
+numbers_from k (split ∷ splits) = if true_count split.mask == 0 then numbers_from (k + 1) splits else k ∷ numbers_from (k + 1) splits
+
+abbrev pub number_of_active : ActiveSplit → ℕ
+number_of_active active = active.split
+
+-- The splits that select a row and whose column was not given yet: the active ones, and then those that were not
+-- started.
+abbrev pub left_of : Job → Progress → List ℕ
+left_of job progress = map number_of_active progress.active.items ++ numbers_from progress.next (drop progress.next job.splits.items)
+
+-- An active split has the needs of its split, each of which is kept or asked for.
+pub record IsActive (nodes : List Node) (job : Job) (leaves : List Kept) (wanted : List Wanted) (active : ActiveSplit) : Type 0 where
+  pub split : Split
+  pub at : slice_get job.splits.items active.split ≡ Some split
+  pub needs : AreNeeds (ReadsFor nodes job split) active.needs
+  pub are_leaves : AreLeaves nodes active.needs
+  pub asked : (need : LeafRead) → Among need active.needs → kept_at leaves need.leaf ≡ None → IsAsked wanted need.segment
+
+-- What is true of a scan between its calls.
+pub record IsGood (nodes : List Node) (job : Job) (progress : Progress) : Type 0 where
+  pub known : job.plan < length nodes
+  pub inside : AllByRecursion (IsInside (node_at nodes job.plan).rows) job.splits.items
+  pub fits : FitsOffset nodes job.offset
+  pub typed_given : AreTyped nodes job.given
+  pub typed_leaves : AreTyped nodes progress.leaves
+  pub typed_made : AreTyped nodes progress.wholes.made
+  pub uses : UsesGiven job.given [] progress.wholes.used
+  pub actives : (active : ActiveSplit) → Among active progress.active.items → IsActive nodes job progress.leaves progress.reads.wanted active
+
+-- no split was started, no segment is wanted, and no whole value was made or used
+pub record IsUnstarted (progress : Progress) : Type 0 where
+  pub next : progress.next ≡ 0
+  pub active : progress.active.items ≡ []
+  pub wanted : progress.reads.wanted ≡ []
+  pub made : progress.wholes.made ≡ []
+  pub used : progress.wholes.used ≡ []
+
+-- What the scan holds is so outside.
+abbrev pub IsTold : List Node → Job → Progress → Bytes → Type 0
+IsTold nodes job progress outside = IsOf nodes job.offset progress.reads.wanted progress.leaves progress.wholes.made outside
+
+-- what was so outside still is
+abbrev pub KeepsTold : List Node → Job → Progress → Progress → Type 0
+KeepsTold nodes job old new = (outside : Bytes) → IsTold nodes job old outside → IsTold nodes job new outside
+
+-- a selected row of a split asks for the whole values of the number
+pub record IsAskedFor (nodes : List Node) (job : Job) (n : ℕ) : Type 0 where
+  pub number : ℕ
+  pub split : Split
+  pub at : slice_get job.splits.items number ≡ Some split
+  pub asks : Asks nodes job.given job.plan split.rows.start split.mask n
+
+-- What was made or used stays, and only whole values that selected rows of splits ask for were added.
+pub record KeepsWholes (nodes : List Node) (job : Job) (old new : Wholes) : Type 0 where
+  pub made : (n : ℕ) (column : ColumnData) → kept_at old.made n ≡ Some column → kept_at new.made n ≡ Some column
+  pub used : (n : ℕ) (column : ColumnData) → kept_at old.used n ≡ Some column → kept_at new.used n ≡ Some column
+  pub made_only : AddsOnly (IsAskedFor nodes job) old.made new.made
+  pub used_only : AddsOnly (IsAskedFor nodes job) old.used new.used
+
+-- a selected row of a split reads the segment, by a leaf of which no column is kept
+pub record IsReadFor (nodes : List Node) (job : Job) (leaves : List Kept) (segment : ℕ) : Type 0 where
+  pub number : ℕ
+  pub split : Split
+  pub at : slice_get job.splits.items number ≡ Some split
+  pub read : LeafRead
+  pub reads : ReadsFor nodes job split read
+  pub not_kept : kept_at leaves read.leaf ≡ None
+  pub segment_is : read.segment ≡ segment
+
+-- The segments that are wanted from now on are read for the scan.
+abbrev pub WantsOnly : List Node → Job → Progress → Progress → Type 0
+WantsOnly nodes job old new = (segment : ℕ) → IsAsked new.reads.wanted segment → IsAsked old.reads.wanted segment ⊎ IsReadFor nodes job old.leaves segment
+
+-- Splits were started: the splits that are left stay, and nothing else changed but what is wanted.
+pub record Starts (nodes : List Node) (job : Job) (old new : Progress) : Type 0 where
+  pub left : left_of job new ≡ left_of job old
+  pub wants : WantsOnly nodes job old new
+  pub grows : Grows old.reads.wanted new.reads.wanted
+  pub handed : new.reads.handed ≡ old.reads.handed
+  pub leaves : new.leaves ≡ old.leaves
+
+-- a split is left to be started, and one more may be active
+abbrev pub CanStart : Job → Progress → Type 0
+CanStart job progress = (progress.next < length job.splits.items) × ((length progress.active.items ≡ 0) ⊎ (length progress.active.items < job.max_active))
+
+-- A split was tried: only leaves and whole values were kept.
+pub record OnlyKeeps (nodes : List Node) (job : Job) (old new : Progress) : Type 0 where
+  pub next : new.next ≡ old.next
+  pub active : new.active.items ≡ old.active.items
+  pub reads : new.reads ≡ old.reads
+  pub told : KeepsTold nodes job old new
+  pub wholes : KeepsWholes nodes job old.wholes new.wholes

@@ -1,0 +1,45 @@
+-- Which column is kept for a plan.
+use Rattle.std.specs.Prelude.{◌≡◌, ℕ, ◌≤◌, ◌==◌, length, take, if◌then◌else◌, List, [], ◌∷◌, Option, Some, None, IsSomeAnd}
+use Rattle.std.specs.List.{slice_get}
+use Rattle.std.specs.Ordering.{nat_cmp}
+use Rattle.std.specs.BTreeMap.{get}
+use Rattle.std.specs.declared.collections.BTreeMap.{BTreeMap}
+use Rattle.std.specs.declared.alloc.Global.{Global}
+use Rattle.vx_base.specs.Columns.{ColumnData}
+use Rattle.vx_base.specs.Data.{Datum}
+use Rattle.vx_plan.specs.Refs.{number_of}
+use Rattle.vx_steps.specs.declared.kept.KeptValue.{KeptValue}
+use Rattle.vx_steps.specs.KeptData.{Kept}
+
+abbrev pub kept_data : KeptValue → Kept
+kept_data kept = record { node = number_of kept.node; column = kept.column }
+
+-- the first column that is kept for the plan of that number
+abbrev pub kept_at : List Kept → ℕ → Option ColumnData
+kept_at [] n = None
+kept_at (kept ∷ more) n = if kept.node == n then Some kept.column else kept_at more n
+
+-- where the column of a plan is kept
+abbrev pub IsPlace : List Kept → ℕ → Option ℕ → Type 0
+IsPlace kept n None = kept_at kept n ≡ None
+IsPlace kept n (Some place) = IsSomeAnd (slice_get kept place) (λ k. kept_at kept n ≡ Some k.column)
+
+abbrev pub ArePlaces : BTreeMap ℕ ℕ Global → List Kept → Type 0
+ArePlaces places kept = (n : ℕ) → IsPlace kept n (get nat_cmp places n)
+
+-- the places of the first columns, up to so many
+pub record AreIndexed (places : BTreeMap ℕ ℕ Global) (indexed : ℕ) (kept : List Kept) : Type 0 where
+  pub inside : indexed ≤ length kept
+  pub placed : ArePlaces places (take indexed kept)
+
+-- the whole values that are kept, by the number of the plan
+abbrev pub values_of : Option ColumnData → Option (List Datum)
+values_of None = None
+values_of (Some column) = Some column.values
+
+abbrev pub whole_of : List Kept → ℕ → Option (List Datum)
+whole_of kept n = values_of (kept_at kept n)
+
+-- a column is kept for the plan
+abbrev pub IsKept : List Kept → ℕ → Type 0
+IsKept kept n = (column : ColumnData) × (kept_at kept n ≡ Some column)

@@ -1,0 +1,49 @@
+-- What the calls of the table of reads do. Each segment is wanted once, and a read's number is its place.
+use Rattle.std.specs.Prelude.{◌≡◌, ℕ, ◌+◌, ◌^◌, ◌<◌, ◌≤◌, ◌⊎◌, ◌==◌, if◌then◌else◌, List, [], ◌∷◌, ◌++◌, length, Option, Some, None, IsSomeAnd, slice_set}
+use Rattle.std.specs.List.{slice_get}
+use Rattle.std.specs.Ordering.{nat_cmp}
+use Rattle.std.specs.BTreeMap.{BTreeMap, get}
+use Rattle.vx_steps.specs.declared.reads.ReadId.{ReadId}
+use Rattle.vx_steps.specs.declared.reads.ReadRequest.{ReadRequest}
+use Rattle.vx_steps.specs.ReadTableData.{Wanted, ReadsData}
+
+-- the segment stands at the place
+abbrev pub StandsAt : List Wanted → ℕ → ℕ → Type 0
+StandsAt wanted segment place = IsSomeAnd (slice_get wanted place) (λ w. w.segment ≡ segment)
+
+-- the place of each wanted segment, and of no other
+pub record AreReads (places : BTreeMap ℕ ℕ) (wanted : List Wanted) (handed : ℕ) : Type 0 where
+  pub placed : (place : ℕ) (w : Wanted) → slice_get wanted place ≡ Some w → get nat_cmp places w.segment ≡ Some place
+  pub stands : (segment place : ℕ) → get nat_cmp places segment ≡ Some place → StandsAt wanted segment place
+  pub handed_inside : handed ≤ length wanted
+  pub not_yet : (place : ℕ) (w : Wanted) → handed ≤ place → slice_get wanted place ≡ Some w → w.bytes ≡ None
+
+-- wanted before, or wanted from now on
+abbrev pub IsWanted : ℕ → List Wanted → List Wanted → Type 0
+IsWanted segment old new = (((place : ℕ) × StandsAt old segment place) × (new ≡ old)) ⊎ (((place : ℕ) → StandsAt old segment place → ⊥) × (new ≡ old ++ record { segment = segment; bytes = None } ∷ []))
+
+-- The read of the first segment that was not handed out, which none was before.
+pub record HandsOut (old new : ReadsData) (request : ReadRequest) : Type 0 where
+  pub number : request.id.0 ≡ old.handed
+  pub segment : slice_get old.wanted old.handed ≡ Some (record { segment = request.segment_id; bytes = None })
+  pub first : (place : ℕ) → StandsAt old.wanted request.segment_id place → place ≡ old.handed
+  pub handed : new.handed ≡ old.handed + 1
+  pub bounded : new.handed < 2 ^ 64
+  pub wanted : new.wanted ≡ old.wanted
+
+-- handed out, and nothing came
+abbrev pub IsOutstanding : ReadsData → ReadId → Type 0
+IsOutstanding reads read = (read.0 < reads.handed) × IsSomeAnd (slice_get reads.wanted read.0) (λ w. w.bytes ≡ None)
+
+-- the bytes came for the read's segment
+pub record Delivers (read : ReadId) (bytes : List ℕ) (old new : ReadsData) : Type 0 where
+  pub outstanding : IsOutstanding old read
+  pub segment : ℕ
+  pub at : slice_get old.wanted read.0 ≡ Some (record { segment = segment; bytes = None })
+  pub taken : new.wanted ≡ slice_set old.wanted read.0 (record { segment = segment; bytes = Some bytes })
+  pub handed : new.handed ≡ old.handed
+
+-- the bytes of a segment, where they came
+abbrev pub bytes_of : List Wanted → ℕ → Option (List ℕ)
+bytes_of [] segment = None
+bytes_of (w ∷ wanted) segment = if w.segment == segment then w.bytes else bytes_of wanted segment

@@ -1,0 +1,138 @@
+-- What a step of a scan comes to.
+use Rattle.std.specs.Prelude.{◌≡◌, ℕ, ◌+◌, ◌-◌, ◌^◌, ◌<◌, ◌⊎◌, List, [], length, Some, None}
+use Rattle.std.specs.List.{slice_get, remove}
+use Rattle.vx_base.specs.Columns.{ColumnData}
+use Rattle.vx_plan.specs.Nodes.{Node}
+use Rattle.vx_rows.specs.SegmentLeaves.{Bytes}
+use Rattle.vx_steps.specs.declared.errors.StepError.{StepError}
+use Rattle.vx_steps.specs.declared.errors.StepError.TheVariants.{BadSegment, Memory}
+use Rattle.vx_steps.specs.declared.jobs.ActiveSplit.{ActiveSplit}
+use Rattle.vx_steps.specs.declared.jobs.Job.{Job}
+use Rattle.vx_steps.specs.declared.jobs.Progress.{Progress}
+use Rattle.vx_steps.specs.declared.leaf_reads.LeafRead.{LeafRead}
+use Rattle.vx_steps.specs.declared.progress.Turn.{Turn}
+use Rattle.vx_steps.specs.declared.progress.Turn.TheVariants.{Read, Output, Waiting, Done}
+use Rattle.vx_steps.specs.declared.reads.ReadRequest.{ReadRequest}
+use Rattle.vx_steps.specs.declared.splits.Split.{Split}
+use Rattle.vx_steps.specs.declared.wholes.Wholes.{Wholes}
+use Rattle.vx_steps.specs.Delivered.{IsTornNeed}
+use Rattle.vx_steps.specs.Jobs.{left_of, CanStart, IsTold}
+use Rattle.vx_steps.specs.Needs.{Among}
+use Rattle.vx_steps.specs.ReadTable.{StandsAt}
+use Rattle.vx_steps.specs.ReadTableData.{Wanted}
+use Rattle.vx_steps.specs.Turns.{HasRowCause, IsOutput, LeavesWholes, ReadsFor}
+
+-- the column of a split, by whatever lies outside of which the scan is
+abbrev pub IsSplitOutput : List Node → Job → Progress → Wholes → Split → ColumnData → Type 0
+IsSplitOutput nodes job old after split column = IsOutput nodes job split old.reads.wanted old.leaves old.wholes.made after column
+
+-- a selected row of the split reads a leaf of the segment whose delivered bytes spell no rows of it
+abbrev pub ReadsTorn : List Node → Job → List Wanted → Split → ℕ → Type 0
+ReadsTorn nodes job wanted split segment = (read : LeafRead) × ReadsFor nodes job split read × (read.segment ≡ segment) × IsTornNeed nodes wanted read
+
+-- the split reads a torn leaf, or a selected row of it has the visit that the refusal names
+abbrev pub HasCauseIn : List Node → Job → List Wanted → Split → Bytes → StepError → Type 0
+HasCauseIn nodes job wanted split outside (BadSegment segment) = ReadsTorn nodes job wanted split segment
+HasCauseIn nodes job wanted split outside error = HasRowCause nodes job split outside error
+
+-- The refusal has its cause in what the split's selected rows visit, by whatever lies outside of which the scan is.
+abbrev pub HasSplitCause : List Node → Job → Progress → List Wanted → Split → StepError → Type 0
+HasSplitCause nodes job old wanted split error = (outside : Bytes) → IsTold nodes job old outside → HasCauseIn nodes job wanted split outside error
+
+-- what the refusal leaves of whole values
+abbrev pub LeavesSplit : List Node → Job → Progress → Wholes → Split → StepError → Type 0
+LeavesSplit nodes job old after split error = LeavesWholes nodes job split old.reads.wanted old.leaves old.wholes.made after error
+
+-- a split has the cause of the refusal
+pub record RefusesSplit (nodes : List Node) (job : Job) (old new : Progress) (error : StepError) : Type 0 where
+  pub number : ℕ
+  pub split : Split
+  pub at : slice_get job.splits.items number ≡ Some split
+  pub cause : HasSplitCause nodes job old new.reads.wanted split error
+  pub left : LeavesSplit nodes job old new.wholes split error
+
+-- there is no memory left, or a split has the cause of the refusal
+abbrev pub IsStepRefusal : List Node → Job → Progress → Progress → StepError → Type 0
+IsStepRefusal nodes job old new error = (error ≡ Memory) ⊎ RefusesSplit nodes job old new error
+
+-- the segment stands in the list, and its bytes did not come
+abbrev pub IsMissing : List Wanted → ℕ → Type 0
+IsMissing wanted segment = (place : ℕ) × (slice_get wanted place ≡ Some (record { segment = segment; bytes = None }))
+
+-- a leaf that the active split needs is of a segment whose bytes did not come
+abbrev pub IsHeldUp : List Wanted → ActiveSplit → Type 0
+IsHeldUp wanted active = (need : LeafRead) × Among need active.needs × IsMissing wanted need.segment
+
+-- Splits are left, and the next read is handed out: its number is the count of the reads before it, and none of them
+-- was of its segment.
+pub record HandsRead (job : Job) (old new : Progress) (request : ReadRequest) : Type 0 where
+  pub number : request.id.0 ≡ old.reads.handed
+  pub handed : new.reads.handed ≡ old.reads.handed + 1
+  pub bounded : new.reads.handed < 2 ^ 64
+  pub segment : slice_get new.reads.wanted request.id.0 ≡ Some (record { segment = request.segment_id; bytes = None })
+  pub first : (place : ℕ) → StandsAt new.reads.wanted request.segment_id place → place ≡ request.id.0
+  pub some_left : left_of job old ≡ [] → ⊥
+  pub left : left_of job new ≡ left_of job old
+
+-- The column of a split that was left is given, and the split is left no more.
+pub record GivesOutput (nodes : List Node) (job : Job) (old new : Progress) (number : ℕ) (column : ColumnData) : Type 0 where
+  pub place : ℕ
+  pub at : slice_get (left_of job old) place ≡ Some number
+  pub left : left_of job new ≡ remove (left_of job old) place
+  pub split : Split
+  pub split_at : slice_get job.splits.items number ≡ Some split
+  pub output : IsSplitOutput nodes job old new.wholes split column
+  pub handed : new.reads.handed ≡ old.reads.handed
+
+-- Nothing can be done: no split can be started, all wanted segments were handed out, and some split is active, each
+-- for want of a segment that did not come.
+pub record IsWaiting (job : Job) (old new : Progress) : Type 0 where
+  pub left : left_of job new ≡ left_of job old
+  pub handed : new.reads.handed ≡ old.reads.handed
+  pub none_to_start : CanStart job new → ⊥
+  pub all_handed : new.reads.handed ≡ length new.reads.wanted
+  pub some : length new.active.items ≡ 0 → ⊥
+  pub held : (active : ActiveSplit) → Among active new.active.items → IsHeldUp new.reads.wanted active
+
+-- No split is left.
+pub record IsDone (job : Job) (old new : Progress) : Type 0 where
+  pub none_left : left_of job old ≡ []
+  pub left : left_of job new ≡ left_of job old
+  pub handed : new.reads.handed ≡ old.reads.handed
+
+abbrev pub TakesTurn : List Node → Job → Progress → Progress → Turn → Type 0
+TakesTurn nodes job old new (Read request) = HandsRead job old new request
+TakesTurn nodes job old new (Output number column) = GivesOutput nodes job old new number column
+TakesTurn nodes job old new Waiting = IsWaiting job old new
+TakesTurn nodes job old new Done = IsDone job old new
+
+-- the column of the active split at the place
+pub record IsActiveOutput (nodes : List Node) (job : Job) (old new : Progress) (place : ℕ) (column : ColumnData) : Type 0 where
+  pub active : ActiveSplit
+  pub active_at : slice_get old.active.items place ≡ Some active
+  pub split : Split
+  pub split_at : slice_get job.splits.items active.split ≡ Some split
+  pub output : IsSplitOutput nodes job old new.wholes split column
+
+-- the active split at the place is held up
+abbrev pub IsHeldAt : Progress → ℕ → Type 0
+IsHeldAt progress place = (active : ActiveSplit) → slice_get progress.active.items place ≡ Some active → IsHeldUp progress.reads.wanted active
+
+-- All active splits were tried, and each is held up.
+pub record HoldsAll (old new : Progress) : Type 0 where
+  pub next : new.next ≡ old.next
+  pub active : new.active.items ≡ old.active.items
+  pub held : (active : ActiveSplit) → Among active new.active.items → IsHeldUp new.reads.wanted active
+
+-- ---- a scan ends
+
+-- the turn is a read or an output
+abbrev pub GoesOn : Turn → Type 0
+GoesOn (Read request) = Unit {0}
+GoesOn (Output number column) = Unit {0}
+GoesOn Waiting = ⊥
+GoesOn Done = ⊥
+
+-- how many reads and outputs can follow, at most
+abbrev pub work_left : Job → Progress → ℕ
+work_left job progress = (2 ^ 64 - progress.reads.handed) + length (left_of job progress)

@@ -1,0 +1,59 @@
+//! Which child of a concat holds a row.
+
+ghost use Rattle.std.specs.Prelude.{◌≡◌, ◌+◌, ◌<◌, length};
+ghost use Rattle.vx_plan.specs.declared.shapes.Shape.TheVariants.{Chunks};
+ghost use Rattle.vx_plan.specs.Rules.{node_at};
+ghost use Rattle.vx_plan.specs.Shapes.{HasShape};
+ghost use Rattle.vx_steps.specs.Chunks.{IsChunk, HoldsPlace};
+
+use vx_plan::{PlanRef, PlanTable};
+
+/// A child of a concat, and its rows among those of the concat.
+#[derive(Clone, Copy, Debug)]
+pub(crate) struct Chunk {
+    pub(crate) child: u32,
+    pub(crate) start: u64,
+    pub(crate) end: u64,
+}
+
+/// The last place whose offset isn't past the row.
+fn place_of(offsets: &[u64], row: u64) -> usize
+    requires { HoldsPlace offsets.now row 0 (length offsets.now) }
+    ensures { HoldsPlace offsets.now row result (result + 1) }
+{
+    let mut low: usize = 0;
+    let mut high: usize = offsets.len();
+    while high - low > 1 {
+        let middle = low + (high - low) / 2;
+        if offsets[middle] <= row {
+            low = middle;
+        } else {
+            high = middle;
+        }
+    }
+    low
+}
+
+/// The child of a concat that holds a row, by a search in the offsets.
+pub(crate) fn chunk_at(table: &PlanTable, plan: u32, row: u64) -> Chunk
+    requires known { plan < length table.now }
+    requires concat { HasShape table.now plan Chunks }
+    requires inside { row < (node_at table.now plan).rows }
+    ensures { IsChunk table.now plan row result }
+{
+    match table.as_concat(PlanRef(plan)) {
+        Some(concat) => {
+            let offsets = concat.row_offsets(table);
+            let place = place_of(offsets, row);
+            let child = table.child_required(PlanRef(plan), place);
+            let start = offsets[place];
+            let end = start + table.row_count(child);
+            Chunk {
+                child: child.0,
+                start,
+                end,
+            }
+        }
+        None => unreachable!(),
+    }
+}

@@ -1,0 +1,106 @@
+//! What a scan is to do, and how far it is.
+
+ghost use Rattle.std.specs.Prelude.{◌≡◌, []};
+
+use crate::kept::KeptColumns;
+use crate::leaves::NeededLeaves;
+use crate::reads::ReadTable;
+use crate::splits::Split;
+use crate::wholes::Wholes;
+use std::alloc::{AllocError, Global};
+
+/// What a scan is to do: the plan, the splits of its rows, the whole values that are handed in, how many splits may be
+/// active, and what is added to the numbers of rows.
+#[derive(Drop)]
+pub(crate) struct Job {
+    pub(crate) plan: u32,
+    pub(crate) splits: Vec<Split>,
+    pub(crate) given: KeptColumns,
+    pub(crate) max_active: usize,
+    pub(crate) offset: u64,
+}
+
+/// A split that was started and not finished, and the leaves that it needs.
+#[derive(Drop)]
+pub(crate) struct ActiveSplit {
+    pub(crate) split: usize,
+    pub(crate) needs: NeededLeaves,
+}
+
+/// How far a scan is: the first split that was not started, the active ones, the reads, the columns of leaves, and the
+/// whole values that were made or used.
+#[derive(Drop)]
+pub(crate) struct Progress {
+    pub(crate) next: usize,
+    pub(crate) active: Vec<ActiveSplit>,
+    pub(crate) reads: ReadTable,
+    pub(crate) leaves: KeptColumns,
+    pub(crate) wholes: Wholes,
+}
+
+impl Job {
+    /// The job of a plan's splits, with no values handed in, one split active at once and no offset. It takes no
+    /// memory.
+    pub(crate) fn new(alloc: Global, plan: u32, splits: Vec<Split>) -> Job
+        ensures plan { result.plan ≡ plan }
+        ensures splits { result.splits ≡ splits }
+        ensures given { result.given ≡ [] }
+        ensures max_active { result.max_active ≡ 1 }
+        ensures offset { result.offset ≡ 0 }
+    {
+        Job {
+            plan,
+            splits,
+            given: KeptColumns::new(alloc),
+            max_active: 1,
+            offset: 0,
+        }
+    }
+
+    /// Puts these values in place of those that were handed in.
+    pub(crate) fn hand_in(&mut self, given: KeptColumns)
+        ensures { self.new ≡ record self.old { given = given } }
+    {
+        self.given = given;
+    }
+}
+
+impl Progress {
+    /// Nothing was done yet. It takes no memory.
+    pub(crate) fn new(alloc: Global) -> Progress
+        ensures next { result.next ≡ 0 }
+        ensures active { result.active.items ≡ [] }
+        ensures wanted { result.reads.wanted ≡ [] }
+        ensures handed { result.reads.handed ≡ 0 }
+        ensures leaves { result.leaves ≡ [] }
+        ensures made { result.wholes.made ≡ [] }
+        ensures used { result.wholes.used ≡ [] }
+    {
+        Progress {
+            next: 0,
+            active: Vec::new(alloc),
+            reads: ReadTable::new(alloc),
+            leaves: KeptColumns::new(alloc),
+            wholes: Wholes {
+                made: KeptColumns::new(alloc),
+                used: KeptColumns::new(alloc),
+            },
+        }
+    }
+
+    /// Puts these columns of leaves in place of those that are kept.
+    pub(crate) fn hand_in(&mut self, leaves: KeptColumns)
+        ensures { self.new ≡ record self.old { leaves = leaves } }
+    {
+        self.leaves = leaves;
+    }
+}
+
+/// Indexes what was handed in, so that none of it is looked through. Where memory is wanting, all is as before.
+pub(crate) fn index_handed(job: &mut Job, progress: &mut Progress) -> Result<(), AllocError>
+    ensures job { job.new ≡ job.old }
+    ensures progress { progress.new ≡ progress.old }
+{
+    job.given.index()?;
+    progress.leaves.index()
+}

@@ -1,0 +1,154 @@
+//! Whole columns that are kept, each for a plan.
+
+ghost use Rattle.std.specs.Prelude.{◌≡◌, ◌+◌, ◌<◌, length, take, [], ◌∷◌, ◌++◌, None, map, IfOk, OnOk, OnErr, option_copied};
+ghost use Rattle.vx_steps.specs.Kept.{kept_at, kept_data, ArePlaces};
+
+use std::alloc::{AllocError, Global};
+use std::collections::BTreeMap;
+use std::marker::Model;
+use vx_base::Column;
+use vx_plan::PlanRef;
+
+/// The whole column of a plan: its values at all of its rows.
+#[derive(Drop)]
+pub struct KeptValue {
+    pub node: PlanRef,
+    pub column: Column,
+}
+
+/// Kept columns in the order in which they came, the first for each plan. Those that were handed in all at
+/// once are looked through until they are indexed.
+#[derive(Drop)]
+pub(crate) struct KeptColumns {
+    columns: Vec<KeptValue>,
+    indexed: usize,
+    places: BTreeMap<u32, usize>,
+}
+
+impl Model for KeptColumns {
+    ghost use Rattle.std.specs.Prelude.{List};
+    ghost use Rattle.vx_steps.specs.KeptData.{Kept, coded_kept_list};
+
+    ghost Value = { List Kept };
+
+    ghost coded = { coded_kept_list };
+
+    ghost use Rattle.std.specs.Prelude.{map};
+    ghost use Rattle.vx_steps.specs.Kept.{kept_data, AreIndexed};
+
+    ghost view = { λ a. map kept_data a.columns.items };
+
+    ghost invariant = { λ a. AreIndexed a.places a.indexed (map kept_data a.columns.items) };
+}
+
+/// The first of the columns that is for the plan.
+fn first_for(columns: &[KeptValue], node: u32) -> Option<&Column>
+    ensures { option_copied result ≡ kept_at (map kept_data columns.now) node }
+{
+    for value in columns {
+        if value.node.0 == node {
+            return Some(&value.column);
+        }
+    }
+    None
+}
+
+/// Indexes one more column, unless one for its plan stands before it.
+fn index_at(
+    columns: &[KeptValue],
+    place: usize,
+    places: &mut BTreeMap<u32, usize>,
+) -> Result<(), AllocError>
+    requires place { place < length columns.now }
+    requires before { ArePlaces places.old (take place (map kept_data columns.now)) }
+    ensures after { OnOk result (ArePlaces places.new (take (place + 1) (map kept_data columns.now))) }
+    ensures as_before { OnErr result (ArePlaces places.new (take place (map kept_data columns.now))) }
+{
+    let node = columns[place].node.0;
+    if places.get(&node).is_some() {
+        return Ok(());
+    }
+    places.insert(node, place)?;
+    Ok(())
+}
+
+impl KeptColumns {
+    /// No columns. It takes no memory.
+    pub(crate) fn new(alloc: Global) -> KeptColumns
+        ensures { result ≡ [] }
+    {
+        KeptColumns {
+            columns: Vec::new(alloc),
+            indexed: 0,
+            places: BTreeMap::new(alloc),
+        }
+    }
+
+    /// The column of a plan, where one is kept.
+    pub(crate) fn find(&self, node: u32) -> Option<&Column>
+        ensures { option_copied result ≡ kept_at self.now node }
+    {
+        match self.places.get(&node) {
+            Some(place) => Some(&self.columns[*place].column),
+            None => first_for(&self.columns[self.indexed..], node),
+        }
+    }
+
+    /// These columns. It takes no memory.
+    pub(crate) fn of(alloc: Global, columns: Vec<KeptValue>) -> KeptColumns
+        ensures { result ≡ map kept_data columns.items }
+    {
+        KeptColumns {
+            columns,
+            indexed: 0,
+            places: BTreeMap::new(alloc),
+        }
+    }
+
+    /// Indexes the columns, so that none is looked through.
+    pub(crate) fn index(&mut self) -> Result<(), AllocError>
+        ensures { self.new ≡ self.old }
+    {
+        for place in self.indexed..self.columns.len() {
+            index_at(&self.columns, place, &mut self.places)?;
+            self.indexed = place + 1;
+        }
+        Ok(())
+    }
+
+    /// Keeps the column of a plan of which none is kept yet.
+    pub(crate) fn keep(&mut self, node: u32, column: Column) -> Result<(), AllocError>
+        requires { kept_at self.old node ≡ None }
+        ensures kept { OnOk result (self.new ≡ self.old ++ record { node = node; column = column } ∷ []) }
+        ensures as_before { OnErr result (self.new ≡ self.old) }
+    {
+        let place = self.columns.len();
+        self.columns.push(KeptValue {
+            node: PlanRef(node),
+            column,
+        })?;
+        if self.indexed < place {
+            return Ok(());
+        }
+        if self.places.insert(node, place).is_err() {
+            self.columns.pop();
+            return Err(AllocError);
+        }
+        self.indexed = place + 1;
+        Ok(())
+    }
+
+    /// The kept columns, in the order in which they came.
+    pub(crate) fn columns(&self) -> &[KeptValue]
+        ensures { map kept_data result.now ≡ self.now }
+    {
+        self.columns.as_slice()
+    }
+
+    /// The kept columns, handed on in the order in which they came.
+    pub(crate) fn into_columns(self) -> Vec<KeptValue>
+        ensures { map kept_data result.items ≡ self }
+    {
+        self.columns
+    }
+}

@@ -1,0 +1,52 @@
+//! The laws of what a scan visits: it is what the plan reads. Each is the contract of a function that does nothing.
+
+ghost use Rattle.vx_steps.specs.Laws.{LeafVisitIsRead, LeafVisitIsPlanRead, ReadIsLeafVisit, PlanReadIsLeafVisit, NoColumnsHandNone, SelectedVisitIsRead, SelectedReadIsVisit, ListVisitIsRead, ReadIsListVisit, TypedGivenFits, BadCodeIsRead, ReadIsBadCode, EvalFaultIsWorkedOut, SelectedLeafIsRead, CauseIsRead, OutermostTakeIsAsked, TakesAreThere};
+ghost use Rattle.vx_steps.specs.ScanLaws.{WantedIsRead, SplitCauseIsRead};
+
+/// The leaves and lists that a row visits are those that it reads. Whatever whole values are handed in, a row visits
+/// no segment that the plan doesn't read; where none are, it visits each that the plan reads.
+pub fn visits_are_reads()
+    ensures leaves { LeafVisitIsRead }
+    ensures only { LeafVisitIsPlanRead }
+    ensures each { ReadIsLeafVisit }
+    ensures all { PlanReadIsLeafVisit }
+    ensures none { NoColumnsHandNone }
+    ensures lists { ListVisitIsRead }
+    ensures list_reads { ReadIsListVisit }
+{}
+
+/// The same of selected rows.
+pub fn selected_visits_are_reads()
+    ensures leaves { SelectedLeafIsRead }
+    ensures only { SelectedVisitIsRead }
+    ensures each { SelectedReadIsVisit }
+{}
+
+/// The bad codes that a row visits are those that it reads, where the values that are handed in for a take are as many
+/// as its values have rows; and they are, where the columns have the rows of their plans.
+pub fn bad_codes_are_read()
+    ensures typed { TypedGivenFits }
+    ensures codes { BadCodeIsRead }
+    ensures code_reads { ReadIsBadCode }
+{}
+
+/// Where selected rows have the cause of a refusal, one of them reads a row of the list or the bad code, or is derived
+/// by an expression that is a fault.
+pub fn causes_are_read()
+    ensures terms { EvalFaultIsWorkedOut }
+    ensures causes { CauseIsRead }
+{}
+
+/// Where no share stands in the table, rows ask for the whole values of each outermost take that they read; so where
+/// all that they ask for was made or used, those were.
+pub fn outermost_takes_are_asked()
+    ensures asked { OutermostTakeIsAsked }
+    ensures there { TakesAreThere }
+{}
+
+/// Each segment that a scan wants is one that a selected row of a split reads; and each refusal has its cause in what
+/// such a row reads, or in an expression by which it is derived.
+pub fn splits_are_read()
+    ensures wanted { WantedIsRead }
+    ensures causes { SplitCauseIsRead }
+{}

@@ -1,0 +1,33 @@
+//! The polled scan of a plan: it asks for segments, takes their bytes in whatever order they come, and gives the
+//! columns of the splits of the plan's rows.
+#![tactic(auto)]
+
+mod chunks;
+mod computing;
+mod errors;
+mod jobs;
+mod kept;
+mod laws;
+mod leaf_reads;
+mod leaves;
+mod needs;
+mod offers;
+mod outputs;
+mod picking;
+mod progress;
+mod reads;
+mod scan;
+mod splits;
+mod turns;
+mod wholes;
+
+pub use errors::{DeliverError, StepError};
+pub use kept::KeptValue;
+pub use laws::{
+    bad_codes_are_read, causes_are_read, outermost_takes_are_asked, selected_visits_are_reads,
+    splits_are_read, visits_are_reads,
+};
+pub use progress::Turn;
+pub use reads::{ReadId, ReadRequest};
+pub use scan::Scan;
+pub use splits::{ScanBuildError, Split};

@@ -1,0 +1,229 @@
+//! Columns of selected rows: those of a whole column, values at codes, structs of parts, an expression over its root,
+//! and the numbers of the rows.
+
+ghost use Rattle.std.specs.Prelude.{◌≡◌, ◌+◌, ◌<◌, ◌≤◌, ◌^◌, ℕ, length, map, replicate, slice_range, Some, IfOk, IfErr, IsSomeAnd, IsTrue, MatchOption};
+ghost use Rattle.std.specs.Bool.{MatchBool};
+ghost use Rattle.std.specs.List.{slice_get, AllByRecursion};
+ghost use Rattle.vx_base.specs.Data.{int_type};
+ghost use Rattle.vx_base.specs.Fits.{nullability_of};
+ghost use Rattle.vx_base.specs.ColumnCalls.{natural, nullable_where, IsCodeBelow, IsUnsigned};
+ghost use Rattle.vx_base.specs.Masks.{chosen, true_count};
+ghost use Rattle.vx_packed.specs.Cells.{cell_datum};
+ghost use Rattle.vx_expr.specs.Bound.{IsBoundTo};
+ghost use Rattle.vx_expr.specs.Types.{row_number_type};
+ghost use Rattle.vx_plan.specs.Kinds.{has_validity_of, HasKind, IsPack};
+ghost use Rattle.vx_plan.specs.Rules.{node_at};
+ghost use Rattle.vx_rows.specs.Derivations.{look_up};
+ghost use Rattle.vx_steps.specs.RowFaults.{IsCodeFault, IsEvalFault, IsPastCode, root_meaning};
+ghost use Rattle.vx_steps.specs.Rows.{rows_of, SelectsNone, SelectsSome};
+ghost use Rattle.vx_steps.specs.Structs.{field_parts, front_parts, last_part, structs_at, truths_of, validity_part, HaveTypes, LastIsBool};
+
+use crate::errors::StepError;
+use std::alloc::{AllocError, Global};
+use vx_base::{Cell, Column, Mask};
+use vx_expr::{ApplyError, BoundExpression, apply};
+use vx_plan::{PlanRef, PlanTable};
+
+/// Whether no row is selected.
+pub(crate) fn selects_none(mask: &Mask) -> bool
+    ensures { MatchBool result (SelectsNone mask.now) (SelectsSome mask.now) }
+{
+    mask.first().is_none()
+}
+
+/// The selected rows of a column, from the first row of their range on.
+pub(crate) fn picked(
+    alloc: Global,
+    column: &Column,
+    start: u64,
+    mask: &Mask,
+) -> Result<Column, AllocError>
+    requires { start + length mask.now ≤ length column.now.values }
+    ensures dtype { IfOk result (λ picked. picked.dtype ≡ column.now.dtype) }
+    ensures values { IfOk result (λ picked. picked.values ≡ chosen mask.now (slice_range column.now.values start (start + length mask.now))) }
+{
+    let _rows = column.len();
+    let rows = start..start + mask.len();
+    if mask.all_true() {
+        column.slice(alloc, rows)
+    } else {
+        column.filter_range(alloc, rows, mask)
+    }
+}
+
+/// The selected row at a place among the selected rows.
+fn selected_row(start: u64, mask: &Mask, place: u64) -> u64
+    requires { start + length mask.now < 2 ^ 64 }
+    ensures { (row : ℕ) → slice_get (rows_of start mask.now) place ≡ Some row → result ≡ row }
+{
+    let mut left = place;
+    for row in 0..mask.len() {
+        if mask.value(row) {
+            if left == 0 {
+                return start + row;
+            }
+            left -= 1;
+        }
+    }
+    start
+}
+
+/// Whether a code is a number that is none of so many values.
+fn is_past(code: &Cell<'_>, count: u64) -> bool
+    ensures { MatchBool result (IsPastCode count (cell_datum code.now)) (IsCodeBelow count (cell_datum code.now)) }
+{
+    match code {
+        Cell::Int(number) => *number >= i128::from(count),
+        Cell::Null => false,
+        Cell::Bool(_) => false,
+        Cell::Text(_) => false,
+        Cell::Struct(..) => false,
+    }
+}
+
+/// The place of the first code that is none of so many values.
+fn first_past(codes: &Column, count: u64) -> Option<u64>
+    ensures { MatchOption result (AllByRecursion (IsCodeBelow count) codes.now.values) (λ place. IsSomeAnd (slice_get codes.now.values place) (IsPastCode count)) }
+{
+    for place in 0..codes.len() {
+        if is_past(&codes.cell(place), count) {
+            return Some(place);
+        }
+    }
+    None
+}
+
+/// The values at the codes of a take; a fault names the row of the first code that is none of them.
+pub(crate) fn looked_up(
+    alloc: Global,
+    plan: u32,
+    codes: &Column,
+    values: &Column,
+    start: u64,
+    mask: &Mask,
+) -> Result<Column, StepError>
+    requires unsigned { IsUnsigned codes.now.dtype }
+    requires few { start + length mask.now < 2 ^ 64 }
+    ensures dtype { IfOk result (λ column. column.dtype ≡ nullable_where (nullability_of codes.now.dtype) values.now.dtype) }
+    ensures values { IfOk result (λ column. map (look_up values.now.values) codes.now.values ≡ map Some column.values) }
+    ensures fault { IfErr result (IsCodeFault plan (length values.now.values) codes.now.values start mask.now) }
+{
+    let _rows = codes.len();
+    if let Some(place) = first_past(codes, values.len()) {
+        return Err(StepError::BadCode {
+            node: PlanRef(plan),
+            row: selected_row(start, mask, place),
+        });
+    }
+    Ok(Column::look_up(alloc, codes, values)?)
+}
+
+/// A column of zeros, which stands for numbers of rows that nothing looks at.
+fn zeros(alloc: Global, rows: u64) -> Result<Column, AllocError>
+    ensures dtype { IfOk result (λ column. column.dtype ≡ row_number_type) }
+    ensures values { IfOk result (λ column. column.values ≡ replicate rows (natural 0)) }
+{
+    let mut numbers = Vec::new(alloc);
+    numbers.resize(rows as usize, 0)?;
+    Column::from_numbers(alloc, numbers)
+}
+
+/// An expression over the values of its root; a fault names the first row at which it is one.
+pub(crate) fn worked_out(
+    alloc: Global,
+    expression: &BoundExpression,
+    root: &Column,
+    start: u64,
+    mask: &Mask,
+) -> Result<Column, StepError>
+    requires bound { IsBoundTo expression.now root.now.dtype }
+    requires few { start + length mask.now < 2 ^ 64 }
+    ensures dtype { IfOk result (λ column. column.dtype ≡ expression.now.dtype) }
+    ensures values { IfOk result (λ column. map (root_meaning root.now.dtype expression.now.term) root.now.values ≡ map Some column.values) }
+    ensures fault { IfErr result (IsEvalFault root.now.dtype expression.now.term root.now.values start mask.now) }
+{
+    let numbers = zeros(alloc, root.len())?;
+    match apply(alloc, expression, root, &numbers) {
+        Ok(column) => Ok(column),
+        Err(ApplyError::EvalFault(place)) => {
+            Err(StepError::EvalFault(selected_row(start, mask, place)))
+        }
+        Err(ApplyError::Memory) => Err(StepError::Memory),
+    }
+}
+
+/// The numbers of the selected rows, behind an offset.
+pub(crate) fn numbered(
+    alloc: Global,
+    start: u64,
+    offset: u64,
+    mask: &Mask,
+) -> Result<Column, AllocError>
+    requires { start + length mask.now + offset < 2 ^ 64 }
+    ensures dtype { IfOk result (λ column. column.dtype ≡ row_number_type) }
+    ensures values { IfOk result (λ column. column.values ≡ map (λ row. natural (row + offset)) (rows_of start mask.now)) }
+{
+    let mut numbers = Vec::with_capacity(alloc, mask.true_count() as usize)?;
+    for row in 0..mask.len() {
+        if mask.value(row) {
+            numbers.push(start + row + offset)?;
+        }
+    }
+    Column::from_numbers(alloc, numbers)
+}
+
+/// The truth values of the last of the columns, which is taken away. None where there are no columns.
+fn last_truths(alloc: Global, parts: &mut Vec<Column>) -> Result<Option<Mask>, AllocError>
+    requires { LastIsBool parts.old.items }
+    ensures truths { IfOk result (λ truths. truths ≡ truths_of (last_part parts.old.items)) }
+    ensures left { IfOk result (λ _. parts.new.items ≡ front_parts parts.old.items) }
+{
+    match parts.pop() {
+        Some(validity) => Ok(Some(validity.truth(alloc)?)),
+        None => Ok(None),
+    }
+}
+
+/// The truth values of the validity, where there is one: it is the last of the columns, and taken away.
+fn taken_validity(
+    alloc: Global,
+    has_validity: bool,
+    parts: &mut Vec<Column>,
+) -> Result<Option<Mask>, AllocError>
+    requires { IsTrue has_validity → LastIsBool parts.old.items }
+    ensures truths { IfOk result (λ truths. truths ≡ validity_part has_validity parts.old.items) }
+    ensures left { IfOk result (λ _. parts.new.items ≡ field_parts has_validity parts.old.items) }
+{
+    if has_validity {
+        last_truths(alloc, parts)
+    } else {
+        Ok(None)
+    }
+}
+
+/// Structs of the fields of a plan, from the columns of its children, of which the last is the validity where there is
+/// one: a struct is null where that is false.
+pub(crate) fn structs(
+    alloc: Global,
+    table: &PlanTable,
+    plan: u32,
+    mut parts: Vec<Column>,
+    rows: u64,
+) -> Result<Column, AllocError>
+    requires known { HasKind IsPack table.now plan }
+    requires typed { HaveTypes table.now (node_at table.now plan).children parts.items }
+    requires rows { AllByRecursion (λ part. length part.values ≡ rows) parts.items }
+    ensures dtype { IfOk result (λ column. column.dtype ≡ (node_at table.now plan).dtype) }
+    ensures values { IfOk result (λ column. column.values ≡ structs_at (has_validity_of (node_at table.now plan).kind) parts.items rows) }
+{
+    let _plans = table.len();
+    match table.as_pack(PlanRef(plan)) {
+        Some(pack) => {
+            let fields = pack.fields(table).copy(alloc)?;
+            let validity = pack.validity(table).is_some();
+            let validity = taken_validity(alloc, validity, &mut parts)?;
+            Column::pack(alloc, fields, parts, validity, rows)
+        }
+        None => unreachable!(),
+    }
+}

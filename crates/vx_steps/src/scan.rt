@@ -1,0 +1,189 @@
+//! The scan: it asks for segments, and gives the columns of its splits.
+
+ghost use Rattle.std.specs.Prelude.{◌≡◌, ◌<◌, [], length, map, true, false, Ok, IfOk, IfErr, IsErr, IsOk, MatchResult};
+ghost use Rattle.std.specs.List.{AllByRecursion};
+ghost use Rattle.vx_plan.specs.Refs.{number_of};
+ghost use Rattle.vx_plan.specs.Rules.{node_at};
+ghost use Rattle.vx_steps.specs.declared.progress.Turn.TheVariants.{Done};
+ghost use Rattle.vx_steps.specs.Held.{AreTyped, FitsOffset};
+ghost use Rattle.vx_steps.specs.Jobs.{IsUnstarted, KeepsTold, KeepsWholes, WantsOnly};
+ghost use Rattle.vx_steps.specs.Kept.{kept_data};
+ghost use Rattle.vx_steps.specs.Offers.{IsForLeaf, IsForPlan, Keeps};
+ghost use Rattle.vx_steps.specs.ReadTable.{IsOutstanding};
+ghost use Rattle.vx_steps.specs.ScanData.{IsNew, IsOfLeaves, StaysTold, TakesBytes};
+ghost use Rattle.vx_steps.specs.Splits.{IsInside};
+ghost use Rattle.vx_steps.specs.Steps.{GoesOn, IsStepRefusal, TakesTurn, work_left};
+ghost use Rattle.vx_steps.specs.Wholes.{UsesGiven};
+
+use crate::errors::{DeliverError, StepError};
+use crate::jobs::{Job, Progress};
+use crate::kept::{KeptColumns, KeptValue};
+use crate::offers::{for_leaves, for_plans};
+use crate::progress::{Turn, next_turn};
+use crate::reads::ReadId;
+use crate::splits::{ScanBuildError, Split, check_splits};
+use std::alloc::Global;
+use std::marker::Model;
+use vx_plan::{PlanRef, PlanTable};
+
+/// A scan of splits of a plan's rows.
+#[derive(Drop)]
+pub struct Scan<'a> {
+    alloc: Global,
+    table: &'a PlanTable,
+    job: Job,
+    progress: Progress,
+    refused: bool,
+}
+
+impl<'a> Model for Scan<'a> {
+    ghost use Rattle.std.specs.Coded.{codes};
+    ghost use Rattle.vx_plan.specs.NodeCodes.{coded_nodes};
+    ghost use Rattle.vx_steps.specs.KeptData.{coded_kept_list};
+    ghost use Rattle.vx_steps.specs.ScanData.{ScanData};
+
+    ghost Value = { ScanData };
+
+    ghost coded = { Prim.hlevel (codes, coded_nodes, coded_kept_list) };
+
+    ghost use Rattle.vx_steps.specs.Jobs.{IsGood};
+
+    ghost view = { λ a. record { nodes = a.table.now; job = a.job; progress = a.progress; refused = a.refused } };
+
+    ghost invariant = { λ a. IsGood a.table.now a.job a.progress };
+}
+
+impl<'a> Scan<'a> {
+    /// A scan of the splits of a plan's rows.
+    pub fn try_new(
+        alloc: Global,
+        table: &'a PlanTable,
+        plan: PlanRef,
+        splits: Vec<Split>,
+    ) -> Result<Scan<'a>, ScanBuildError>
+        requires { number_of plan < length table.now }
+        ensures inside { IsOk result → AllByRecursion (IsInside (node_at table.now (number_of plan)).rows) splits.items }
+        ensures refused { IsErr result → AllByRecursion (IsInside (node_at table.now (number_of plan)).rows) splits.items → ⊥ }
+        ensures scan { IfOk result (IsNew table.now (number_of plan) splits.items) }
+    {
+        check_splits(&splits, table.row_count(plan))?;
+        Ok(Scan {
+            alloc,
+            table,
+            job: Job::new(alloc, plan.0, splits),
+            progress: Progress::new(alloc),
+            refused: false,
+        })
+    }
+
+    /// The scan, with so many splits active at once, and at least one.
+    pub fn with_max_active(mut self, count: usize) -> Scan<'a>
+        ensures scan { result ≡ record self.entry { job = record self.entry.job { max_active = count } } }
+        ensures told { StaysTold self.entry result }
+    {
+        self.job.max_active = count;
+        self
+    }
+
+    /// The scan, with the offset added to the numbers of rows. It is called before the first step.
+    pub fn with_row_offset(mut self, offset: u64) -> Scan<'a>
+        requires unstarted { IsUnstarted self.progress }
+        requires fits { FitsOffset self.nodes offset }
+        ensures scan { result ≡ record self.entry { job = record self.entry.job { offset = offset } } }
+        ensures told { StaysTold self.entry result }
+    {
+        self.job.offset = offset;
+        self
+    }
+
+    /// The scan, with whole values in place of those that a take or a share would read. One of another dtype or length
+    /// than its plan's is dropped; of two for one plan the first stands. It takes no memory, and is called before the
+    /// first step.
+    pub fn with_value_cache(mut self, given: Vec<KeptValue>) -> Scan<'a>
+        requires { IsUnstarted self.progress }
+        ensures given { Keeps (IsForPlan self.entry.nodes) (map kept_data given.items) result.job.given }
+        ensures others { result ≡ record self.entry { job = record self.entry.job { given = result.job.given } } }
+        ensures told { StaysTold self.entry result }
+    {
+        let given = KeptColumns::of(self.alloc, for_plans(self.table, given));
+        self.job.hand_in(given);
+        self
+    }
+
+    /// The scan, with whole columns of leaves. One that is for no leaf, or of another dtype or length than its leaf's,
+    /// is dropped; of two for one leaf the first stands. It takes no memory, and is called before the first step.
+    pub fn with_leaves(mut self, leaves: Vec<KeptValue>) -> Scan<'a>
+        requires { IsUnstarted self.progress }
+        ensures leaves { Keeps (IsForLeaf self.entry.nodes) (map kept_data leaves.items) result.progress.leaves }
+        ensures others { result ≡ record self.entry { progress = record self.entry.progress { leaves = result.progress.leaves } } }
+        ensures unstarted { IsUnstarted result.progress }
+        ensures told { IsOfLeaves result }
+    {
+        let leaves = KeptColumns::of(self.alloc, for_leaves(self.table, leaves));
+        self.progress.hand_in(leaves);
+        self
+    }
+
+    /// Takes the bytes of a read that is outstanding. It takes no memory.
+    pub fn deliver(&mut self, read: ReadId, bytes: Vec<u8>) -> Result<(), DeliverError>
+        ensures { MatchResult result (λ _. TakesBytes read bytes.items self.old self.new) (λ _. (IsOutstanding self.old.progress.reads read → ⊥) × (self.new ≡ self.old)) }
+    {
+        if !self.progress.reads.deliver(read, bytes) {
+            return Err(DeliverError::UnknownRead);
+        }
+        Ok(())
+    }
+
+    /// The values that were handed in and used.
+    pub fn used(&self) -> &[KeptValue]
+        ensures values { map kept_data result.now ≡ self.now.progress.wholes.used }
+        ensures uses { UsesGiven self.now.job.given [] self.now.progress.wholes.used }
+        ensures typed { AreTyped self.now.nodes self.now.progress.wholes.used }
+    {
+        self.progress.wholes.used.columns()
+    }
+
+    /// The whole values that were made.
+    pub fn made(&self) -> &[KeptValue]
+        ensures values { map kept_data result.now ≡ self.now.progress.wholes.made }
+        ensures typed { AreTyped self.now.nodes self.now.progress.wholes.made }
+    {
+        self.progress.wholes.made.columns()
+    }
+
+    /// The columns of leaves that were handed in or decoded.
+    pub fn into_leaves(self) -> Vec<KeptValue>
+        ensures values { map kept_data result.items ≡ self.entry.progress.leaves }
+        ensures typed { AreTyped self.entry.nodes self.entry.progress.leaves }
+    {
+        let Scan { progress, .. } = self;
+        let Progress { leaves, .. } = progress;
+        leaves.into_columns()
+    }
+
+    /// The next turn: a read that is to be made, an output, or that there is none.
+    pub fn step(&mut self) -> Result<Turn, StepError>
+        ensures nodes { self.new.nodes ≡ self.old.nodes }
+        ensures job { self.new.job ≡ self.old.job }
+        ensures told { KeepsTold self.old.nodes self.old.job self.old.progress self.new.progress }
+        ensures wholes { KeepsWholes self.old.nodes self.old.job self.old.progress.wholes self.new.progress.wholes }
+        ensures wants { IfOk result (λ _. WantsOnly self.old.nodes self.old.job self.old.progress self.new.progress) }
+        ensures turn { self.old.refused ≡ false → IfOk result (TakesTurn self.old.nodes self.old.job self.old.progress self.new.progress) }
+        ensures lowers { IfOk result (λ turn. GoesOn turn → work_left self.old.job self.new.progress < work_left self.old.job self.old.progress) }
+        ensures after_refusal { self.old.refused ≡ true → (result ≡ Ok Done) × (self.new ≡ self.old) }
+        ensures cause { IfErr result (IsStepRefusal self.old.nodes self.old.job self.old.progress self.new.progress) }
+        ensures refused { IsErr result → self.new.refused ≡ true }
+        ensures not_refused { IsOk result → self.new.refused ≡ self.old.refused }
+    {
+        if self.refused {
+            return Ok(Turn::Done);
+        }
+        match next_turn(self.alloc, self.table, &mut self.job, &mut self.progress) {
+            Ok(turn) => Ok(turn),
+            Err(error) => {
+                self.refused = true;
+                Err(error)
+            }
+        }
+    }
+}

@@ -1,0 +1,111 @@
+//! What a split passes through: it is started, and it is finished once all that it needs was delivered.
+
+ghost use Rattle.std.specs.Prelude.{◌≡◌, ◌+◌, ◌<◌, ◌≤◌, ℕ, ◌⊎◌, length, None, IfOk, IfErr, IfSome};
+ghost use Rattle.vx_plan.specs.Rules.{node_at};
+ghost use Rattle.vx_steps.specs.declared.leaf_reads.LeafRead.{LeafRead};
+ghost use Rattle.vx_steps.specs.Agreement.{KeepsAgreeing};
+ghost use Rattle.vx_steps.specs.Delivered.{KeepsLeaves, LacksNeed};
+ghost use Rattle.vx_steps.specs.Held.{AreTyped, FitsOffset};
+ghost use Rattle.vx_steps.specs.Kept.{kept_at};
+ghost use Rattle.vx_steps.specs.Needs.{Among, AreLeaves};
+ghost use Rattle.vx_steps.specs.Turns.{IsOutput, IsRefusal, LeavesWholes, ReadsFor};
+ghost use Rattle.vx_steps.specs.Wants.{AreNeeds, Grows, IsAsked, IsNeeded};
+ghost use Rattle.vx_steps.specs.Wholes.{AddsAsked, KeepsValues, UsesGiven};
+
+use crate::errors::StepError;
+use crate::jobs::Job;
+use crate::kept::KeptColumns;
+use crate::leaf_reads::LeafRead;
+use crate::leaves::NeededLeaves;
+use crate::needs::{needs_of, want_needs};
+use crate::outputs::output_of;
+use crate::reads::ReadTable;
+use crate::splits::Split;
+use crate::wholes::{Grounds, Wholes};
+use std::alloc::{AllocError, Global};
+use vx_base::Column;
+use vx_plan::PlanTable;
+
+/// Starts a split: wants the segments of the leaves that its selected rows read.
+pub(crate) fn start_split(
+    alloc: Global,
+    table: &PlanTable,
+    job: &Job,
+    split: &Split,
+    handed: &KeptColumns,
+    reads: &mut ReadTable,
+) -> Result<Vec<LeafRead>, AllocError>
+    requires known { job.now.plan < length table.now }
+    requires inside { split.now.rows.start + length split.now.mask ≤ (node_at table.now job.now.plan).rows }
+    ensures needs { IfOk result (λ needs. AreNeeds (ReadsFor table.now job.now split.now) needs.items) }
+    ensures leaves { IfOk result (λ needs. AreLeaves table.now needs.items) }
+    ensures asked { IfOk result (λ needs. (read : LeafRead) → Among read needs.items → kept_at handed.now read.leaf ≡ None → IsAsked reads.new.wanted read.segment) }
+    ensures only { IfOk result (λ needs. (segment : ℕ) → IsAsked reads.new.wanted segment → IsAsked reads.old.wanted segment ⊎ IsNeeded needs.items handed.now segment) }
+    ensures grows { Grows reads.old.wanted reads.new.wanted }
+    ensures agrees { KeepsAgreeing reads.old.wanted reads.new.wanted }
+    ensures handed { reads.new.handed ≡ reads.old.handed }
+{
+    let needs = needs_of(
+        alloc,
+        table,
+        &job.given,
+        job.plan,
+        split.rows.start,
+        &split.mask,
+    )?;
+    want_needs(&needs, handed, reads)?;
+    Ok(needs)
+}
+
+/// Finishes a split: its column, once all leaves that it needs were delivered, and None before.
+pub(crate) fn finish_split(
+    alloc: Global,
+    table: &PlanTable,
+    job: &Job,
+    split: &Split,
+    needs: &mut NeededLeaves,
+    reads: &ReadTable,
+    leaves: &mut KeptColumns,
+    wholes: &mut Wholes,
+) -> Result<Option<Column>, StepError>
+    requires known { job.now.plan < length table.now }
+    requires inside { split.now.rows.start + length split.now.mask ≤ (node_at table.now job.now.plan).rows }
+    requires fits { FitsOffset table.now job.now.offset }
+    requires needs { AreNeeds (ReadsFor table.now job.now split.now) needs.old }
+    requires needed_leaves { AreLeaves table.now needs.old }
+    requires typed_leaves { AreTyped table.now leaves.old }
+    requires typed_given { AreTyped table.now job.now.given }
+    requires typed_made { AreTyped table.now wholes.old.made }
+    ensures same { needs.new ≡ needs.old }
+    ensures keeps { KeepsLeaves table.now reads.now.wanted leaves.old leaves.new }
+    ensures made { KeepsValues table.now leaves.new job.now.offset wholes.old.made wholes.new.made }
+    ensures used { UsesGiven job.now.given wholes.old.used wholes.new.used }
+    ensures asked { AddsAsked table.now job.now.given job.now.plan split.now.rows.start split.now.mask wholes.old wholes.new }
+    ensures output { IfOk result (λ output. IfSome output (IsOutput table.now job.now split.now reads.now.wanted leaves.old wholes.old.made wholes.new)) }
+    ensures waiting { IfOk result (λ output. output ≡ None → LacksNeed reads.now.wanted leaves.old needs.old) }
+    ensures cause { IfErr result (IsRefusal table.now job.now split.now needs.old reads.now.wanted leaves.old wholes.old.made) }
+    ensures left { IfErr result (LeavesWholes table.now job.now split.now reads.now.wanted leaves.old wholes.old.made wholes.new) }
+{
+    match needs.decode(alloc, table, reads, leaves) {
+        Ok(true) => {}
+        Ok(false) => return Ok(None),
+        Err(error) => return Err(error),
+    }
+    let grounds = Grounds {
+        table,
+        leaves,
+        given: &job.given,
+        offset: job.offset,
+    };
+    match output_of(
+        alloc,
+        grounds,
+        job.plan,
+        split.rows.start,
+        &split.mask,
+        wholes,
+    ) {
+        Ok(column) => Ok(Some(column)),
+        Err(error) => Err(error),
+    }
+}
