@@ -1,0 +1,47 @@
+//! What a scan answers, as words.
+
+use std::alloc::{AllocError, Global};
+use vx_base::Column;
+use vx_notation::column_text;
+use vx_steps::{KeptValue, StepError};
+
+/// Appends the dtype of a column and its values; of many values, how many there are.
+pub(crate) fn write_column(
+    alloc: Global,
+    column: &Column,
+    out: &mut String,
+) -> Result<(), AllocError> {
+    let rows = column.len();
+    if 16 < rows {
+        return write!(out, " {rows} rows;");
+    }
+    match column_text(alloc, column) {
+        Ok(text) => { write!(out, " {};", text.as_str()) }
+        Err(_) => Err(AllocError),
+    }
+}
+
+/// Appends kept columns, each behind a word and the number of its plan.
+pub(crate) fn write_columns(
+    alloc: Global,
+    word: &str,
+    columns: &[KeptValue],
+    out: &mut String,
+) -> Result<(), AllocError> {
+    for kept in columns {
+        write!(out, " {word} {}", kept.node.0)?;
+        write_column(alloc, &kept.column, out)?;
+    }
+    Ok(())
+}
+
+/// Appends why a step is refused.
+pub(crate) fn write_refusal(error: StepError, out: &mut String) -> Result<(), AllocError> {
+    match error {
+        StepError::Unsupported(plan) => { write!(out, " unsupported {};", plan.0) }
+        StepError::BadSegment(segment) => { write!(out, " bad segment {segment};") }
+        StepError::BadCode { node, row } => { write!(out, " bad code {} {row};", node.0) }
+        StepError::EvalFault(row) => { write!(out, " fault {row};") }
+        StepError::Memory => Err(AllocError),
+    }
+}

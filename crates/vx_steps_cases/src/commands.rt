@@ -1,0 +1,223 @@
+//! The commands, over one tree, a plan of it, and the bytes of its segments.
+
+ghost use Rattle.std.specs.Prelude.{◌<◌, length, slice_get, IfOk, IsSomeAnd};
+ghost use Rattle.vx_layout.specs.Kept.{kept_data};
+ghost use Rattle.vx_lower.specs.KeptRows.{MayKeep};
+ghost use Rattle.vx_plan.specs.Refs.{number_of};
+
+use crate::answers::write_columns;
+use crate::expressions::spelled;
+use crate::scans::write_scan;
+use crate::trees::push_nodes;
+use std::alloc::{AllocError, Global};
+use vx_expr::{BoundExpression, Expr, bind};
+use vx_layout::{Kept, LayoutTree};
+use vx_lower::{Lowered, lower, plan_row_idx_expression};
+use vx_plan::{PlanError, PlanRef, PlanTable, SharePlan};
+use vx_steps::KeptValue;
+
+/// The bytes of a segment.
+#[derive(Drop)]
+pub(crate) struct Segment {
+    pub(crate) number: u32,
+    pub(crate) bytes: Vec<u8>,
+}
+
+/// The plans that a tree was lowered to, of which the root is scanned, the bytes of the segments, and the leaves that
+/// the last scan left.
+#[derive(Drop)]
+struct Desk {
+    plans: Lowered,
+    file: Vec<Segment>,
+    leaves: Vec<KeptValue>,
+}
+
+/// Says which plan is scanned, or what rule a plan breaks.
+fn write_planned(
+    plans: &mut Lowered,
+    made: Result<PlanRef, PlanError>,
+    out: &mut String,
+) -> Result<(), AllocError> {
+    match made {
+        Ok(plan) => {
+            plans.root = plan;
+            write!(out, " plan {}", plan.0)
+        }
+        Err(PlanError::BadPlan { rule }) => { write!(out, " breaks rule {rule}") }
+        Err(PlanError::Memory) => Err(AllocError),
+    }
+}
+
+/// Plans an expression over the root.
+fn write_bound(
+    alloc: Global,
+    plans: &mut Lowered,
+    bound: &BoundExpression,
+    out: &mut String,
+) -> Result<(), AllocError>
+    requires known { number_of plans.old.root < length plans.old.table }
+    requires room { length plans.old.table < 1000000 }
+{
+    let made = plan_row_idx_expression(alloc, &mut plans.table, bound, plans.root);
+    write_planned(plans, made, out)
+}
+
+/// Plans the expression that the words spell over the root.
+fn write_over(
+    alloc: Global,
+    plans: &mut Lowered,
+    words: &str,
+    out: &mut String,
+) -> Result<(), AllocError>
+    requires known { number_of plans.old.root < length plans.old.table }
+    requires room { length plans.old.table < 1000000 }
+{
+    let expr = spelled(alloc, words)?;
+    match bind(alloc, &expr, plans.table.dtype(plans.root)) {
+        Ok(bound) => write_bound(alloc, plans, &bound, out),
+        Err(_) => out.push_str(" isn't bound"),
+    }
+}
+
+/// Plans a share of the root.
+fn write_shared(alloc: Global, plans: &mut Lowered, out: &mut String) -> Result<(), AllocError>
+    requires known { number_of plans.old.root < length plans.old.table }
+    requires room { length plans.old.table < 1000000 }
+{
+    let made = match SharePlan::new(alloc, &mut plans.table, plans.root) {
+        Ok(shared) => Ok(shared.into_plan()),
+        Err(error) => Err(error),
+    };
+    write_planned(plans, made, out)
+}
+
+/// The fields that an expression over the tree's rows keeps; all where it isn't one.
+#[tactic(auto, using(crate::proofs::Keeping::kept_may, crate::proofs::Keeping::all_may))]
+fn kept_of(alloc: Global, tree: &LayoutTree, expr: &Expr) -> Result<Kept, AllocError>
+    ensures { IfOk result (λ kept. IsSomeAnd (slice_get tree.now 0) (λ root. MayKeep (kept_data kept) root.dtype)) }
+{
+    let dtype = tree.dtype();
+    match bind(alloc, expr, dtype) {
+        Ok(bound) => tree.kept(alloc, &bound),
+        Err(_) => Ok(Kept::All),
+    }
+}
+
+/// Lowers the tree, whole or with the fields that an expression keeps.
+fn lowered(alloc: Global, tree: &LayoutTree, words: &str) -> Result<Lowered, AllocError> {
+    let expr = spelled(alloc, words)?;
+    let kept = kept_of(alloc, tree, &expr)?;
+    lower(alloc, tree, &kept)
+}
+
+/// Lowers the tree of the nodes, of which there are few, and says the number of its plan. An expression behind ` | `
+/// says which fields are kept.
+fn write_tree(
+    alloc: Global,
+    plans: &mut Lowered,
+    words: &str,
+    out: &mut String,
+) -> Result<(), AllocError> {
+    let (text, words) = words.split_once(" | ").unwrap_or((words, ""));
+    let mut nodes = Vec::new(alloc);
+    push_nodes(alloc, text, &mut nodes)?;
+    if 1000 < nodes.len() {
+        return Ok(());
+    }
+    match LayoutTree::try_new(alloc, nodes) {
+        Ok(tree) => {
+            *plans = lowered(alloc, &tree, words)?;
+            write!(out, " plan {}", plans.root.0)
+        }
+        Err(_) => out.push_str(" no tree"),
+    }
+}
+
+/// Adds the bytes of the hexadecimal digits, so many times.
+fn push_bytes(digits: &str, count: u64, bytes: &mut Vec<u8>) -> Result<(), AllocError> {
+    let byte = u8::from_str_radix(digits, 16).unwrap_or(0);
+    for _time in 0..count {
+        bytes.push(byte)?;
+    }
+    Ok(())
+}
+
+/// Puts bytes in the place of those of a segment. `07*200` is the byte 07 two hundred times.
+fn take_segment(alloc: Global, file: &mut Vec<Segment>, words: &str) -> Result<(), AllocError> {
+    let (number, words) = words.split_once(' ').unwrap_or((words, ""));
+    let number = number.parse::<u32>().unwrap_or(0);
+    let mut bytes = Vec::new(alloc);
+    for word in words.split_whitespace() {
+        let (digits, count) = word.split_once('*').unwrap_or((word, "1"));
+        push_bytes(digits, count.parse::<u64>().unwrap_or(0), &mut bytes)?;
+    }
+    file.push(Segment { number, bytes })?;
+    Ok(())
+}
+
+/// Appends the answer to a command over the plans, of which there are few.
+fn write_on_plans(
+    alloc: Global,
+    desk: &mut Desk,
+    command: &str,
+    words: &str,
+    out: &mut String,
+) -> Result<(), AllocError> {
+    let count = desk.plans.table.len();
+    if count <= desk.plans.root.0 || 1000000 <= count {
+        return Ok(());
+    }
+    match command {
+        "over" => write_over(alloc, &mut desk.plans, words, out),
+        "share" => write_shared(alloc, &mut desk.plans, out),
+        "scan" => write_scan(alloc, &desk.plans, &desk.file, &mut desk.leaves, words, out),
+        _ => out.push_str(" no command"),
+    }
+}
+
+/// Appends the answer to a line.
+fn write_answer(
+    alloc: Global,
+    desk: &mut Desk,
+    line: &str,
+    out: &mut String,
+) -> Result<(), AllocError> {
+    let (command, words) = line.split_once(' ').unwrap_or((line, ""));
+    match command {
+        "tree" => write_tree(alloc, &mut desk.plans, words, out),
+        "file" => take_segment(alloc, &mut desk.file, words),
+        "leaves" => write_columns(alloc, "leaf", &desk.leaves, out),
+        _ => write_on_plans(alloc, desk, command, words, out),
+    }
+}
+
+/// Appends each line with its answer.
+fn write_desk(
+    alloc: Global,
+    desk: &mut Desk,
+    lines: &str,
+    out: &mut String,
+) -> Result<(), AllocError> {
+    for line in lines.lines() {
+        out.push_str(line)?;
+        if !line.is_empty() && !line.starts_with("# ") {
+            out.push_str(" =>")?;
+            write_answer(alloc, desk, line, out)?;
+        }
+        out.push('\n')?;
+    }
+    Ok(())
+}
+
+/// Appends each line with its answer, where there is no plan at first.
+pub(crate) fn write_lines(alloc: Global, lines: &str, out: &mut String) -> Result<(), AllocError> {
+    let table = PlanTable::new(alloc);
+    let root = PlanRef(0);
+    let plans = Lowered { table, root };
+    let mut desk = Desk {
+        plans,
+        file: Vec::new(alloc),
+        leaves: Vec::new(alloc),
+    };
+    write_desk(alloc, &mut desk, lines, out)
+}

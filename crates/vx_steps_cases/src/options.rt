@@ -1,0 +1,113 @@
+//! How a scan is run, as words.
+
+use crate::trees::type_of;
+use std::alloc::{AllocError, Global};
+use vx_notation::column_of;
+use vx_plan::PlanRef;
+use vx_steps::KeptValue;
+
+/// In which order the reads are delivered that a scan waits for.
+#[derive(Clone, Copy)]
+pub(crate) enum Order {
+    /// The first that was handed out and not delivered.
+    Forward,
+    /// The last that was.
+    Reverse,
+    /// Each when it is handed out.
+    Early,
+    /// By the numbers that are given; then none any more.
+    Given,
+}
+
+/// How a scan is run.
+#[derive(Drop)]
+pub(crate) struct Options {
+    pub(crate) active: usize,
+    pub(crate) offset: u64,
+    pub(crate) order: Order,
+    /// The numbers of the reads that are to be delivered.
+    pub(crate) queue: Vec<u64>,
+    /// The numbers of the reads that are delivered after the end.
+    pub(crate) late: Vec<u64>,
+    pub(crate) given: Vec<KeptValue>,
+    pub(crate) leaves: Vec<KeptValue>,
+}
+
+/// Adds the numbers between blanks.
+fn push_numbers(words: &str, numbers: &mut Vec<u64>) -> Result<(), AllocError> {
+    for word in words.split_whitespace() {
+        numbers.push(word.parse::<u64>().unwrap_or(0))?;
+    }
+    Ok(())
+}
+
+/// Adds the column that is written so, as `3 i64: 7 8`, for the plan of that number; none where its values don't fit.
+fn push_column(alloc: Global, words: &str, columns: &mut Vec<KeptValue>) -> Result<(), AllocError> {
+    let (number, words) = words.split_once(' ').unwrap_or((words, ""));
+    let (dtype, values) = words.split_once(':').unwrap_or((words, ""));
+    let node = PlanRef(number.parse::<u32>().unwrap_or(0));
+    match column_of(alloc, type_of(alloc, dtype), values) {
+        Ok(column) => {
+            columns.push(KeptValue { node, column })?;
+            Ok(())
+        }
+        Err(_) => Ok(()),
+    }
+}
+
+/// Sets the order of delivery.
+fn set_order(options: &mut Options, words: &str) -> Result<(), AllocError> {
+    options.order = match words {
+        "forward" => Order::Forward,
+        "reverse" => Order::Reverse,
+        "early" => Order::Early,
+        _ => Order::Given,
+    };
+    match options.order {
+        Order::Given => push_numbers(words, &mut options.queue),
+        _ => Ok(()),
+    }
+}
+
+/// Sets what a word asks.
+fn set_option(alloc: Global, options: &mut Options, text: &str) -> Result<(), AllocError> {
+    let (word, words) = text.split_once(' ').unwrap_or((text, ""));
+    match word {
+        "active" => options.active = words.parse::<usize>().unwrap_or(0),
+        "offset" => options.offset = words.parse::<u64>().unwrap_or(0),
+        "order" => return set_order(options, words),
+        "late" => return push_numbers(words, &mut options.late),
+        "given" => return push_column(alloc, words, &mut options.given),
+        _ => return push_column(alloc, words, &mut options.leaves),
+    }
+    Ok(())
+}
+
+/// Sets what the words between ` | ` ask. `kept` is passed by: it is told with the leaves.
+fn set_options(alloc: Global, options: &mut Options, text: &str) -> Result<(), AllocError> {
+    for part in text.split(" | ") {
+        if !part.is_empty() && part != "kept" {
+            set_option(alloc, options, part)?;
+        }
+    }
+    Ok(())
+}
+
+/// What the words between ` | ` ask, and these leaves.
+pub(crate) fn options_of(
+    alloc: Global,
+    text: &str,
+    leaves: Vec<KeptValue>,
+) -> Result<Options, AllocError> {
+    let mut options = Options {
+        active: 1,
+        offset: 0,
+        order: Order::Forward,
+        queue: Vec::new(alloc),
+        late: Vec::new(alloc),
+        given: Vec::new(alloc),
+        leaves,
+    };
+    set_options(alloc, &mut options, text)?;
+    Ok(options)
+}

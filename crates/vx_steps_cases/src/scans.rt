@@ -1,0 +1,104 @@
+//! Scans of the plan: its splits, and how it is run.
+
+ghost use Rattle.std.specs.Prelude.{◌≡◌, ◌<◌, length, IsTrue};
+ghost use Rattle.vx_plan.specs.Refs.{number_of};
+ghost use Rattle.vx_steps.specs.Held.{FitsOffset};
+ghost use Rattle.vx_steps.specs.Jobs.{IsUnstarted};
+
+use crate::commands::Segment;
+use crate::options::{Options, options_of};
+use crate::runs::{Run, write_run};
+use crate::splits::splits_of;
+use std::alloc::{AllocError, Global};
+use std::mem;
+use vx_lower::Lowered;
+use vx_plan::{PlanRef, PlanTable};
+use vx_steps::{KeptValue, Scan};
+
+/// Whether the offset can be added to the rows of each plan.
+fn fits(table: &PlanTable, offset: u64) -> bool
+    ensures { IsTrue result → FitsOffset table.now offset }
+{
+    for plan in 0..table.len() {
+        if table.row_count(PlanRef(plan)) > u64::MAX - offset {
+            return false;
+        }
+    }
+    true
+}
+
+/// The scan with the offset, where it can be added to the rows of each plan.
+fn with_offset<'a>(scan: Scan<'a>, table: &PlanTable, offset: u64) -> Scan<'a>
+    requires unstarted { IsUnstarted scan.progress }
+    requires nodes { scan.nodes ≡ table.now }
+    ensures unstarted { IsUnstarted result.progress }
+{
+    if fits(table, offset) {
+        scan.with_row_offset(offset)
+    } else {
+        scan
+    }
+}
+
+/// Runs the scan as the options ask, and gives the leaves that it leaves.
+fn write_turns<'a>(
+    alloc: Global,
+    file: &'a [Segment],
+    scan: Scan<'a>,
+    options: Options,
+    out: &mut String,
+) -> Result<Vec<KeptValue>, AllocError>
+    requires { IsUnstarted scan.progress }
+{
+    let Options {
+        active,
+        order,
+        queue,
+        late,
+        given,
+        leaves,
+        ..
+    } = options;
+    let scan = scan
+        .with_max_active(active)
+        .with_value_cache(given)
+        .with_leaves(leaves);
+    let mut run = Run {
+        file,
+        scan,
+        order,
+        reads: Vec::new(alloc),
+        queue,
+    };
+    write_run(alloc, &mut run, &late, out)?;
+    let Run { scan, .. } = run;
+    Ok(scan.into_leaves())
+}
+
+/// Appends the turns of a scan of the root, and puts the leaves that it leaves in the place of those that are kept. It
+/// is handed those that are kept where it asks for them.
+pub(crate) fn write_scan(
+    alloc: Global,
+    plans: &Lowered,
+    file: &[Segment],
+    leaves: &mut Vec<KeptValue>,
+    words: &str,
+    out: &mut String,
+) -> Result<(), AllocError>
+    requires { number_of plans.now.root < length plans.now.table }
+{
+    let (words, text) = words.split_once(" | ").unwrap_or((words, ""));
+    let mut kept = mem::replace(leaves, Vec::new(alloc));
+    if !text.ends_with("kept") {
+        kept.clear();
+    }
+    let options = options_of(alloc, text, kept)?;
+    match Scan::try_new(alloc, &plans.table, plans.root, splits_of(alloc, words)?) {
+        Ok(scan) => {
+            let scan = with_offset(scan, &plans.table, options.offset);
+            *leaves = write_turns(alloc, file, scan, options, out)?;
+            Ok(())
+        }
+        Err(_) => out.push_str(" out of range;"),
+    }
+}
