@@ -11,17 +11,18 @@ use Rattle.vx_steps.specs.Agreement.{Agrees}
 use Rattle.vx_steps.specs.Held.{AreMade, AreTyped, FitsOffset, HaveLeaves}
 use Rattle.vx_steps.specs.Jobs.{IsActive, IsGood, IsTold, IsUnstarted}
 use Rattle.vx_steps.specs.KeptData.{Kept}
-use Rattle.vx_steps.specs.Kept.{kept_at}
+use Rattle.vx_steps.specs.Kept.{kept_at, AreApart}
 use Rattle.vx_steps.specs.Needs.{Among}
 use Rattle.vx_steps.specs.ReadTableData.{Wanted}
 use Rattle.vx_steps.specs.Splits.{IsInside}
 use Rattle.vx_steps.specs.Wholes.{UsesGiven}
+use Rattle.vx_steps.proofs.Apart.{apart_empty}
 
 pub typed_none : (nodes : List Node) (kept : List Kept) → kept ≡ [] → AreTyped nodes kept
 typed_none nodes kept none = subst (AreTyped nodes) (sym none) (λ n column at. absurd cc)
 
 uses_empty : (given : List Kept) → UsesGiven given [] []
-uses_empty given = record { grows = λ n column at. at; only = λ n column at. inl at }
+uses_empty given = record { grows = λ n column at. at; only = λ n column at. inl at; apart = λ apart. apart }
 
 -- what was used is typed where what was handed in is
 pub used_typed : (nodes : List Node) (given used : List Kept) → UsesGiven given [] used → AreTyped nodes given → AreTyped nodes used
@@ -34,14 +35,16 @@ actives_none : (nodes : List Node) (job : Job) (progress : Progress) → progres
 actives_none nodes job progress none active among = absurd (subst (λ (actives : List ActiveSplit). Among active actives) none among)
 
 -- Before the first step a scan is good whatever is handed in, where that is typed and the numbers of rows fit.
-pub good_unstarted : (nodes : List Node) (job : Job) (progress : Progress) → IsUnstarted progress → job.plan < length nodes → AllByRecursion (IsInside (node_at nodes job.plan).rows) job.splits.items → FitsOffset nodes job.offset → AreTyped nodes job.given → AreTyped nodes progress.leaves → IsGood nodes job progress
-good_unstarted nodes job progress unstarted known inside fits given leaves = record {
+pub good_unstarted : (nodes : List Node) (job : Job) (progress : Progress) → IsUnstarted progress → job.plan < length nodes → AllByRecursion (IsInside (node_at nodes job.plan).rows) job.splits.items → FitsOffset nodes job.offset → AreTyped nodes job.given → AreTyped nodes progress.leaves → AreTyped nodes progress.wholes.made → AreApart progress.wholes.made → IsGood nodes job progress
+good_unstarted nodes job progress unstarted known inside fits given leaves made apart = record {
   known = known;
   inside = inside;
   fits = fits;
   typed_given = given;
   typed_leaves = leaves;
-  typed_made = typed_none nodes progress.wholes.made unstarted.made;
+  typed_made = made;
+  apart_made = apart;
+  apart_used = apart_empty progress.wholes.used unstarted.used;
   uses = uses_none job.given progress.wholes.used unstarted.used;
   actives = actives_none nodes job progress unstarted.active;
 }
@@ -49,18 +52,24 @@ good_unstarted nodes job progress unstarted known inside fits given leaves = rec
 pub good_with_given : (nodes : List Node) (job new : Job) (progress : Progress) (given : List Kept) → IsUnstarted progress → IsGood nodes job progress → AreTyped nodes given → new ≡ record { plan = job.plan; splits = job.splits; given = given; max_active = job.max_active; offset = job.offset } → IsGood nodes new progress
 good_with_given nodes job new progress given unstarted good typed is =
     subst (λ (j : Job). IsGood nodes j progress) (sym is)
-    (good_unstarted nodes (record { plan = job.plan; splits = job.splits; given = given; max_active = job.max_active; offset = job.offset }) progress unstarted good.known good.inside good.fits typed good.typed_leaves)
+    (good_unstarted nodes (record { plan = job.plan; splits = job.splits; given = given; max_active = job.max_active; offset = job.offset }) progress unstarted good.known good.inside good.fits typed good.typed_leaves good.typed_made good.apart_made)
 
 pub good_with_leaves : (nodes : List Node) (job : Job) (progress new : Progress) (leaves : List Kept) → IsUnstarted progress → IsGood nodes job progress → AreTyped nodes leaves → new ≡ record { next = progress.next; active = progress.active; reads = progress.reads; leaves = leaves; wholes = progress.wholes } → IsGood nodes job new
 good_with_leaves nodes job progress new leaves unstarted good typed is =
-    let still : IsUnstarted (record { next = progress.next; active = progress.active; reads = progress.reads; leaves = leaves; wholes = progress.wholes }) = record { next = unstarted.next; active = unstarted.active; wanted = unstarted.wanted; made = unstarted.made; used = unstarted.used } in
+    let still : IsUnstarted (record { next = progress.next; active = progress.active; reads = progress.reads; leaves = leaves; wholes = progress.wholes }) = record { next = unstarted.next; active = unstarted.active; wanted = unstarted.wanted; used = unstarted.used } in
     subst (λ (p : Progress). IsGood nodes job p) (sym is)
-    (good_unstarted nodes job (record { next = progress.next; active = progress.active; reads = progress.reads; leaves = leaves; wholes = progress.wholes }) still good.known good.inside good.fits good.typed_given typed)
+    (good_unstarted nodes job (record { next = progress.next; active = progress.active; reads = progress.reads; leaves = leaves; wholes = progress.wholes }) still good.known good.inside good.fits good.typed_given typed good.typed_made good.apart_made)
 
--- And it is that of any outside whose leaves were handed in.
-pub told_unstarted : (nodes : List Node) (job : Job) (progress : Progress) (outside : Bytes) → IsUnstarted progress → HaveLeaves nodes progress.leaves (leaves_of outside) → IsTold nodes job progress outside
-told_unstarted nodes job progress outside unstarted have = record {
+pub good_with_made : (nodes : List Node) (job : Job) (progress new : Progress) (made : List Kept) → IsUnstarted progress → IsGood nodes job progress → AreTyped nodes made → AreApart made → new ≡ record { next = progress.next; active = progress.active; reads = progress.reads; leaves = progress.leaves; wholes = record { made = made; used = progress.wholes.used } } → IsGood nodes job new
+good_with_made nodes job progress new made unstarted good typed apart is =
+    let still : IsUnstarted (record { next = progress.next; active = progress.active; reads = progress.reads; leaves = progress.leaves; wholes = record { made = made; used = progress.wholes.used } }) = record { next = unstarted.next; active = unstarted.active; wanted = unstarted.wanted; used = unstarted.used } in
+    subst (λ (p : Progress). IsGood nodes job p) (sym is)
+    (good_unstarted nodes job (record { next = progress.next; active = progress.active; reads = progress.reads; leaves = progress.leaves; wholes = record { made = made; used = progress.wholes.used } }) still good.known good.inside good.fits good.typed_given good.typed_leaves typed apart)
+
+-- And it is that of any outside whose leaves and whole values were handed in.
+pub told_unstarted : (nodes : List Node) (job : Job) (progress : Progress) (outside : Bytes) → IsUnstarted progress → HaveLeaves nodes progress.leaves (leaves_of outside) → AreMade nodes job.offset progress.wholes.made (leaves_of outside) → IsTold nodes job progress outside
+told_unstarted nodes job progress outside unstarted have made = record {
   bytes = subst (λ (wanted : List Wanted). Agrees wanted outside) (sym unstarted.wanted) (λ place w bytes at is. absurd cc);
   leaves_are = have;
-  made_are = subst (λ (made : List Kept). AreMade nodes job.offset made (leaves_of outside)) (sym unstarted.made) (λ n column at. absurd cc);
+  made_are = made;
 }

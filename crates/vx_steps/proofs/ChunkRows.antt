@@ -1,12 +1,11 @@
 -- A row of a concat is a row of the child that holds it.
-use Rattle.std.proofs.Common.{◌≡◌, ℕ, zero, suc, ◌+◌, ◌-◌, ◌<◌, ◌≤◌, ◌⊎◌, inl, inr, Bool, true, false, ltb, List, [], ◌∷◌, ◌++◌, length, map, refl, sym, ap, ◌∙◌, subst, arith}
+use Rattle.std.proofs.Common.{◌≡◌, ℕ, ◌+◌, ◌-◌, ◌<◌, ◌≤◌, ◌⊎◌, inl, inr, true, false, ltb, List, [], ◌∷◌, ◌++◌, length, map, refl, sym, ap, ◌∙◌, subst, arith}
 use Rattle.std.specs.List.{sum_by, All}
 use Rattle.std.proofs.lemmas.List.Sums.{sum_by-cons}
 use Rattle.std.proofs.lemmas.List.Elements.{All-head, All-tail}
-use Rattle.vx_rows.specs.Derivations.{Derivation}
 use Rattle.vx_plan.specs.Nodes.{Node}
 use Rattle.vx_plan.specs.PlanRows.{plan_derivation, plan_derivation_in}
-use Rattle.vx_plan.specs.Plans.{Plan, Plans, plan, no_plans, plan_head, head_at, plan_at, plans_from, concat_plan}
+use Rattle.vx_plan.specs.Plans.{Plan, Plans, plan_head, plan_at, plans_from, concat_plan}
 use Rattle.vx_base.specs.Data.{DataType}
 use Rattle.vx_plan.specs.declared.nodes.PlanKind.{PlanKind}
 use Rattle.vx_plan.specs.declared.nodes.PlanKind.TheVariants as kinds

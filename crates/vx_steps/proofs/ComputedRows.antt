@@ -1,6 +1,6 @@
 -- The column of the selected rows, kind by kind.
-use Rattle.std.proofs.Common.{◌≡◌, ℕ, zero, suc, ◌+◌, ◌-◌, ◌<◌, ◌≤◌, ◌⊎◌, inl, inr, pos, negsuc, ◌≤ℤ◌, Bool, true, false, List, [], ◌∷◌, ◌++◌, Option, Some, None, Result, Ok, Err, length, map, take, drop, replicate, refl, sym, ap, ◌∙◌, subst, arith}
-use Rattle.std.specs.Prelude.{slice_range, IsSomeAnd, IfOk, IfErr, IfSome, MatchResult, option_and_then, option_map}
+use Rattle.std.proofs.Common.{◌≡◌, ℕ, zero, suc, ◌+◌, ◌-◌, ◌<◌, ◌≤◌, ◌⊎◌, inl, inr, pos, negsuc, ◌≤ℤ◌, Bool, true, List, [], ◌∷◌, ◌++◌, Option, Some, None, Result, Ok, Err, length, map, take, drop, replicate, refl, sym, ap, ◌∙◌, subst, arith}
+use Rattle.std.specs.Prelude.{slice_range, IsSomeAnd, IfOk, IfErr, IfSome, MatchResult, option_and_then}
 use Rattle.std.specs.List.{slice_get, range_with_len, flat_map, sum_by, AllByRecursion}
 use Rattle.std.proofs.lemmas.Grind.{flat_map-append}
 use Rattle.std.proofs.lemmas.List.Sums.{sum_by-cons}
@@ -19,13 +19,13 @@ use Rattle.vx_expr.specs.Bound.{Bound}
 use Rattle.vx_expr.specs.Meaning.{meaning}
 use Rattle.vx_expr.specs.Terms.{Term}
 use Rattle.vx_expr.specs.Types.{on_both}
-use Rattle.vx_rows.specs.Derivations.{Derivation, Derivations, no_more, also, Leaves, look_up, no_bound, one_more, each_row, derived, derived_each}
-use Rattle.vx_rows.specs.Given.{GivenValues, all_given, given_row, share_with, values_with, with_given}
+use Rattle.vx_rows.specs.Derivations.{Derivation, Leaves, look_up, no_bound, one_more, each_row, derived, derived_each}
+use Rattle.vx_rows.specs.Given.{all_given, given_row, share_with, values_with, with_given}
 use Rattle.vx_rows.specs.Reads.{IsPlaceAmong}
 use Rattle.vx_plan.specs.declared.children.PlanRef.{PlanRef}
 use Rattle.vx_plan.specs.declared.shapes.Shape.TheVariants as shapes
 use Rattle.vx_plan.specs.Nodes.{Node}
-use Rattle.vx_plan.specs.Plans.{Plan, plan_head, plan_at, zones_of, eval_plan, filter_plan, take_plan, share_plan, list_plan, row_idx_plan, scan_plan, zoned_plan}
+use Rattle.vx_plan.specs.Plans.{Plan, plan_head, plan_at, zones_of, eval_plan, filter_plan, take_plan, share_plan, row_idx_plan, scan_plan, zoned_plan}
 use Rattle.vx_plan.specs.PlanRows.{plan_derivation}
 use Rattle.vx_plan.specs.Refs.{number_of}
 use Rattle.vx_plan.specs.Rules.{node_at}
@@ -33,7 +33,7 @@ use Rattle.vx_plan.specs.Shapes.{HasShape}
 use Rattle.vx_steps.specs.declared.errors.StepError.{StepError}
 use Rattle.vx_steps.specs.declared.errors.StepError.TheVariants.{Unsupported, BadSegment, BadCode, EvalFault, Memory}
 use Rattle.vx_steps.specs.Computed.{else_kept, kept_in, whole_in, HasCause, HasWholeCause, Outcome, Computes, ComputesWhole}
-use Rattle.vx_steps.specs.Given.{Handed, given_for, handed_by, no_given, row_value, values_for, whole_value}
+use Rattle.vx_steps.specs.Given.{Handed, given_for, handed_by, row_value, values_for, whole_value}
 use Rattle.vx_steps.specs.Held.{Held, AreTyped, IsBy, IsHeld, alone, handed_in}
 use Rattle.vx_steps.specs.KeptData.{Kept}
 use Rattle.vx_steps.specs.Kept.{kept_at, values_of, whole_of}
@@ -280,7 +280,7 @@ values_failed h n codes values start bits fault over none some computed leaves a
 
 -- ---- a share
 
-each_at : (leaves : Leaves) (f : ℕ → Derivation) (from count : ℕ) (vs : List Datum) → derived_each leaves (each_row f from count) ≡ Some vs → (k : ℕ) → k < count → slice_get vs k ≡ derived leaves (f (from + k))
+pub each_at : (leaves : Leaves) (f : ℕ → Derivation) (from count : ℕ) (vs : List Datum) → derived_each leaves (each_row f from count) ≡ Some vs → (k : ℕ) → k < count → slice_get vs k ≡ derived leaves (f (from + k))
 each_at leaves f from zero vs e k h = absurd (omega arith)
 each_at leaves f from (suc count) vs e k h = by (derived leaves (f from)) (derived_each leaves (each_row f (from + 1) count)) refl (λ us q j less. each_at leaves f (from + 1) count us q j less) vs e k h
   where

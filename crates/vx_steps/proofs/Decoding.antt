@@ -18,6 +18,8 @@ use Rattle.vx_steps.specs.Kept.{kept_at, IsKept}
 use Rattle.vx_steps.specs.Needs.{Among}
 use Rattle.vx_steps.specs.ReadTableData.{Wanted}
 use Rattle.vx_steps.specs.ReadTable.{bytes_of}
+use Rattle.vx_steps.specs.Wants.{IsNeededLeaf}
+use Rattle.vx_steps.specs.Wholes.{AddsOnly}
 use Rattle.vx_steps.specs.Agreement.{Agrees}
 use Rattle.vx_steps.specs.Delivered.{KeepsLeaves, HasTornCause, SomeTornCause}
 use Rattle.std.specs.Option.{option_copied, is_some}
@@ -123,3 +125,11 @@ not_kept_before nodes wanted old new keeps n none = by (kept_at old n) refl
       where
         some_none : (x : ColumnData) → Some x ≡ None → ⊥
         some_none x h = cc
+
+-- ---- only these leaves
+
+pub adds_then : (P : ℕ → Type 0) (old mid new : List Kept) → AddsOnly P old mid → AddsOnly P mid new → AddsOnly P old new
+adds_then P old mid new first second n kept = ⊎_elim (λ (k : IsKept mid n). first n k) (λ (p : P n). inr p) (second n kept)
+
+pub need_added : (needs : List LeafRead) (need : LeafRead) (old new : List Kept) → Among need needs → AddsOnly (λ n. need.leaf ≡ n) old new → AddsOnly (IsNeededLeaf needs) old new
+need_added needs need old new among only n kept = ⊎_elim (λ (k : IsKept old n). inl k) (λ (e : need.leaf ≡ n). inr (need, among, e)) (only n kept)

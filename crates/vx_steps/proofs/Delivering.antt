@@ -19,6 +19,8 @@ good_delivered nodes job old read bytes reads delivers good = record {
   typed_given = good.typed_given;
   typed_leaves = good.typed_leaves;
   typed_made = good.typed_made;
+  apart_made = good.apart_made;
+  apart_used = good.apart_used;
   uses = good.uses;
   actives = λ a m. active_delivered a (good.actives a m);
 }

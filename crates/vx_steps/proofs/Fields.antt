@@ -1,5 +1,5 @@
 -- The columns of a pack's children, and the structs of them.
-use Rattle.std.proofs.Common.{◌≡◌, ℕ, zero, suc, ◌+◌, ◌<◌, ◌≤◌, ◌⊎◌, inl, inr, Bool, true, false, List, [], ◌∷◌, ◌++◌, Option, Some, None, Ok, Err, length, map, take, refl, sym, ap, ◌∙◌, subst, arith}
+use Rattle.std.proofs.Common.{◌≡◌, ℕ, zero, suc, ◌+◌, ◌<◌, ◌⊎◌, inl, inr, Bool, true, false, List, [], ◌∷◌, ◌++◌, Option, Some, Ok, Err, length, map, take, refl, sym, ap, ◌∙◌, subst, arith}
 use Rattle.std.specs.Prelude.{cond, option_map, IsSomeAnd}
 use Rattle.std.specs.List.{slice_get, slice_index_or, range_with_len, AllByRecursion}
 use Rattle.std.proofs.lemmas.List.{length-map}
@@ -20,7 +20,7 @@ use Rattle.vx_steps.specs.Structs.{field_parts, front_parts, last_part, structs_
 use Rattle.vx_steps.proofs.SelectedRows.{count_of, rows_count}
 use Rattle.vx_base.specs.Columns.{ColumnData}
 use Rattle.vx_plan.specs.Nodes.{Node}
-use Rattle.vx_plan.specs.Plans.{Head, Plan, Plans, PlanValidity, plan, no_plans, all_valid, valid_as, plan_at, plans_from, field_plans, front_plans, last_plan, last_validity, pack_plan}
+use Rattle.vx_plan.specs.Plans.{Head, Plan, plan_at, plans_from, field_plans, front_plans, last_plan, last_validity, pack_plan}
 use Rattle.vx_plan.specs.Rules.{field_count, node_at, nodes_at, IsValidityType, ValidityFits}
 use Rattle.vx_rows.specs.Derivations.{Leaves, derived_each, struct_of_values, valid_value, where_valid}
 use Rattle.vx_steps.specs.declared.errors.StepError.{StepError}

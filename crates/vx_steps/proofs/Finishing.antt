@@ -1,7 +1,8 @@
 -- What an active split that is tried comes to.
-use Rattle.std.proofs.Common.{◌≡◌, Global, Vec, set, ℕ, zero, suc, ◌+◌, ◌<◌, ◌≤◌, ◌==◌, inl, inr, ⊎_elim, Bool, true, false, List, [], ◌∷◌, ◌++◌, map, drop, Option, Some, None, Result, Ok, Err, length, get_or, refl, sym, ap, ◌∙◌, subst, arith}
+use Rattle.std.proofs.Common.{◌≡◌, Global, Vec, set, ℕ, zero, suc, ◌+◌, ◌<◌, ◌≤◌, ◌==◌, ◌⊎◌, inl, inr, ⊎_elim, Bool, true, false, List, [], ◌∷◌, ◌++◌, map, drop, Option, Some, None, Result, Ok, Err, length, get_or, refl, sym, ap, ◌∙◌, subst, arith}
 use Rattle.std.specs.Prelude.{if◌then◌else◌, IfOk, IfErr, IfSome}
 use Rattle.std.specs.List.{slice_get, AllByRecursion, remove}
+use Rattle.std.specs.Option.{option_map}
 use Rattle.vx_base.specs.Columns.{ColumnData}
 use Rattle.vx_steps.specs.declared.errors.StepError.{StepError}
 use Rattle.vx_steps.specs.declared.errors.StepError.TheVariants.{BadSegment, Unsupported, BadCode, EvalFault, Memory}
@@ -18,20 +19,21 @@ use Rattle.vx_plan.specs.Rules.{node_at}
 use Rattle.vx_rows.specs.SegmentLeaves.{Bytes, leaves_of}
 use Rattle.vx_steps.specs.Kept.{kept_at, IsKept}
 use Rattle.vx_steps.specs.KeptData.{Kept}
-use Rattle.vx_steps.specs.Needs.{Among, AreLeaves}
-use Rattle.vx_steps.specs.Wants.{AreNeeds, IsAsked}
+use Rattle.vx_steps.specs.Needs.{Among, AreAmong, AreLeaves}
+use Rattle.vx_steps.specs.Wants.{AreNeeds, IsAsked, IsNeededLeaf}
 use Rattle.vx_steps.specs.declared.wholes.Wholes.{Wholes}
 use Rattle.vx_steps.specs.Wholes.{AddsAsked, AddsOnly, Asks, KeepsValues, UsesGiven}
 use Rattle.vx_steps.specs.ReadTableData.{Wanted, ReadsData}
 use Rattle.vx_steps.specs.ReadTable.{bytes_of, HandsOut, StandsAt}
 use Rattle.vx_steps.specs.Delivered.{KeepsLeaves, LacksNeed}
 use Rattle.vx_steps.specs.Splits.{IsInside}
-use Rattle.vx_steps.specs.Turns.{HasNeedCause, IsOutput, IsRefusal, LeavesWholes, ReadsFor}
-use Rattle.vx_steps.specs.Jobs.{numbers_from, number_of_active, left_of, IsActive, IsAskedFor, IsGood, KeepsTold, KeepsWholes, OnlyKeeps, Starts}
+use Rattle.vx_steps.specs.Turns.{AreLeavesKept, HasNeedCause, IsOutput, IsRefusal, LeavesWholes, ReadsFor}
+use Rattle.vx_steps.specs.Jobs.{numbers_from, number_of_active, left_of, IsActive, AddsLeaves, IsAskedBy, IsAskedFor, IsGood, IsLeafFor, IsWantedBy, KeepsColumns, KeepsTold, KeepsWholes, KeepsWholesFor, OnlyKeeps, Starts, WantsFor, WantsOnly}
 use Rattle.vx_steps.specs.Steps.{GivesOutput, GoesOn, HandsRead, HasCauseIn, HasSplitCause, HoldsAll, TakesTurn, work_left, IsActiveOutput, IsHeldAt, IsHeldUp, IsMissing, IsStepRefusal}
 use Rattle.std.proofs.lemmas.List.{set-get_or}
 use Rattle.std.proofs.lemmas.List.Edits.{length-remove, remove-append_left}
-use Rattle.vx_steps.proofs.Decoding.{not_kept_before}
+use Rattle.std.proofs.lemmas.Option.{slice_get-map}
+use Rattle.vx_steps.proofs.Decoding.{adds_then, not_kept_before}
 use Rattle.vx_steps.proofs.Keeping.{got_inside, same_got}
 use Rattle.vx_steps.proofs.Starting.{got_at}
 use Rattle.vx_steps.proofs.Turning.{leaves_before}
@@ -40,6 +42,10 @@ pub got_among : {X : Type 0} (xs : List X) (i : ℕ) (x : X) → slice_get xs i 
 got_among [] i x h = cc
 got_among (y ∷ xs) zero x h = inl cc
 got_among (y ∷ xs) (suc i) x h = inr (got_among xs i x h)
+
+-- the number of an active split is one of theirs
+pub number_among : (actives : List ActiveSplit) (place : ℕ) (active : ActiveSplit) → slice_get actives place ≡ Some active → Among active.split (map number_of_active actives)
+number_among actives place active at = got_among (map number_of_active actives) place active.split (slice_get-map number_of_active actives place ∙ ap (option_map number_of_active) at)
 
 all_got : {X : Type 0} (P : X → Type 0) (xs : List X) (i : ℕ) (x : X) → AllByRecursion P xs → slice_get xs i ≡ Some x → P x
 all_got P [] i x all h = cc
@@ -87,6 +93,7 @@ pub uses_then : (given old mid new : List Kept) → UsesGiven given old mid → 
 uses_then given old mid new first second = record {
   grows = λ n column at. second.grows n column (first.grows n column at);
   only = λ n column at. ⊎_elim (λ (e : kept_at mid n ≡ Some column). first.only n column e) (λ (e : kept_at given n ≡ Some column). inr e) (second.only n column at);
+  apart = λ apart. second.apart (first.apart apart);
 }
 
 -- the active split at a place, with what is the same in place of its needs
@@ -108,6 +115,8 @@ good_tried nodes job old active leaves wholes same keeps values uses good = reco
   typed_given = good.typed_given;
   typed_leaves = keeps.typed good.typed_leaves;
   typed_made = values.typed good.typed_made;
+  apart_made = values.apart good.apart_made;
+  apart_used = uses.apart good.apart_used;
   uses = uses_then job.given [] old.wholes.used wholes.used good.uses uses;
   actives = λ a m. active_keeps a (good.actives a (subst (λ (xs : List ActiveSplit). Among a xs) same m));
 }
@@ -123,14 +132,16 @@ good_tried nodes job old active leaves wholes same keeps values uses good = reco
 
 -- a split that is tried keeps what lies outside
 pub keeps_tried : (nodes : List Node) (job : Job) (old : Progress) (actives : Vec ActiveSplit Global) (leaves : List Kept) (wholes : Wholes) → actives.items ≡ old.active.items → KeepsLeaves nodes old.reads.wanted old.leaves leaves → KeepsValues nodes leaves job.offset old.wholes.made wholes.made → UsesGiven job.given old.wholes.used wholes.used →
-    (place : ℕ) (active : ActiveSplit) (split : Split) → HasParts nodes job old place active split → AddsAsked nodes job.given job.plan split.rows.start split.mask old.wholes wholes → OnlyKeeps nodes job old (record { next = old.next; active = actives; reads = old.reads; leaves = leaves; wholes = wholes })
-keeps_tried nodes job old actives leaves wholes same keeps values uses place active split parts asked = record {
+    (place : ℕ) (active : ActiveSplit) (split : Split) → HasParts nodes job old place active split → AddsOnly (IsNeededLeaf active.needs) old.leaves leaves → AddsAsked nodes job.given job.plan split.rows.start split.mask old.wholes wholes → OnlyKeeps nodes job old (record { next = old.next; active = actives; reads = old.reads; leaves = leaves; wholes = wholes })
+keeps_tried nodes job old actives leaves wholes same keeps values uses place active split parts needed asked = record {
   next = refl;
   active = same;
   reads = refl;
   told = λ outside is.
       let have = keeps.right outside is.bytes is.leaves_are in
       record { bytes = is.bytes; leaves_are = have; made_are = values.right (leaves_of outside) have is.made_are };
+  leaves = keeps.grows;
+  leaves_only = λ n kept. ⊎_elim (λ (k : IsKept old.leaves n). inl k) (λ (l : IsNeededLeaf active.needs n). inr (record { number = active.split; among = number_among old.active.items place active parts.active_at; split = split; at = parts.split_at; read = l.0; reads = parts.needs.only l.0 l.1; leaf_is = l.2 })) (needed n kept);
   wholes = record {
     made = values.grows;
     used = uses.grows;
@@ -139,8 +150,8 @@ keeps_tried nodes job old actives leaves wholes same keeps values uses place act
   };
 }
   where
-    only_asked : (before after : List Kept) → AddsOnly (Asks nodes job.given job.plan split.rows.start split.mask) before after → AddsOnly (IsAskedFor nodes job) before after
-    only_asked before after only n kept = ⊎_elim (λ (k : IsKept before n). inl k) (λ (a : Asks nodes job.given job.plan split.rows.start split.mask n). inr (record { number = active.split; split = split; at = parts.split_at; asks = a })) (only n kept)
+    only_asked : (before after : List Kept) → AddsOnly (Asks nodes job.given job.plan split.rows.start split.mask) before after → AddsOnly (IsAskedBy nodes job (map number_of_active old.active.items)) before after
+    only_asked before after only n kept = ⊎_elim (λ (k : IsKept before n). inl k) (λ (a : Asks nodes job.given job.plan split.rows.start split.mask n). inr (record { number = active.split; split = split; at = parts.split_at; asks = a }, number_among old.active.items place active parts.active_at)) (only n kept)
 
 missing_here : (w : Wanted) (segment : ℕ) → w.segment ≡ segment → w.bytes ≡ None → Some w ≡ Some (record { segment = segment; bytes = None })
 missing_here w segment e none = ap (λ (s : ℕ). Some (record { segment = s; bytes = w.bytes })) e ∙ ap (λ (b : Option (List ℕ)). Some (record { segment = segment; bytes = b })) none
@@ -162,26 +173,27 @@ missing_first [] segment asked none = absurd asked.1
 missing_first (w ∷ wanted) segment asked none = missing_by w wanted segment (w.segment == segment) refl asked (λ a n. missing_first wanted segment a n) none
 
 pub output_up : (nodes : List Node) (job : Job) (old new : Progress) (place : ℕ) (active : ActiveSplit) (split : Split) (result : Result (Option ColumnData) StepError) → HasParts nodes job old place active split →
-    IfOk result (λ output. IfSome output (IsOutput nodes job split old.reads.wanted old.leaves old.wholes.made new.wholes)) → IfOk result (λ output. IfSome output (IsActiveOutput nodes job old new place))
-output_up nodes job old new place active split (Ok (Some column)) parts right = record { active = active; active_at = parts.active_at; split = split; split_at = parts.split_at; output = right }
-output_up nodes job old new place active split (Ok None) parts right = tt
-output_up nodes job old new place active split (Err error) parts right = tt
+    IfOk result (λ output. IfSome output (IsOutput nodes job split old.reads.wanted old.leaves old.wholes.made new.wholes)) → IfOk result (λ output. IfSome output (λ column. AreLeavesKept nodes job split new.leaves)) → IfOk result (λ output. IfSome output (IsActiveOutput nodes job old new place))
+output_up nodes job old new place active split (Ok (Some column)) parts right leaves = record { active = active; active_at = parts.active_at; split = split; split_at = parts.split_at; output = right; leaves = leaves }
+output_up nodes job old new place active split (Ok None) parts right leaves = tt
+output_up nodes job old new place active split (Err error) parts right leaves = tt
 
 pub held_up : (nodes : List Node) (job : Job) (old : Progress) (place : ℕ) (active : ActiveSplit) (split : Split) (result : Result (Option ColumnData) StepError) → HasParts nodes job old place active split →
     IfOk result (λ output. output ≡ None → LacksNeed old.reads.wanted old.leaves active.needs) → IfOk result (λ output. output ≡ None → IsHeldAt old place)
 held_up nodes job old place active split (Ok (Some column)) parts waiting = λ e. absurd cc
 held_up nodes job old place active split (Ok None) parts waiting = λ e a at.
     let w = waiting refl in
-    let P : ActiveSplit → Type 0 = λ x. IsHeldUp old.reads.wanted x in
-    let here : P active = (w.0, w.1, missing_first old.reads.wanted (w.0).segment (parts.asked w.0 w.1 w.2) w.3) in
+    let P : ActiveSplit → Type 0 = λ x. IsHeldUp old.leaves old.reads.wanted x in
+    let here : P active = (w.0, w.1, w.2, missing_first old.reads.wanted (w.0).segment (parts.asked w.0 w.1 w.2) w.3) in
     subst P (same_got (slice_get old.active.items place) active a parts.active_at at) here
 held_up nodes job old place active split (Err error) parts waiting = tt
 
-pub cause_of_split : (nodes : List Node) (job : Job) (old new : Progress) (place : ℕ) (active : ActiveSplit) (split : Split) (result : Result (Option ColumnData) StepError) → HasParts nodes job old place active split → new.reads ≡ old.reads →
+pub cause_of_split : (nodes : List Node) (job : Job) (old new : Progress) (place : ℕ) (active : ActiveSplit) (split : Split) (result : Result (Option ColumnData) StepError) → HasParts nodes job old place active split → new.reads ≡ old.reads → new.active.items ≡ old.active.items →
     IfErr result (IsRefusal nodes job split active.needs old.reads.wanted old.leaves old.wholes.made) → IfErr result (LeavesWholes nodes job split old.reads.wanted old.leaves old.wholes.made new.wholes) → IfErr result (IsStepRefusal nodes job old new)
-cause_of_split nodes job old new place active split (Ok output) parts same cause left = tt
-cause_of_split nodes job old new place active split (Err error) parts same cause left = inr (record {
+cause_of_split nodes job old new place active split (Ok output) parts same actives cause left = tt
+cause_of_split nodes job old new place active split (Err error) parts same actives cause left = inr (record {
   number = active.split;
+  active = subst (λ (xs : List ActiveSplit). Among active.split (map number_of_active xs)) (sym actives) (number_among old.active.items place active parts.active_at);
   split = split;
   at = parts.split_at;
   cause = subst (λ (r : ReadsData). HasSplitCause nodes job old r.wanted split error) (sym same) (λ outside is. by outside error (cause outside is));
@@ -225,6 +237,40 @@ map_length : (xs : List ActiveSplit) → length (map number_of_active xs) ≡ le
 map_length [] = refl
 map_length (x ∷ xs) = ap suc (map_length xs)
 
+-- what stood in a list is what was removed, or still stands there
+rest_later : {X : Type 0} (ys : List X) (x : X) → Among x ys → Among x (drop 0 ys)
+rest_later [] x h = absurd h
+rest_later (y ∷ ys) x h = h
+
+rest_among : {X : Type 0} (xs : List X) (i : ℕ) (y : X) → slice_get xs i ≡ Some y → (x : X) → Among x xs → (y ≡ x) ⊎ Among x (remove xs i)
+rest_among [] i y at x h = absurd h
+rest_among (z ∷ zs) zero y at x (inl e) =
+    let is : z ≡ y = cc in
+    inl (sym is ∙ e)
+rest_among (z ∷ zs) zero y at x (inr h) = inr (rest_later zs x h)
+rest_among (z ∷ zs) (suc i) y at x (inl e) = inr (inl e)
+rest_among (z ∷ zs) (suc i) y at x (inr h) = ⊎_elim (λ (e : y ≡ x). inl e) (λ (m : Among x (remove zs i)). inr (inr m)) (rest_among zs i y at x h)
+
+-- the numbers of active splits, when one of them is removed
+pub removed_among : (first tried new : List ActiveSplit) (place : ℕ) (active : ActiveSplit) → place < length tried → active ≡ get_or tried place active → tried ≡ first → new ≡ remove tried place → AreAmong (map number_of_active first) (active.split ∷ map number_of_active new)
+removed_among first tried new place active inside is same removed n m =
+    let at : slice_get (map number_of_active tried) place ≡ Some active.split = slice_get-map number_of_active tried place ∙ ap (option_map number_of_active) (got_at tried place active inside is) in
+    let M : List ActiveSplit → Type 0 = λ xs. Among n (map number_of_active xs) in
+    let R : List ℕ → Type 0 = λ ns. Among n (active.split ∷ ns) in
+    subst R (sym (ap (map number_of_active) removed ∙ map_removed tried place)) (rest_among (map number_of_active tried) place active.split at n (subst M (sym same) m))
+
+pub same_among : (old new : List ActiveSplit) → new ≡ old → AreAmong (map number_of_active old) (map number_of_active new)
+same_among old new same =
+    let A : List ActiveSplit → Type 0 = λ xs. AreAmong (map number_of_active old) (map number_of_active xs) in
+    subst A (sym same) (λ n among. among)
+
+pub fewer_removed : (first tried new : List ActiveSplit) (place : ℕ) → place < length tried → tried ≡ first → new ≡ remove tried place → length new ≤ length first
+fewer_removed first tried new place inside same removed =
+    let less = length-remove tried place inside in
+    let count : length tried ≡ length first = ap length same in
+    let rest : length new ≡ length (remove tried place) = ap length removed in
+    omega arith
+
 left_removed : (xs : List ActiveSplit) (more : List ℕ) (i : ℕ) → i < length xs → map number_of_active (remove xs i) ++ more ≡ remove (map number_of_active xs ++ more) i
 left_removed xs more i inside =
     let e = map_length xs in
@@ -238,23 +284,36 @@ got_mapped (y ∷ xs) more zero x h =
     ap (λ (a : ActiveSplit). Some a.split) e
 got_mapped (y ∷ xs) more (suc i) x h = got_mapped xs more i x h
 
-pub wholes_none : (nodes : List Node) (job : Job) (wholes : Wholes) → KeepsWholes nodes job wholes wholes
-wholes_none nodes job wholes = record { made = λ n column at. at; used = λ n column at. at; made_only = λ n kept. inl kept; used_only = λ n kept. inl kept }
+pub wholes_none : (nodes : List Node) (job : Job) (numbers : List ℕ) (wholes : Wholes) → KeepsWholesFor nodes job numbers wholes wholes
+wholes_none nodes job numbers wholes = record { made = λ n column at. at; used = λ n column at. at; made_only = λ n kept. inl kept; used_only = λ n kept. inl kept }
 
-only_then : (P : ℕ → Type 0) (old mid new : List Kept) → AddsOnly P old mid → AddsOnly P mid new → AddsOnly P old new
-only_then P old mid new first second n kept = ⊎_elim (λ (k : IsKept mid n). first n k) (λ (p : P n). inr p) (second n kept)
-
-pub wholes_then : (nodes : List Node) (job : Job) (old mid new : Wholes) → KeepsWholes nodes job old mid → KeepsWholes nodes job mid new → KeepsWholes nodes job old new
-wholes_then nodes job old mid new first second = record {
+pub wholes_then : (nodes : List Node) (job : Job) (numbers : List ℕ) (old mid new : Wholes) → KeepsWholesFor nodes job numbers old mid → KeepsWholesFor nodes job numbers mid new → KeepsWholesFor nodes job numbers old new
+wholes_then nodes job numbers old mid new first second = record {
   made = λ n column at. second.made n column (first.made n column at);
   used = λ n column at. second.used n column (first.used n column at);
-  made_only = only_then (IsAskedFor nodes job) old.made mid.made new.made first.made_only second.made_only;
-  used_only = only_then (IsAskedFor nodes job) old.used mid.used new.used first.used_only second.used_only;
+  made_only = adds_then (IsAskedBy nodes job numbers) old.made mid.made new.made first.made_only second.made_only;
+  used_only = adds_then (IsAskedBy nodes job numbers) old.used mid.used new.used first.used_only second.used_only;
 }
 
+-- what is asked for by these splits is asked for by more
+pub wholes_for : (nodes : List Node) (job : Job) (numbers more : List ℕ) (old mid new : Wholes) → AreAmong numbers more → mid ≡ old → KeepsWholesFor nodes job numbers mid new → KeepsWholesFor nodes job more old new
+wholes_for nodes job numbers more old mid new among same keeps =
+    let P : Wholes → Type 0 = λ w. KeepsWholesFor nodes job more w new in
+    subst P same (record { made = keeps.made; used = keeps.used; made_only = only_more mid.made new.made keeps.made_only; used_only = only_more mid.used new.used keeps.used_only })
+  where
+    only_more : (before after : List Kept) → AddsOnly (IsAskedBy nodes job numbers) before after → AddsOnly (IsAskedBy nodes job more) before after
+    only_more before after only n kept = ⊎_elim (λ (k : IsKept before n). inl k) (λ (a : IsAskedBy nodes job numbers n). inr (a.0, among (a.0).number a.1)) (only n kept)
+
+-- and by splits of the scan
+pub wholes_only : (nodes : List Node) (job : Job) (numbers : List ℕ) (old new : Wholes) → KeepsWholesFor nodes job numbers old new → KeepsWholes nodes job old new
+wholes_only nodes job numbers old new keeps = record { made = keeps.made; used = keeps.used; made_only = any_split old.made new.made keeps.made_only; used_only = any_split old.used new.used keeps.used_only }
+  where
+    any_split : (before after : List Kept) → AddsOnly (IsAskedBy nodes job numbers) before after → AddsOnly (IsAskedFor nodes job) before after
+    any_split before after only n kept = ⊎_elim (λ (k : IsKept before n). inl k) (λ (a : IsAskedBy nodes job numbers n). inr a.0) (only n kept)
+
 pub gives_output : (nodes : List Node) (job : Job) (first mid tried new : Progress) (place : ℕ) (column : ColumnData) (active : ActiveSplit) → OnlyKeeps nodes job first mid → IsActiveOutput nodes job mid tried place column → OnlyKeeps nodes job mid tried →
-    place < length tried.active.items → active ≡ get_or tried.active.items place active → new.active.items ≡ remove tried.active.items place → new.next ≡ tried.next → new.reads ≡ tried.reads → new.wholes ≡ tried.wholes → GivesOutput nodes job first new active.split column
-gives_output nodes job first mid tried new place column active before out after inside is removed next reads wholes =
+    place < length tried.active.items → active ≡ get_or tried.active.items place active → new.active.items ≡ remove tried.active.items place → new.next ≡ tried.next → new.reads ≡ tried.reads → new.leaves ≡ tried.leaves → new.wholes ≡ tried.wholes → GivesOutput nodes job first new active.split column
+gives_output nodes job first mid tried new place column active before out after inside is removed next reads leaves wholes =
     let now_mid : tried.active.items ≡ mid.active.items = after.active in
     let now_first : tried.active.items ≡ first.active.items = now_mid ∙ before.active in
     let got = got_at tried.active.items place active inside is in
@@ -278,26 +337,40 @@ gives_output nodes job first mid tried new place column active before out after 
         right = λ outside told. out.output.right outside (before.told outside told);
         there = out.output.there;
       });
+      leaves = subst (λ (ks : List Kept). AreLeavesKept nodes job out.split ks) (sym leaves) out.leaves;
       handed = ap (λ r. r.handed) (reads ∙ (after.reads ∙ before.reads));
     }
 
 pub keeps_none : (nodes : List Node) (job : Job) (progress : Progress) → OnlyKeeps nodes job progress progress
-keeps_none nodes job progress = record { next = refl; active = refl; reads = refl; told = λ outside is. is; wholes = wholes_none nodes job progress.wholes }
+keeps_none nodes job progress = record { next = refl; active = refl; reads = refl; told = λ outside is. is; leaves = λ n column at. at; leaves_only = λ n kept. inl kept; wholes = wholes_none nodes job (map number_of_active progress.active.items) progress.wholes }
 
 pub only_keeps_then : (nodes : List Node) (job : Job) (old mid new : Progress) → OnlyKeeps nodes job old mid → OnlyKeeps nodes job mid new → OnlyKeeps nodes job old new
-only_keeps_then nodes job old mid new first second = record {
-  next = second.next ∙ first.next;
-  active = second.active ∙ first.active;
-  reads = second.reads ∙ first.reads;
-  told = λ outside is. second.told outside (first.told outside is);
-  wholes = wholes_then nodes job old.wholes mid.wholes new.wholes first.wholes second.wholes;
-}
+only_keeps_then nodes job old mid new first second =
+    let W : List ActiveSplit → Type 0 = λ xs. KeepsWholesFor nodes job (map number_of_active xs) mid.wholes new.wholes in
+    let L : List ActiveSplit → Type 0 = λ xs. AddsLeaves nodes job (map number_of_active xs) mid.leaves new.leaves in
+    record {
+      next = second.next ∙ first.next;
+      active = second.active ∙ first.active;
+      reads = second.reads ∙ first.reads;
+      told = λ outside is. second.told outside (first.told outside is);
+      leaves = λ n column at. second.leaves n column (first.leaves n column at);
+      leaves_only = adds_then (IsLeafFor nodes job (map number_of_active old.active.items)) old.leaves mid.leaves new.leaves first.leaves_only (subst L first.active second.leaves_only);
+      wholes = wholes_then nodes job (map number_of_active old.active.items) old.wholes mid.wholes new.wholes first.wholes (subst W first.active second.wholes);
+    }
+
+none_before : (old new : List Kept) (n : ℕ) → KeepsColumns old new → kept_at new n ≡ None → kept_at old n ≡ None
+none_before old new n keeps e = by (kept_at old n) refl
+  where
+    by : (o : Option ColumnData) → kept_at old n ≡ o → o ≡ None
+    by None at = refl
+    by (Some column) at = let both : Some column ≡ None = sym (keeps n column at) ∙ e in absurd cc
 
 pub held_before : (nodes : List Node) (job : Job) (old mid : Progress) (place : ℕ) → OnlyKeeps nodes job old mid → IsHeldAt mid place → IsHeldAt old place
 held_before nodes job old mid place keeps held a at =
     let G : List ActiveSplit → Type 0 = λ xs. slice_get xs place ≡ Some a in
-    let H : List Wanted → Type 0 = λ wanted. IsHeldUp wanted a in
-    subst H (ap (λ r. r.wanted) keeps.reads) (held a (subst G (sym keeps.active) at))
+    let H : List Wanted → Type 0 = λ wanted. IsHeldUp old.leaves wanted a in
+    let is = held a (subst G (sym keeps.active) at) in
+    subst H (ap (λ r. r.wanted) keeps.reads) (is.0, is.1, none_before old.leaves mid.leaves (is.0).leaf keeps.leaves is.2, is.3)
 
 among_at : {X : Type 0} (xs : List X) (x : X) → Among x xs → (i : ℕ) × (i < length xs) × (slice_get xs i ≡ Some x)
 among_at [] x h = absurd h
@@ -312,7 +385,7 @@ holds_all nodes job old new keeps held = record {
   active = keeps.active;
   held = λ a m.
       let M : List ActiveSplit → Type 0 = λ xs. Among a xs in
-      let H : List Wanted → Type 0 = λ wanted. IsHeldUp wanted a in
+      let H : List Wanted → Type 0 = λ wanted. IsHeldUp old.leaves wanted a in
       let at = among_at old.active.items a (subst M keeps.active m) in
       subst H (sym (ap (λ r. r.wanted) keeps.reads)) (held at.0 at.1 a at.2);
 }
@@ -321,6 +394,7 @@ pub refusal_before : (nodes : List Node) (job : Job) (old mid new : Progress) (e
 refusal_before nodes job old mid new error keeps (inl e) = inl e
 refusal_before nodes job old mid new error keeps (inr r) = inr (record {
   number = r.number;
+  active = r.active;
   split = r.split;
   at = r.at;
   cause = λ outside is. r.cause outside (keeps outside is);
@@ -339,6 +413,23 @@ told_reads nodes job old new reads e told =
     let P : ReadsData → Type 0 = λ r. KeepsTold nodes job old (record { next = new.next; active = new.active; reads = r; leaves = new.leaves; wholes = new.wholes }) in
     subst P (sym e) told
 
+-- what is wanted for these splits is wanted for more
+pub wants_for : (nodes : List Node) (job : Job) (numbers more : List ℕ) (old mid new : Progress) → AreAmong numbers more → new.reads.wanted ≡ mid.reads.wanted → WantsFor nodes job numbers old mid → WantsFor nodes job more old new
+wants_for nodes job numbers more old mid new among same wants segment asked =
+    let P : List Wanted → Type 0 = λ wanted. IsAsked wanted segment in
+    ⊎_elim (λ (a : IsAsked old.reads.wanted segment). inl a) (λ (w : IsWantedBy nodes job numbers old.leaves segment). inr (w.0, among (w.0).number w.1)) (wants segment (subst P same asked))
+
+-- leaves of these splits are leaves of more
+pub leaves_for : (nodes : List Node) (job : Job) (numbers more : List ℕ) (old mid new : List Kept) → AreAmong numbers more → mid ≡ old → AddsLeaves nodes job numbers mid new → AddsLeaves nodes job more old new
+leaves_for nodes job numbers more old mid new among same only =
+    let P : List Kept → Type 0 = λ ks. AddsLeaves nodes job more ks new in
+    subst P same (λ n kept. ⊎_elim (λ (k : IsKept mid n). inl k) (λ (l : IsLeafFor nodes job numbers n). inr (record { number = l.number; among = among l.number l.among; split = l.split; at = l.at; read = l.read; reads = l.reads; leaf_is = l.leaf_is })) (only n kept))
+
+-- and it is wanted for the scan
+pub wants_only : (nodes : List Node) (job : Job) (numbers : List ℕ) (old new : Progress) → WantsFor nodes job numbers old new → WantsOnly nodes job old new
+wants_only nodes job numbers old new wants segment asked =
+    ⊎_elim (λ (a : IsAsked old.reads.wanted segment). inl a) (λ (w : IsWantedBy nodes job numbers old.leaves segment). inr w.0) (wants segment asked)
+
 pub gives_later : (nodes : List Node) (job : Job) (old mid new : Progress) (number : ℕ) (column : ColumnData) → Starts nodes job old mid → KeepsTold nodes job old mid → GivesOutput nodes job mid new number column → GivesOutput nodes job old new number column
 gives_later nodes job old mid new number column starts told gives =
     let A : List ℕ → Type 0 = λ ns. slice_get ns gives.place ≡ Some number in
@@ -354,6 +445,7 @@ gives_later nodes job old mid new number column starts told gives =
         right = λ outside is. gives.output.right outside (told outside is);
         there = gives.output.there;
       };
+      leaves = gives.leaves;
       handed = gives.handed ∙ starts.handed;
     }
 

@@ -1,5 +1,7 @@
 pub mod Agreeing
+pub mod Apart
 pub mod Beginning
+pub mod CertifiedValues
 pub mod ChunkRows
 pub mod Chunking
 pub mod CodeVisits
@@ -11,6 +13,7 @@ pub mod Finishing
 pub mod HandedRows
 pub mod Indexing
 pub mod Keeping
+pub mod LeavingRows
 pub mod Needing
 pub mod Offering
 pub mod OutermostTakes
@@ -21,10 +24,14 @@ pub mod ReadVisits
 pub mod SelectedRows
 pub mod Selecting
 pub mod Shaping
+pub mod SplitTakes
 pub mod SplitVisits
+pub mod Standing
+pub mod StandingVisits
 pub mod Starting
 pub mod Structures
 pub mod Turning
+pub mod UsedValues
 pub mod VisitedParts
 pub mod VisitedReads
 pub mod Visiting

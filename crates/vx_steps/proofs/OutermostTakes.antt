@@ -1,6 +1,6 @@
 -- Rows ask for the whole values of each outermost take that they read.
 use Rattle.std.proofs.Common.{◌≡◌, ℕ, ◌+◌, ◌-◌, ◌<◌, ◌⊎◌, inl, inr, ⊎_elim, Bool, List, [], ◌∷◌, Option, Some, None, length, map, refl, sym, ap, ◌∙◌, subst, arith}
-use Rattle.std.specs.Prelude.{nat_lt, IsSomeAnd}
+use Rattle.std.specs.Prelude.{nat_lt}
 use Rattle.std.specs.List.{slice_get, All, AllByRecursion}
 use Rattle.std.proofs.lemmas.List.Elements.{All-head, All-tail}
 use Rattle.std.proofs.lemmas.Option.{slice_get-get_or}
@@ -10,7 +10,6 @@ use Rattle.vx_rows.specs.Reads.{directly, through, Read, reads_of, reads_of_each
 use Rattle.vx_rows.proofs.ReadRows.{any_either, each_lies_through}
 use Rattle.vx_plan.specs.declared.nodes.PlanKind.{PlanKind}
 use Rattle.vx_plan.specs.declared.nodes.PlanKind.TheVariants as kinds
-use Rattle.vx_plan.specs.Kinds.{IsShare}
 use Rattle.vx_plan.specs.Nodes.{Node, absent}
 use Rattle.vx_plan.specs.Plans.{Head, Plan, no_plan, concat_plan, eval_plan, filter_plan, pack_plan, take_plan, share_plan, list_plan, row_idx_plan, scan_plan, zoned_plan, Plans, no_plans, plan, PlanValidity, all_valid, valid_as, plan_head, head_at, plan_at, plan_gap, plan_in, plan_grown_as}
 use Rattle.vx_plan.specs.PlanRows.{plan_derivation, plan_derivation_in, plan_derivations, plan_where_valid}
@@ -20,14 +19,16 @@ use Rattle.vx_plan.proofs.Adding.{head_in_table}
 use Rattle.vx_plan.proofs.Growing.{below_known}
 use Rattle.vx_plan.proofs.Unfolding.{Known, known}
 use Rattle.vx_steps.specs.declared.wholes.Wholes.{Wholes}
+use Rattle.vx_steps.specs.Below.{HasNoShare, IsSharePlan}
 use Rattle.vx_steps.specs.Given.{Handed, given_for}
 use Rattle.vx_steps.specs.KeptData.{Kept}
-use Rattle.vx_steps.specs.Laws.{IsTakeOver, IsShareRow, HasNoShare, ReadsTake, IsValuesOf}
+use Rattle.vx_steps.specs.Laws.{ReadsTake, IsValuesOf}
 use Rattle.vx_steps.specs.Rows.{SomeRow}
 use Rattle.vx_steps.specs.Visits.{Test, Visits, VisitsIn, VisitsField, VisitsValidity, IsWholeRead}
 use Rattle.vx_steps.specs.Wholes.{AreThere, IsThere}
 use Rattle.vx_steps.proofs.PlacedVisits.{Implies, IsPlaced, is_placed, visit_mapped}
 use Rattle.vx_steps.proofs.ReadVisits.{by_match}
+use Rattle.vx_steps.proofs.Standing.{visit_stands}
 
 -- ---- what is read directly
 
@@ -47,6 +48,14 @@ none_direct take n (read ∷ reads) each (inl here) =
     let direct : read.way ≡ directly = here.0 in
     cc
 none_direct take n (read ∷ reads) each (inr later) = none_direct take n reads each.1 later
+
+-- a take of that number, over values of the other, and not inside whole values
+abbrev pub IsTakeOver : ℕ → ℕ → Test
+IsTakeOver take values_number (Some handed) (take_plan head codes values) row = (head.number ≡ take) × ((plan_head values).number ≡ values_number)
+IsTakeOver take values_number handed p row = ⊥
+
+abbrev IsShareRow : Test
+IsShareRow handed p row = IsSharePlan p
 
 -- a take of the number, by its values' plan, or else a share
 abbrev TakeOrShare : ℕ → Option ℕ → Test
@@ -130,30 +139,6 @@ mutual
 
 -- ---- the plans of a table
 
--- whoever is a share row is of a share
-share_kind : (kind : PlanKind) (handed : Handed) (head : Head) (ps : List Plan) (row : ℕ) → IsShareRow handed (plan_grown_as head kind ps) row → IsShare kind
-share_kind kinds.Concat handed head ps row v = absurd v
-share_kind (kinds.Eval a) handed head ps row v = absurd v
-share_kind kinds.Filter handed head ps row v = absurd v
-share_kind (kinds.Pack has_validity) handed head ps row v = absurd v
-share_kind kinds.Take handed head ps row v = absurd v
-share_kind kinds.Share handed head ps row v = tt
-share_kind (kinds.ListPack has_validity) handed head ps row v = absurd v
-share_kind kinds.RowIdx handed head ps row v = absurd v
-share_kind (kinds.SegmentScan segment) handed head ps row v = absurd v
-share_kind (kinds.Zoned zone_len stats) handed head ps row v = absurd v
-share_kind (kinds.LegacyStats zone_len stats) handed head ps row v = absurd v
-
-no_share_row : (nodes : List Node) → IsGoodTable nodes → HasNoShare nodes → IsPlaced IsShareRow nodes → ⊥
-no_share_row nodes good none one =
-    let n : ℕ = one.number in
-    let node : Node = node_at nodes n in
-    let at : slice_get nodes n ≡ Some node = slice_get-get_or nodes n absent one.there in
-    let k : Known nodes n node node.kind = known nodes good n node node.kind at refl in
-    let F : Plan → Type 0 = λ p. IsShareRow one.handed p one.row in
-    let G : Option Node → Type 0 = λ o. IsSomeAnd o (λ node. IsShare node.kind) in
-    none n (subst G (sym at) (share_kind node.kind one.handed (head_at n node) (map (plan_at nodes) node.children) one.row (subst F k.law one.is)))
-
 -- the values' plan is the second child
 second_child : (nodes : List Node) → IsGoodTable nodes → (node : Node) (ns : List ℕ) (values : ℕ) → IsMadeAs kinds.Take node (nodes_at nodes ns) → All (λ n. n < length nodes) ns → (plan_head (plan_in (map (plan_at nodes) ns) 1)).number ≡ values → slice_get ns 1 ≡ Some values
 second_child nodes good node [] values made these is = absurd made
@@ -163,13 +148,13 @@ second_child nodes good node (n ∷ m ∷ ns) values made these is =
     ap Some (sym (ap (λ (head : Head). head.number) (head_in_table nodes good m there)) ∙ is)
 
 take_kind : (kind : PlanKind) (nodes : List Node) → IsGoodTable nodes → (handed : Handed) (head : Head) (node : Node) (ns : List ℕ) (take values row : ℕ) → IsMadeAs kind node (nodes_at nodes ns) → All (λ n. n < length nodes) ns → IsTakeOver take values handed (plan_grown_as head kind (map (plan_at nodes) ns)) row →
-    (head.number ≡ take) × (slice_get ns 1 ≡ Some values)
+    (head.number ≡ take) × (kind ≡ kinds.Take) × (slice_get ns 1 ≡ Some values)
 take_kind kind nodes good None head node ns take values row made these v = absurd v
 take_kind kinds.Concat nodes good (Some given) head node ns take values row made these v = absurd v
 take_kind (kinds.Eval a) nodes good (Some given) head node ns take values row made these v = absurd v
 take_kind kinds.Filter nodes good (Some given) head node ns take values row made these v = absurd v
 take_kind (kinds.Pack has_validity) nodes good (Some given) head node ns take values row made these v = absurd v
-take_kind kinds.Take nodes good (Some given) head node ns take values row made these v = (v.0, second_child nodes good node ns values made these v.1)
+take_kind kinds.Take nodes good (Some given) head node ns take values row made these v = (v.0, refl, second_child nodes good node ns values made these v.1)
 take_kind kinds.Share nodes good (Some given) head node ns take values row made these v = absurd v
 take_kind (kinds.ListPack has_validity) nodes good (Some given) head node ns take values row made these v = absurd v
 take_kind kinds.RowIdx nodes good (Some given) head node ns take values row made these v = absurd v
@@ -177,20 +162,26 @@ take_kind (kinds.SegmentScan segment) nodes good (Some given) head node ns take 
 take_kind (kinds.Zoned zone_len stats) nodes good (Some given) head node ns take values row made these v = absurd v
 take_kind (kinds.LegacyStats zone_len stats) nodes good (Some given) head node ns take values row made these v = absurd v
 
-values_placed : (nodes : List Node) → IsGoodTable nodes → (take values : ℕ) → IsPlaced (IsTakeOver take values) nodes → IsValuesOf nodes take values
-values_placed nodes good take values one =
+-- the node of a take
+pub record IsTakeNode (nodes : List Node) (take values : ℕ) : Type 0 where
+  pub there : take < length nodes
+  pub kind : (node_at nodes take).kind ≡ kinds.Take
+  pub second : IsValuesOf nodes take values
+
+pub take_placed : (nodes : List Node) → IsGoodTable nodes → (take values : ℕ) → IsPlaced (IsTakeOver take values) nodes → IsTakeNode nodes take values
+take_placed nodes good take values one =
     let n : ℕ = one.number in
     let node : Node = node_at nodes n in
     let k : Known nodes n node node.kind = known nodes good n node node.kind (slice_get-get_or nodes n absent one.there) refl in
     let F : Plan → Type 0 = λ p. IsTakeOver take values one.handed p one.row in
-    let has : (n ≡ take) × (slice_get node.children 1 ≡ Some values) = take_kind node.kind nodes good one.handed (head_at n node) node node.children take values one.row k.good.made (below_known nodes n node.children (omega (arith, one.there)) k.good.below) (subst F k.law one.is) in
-    subst (λ (m : ℕ). IsValuesOf nodes m values) has.0 has.1
+    let has : (n ≡ take) × (node.kind ≡ kinds.Take) × (slice_get node.children 1 ≡ Some values) = take_kind node.kind nodes good one.handed (head_at n node) node node.children take values one.row k.good.made (below_known nodes n node.children (omega (arith, one.there)) k.good.below) (subst F k.law one.is) in
+    subst (λ (m : ℕ). IsTakeNode nodes m values) has.0 (record { there = one.there; kind = has.1; second = has.2 })
 
-take_gap : (take values : ℕ) (handed : Handed) (row : ℕ) → IsTakeOver take values handed (plan_gap 0) row → ⊥
+pub take_gap : (take values : ℕ) (handed : Handed) (row : ℕ) → IsTakeOver take values handed (plan_gap 0) row → ⊥
 take_gap take values None row v = v
 take_gap take values (Some given) row v = v
 
-take_whole : (take values : ℕ) → Implies (IsTakeOver take values) (IsWholeRead values)
+pub take_whole : (take values : ℕ) → Implies (IsTakeOver take values) (IsWholeRead values)
 take_whole take values None p row v = absurd v
 take_whole take values (Some given) (no_plan head) row v = absurd v
 take_whole take values (Some given) (concat_plan head children) row v = absurd v
@@ -207,18 +198,19 @@ take_whole take values (Some given) (zoned_plan head zones content table) row v 
 abbrev AskedValues : List Node → ℕ → GivenValues → Plan → ℕ → Type 0
 AskedValues nodes take given p row = (values : ℕ) × IsValuesOf nodes take values × Visits (IsWholeRead values) (Some given) p row
 
-by_table : (nodes : List Node) → IsGoodTable nodes → HasNoShare nodes → (given : GivenValues) (n row take : ℕ) → n < length nodes → Asked take given (plan_at nodes n) row → AskedValues nodes take given (plan_at nodes n) row
-by_table nodes good none given n row take there (None, v) = absurd (no_share_row nodes good none (is_placed IsShareRow (λ handed at gap. gap) nodes good n there (Some given) row v))
-by_table nodes good none given n row take there (Some values, v) = (
+by_table : (nodes : List Node) → IsGoodTable nodes → (given : GivenValues) (n row take : ℕ) → n < length nodes → HasNoShare (plan_at nodes n) → Asked take given (plan_at nodes n) row → AskedValues nodes take given (plan_at nodes n) row
+by_table nodes good given n row take there none (None, v) = absurd (none (visit_stands IsShareRow IsSharePlan (λ handed p row s. s) (Some given) (plan_at nodes n) row v))
+by_table nodes good given n row take there none (Some values, v) = (
   values,
-  values_placed nodes good take values (is_placed (IsTakeOver take values) (take_gap take values) nodes good n there (Some given) row v),
+  (take_placed nodes good take values (is_placed (IsTakeOver take values) (take_gap take values) nodes good n there (Some given) row v)).second,
   visit_mapped (IsTakeOver take values) (IsWholeRead values) (take_whole take values) (Some given) (plan_at nodes n) row v,
 )
 
-pub take_asked : (nodes : List Node) → IsGoodTable nodes → HasNoShare nodes → (given : GivenValues) (offset n row take : ℕ) → n < length nodes → ReadsTake take offset (plan_at nodes n) row → (values : ℕ) × IsValuesOf nodes take values × Visits (IsWholeRead values) (Some given) (plan_at nodes n) row
-take_asked nodes good none given offset n row take there any = by_table nodes good none given n row take there (asked take offset given (plan_at nodes n) row any)
+pub take_asked : (nodes : List Node) → IsGoodTable nodes → (given : GivenValues) (offset n row take : ℕ) → n < length nodes → HasNoShare (plan_at nodes n) → ReadsTake take offset (plan_at nodes n) row → (values : ℕ) × IsValuesOf nodes take values × Visits (IsWholeRead values) (Some given) (plan_at nodes n) row
+take_asked nodes good given offset n row take there none any = by_table nodes good given n row take there none (asked take offset given (plan_at nodes n) row any)
 
-pub take_there : (nodes : List Node) → IsGoodTable nodes → HasNoShare nodes → (given : List Kept) (wholes : Wholes) (offset n start : ℕ) (bits : List Bool) (take : ℕ) → n < length nodes → AreThere nodes given wholes n start bits → SomeRow (ReadsTake take offset (plan_at nodes n)) start bits → (values : ℕ) × IsValuesOf nodes take values × IsThere given wholes values
-take_there nodes good none given wholes offset n start bits take there are (place, at, any) =
-    let one : (values : ℕ) × IsValuesOf nodes take values × Visits (IsWholeRead values) (Some (given_for nodes given)) (plan_at nodes n) (start + place) = take_asked nodes good none (given_for nodes given) offset n (start + place) take there any in
+pub take_there : (nodes : List Node) → IsGoodTable nodes → (given : List Kept) (wholes : Wholes) (offset n start : ℕ) (bits : List Bool) (take : ℕ) → n < length nodes → HasNoShare (plan_at nodes n) → AreThere nodes given wholes n start bits → SomeRow (ReadsTake take offset (plan_at nodes n)) start bits →
+    (values : ℕ) × IsValuesOf nodes take values × IsThere given wholes values
+take_there nodes good given wholes offset n start bits take there none are (place, at, any) =
+    let one : (values : ℕ) × IsValuesOf nodes take values × Visits (IsWholeRead values) (Some (given_for nodes given)) (plan_at nodes n) (start + place) = take_asked nodes good (given_for nodes given) offset n (start + place) take there none any in
     (one.0, one.1, are one.0 (place, at, one.2))

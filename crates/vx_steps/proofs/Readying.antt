@@ -1,26 +1,23 @@
 -- Where the leaves of a plan's rows are kept, those of its children's rows are.
-use Rattle.std.proofs.Common.{◌≡◌, ℕ, zero, suc, ◌+◌, ◌-◌, ◌<◌, ◌≤◌, ◌⊎◌, inl, inr, Bool, true, false, List, [], ◌∷◌, Option, Some, None, map, refl, sym, ap, ◌∙◌, subst, arith, length}
+use Rattle.std.proofs.Common.{◌≡◌, ℕ, zero, suc, ◌+◌, ◌-◌, ◌<◌, ◌≤◌, inl, inr, Bool, true, List, [], ◌∷◌, Some, None, map, refl, sym, ap, ◌∙◌, subst, arith}
 use Rattle.std.specs.Prelude.{slice_range}
 use Rattle.std.specs.List.{slice_get}
-use Rattle.vx_base.specs.Columns.{ColumnData}
-use Rattle.vx_plan.specs.Nodes.{Node}
-use Rattle.vx_plan.specs.Plans.{Plan, plan_at, plan_head, plans_from, field_plans, last_validity, pack_plan, filter_plan}
+use Rattle.vx_plan.specs.Plans.{Plan, plan_at, plan_head, filter_plan}
 use Rattle.vx_plan.specs.Rules.{node_at}
 use Rattle.vx_plan.specs.Tables.{IsGoodTable}
 use Rattle.vx_steps.specs.declared.chunks.Chunk.{Chunk}
 use Rattle.vx_steps.specs.declared.leaf_reads.LeafRead.{LeafRead}
 use Rattle.vx_steps.specs.Chunks.{IsChunk}
-use Rattle.vx_steps.specs.Computed.{else_kept, kept_in, whole_in, AreReady, AreReadyWhole}
-use Rattle.vx_steps.specs.Given.{given_for, handed_by, values_for}
+use Rattle.vx_steps.specs.Computed.{kept_in, whole_in, AreReady, AreReadyWhole}
+use Rattle.vx_steps.specs.Given.{values_for}
 use Rattle.vx_steps.specs.Held.{Held, alone, handed_in}
-use Rattle.vx_steps.specs.KeptData.{Kept}
-use Rattle.vx_steps.specs.Kept.{kept_at, values_of, whole_of, IsKept}
+use Rattle.vx_steps.specs.Kept.{kept_at, values_of, IsKept}
 use Rattle.vx_steps.specs.Rows.{SelectsSome}
-use Rattle.vx_steps.specs.Visits.{Test, Visits, SomeVisit, IsLeafRead}
+use Rattle.vx_steps.specs.Visits.{Visits, SomeVisit, IsLeafRead}
 use Rattle.vx_steps.proofs.ChunkRows.{chunk_up, IsConcatPlan}
 use Rattle.vx_steps.proofs.ComputedRows.{handed_values, none_kept}
-use Rattle.vx_steps.proofs.Selecting.{any_packed, got_range, past_true, Any}
-use Rattle.vx_steps.proofs.Shaping.{head_of, IsEvalPlan, IsLeafPlan, IsOverPlan, IsPackPlan, IsSharePlan, IsTakePlan, IsZonedPlan}
+use Rattle.vx_steps.proofs.Selecting.{any_packed, got_range, Any}
+use Rattle.vx_steps.proofs.Shaping.{head_of, IsLeafPlan, IsOverPlan, IsPackPlan, IsSharePlan, IsTakePlan, IsZonedPlan}
 
 abbrev RowReads : Held → ℕ → List Bool → LeafRead → Plan → Type 0
 RowReads h start bits read p = SomeVisit (IsLeafRead read) (handed_in h) p start bits

@@ -1,5 +1,5 @@
 -- The selected rows of a range, and the values at them.
-use Rattle.std.proofs.Common.{◌≡◌, ℕ, zero, suc, ◌+◌, ◌-◌, ◌<◌, ◌≤◌, Bool, true, false, List, [], ◌∷◌, ◌++◌, Option, Some, None, length, map, take, drop, replicate, refl, sym, ap, ◌∙◌, arith}
+use Rattle.std.proofs.Common.{◌≡◌, ℕ, zero, suc, ◌+◌, ◌-◌, ◌<◌, ◌≤◌, Bool, true, false, List, [], ◌∷◌, ◌++◌, Option, Some, length, map, take, drop, replicate, refl, sym, ap, ◌∙◌, arith}
 use Rattle.std.specs.Prelude.{slice_range}
 use Rattle.std.specs.List.{slice_get, range_with_len}
 use Rattle.std.proofs.lemmas.List.{length-map}
@@ -10,10 +10,10 @@ use Rattle.vx_steps.specs.Rows.{rows_of, SelectsNone, AreOf}
 
 -- ---- counts of truth values
 
-true_first : (bits : List Bool) → true_count (true ∷ bits) ≡ suc (true_count bits)
+pub true_first : (bits : List Bool) → true_count (true ∷ bits) ≡ suc (true_count bits)
 true_first bits = omega (arith, true_count-cons true bits)
 
-false_first : (bits : List Bool) → true_count (false ∷ bits) ≡ true_count bits
+pub false_first : (bits : List Bool) → true_count (false ∷ bits) ≡ true_count bits
 false_first bits = omega (arith, true_count-cons false bits)
 
 -- ---- selected rows

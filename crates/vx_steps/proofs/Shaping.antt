@@ -1,7 +1,7 @@
 -- What a plan of each shape is over, and what is known of its children.
-use Rattle.std.proofs.Common.{◌≡◌, ℕ, zero, suc, ◌<◌, Bool, true, false, List, [], ◌∷◌, Option, Some, None, length, map, refl, sym, ap, ◌∙◌, subst, arith}
+use Rattle.std.proofs.Common.{◌≡◌, ℕ, ◌<◌, Bool, true, false, List, [], ◌∷◌, Option, length, map, refl, sym, ap, ◌∙◌, subst, arith}
 use Rattle.std.specs.Prelude.{IfSome, IsSomeAnd}
-use Rattle.std.specs.List.{slice_get, All}
+use Rattle.std.specs.List.{All}
 use Rattle.std.proofs.lemmas.List.Elements.{All-head, All-tail}
 use Rattle.std.proofs.lemmas.Option.{slice_get-get_or}
 use Rattle.vx_base.specs.ColumnCalls.{nullable_where, IsUnsigned}
@@ -19,9 +19,9 @@ use Rattle.vx_plan.specs.declared.shapes.Shape.TheVariants as shapes
 use Rattle.vx_plan.specs.declared.children.PlanRef.{PlanRef}
 use Rattle.vx_plan.specs.Nodes.{Node, absent}
 use Rattle.vx_plan.specs.Refs.{number_of}
-use Rattle.vx_plan.specs.Plans.{Plan, Head, PlanValidity, plan_in, plan_head, head_at, plan_at, plan_grown_as, plans_from, field_plans, last_validity, zones_of, concat_plan, eval_plan, filter_plan, pack_plan, take_plan, share_plan, list_plan, row_idx_plan, scan_plan, zoned_plan}
-use Rattle.vx_plan.specs.Rules.{field_count, node_at, nodes_at, rows_of, Asks, PackFits, ValidityFits, IsMadeAs, TypesFit, RowsFit, IsBoundOver, HasUnsignedCodes, HasLeafType, IsLike, IsLookUp}
-use Rattle.vx_plan.specs.Shapes.{HasShape, IsOver, ShapeOf, zoned_kind, fields_plan, IsListOver}
+use Rattle.vx_plan.specs.Plans.{Plan, Head, PlanValidity, plan_in, plan_head, head_at, plan_at, plans_from, field_plans, last_validity, zones_of, eval_plan, filter_plan, pack_plan, take_plan, share_plan, list_plan, row_idx_plan, scan_plan, zoned_plan}
+use Rattle.vx_plan.specs.Rules.{field_count, node_at, nodes_at, PackFits, ValidityFits, IsMadeAs, TypesFit, IsBoundOver, HasUnsignedCodes, HasLeafType}
+use Rattle.vx_plan.specs.Shapes.{HasShape, IsOver, ShapeOf, zoned_kind}
 use Rattle.vx_plan.specs.Tables.{IsGoodNode, IsGoodTable}
 use Rattle.vx_plan.specs.Kinds.{HasKind, IsPack}
 use Rattle.vx_plan.proofs.Adding.{head_in_table}
@@ -111,7 +111,7 @@ zoned_like_plan nodes n content table known has =
 -- ---- a share
 
 -- what was handed in for a node whose kind and children are known
-given_known : (nodes : List Node) (n : ℕ) (kind : PlanKind) (children : List ℕ) → n < length nodes → (node_at nodes n).kind ≡ kind → (node_at nodes n).children ≡ children → (kept : List Kept) → given_for nodes kept n ≡ given_as kept n kind children
+pub given_known : (nodes : List Node) (n : ℕ) (kind : PlanKind) (children : List ℕ) → n < length nodes → (node_at nodes n).kind ≡ kind → (node_at nodes n).children ≡ children → (kept : List Kept) → given_for nodes kept n ≡ given_as kept n kind children
 given_known nodes n kind children known is are kept =
     ap (given_at kept n) (slice_get-get_or nodes n absent known)
     ∙ ap (λ (k : PlanKind). given_as kept n k (node_at nodes n).children) is

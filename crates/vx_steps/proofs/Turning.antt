@@ -15,10 +15,10 @@ use Rattle.vx_steps.specs.Wholes.{AddsAsked, AreThere, KeepsValues, UsesGiven}
 use Rattle.vx_steps.specs.declared.wholes.Wholes.{Wholes}
 
 pub values_none : (nodes : List Node) (leaves : List Kept) (offset : ℕ) (old : List Kept) → KeepsValues nodes leaves offset old old
-values_none nodes leaves offset old = record { grows = λ n column at. at; typed = λ typed. typed; right = λ by have are. are }
+values_none nodes leaves offset old = record { grows = λ n column at. at; typed = λ typed. typed; apart = λ apart. apart; right = λ by have are. are }
 
 pub used_none : (given old : List Kept) → UsesGiven given old old
-used_none given old = record { grows = λ n column at. at; only = λ n column at. inl at }
+used_none given old = record { grows = λ n column at. at; only = λ n column at. inl at; apart = λ apart. apart }
 
 pub asked_none : (nodes : List Node) (given : List Kept) (plan start : ℕ) (bits : List Bool) (old : Wholes) → AddsAsked nodes given plan start bits old old
 asked_none nodes given plan start bits old = record { used = λ n kept. inl kept; made = λ n kept. inl kept }

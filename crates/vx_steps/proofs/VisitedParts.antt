@@ -1,20 +1,23 @@
 -- What a row visits is among what it is derived from, with what was handed in in place of what it would read.
-use Rattle.std.proofs.Common.{◌≡◌, ℕ, zero, suc, ◌+◌, ◌-◌, ◌<◌, inl, inr, Bool, List, Option, None, sym, subst, arith}
+use Rattle.std.proofs.Common.{◌≡◌, ℕ, zero, suc, ◌+◌, ◌-◌, ◌<◌, ◌⊎◌, inl, inr, Bool, List, Option, None, refl, sym, ap, ◌∙◌, subst, arith}
 use Rattle.std.specs.Prelude.{nat_lt}
 use Rattle.vx_base.specs.Data.{Datum}
+use Rattle.vx_expr.specs.Terms.{Term}
 use Rattle.vx_rows.specs.Derivations.{Derivation, nothing, cell, list_row, given, packed, valid_where, looked_up, worked_out, read_whole, Derivations, each_row, Leaves}
 use Rattle.vx_rows.specs.Reads.{directly}
 use Rattle.vx_rows.specs.Given.{values_with, share_with, with_given, each_with_given}
-use Rattle.vx_plan.specs.Plans.{Plan, no_plan, concat_plan, eval_plan, filter_plan, pack_plan, take_plan, share_plan, list_plan, row_idx_plan, scan_plan, zoned_plan, Plans, no_plans, plan, PlanValidity, all_valid, valid_as, plan_head}
+use Rattle.vx_plan.specs.Plans.{Head, Plan, no_plan, concat_plan, eval_plan, filter_plan, pack_plan, take_plan, share_plan, list_plan, row_idx_plan, scan_plan, zoned_plan, Plans, no_plans, plan, PlanValidity, all_valid, valid_as, plan_head}
 use Rattle.vx_plan.specs.PlanRows.{plan_derivation, plan_derivation_in, plan_derivations, plan_where_valid}
 use Rattle.vx_plan.specs.Refs.{number_of}
 use Rattle.vx_steps.specs.declared.errors.StepError.{StepError}
 use Rattle.vx_steps.specs.declared.errors.StepError.TheVariants.{Unsupported, BadSegment, BadCode, EvalFault, Memory}
 use Rattle.vx_steps.specs.Computed.{HasCause}
 use Rattle.vx_steps.specs.Given.{Handed, values_for}
-use Rattle.vx_steps.specs.Laws.{GivenFits, HasPart, HavePart, IsFaultyTerm, IsReadCause, row_with}
+use Rattle.vx_steps.specs.Laws.{GivenFits, HasPart, HavePart, IsEvalRow, IsFaultyRow, IsReadCause, row_with}
 use Rattle.vx_steps.specs.Visits.{Test, Visits, VisitsIn, VisitsField, VisitsValidity, HasEvalFault}
 use Rattle.vx_steps.proofs.CodeVisits.{code_found}
+use Rattle.vx_steps.proofs.Standing.{stands_mapped}
+use Rattle.vx_steps.proofs.StandingVisits.{visit_within, Within}
 use Rattle.vx_steps.proofs.VisitedReads.{alone_same, by_test, list_found}
 
 -- a derivation that is so has a part that is
@@ -99,21 +102,31 @@ mutual
 
 -- ---- expressions
 
-term_own : (leaves : Leaves) (offset at : ℕ) → IsDerivedOwn (HasEvalFault leaves offset at) (IsFaultyTerm leaves) offset
-term_own leaves offset at handed (no_plan head) row v = absurd v
-term_own leaves offset at handed (concat_plan head children) row v = absurd v
-term_own leaves offset at handed (eval_plan head e child) row v = v.1
-term_own leaves offset at handed (filter_plan head child) row v = absurd v
-term_own leaves offset at handed (pack_plan head children validity) row v = absurd v
-term_own leaves offset at handed (take_plan head codes values) row v = absurd v
-term_own leaves offset at handed (share_plan head child) row v = absurd v
-term_own leaves offset at handed (list_plan head elements offsets validity) row v = absurd v
-term_own leaves offset at handed (row_idx_plan head) row v = absurd v
-term_own leaves offset at handed (scan_plan head segment) row v = absurd v
-term_own leaves offset at handed (zoned_plan head zones content table) row v = absurd v
+-- a visited row of an expression that stands in the plan is one of its rows
+eval_row : (handed top : Handed) (offset at : ℕ) (head : Head) (e : Term) (child : Plan) (row : ℕ) → row ≡ at → (handed ≡ top) ⊎ (handed ≡ None) → IsEvalRow top offset at (row_with handed offset (eval_plan head e child) row) (eval_plan head e child)
+eval_row handed top offset at head e child row here (inl same) = inl (ap (λ (h : Handed). row_with h offset (eval_plan head e child) row) same ∙ ap (row_with top offset (eval_plan head e child)) here)
+eval_row handed top offset at head e child row here (inr none) = inr (ap (λ (h : Handed). row_with h offset (eval_plan head e child) row) none ∙ ap (row_with None offset (eval_plan head e child)) here)
 
-pub term_worked : (leaves : Leaves) (handed : Handed) (offset : ℕ) (p : Plan) (row at : ℕ) → Visits (HasEvalFault leaves offset at) handed p row → HasPart (IsFaultyTerm leaves) (row_with handed offset p row)
-term_worked leaves handed offset p row at v = visit_part (HasEvalFault leaves offset at) (IsFaultyTerm leaves) offset (term_own leaves offset at) handed p row v
+term_own : (leaves : Leaves) (top : Handed) (offset : ℕ) (whole : Plan) (at : ℕ) → IsDerivedOwn (Within top whole (HasEvalFault leaves offset at)) (IsFaultyRow leaves top offset whole at) offset
+term_own leaves top offset whole at handed (no_plan head) row v = absurd v.0
+term_own leaves top offset whole at handed (concat_plan head children) row v = absurd v.0
+term_own leaves top offset whole at handed (eval_plan head e child) row v =
+    let d : Derivation = row_with handed offset (eval_plan head e child) row in
+    let F : Plan → Type 0 = IsEvalRow top offset at d in
+    (v.0.1, stands_mapped (λ q. q ≡ eval_plan head e child) F (λ q same. subst F (sym same) (eval_row handed top offset at head e child row v.0.0 v.1)) whole v.2)
+term_own leaves top offset whole at handed (filter_plan head child) row v = absurd v.0
+term_own leaves top offset whole at handed (pack_plan head children validity) row v = absurd v.0
+term_own leaves top offset whole at handed (take_plan head codes values) row v = absurd v.0
+term_own leaves top offset whole at handed (share_plan head child) row v = absurd v.0
+term_own leaves top offset whole at handed (list_plan head elements offsets validity) row v = absurd v.0
+term_own leaves top offset whole at handed (row_idx_plan head) row v = absurd v.0
+term_own leaves top offset whole at handed (scan_plan head segment) row v = absurd v.0
+term_own leaves top offset whole at handed (zoned_plan head zones content table) row v = absurd v.0
+
+pub term_worked : (leaves : Leaves) (handed : Handed) (offset : ℕ) (p : Plan) (row at : ℕ) → Visits (HasEvalFault leaves offset at) handed p row → HasPart (IsFaultyRow leaves handed offset p at) (row_with handed offset p row)
+term_worked leaves handed offset p row at v =
+    visit_part (Within handed p (HasEvalFault leaves offset at)) (IsFaultyRow leaves handed offset p at) offset (term_own leaves handed offset p at) handed p row
+    (visit_within (HasEvalFault leaves offset at) handed p handed p row (inl refl) (λ q s. s) v)
 
 pub cause_read : (leaves : Leaves) (handed : Handed) (offset : ℕ) (p : Plan) (start : ℕ) (bits : List Bool) (error : StepError) → GivenFits handed p → HasCause leaves handed offset p start bits error → IsReadCause leaves handed offset p start bits error
 cause_read leaves handed offset p start bits (Unsupported list) fits (place, at, v) = (place, at, list_found handed offset p directly (start + place) (number_of list) v)

@@ -87,7 +87,7 @@ PackVisits P handed has_validity ps row = VisitsField P handed (plans_from (fiel
 abbrev pub NoGap : Test → Handed → Type 0
 NoGap P handed = (row : ℕ) → P handed (plan_gap 0) row → ⊥
 
-packed_any : (P : Test) (handed : Handed) (has_validity : Bool) (ps : List Plan) (row : ℕ) → NoGap P handed → PackVisits P handed has_validity ps row → AnyVisits P handed ps row
+pub packed_any : (P : Test) (handed : Handed) (has_validity : Bool) (ps : List Plan) (row : ℕ) → NoGap P handed → PackVisits P handed has_validity ps row → AnyVisits P handed ps row
 packed_any P handed false ps row gap (inl v) = field_any P handed ps row v
 packed_any P handed false ps row gap (inr none) = absurd none
 packed_any P handed true [] row gap (inl none) = absurd none
@@ -95,13 +95,13 @@ packed_any P handed true [] row gap (inr v) = absurd (gap row v)
 packed_any P handed true (p ∷ ps) row gap (inl v) = last_any P handed p ps row (inl (field_any P handed (front_plans (p ∷ ps)) row v))
 packed_any P handed true (p ∷ ps) row gap (inr v) = last_any P handed p ps row (inr v)
 
-any_packed : (P : Test) (handed : Handed) (has_validity : Bool) (ps : List Plan) (row : ℕ) → AnyVisits P handed ps row → PackVisits P handed has_validity ps row
+pub any_packed : (P : Test) (handed : Handed) (has_validity : Bool) (ps : List Plan) (row : ℕ) → AnyVisits P handed ps row → PackVisits P handed has_validity ps row
 any_packed P handed false ps row a = inl (any_field P handed ps row a)
 any_packed P handed true [] row none = absurd none
 any_packed P handed true (p ∷ ps) row a =
     ⊎_elim (λ (f : AnyVisits P handed (front_plans (p ∷ ps)) row). inl (any_field P handed (front_plans (p ∷ ps)) row f)) (λ (v : Visits P handed (last_plan (p ∷ ps)) row). inr v) (any_last P handed p ps row a)
 
-child_any : (P : Test) (handed : Handed) (nodes : List Node) (ns : List ℕ) (place child row : ℕ) → slice_get ns place ≡ Some child → Visits P handed (plan_at nodes child) row → AnyVisits P handed (map (plan_at nodes) ns) row
+pub child_any : (P : Test) (handed : Handed) (nodes : List Node) (ns : List ℕ) (place child row : ℕ) → slice_get ns place ≡ Some child → Visits P handed (plan_at nodes child) row → AnyVisits P handed (map (plan_at nodes) ns) row
 child_any P handed nodes [] place child row at v = absurd cc
 child_any P handed nodes (n ∷ ns) zero child row at v =
     let same : child ≡ n = cc in

@@ -21,6 +21,7 @@ use Rattle.vx_steps.specs.Kept.{kept_at, IsKept}
 use Rattle.vx_steps.specs.Rows.{SelectsSome}
 use Rattle.vx_steps.specs.Visits.{IsLeafRead}
 use Rattle.vx_steps.specs.Wholes.{AddsOnly, IsWholeOf, KeepsValues, UsesGiven, WholeFails}
+use Rattle.vx_steps.proofs.Apart.{apart_more}
 use Rattle.vx_steps.proofs.ComputedRows.{VisitsUp, cause_up, memory_computed, share_whole, shared_failed, values_failed}
 use Rattle.vx_steps.proofs.Keeping.{kept_new, kept_old}
 use Rattle.vx_steps.proofs.Shaping.{IsSharePlan, IsTakePlan, share_plan_at}
@@ -58,12 +59,13 @@ none_more P old new is n (found, at) = inl (found, ap (λ (kept : List Kept). ke
 
 -- ---- values that were handed in
 
-pub uses_one : (given old new : List Kept) (node : ℕ) (column : ColumnData) → kept_at given node ≡ Some column → new ≡ old ++ record { node = node; column = column } ∷ [] → UsesGiven given old new
-uses_one given old new node column there is =
+pub uses_one : (given old new : List Kept) (node : ℕ) (column : ColumnData) → kept_at given node ≡ Some column → kept_at old node ≡ None → new ≡ old ++ record { node = node; column = column } ∷ [] → UsesGiven given old new
+uses_one given old new node column there none is =
     let F : List Kept → Type 0 = UsesGiven given old in
     subst F (sym is) (record {
       grows = λ n found at. kept_old old (record { node = node; column = column } ∷ []) n found at;
       only = λ n found at. ⊎_elim (λ (e : kept_at old n ≡ Some found). inl e) (λ (e : (node ≡ n) × (column ≡ found)). inr (used n found e.0 e.1)) (kept_cases old node column n found at);
+      apart = apart_more old (old ++ record { node = node; column = column } ∷ []) node column none refl;
     })
   where
     used : (n : ℕ) (found : ColumnData) → node ≡ n → column ≡ found → kept_at given n ≡ Some found
@@ -73,6 +75,7 @@ pub uses_then : (given old mid new : List Kept) → UsesGiven given old mid → 
 uses_then given old mid new first second = record {
   grows = λ n column at. second.grows n column (first.grows n column at);
   only = λ n column at. ⊎_elim (λ (e : kept_at mid n ≡ Some column). first.only n column e) (λ (e : kept_at given n ≡ Some column). inr e) (second.only n column at);
+  apart = λ apart. second.apart (first.apart apart);
 }
 
 -- ---- values that were made
@@ -81,13 +84,14 @@ pub keeps_then : (nodes : List Node) (leaves : List Kept) (offset : ℕ) (old mi
 keeps_then nodes leaves offset old mid new first second = record {
   grows = λ n column at. second.grows n column (first.grows n column at);
   typed = λ typed. second.typed (first.typed typed);
+  apart = λ apart. second.apart (first.apart apart);
   right = λ by have made. second.right by have (first.right by have made);
 }
 
 pub keeps_same : (nodes : List Node) (leaves : List Kept) (offset : ℕ) (old new : List Kept) → new ≡ old → KeepsValues nodes leaves offset old new
 keeps_same nodes leaves offset old new is =
     let F : List Kept → Type 0 = KeepsValues nodes leaves offset old in
-    subst F (sym is) (record { grows = λ n column at. at; typed = λ typed. typed; right = λ by have made. made })
+    subst F (sym is) (record { grows = λ n column at. at; typed = λ typed. typed; apart = λ apart. apart; right = λ by have made. made })
 
 -- the whole values of the number are those of the plan
 record IsWholeAs (nodes : List Node) (offset number whole : ℕ) : Type 0 where
@@ -118,14 +122,15 @@ whole_as nodes good offset number whole (inr has) =
       values = λ by. share_whole h by number whole over ∙ ap (λ (rows : ℕ). derived_each by (each_row (plan_derivation offset (plan_at nodes whole)) 0 rows)) (sym (ap (λ h. h.rows) over.child_head));
     }
 
-pub made_one : (nodes : List Node) → IsGoodTable nodes → (leaves : List Kept) (offset : ℕ) (given : Option (List Kept)) (old new : List Kept) (number whole : ℕ) (column : ColumnData) → IsWholeOf nodes number whole → column.dtype ≡ (node_at nodes whole).dtype → length column.values ≡ (node_at nodes whole).rows →
+pub made_one : (nodes : List Node) → IsGoodTable nodes → (leaves : List Kept) (offset : ℕ) (given : Option (List Kept)) (old new : List Kept) (number whole : ℕ) (column : ColumnData) → IsWholeOf nodes number whole → column.dtype ≡ (node_at nodes whole).dtype → length column.values ≡ (node_at nodes whole).rows → kept_at old number ≡ None →
     ComputesWhole (record { nodes = nodes; leaves = leaves; given = given; made = old; offset = offset }) whole (Ok column) → new ≡ old ++ record { node = number; column = column } ∷ [] → KeepsValues nodes leaves offset old new
-made_one nodes good leaves offset given old new number whole column of dtype rows computed is =
+made_one nodes good leaves offset given old new number whole column of dtype rows none computed is =
     let alike = whole_as nodes good offset number whole of in
     let F : List Kept → Type 0 = KeepsValues nodes leaves offset old in
     subst F (sym is) (record {
       grows = λ n found at. kept_old old (record { node = number; column = column } ∷ []) n found at;
       typed = λ typed n found at. ⊎_elim (λ (e : kept_at old n ≡ Some found). typed n found e) (λ (e : (number ≡ n) × (column ≡ found)). new_typed alike n found e.0 e.1) (kept_cases old number column n found at);
+      apart = apart_more old (old ++ record { node = number; column = column } ∷ []) number column none refl;
       right = λ by have made n found at. ⊎_elim (λ (e : kept_at old n ≡ Some found). made n found e) (λ (e : (number ≡ n) × (column ≡ found)). new_right alike by (record { leaves_are = have; made_are = made }) n found e.0 e.1) (kept_cases old number column n found at);
     })
   where

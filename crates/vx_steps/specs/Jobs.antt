@@ -1,5 +1,5 @@
 -- How far a scan is: which splits are left, and what is true at each step.
-use Rattle.std.specs.Prelude.{◌≡◌, ℕ, ◌+◌, ◌<◌, ◌⊎◌, ◌==◌, if◌then◌else◌, List, [], ◌∷◌, ◌++◌, length, map, drop, Some, None}
+use Rattle.std.specs.Prelude.{◌≡◌, ℕ, ◌+◌, ◌<◌, ◌⊎◌, ◌==◌, ◌≤◌, max, if◌then◌else◌, List, [], ◌∷◌, ◌++◌, length, map, drop, Some, None}
 use Rattle.std.specs.List.{slice_get, AllByRecursion}
 use Rattle.vx_base.specs.Columns.{ColumnData}
 use Rattle.vx_base.specs.Masks.{true_count}
@@ -15,8 +15,8 @@ use Rattle.vx_steps.specs.declared.wholes.Wholes.{Wholes}
 use Rattle.vx_steps.specs.Delivered.{IsOf}
 use Rattle.vx_steps.specs.Held.{AreTyped, FitsOffset}
 use Rattle.vx_steps.specs.KeptData.{Kept}
-use Rattle.vx_steps.specs.Kept.{kept_at}
-use Rattle.vx_steps.specs.Needs.{Among, AreLeaves}
+use Rattle.vx_steps.specs.Kept.{kept_at, AreApart}
+use Rattle.vx_steps.specs.Needs.{Among, AreAmong, AreLeaves}
 use Rattle.vx_steps.specs.ReadTableData.{Wanted}
 use Rattle.vx_steps.specs.Splits.{IsInside}
 use Rattle.vx_steps.specs.Turns.{ReadsFor}
@@ -31,10 +31,14 @@ numbers_from k (split ∷ splits) = if true_count split.mask == 0 then numbers_f
 abbrev pub number_of_active : ActiveSplit → ℕ
 number_of_active active = active.split
 
+-- the numbers of the active splits
+abbrev pub active_of : Progress → List ℕ
+active_of progress = map number_of_active progress.active.items
+
 -- The splits that select a row and whose column was not given yet: the active ones, and then those that were not
 -- started.
 abbrev pub left_of : Job → Progress → List ℕ
-left_of job progress = map number_of_active progress.active.items ++ numbers_from progress.next (drop progress.next job.splits.items)
+left_of job progress = active_of progress ++ numbers_from progress.next (drop progress.next job.splits.items)
 
 -- An active split has the needs of its split, each of which is kept or asked for.
 pub record IsActive (nodes : List Node) (job : Job) (leaves : List Kept) (wanted : List Wanted) (active : ActiveSplit) : Type 0 where
@@ -52,15 +56,16 @@ pub record IsGood (nodes : List Node) (job : Job) (progress : Progress) : Type 0
   pub typed_given : AreTyped nodes job.given
   pub typed_leaves : AreTyped nodes progress.leaves
   pub typed_made : AreTyped nodes progress.wholes.made
+  pub apart_made : AreApart progress.wholes.made
+  pub apart_used : AreApart progress.wholes.used
   pub uses : UsesGiven job.given [] progress.wholes.used
   pub actives : (active : ActiveSplit) → Among active progress.active.items → IsActive nodes job progress.leaves progress.reads.wanted active
 
--- no split was started, no segment is wanted, and no whole value was made or used
+-- no split was started, no segment is wanted, and no value that was handed in was used
 pub record IsUnstarted (progress : Progress) : Type 0 where
   pub next : progress.next ≡ 0
   pub active : progress.active.items ≡ []
   pub wanted : progress.reads.wanted ≡ []
-  pub made : progress.wholes.made ≡ []
   pub used : progress.wholes.used ≡ []
 
 -- What the scan holds is so outside.
@@ -85,6 +90,21 @@ pub record KeepsWholes (nodes : List Node) (job : Job) (old new : Wholes) : Type
   pub made_only : AddsOnly (IsAskedFor nodes job) old.made new.made
   pub used_only : AddsOnly (IsAskedFor nodes job) old.used new.used
 
+-- a selected row of one of these splits asks for the whole values of the number
+abbrev pub IsAskedBy : List Node → Job → List ℕ → ℕ → Type 0
+IsAskedBy nodes job numbers n = (asked : IsAskedFor nodes job n) × Among asked.number numbers
+
+-- What was made or used stays, and only what selected rows of these splits ask for was added.
+pub record KeepsWholesFor (nodes : List Node) (job : Job) (numbers : List ℕ) (old new : Wholes) : Type 0 where
+  pub made : (n : ℕ) (column : ColumnData) → kept_at old.made n ≡ Some column → kept_at new.made n ≡ Some column
+  pub used : (n : ℕ) (column : ColumnData) → kept_at old.used n ≡ Some column → kept_at new.used n ≡ Some column
+  pub made_only : AddsOnly (IsAskedBy nodes job numbers) old.made new.made
+  pub used_only : AddsOnly (IsAskedBy nodes job numbers) old.used new.used
+
+-- the column that was kept for a number still is
+abbrev pub KeepsColumns : List Kept → List Kept → Type 0
+KeepsColumns old new = (n : ℕ) (column : ColumnData) → kept_at old n ≡ Some column → kept_at new n ≡ Some column
+
 -- a selected row of a split reads the segment, by a leaf of which no column is kept
 pub record IsReadFor (nodes : List Node) (job : Job) (leaves : List Kept) (segment : ℕ) : Type 0 where
   pub number : ℕ
@@ -99,10 +119,38 @@ pub record IsReadFor (nodes : List Node) (job : Job) (leaves : List Kept) (segme
 abbrev pub WantsOnly : List Node → Job → Progress → Progress → Type 0
 WantsOnly nodes job old new = (segment : ℕ) → IsAsked new.reads.wanted segment → IsAsked old.reads.wanted segment ⊎ IsReadFor nodes job old.leaves segment
 
--- Splits were started: the splits that are left stay, and nothing else changed but what is wanted.
+-- a selected row of one of these splits reads the segment, by a leaf of which no column is kept
+abbrev pub IsWantedBy : List Node → Job → List ℕ → List Kept → ℕ → Type 0
+IsWantedBy nodes job numbers leaves segment = (read : IsReadFor nodes job leaves segment) × Among read.number numbers
+
+-- They are read for these splits.
+abbrev pub WantsFor : List Node → Job → List ℕ → Progress → Progress → Type 0
+WantsFor nodes job numbers old new = (segment : ℕ) → IsAsked new.reads.wanted segment → IsAsked old.reads.wanted segment ⊎ IsWantedBy nodes job numbers old.leaves segment
+
+-- No more splits are active than may be at once, unless more were before.
+abbrev pub KeepsBound : Job → Progress → Progress → Type 0
+KeepsBound job old new = length new.active.items ≤ max (length old.active.items) (max 1 job.max_active)
+
+-- a selected row of one of these splits reads the leaf of the number
+pub record IsLeafFor (nodes : List Node) (job : Job) (numbers : List ℕ) (n : ℕ) : Type 0 where
+  pub number : ℕ
+  pub among : Among number numbers
+  pub split : Split
+  pub at : slice_get job.splits.items number ≡ Some split
+  pub read : LeafRead
+  pub reads : ReadsFor nodes job split read
+  pub leaf_is : read.leaf ≡ n
+
+-- Only leaves that selected rows of these splits read were added.
+abbrev pub AddsLeaves : List Node → Job → List ℕ → List Kept → List Kept → Type 0
+AddsLeaves nodes job numbers old new = AddsOnly (IsLeafFor nodes job numbers) old new
+
+-- Splits were started: the splits that are left stay, those that were active still are, and nothing else changed but
+-- what is wanted, for splits that are active.
 pub record Starts (nodes : List Node) (job : Job) (old new : Progress) : Type 0 where
   pub left : left_of job new ≡ left_of job old
-  pub wants : WantsOnly nodes job old new
+  pub active : AreAmong (active_of old) (active_of new)
+  pub wants : WantsFor nodes job (active_of new) old new
   pub grows : Grows old.reads.wanted new.reads.wanted
   pub handed : new.reads.handed ≡ old.reads.handed
   pub leaves : new.leaves ≡ old.leaves
@@ -111,10 +159,12 @@ pub record Starts (nodes : List Node) (job : Job) (old new : Progress) : Type 0 
 abbrev pub CanStart : Job → Progress → Type 0
 CanStart job progress = (progress.next < length job.splits.items) × ((length progress.active.items ≡ 0) ⊎ (length progress.active.items < job.max_active))
 
--- A split was tried: only leaves and whole values were kept.
+-- An active split was tried: only leaves and whole values were kept.
 pub record OnlyKeeps (nodes : List Node) (job : Job) (old new : Progress) : Type 0 where
   pub next : new.next ≡ old.next
   pub active : new.active.items ≡ old.active.items
   pub reads : new.reads ≡ old.reads
   pub told : KeepsTold nodes job old new
-  pub wholes : KeepsWholes nodes job old.wholes new.wholes
+  pub leaves : KeepsColumns old.leaves new.leaves
+  pub leaves_only : AddsLeaves nodes job (active_of old) old.leaves new.leaves
+  pub wholes : KeepsWholesFor nodes job (active_of old) old.wholes new.wholes

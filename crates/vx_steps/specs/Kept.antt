@@ -32,6 +32,10 @@ pub record AreIndexed (places : BTreeMap ℕ ℕ Global) (indexed : ℕ) (kept :
   pub inside : indexed ≤ length kept
   pub placed : ArePlaces places (take indexed kept)
 
+-- no plan stands twice: two places whose columns are for one plan are the same
+abbrev pub AreApart : List Kept → Type 0
+AreApart kept = (p q : ℕ) (k l : Kept) → slice_get kept p ≡ Some k → slice_get kept q ≡ Some l → k.node ≡ l.node → p ≡ q
+
 -- the whole values that are kept, by the number of the plan
 abbrev pub values_of : Option ColumnData → Option (List Datum)
 values_of None = None

@@ -18,13 +18,14 @@ use Rattle.vx_steps.specs.declared.errors.StepError.{StepError}
 use Rattle.vx_steps.specs.declared.errors.StepError.TheVariants.{Unsupported, BadSegment, BadCode, EvalFault, Memory}
 use Rattle.vx_steps.specs.declared.leaf_reads.LeafRead.{LeafRead}
 use Rattle.vx_steps.specs.declared.wholes.Wholes.{Wholes}
+use Rattle.vx_steps.specs.Below.{StandsIn, HasNoShare, HasNoEvalBelowTake}
 use Rattle.vx_steps.specs.Computed.{HasCause}
 use Rattle.vx_steps.specs.Given.{Handed, values_for, given_for, handed_by}
 use Rattle.vx_steps.specs.Held.{AreTyped}
 use Rattle.vx_steps.specs.KeptData.{Kept}
 use Rattle.vx_steps.specs.Rows.{SomeRow}
-use Rattle.vx_steps.specs.Visits.{Test, Visits, SomeVisit, IsLeafRead, IsListRead, IsWholeRead, HasBadCode, HasEvalFault}
-use Rattle.vx_steps.specs.Wholes.{AreThere, IsThere}
+use Rattle.vx_steps.specs.Visits.{Visits, SomeVisit, IsLeafRead, IsListRead, IsWholeRead, HasBadCode, HasEvalFault}
+use Rattle.vx_steps.specs.Wholes.{AreThere, IsThere, HasInsideCause}
 
 -- what a row of a plan reads, with what was handed in in place of what it would read
 abbrev pub row_reads : Handed → ℕ → Plan → ℕ → List Read
@@ -156,9 +157,18 @@ IsFaultyTerm leaves d = ⊥
 abbrev pub row_with : Handed → ℕ → Plan → ℕ → Derivation
 row_with handed offset p row = with_given (values_for handed) (plan_derivation offset p row)
 
+-- that row of an expression's plan is derived so, with what was handed in or, inside whole values, with nothing
+abbrev pub IsEvalRow : Handed → ℕ → ℕ → Derivation → Plan → Type 0
+IsEvalRow handed offset at d (eval_plan head e child) = (d ≡ row_with handed offset (eval_plan head e child) at) ⊎ (d ≡ row_with None offset (eval_plan head e child) at)
+IsEvalRow handed offset at d p = ⊥
+
+-- an expression that is a fault over a value that is there, at that row of its plan, which stands in this one
+abbrev pub IsFaultyRow : Leaves → Handed → ℕ → Plan → ℕ → Derivation → Type 0
+IsFaultyRow leaves handed offset p at d = IsFaultyTerm leaves d × StandsIn (IsEvalRow handed offset at d) p
+
 -- an expression whose fault is visited is worked out for the row
 abbrev pub EvalFaultIsWorkedOut : Type 0
-EvalFaultIsWorkedOut = (leaves : Leaves) (handed : Handed) (offset : ℕ) (p : Plan) (row at : ℕ) → Visits (HasEvalFault leaves offset at) handed p row → HasPart (IsFaultyTerm leaves) (row_with handed offset p row)
+EvalFaultIsWorkedOut = (leaves : Leaves) (handed : Handed) (offset : ℕ) (p : Plan) (row at : ℕ) → Visits (HasEvalFault leaves offset at) handed p row → HasPart (IsFaultyRow leaves handed offset p at) (row_with handed offset p row)
 
 -- some selected row has such a read, with what was handed in
 abbrev pub SomeRead : (Found → Type 0) → Handed → ℕ → Plan → ℕ → List Bool → Type 0
@@ -168,12 +178,12 @@ SomeRead P handed offset p start bits = SomeRow (λ row. Finds P (row_reads hand
 abbrev pub SelectedLeafIsRead : Type 0
 SelectedLeafIsRead = (handed : Handed) (offset : ℕ) (p : Plan) (start : ℕ) (bits : List Bool) (read : LeafRead) → SomeVisit (IsLeafRead read) handed p start bits → SomeRead (IsIn read.segment) handed offset p start bits
 
--- A selected row reads a row of the list, or the bad code, or is derived by an expression that is a fault.
+-- A selected row reads a row of the list, or the bad code, or is derived by an expression that is a fault at that row.
 abbrev pub IsReadCause : Leaves → Handed → ℕ → Plan → ℕ → List Bool → StepError → Type 0
 IsReadCause leaves handed offset p start bits (Unsupported list) = SomeRead (IsRowOf (number_of list)) handed offset p start bits
 IsReadCause leaves handed offset p start bits (BadSegment segment) = ⊥
 IsReadCause leaves handed offset p start bits (BadCode take at) = SomeRead (IsBadCodeAt leaves (number_of take) at) handed offset p start bits
-IsReadCause leaves handed offset p start bits (EvalFault at) = SomeRow (λ row. HasPart (IsFaultyTerm leaves) (row_with handed offset p row)) start bits
+IsReadCause leaves handed offset p start bits (EvalFault at) = SomeRow (λ row. HasPart (IsFaultyRow leaves handed offset p at) (row_with handed offset p row)) start bits
 IsReadCause leaves handed offset p start bits Memory = Unit {0}
 
 -- the cause of a refusal lies in what selected rows read and are derived from
@@ -181,18 +191,6 @@ abbrev pub CauseIsRead : Type 0
 CauseIsRead = (leaves : Leaves) (handed : Handed) (offset : ℕ) (p : Plan) (start : ℕ) (bits : List Bool) (error : StepError) → GivenFits handed p → HasCause leaves handed offset p start bits error → IsReadCause leaves handed offset p start bits error
 
 -- ---- the takes whose values are asked for
-
--- a take of that number, over values of the other, and not inside whole values
-abbrev pub IsTakeOver : ℕ → ℕ → Test
-IsTakeOver take values_number (Some handed) (take_plan head codes values) row = (head.number ≡ take) × ((plan_head values).number ≡ values_number)
-IsTakeOver take values_number handed p row = ⊥
-
-abbrev pub IsShareRow : Test
-IsShareRow handed (share_plan head child) row = Unit {0}
-IsShareRow handed p row = ⊥
-
-abbrev pub HasNoShare : List Node → Type 0
-HasNoShare nodes = (n : ℕ) → HasKind IsShare nodes n → ⊥
 
 -- a row of the plan reads a code of the take directly: for it the take is outermost
 abbrev pub ReadsTake : ℕ → ℕ → Plan → ℕ → Type 0
@@ -202,12 +200,20 @@ ReadsTake take offset p row = FindsBy directly (IsCodeOf take) (plan_reads offse
 abbrev pub IsValuesOf : List Node → ℕ → ℕ → Type 0
 IsValuesOf nodes take values = slice_get (node_at nodes take).children 1 ≡ Some values
 
--- Where there is no share, a row asks for the whole values of each outermost take that it reads.
+-- Where no share stands in the plan, a row asks for the whole values of each outermost take that it reads.
 abbrev pub OutermostTakeIsAsked : Type 0
-OutermostTakeIsAsked = (nodes : List Node) → IsGoodTable nodes → HasNoShare nodes → (given : GivenValues) (offset n row take : ℕ) → n < length nodes → ReadsTake take offset (plan_at nodes n) row →
+OutermostTakeIsAsked = (nodes : List Node) → IsGoodTable nodes → (given : GivenValues) (offset n row take : ℕ) → n < length nodes → HasNoShare (plan_at nodes n) → ReadsTake take offset (plan_at nodes n) row →
     (values : ℕ) × IsValuesOf nodes take values × Visits (IsWholeRead values) (Some given) (plan_at nodes n) row
 
 -- So where all that selected rows ask for was made or used, the values of each outermost take that they read were.
 abbrev pub TakesAreThere : Type 0
-TakesAreThere = (nodes : List Node) → IsGoodTable nodes → HasNoShare nodes → (given : List Kept) (wholes : Wholes) (offset n start : ℕ) (bits : List Bool) (take : ℕ) → n < length nodes → AreThere nodes given wholes n start bits →
+TakesAreThere = (nodes : List Node) → IsGoodTable nodes → (given : List Kept) (wholes : Wholes) (offset n start : ℕ) (bits : List Bool) (take : ℕ) → n < length nodes → HasNoShare (plan_at nodes n) → AreThere nodes given wholes n start bits →
     SomeRow (ReadsTake take offset (plan_at nodes n)) start bits → (values : ℕ) × IsValuesOf nodes take values × IsThere given wholes values
+
+-- a table without shares has none in a plan
+abbrev pub NoShareInTable : Type 0
+NoShareInTable = (nodes : List Node) → IsGoodTable nodes → ((n : ℕ) → HasKind IsShare nodes n → ⊥) → (n : ℕ) → n < length nodes → HasNoShare (plan_at nodes n)
+
+-- Where besides no expression stands below a take, no fault of an expression is one of whole values.
+abbrev pub EvalFaultIsOutside : Type 0
+EvalFaultIsOutside = (leaves : Leaves) (given : GivenValues) (offset : ℕ) (p : Plan) (start : ℕ) (bits : List Bool) (at : ℕ) → HasNoShare p → HasNoEvalBelowTake p → ¬ (HasInsideCause leaves (Some given) offset p start bits (EvalFault at))

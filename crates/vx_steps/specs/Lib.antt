@@ -1,13 +1,16 @@
 pub mod Agreement
+pub mod Below
 pub mod Chunks
 pub mod Computed
 pub mod Delivered
 pub mod Given
+pub mod GivenLaws
 pub mod Held
 pub mod Jobs
 pub mod Kept
 pub mod KeptData
 pub mod Laws
+pub mod Leavings
 pub mod Needs
 pub mod Offers
 pub mod ReadTable
@@ -19,6 +22,7 @@ pub mod ScanLaws
 pub mod Splits
 pub mod Steps
 pub mod Structs
+pub mod TakeLaws
 pub mod Turns
 pub mod Visits
 pub mod Wants

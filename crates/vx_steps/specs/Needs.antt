@@ -16,6 +16,10 @@ abbrev pub Among : {X : Type 0} → X → List X → Type 0
 Among x [] = ⊥
 Among x (y ∷ ys) = (y ≡ x) ⊎ Among x ys
 
+-- each of these is one of those
+abbrev pub AreAmong : {X : Type 0} → List X → List X → Type 0
+AreAmong these those = (x : _) → Among x these → Among x those
+
 -- The new list has the old elements, and exactly those that are so.
 pub record Adds {X : Type 0} (P : X → Type 0) (old new : List X) : Type 0 where
   pub only : (x : X) → Among x new → Among x old ⊎ P x

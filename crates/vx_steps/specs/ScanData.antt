@@ -6,7 +6,7 @@ use Rattle.vx_steps.specs.declared.jobs.Job.{Job}
 use Rattle.vx_steps.specs.declared.jobs.Progress.{Progress}
 use Rattle.vx_steps.specs.declared.reads.ReadId.{ReadId}
 use Rattle.vx_steps.specs.declared.splits.Split.{Split}
-use Rattle.vx_steps.specs.Held.{HaveLeaves}
+use Rattle.vx_steps.specs.Held.{AreMade, HaveLeaves}
 use Rattle.vx_steps.specs.Jobs.{numbers_from, left_of, IsTold, IsUnstarted}
 use Rattle.vx_steps.specs.ReadTable.{Delivers}
 
@@ -25,9 +25,11 @@ IsScanOf scan outside = IsTold scan.nodes scan.job scan.progress outside
 abbrev pub StaysTold : ScanData → ScanData → Type 0
 StaysTold old new = (outside : Bytes) → IsScanOf old outside → IsScanOf new outside
 
--- The leaves that were handed in are all that is asked of what lies outside.
-abbrev pub IsOfLeaves : ScanData → Type 0
-IsOfLeaves scan = (outside : Bytes) → HaveLeaves scan.nodes scan.progress.leaves (leaves_of outside) → IsScanOf scan outside
+-- The leaves and the whole values that were handed in are all that is asked of what lies outside: these leaves are kept
+-- there, and by its leaves these values are those of their plans, with the offset of the scan.
+abbrev pub IsOfHanded : ScanData → Type 0
+IsOfHanded scan =
+    (outside : Bytes) → HaveLeaves scan.nodes scan.progress.leaves (leaves_of outside) → AreMade scan.nodes scan.job.offset scan.progress.wholes.made (leaves_of outside) → IsScanOf scan outside
 
 -- Nothing was done yet: all splits that select a row are left, and nothing is claimed of what lies outside.
 pub record IsNew (nodes : List Node) (plan : ℕ) (splits : List Split) (scan : ScanData) : Type 0 where
@@ -41,6 +43,7 @@ pub record IsNew (nodes : List Node) (plan : ℕ) (splits : List Split) (scan : 
   pub unstarted : IsUnstarted scan.progress
   pub handed : scan.progress.reads.handed ≡ 0
   pub leaves : scan.progress.leaves ≡ []
+  pub made : scan.progress.wholes.made ≡ []
   pub refused : scan.refused ≡ false
   pub told : (outside : Bytes) → IsScanOf scan outside
 

@@ -42,7 +42,7 @@ IsTornIn bytes segment (a_cell at) = (at.segment ≡ segment) × IsTorn bytes (a
 IsTornIn bytes segment found = ⊥
 
 -- Why a split has no column: a selected row reads a torn leaf of the segment, a row of the list or the bad code, or is
--- derived by an expression that is a fault.
+-- derived by an expression that is a fault at that row.
 abbrev pub IsSplitCause : List Node → Job → Split → Bytes → StepError → Type 0
 IsSplitCause nodes job split outside (BadSegment segment) = SplitReads (IsTornIn outside segment) nodes job split
 IsSplitCause nodes job split outside error = IsReadCause (leaves_of outside) (handed_by nodes (Some job.given)) job.offset (plan_at nodes job.plan) split.rows.start split.mask error

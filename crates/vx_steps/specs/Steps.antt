@@ -1,5 +1,5 @@
 -- What a step of a scan comes to.
-use Rattle.std.specs.Prelude.{◌≡◌, ℕ, ◌+◌, ◌-◌, ◌^◌, ◌<◌, ◌⊎◌, List, [], length, Some, None}
+use Rattle.std.specs.Prelude.{◌≡◌, ℕ, ◌+◌, ◌-◌, ◌^◌, ◌<◌, ◌⊎◌, List, [], ◌∷◌, length, Option, Some, None, Result, Ok}
 use Rattle.std.specs.List.{slice_get, remove}
 use Rattle.vx_base.specs.Columns.{ColumnData}
 use Rattle.vx_plan.specs.Nodes.{Node}
@@ -16,11 +16,13 @@ use Rattle.vx_steps.specs.declared.reads.ReadRequest.{ReadRequest}
 use Rattle.vx_steps.specs.declared.splits.Split.{Split}
 use Rattle.vx_steps.specs.declared.wholes.Wholes.{Wholes}
 use Rattle.vx_steps.specs.Delivered.{IsTornNeed}
-use Rattle.vx_steps.specs.Jobs.{left_of, CanStart, IsTold}
+use Rattle.vx_steps.specs.Jobs.{active_of, left_of, CanStart, IsTold}
+use Rattle.vx_steps.specs.Kept.{kept_at}
+use Rattle.vx_steps.specs.KeptData.{Kept}
 use Rattle.vx_steps.specs.Needs.{Among}
 use Rattle.vx_steps.specs.ReadTable.{StandsAt}
 use Rattle.vx_steps.specs.ReadTableData.{Wanted}
-use Rattle.vx_steps.specs.Turns.{HasRowCause, IsOutput, LeavesWholes, ReadsFor}
+use Rattle.vx_steps.specs.Turns.{AreLeavesKept, HasRowCause, IsOutput, LeavesWholes, ReadsFor}
 
 -- the column of a split, by whatever lies outside of which the scan is
 abbrev pub IsSplitOutput : List Node → Job → Progress → Wholes → Split → ColumnData → Type 0
@@ -43,15 +45,16 @@ HasSplitCause nodes job old wanted split error = (outside : Bytes) → IsTold no
 abbrev pub LeavesSplit : List Node → Job → Progress → Wholes → Split → StepError → Type 0
 LeavesSplit nodes job old after split error = LeavesWholes nodes job split old.reads.wanted old.leaves old.wholes.made after error
 
--- a split has the cause of the refusal
+-- a split that is active has the cause of the refusal
 pub record RefusesSplit (nodes : List Node) (job : Job) (old new : Progress) (error : StepError) : Type 0 where
   pub number : ℕ
+  pub active : Among number (active_of new)
   pub split : Split
   pub at : slice_get job.splits.items number ≡ Some split
   pub cause : HasSplitCause nodes job old new.reads.wanted split error
   pub left : LeavesSplit nodes job old new.wholes split error
 
--- there is no memory left, or a split has the cause of the refusal
+-- there is no memory left, or an active split has the cause of the refusal
 abbrev pub IsStepRefusal : List Node → Job → Progress → Progress → StepError → Type 0
 IsStepRefusal nodes job old new error = (error ≡ Memory) ⊎ RefusesSplit nodes job old new error
 
@@ -59,9 +62,9 @@ IsStepRefusal nodes job old new error = (error ≡ Memory) ⊎ RefusesSplit node
 abbrev pub IsMissing : List Wanted → ℕ → Type 0
 IsMissing wanted segment = (place : ℕ) × (slice_get wanted place ≡ Some (record { segment = segment; bytes = None }))
 
--- a leaf that the active split needs is of a segment whose bytes did not come
-abbrev pub IsHeldUp : List Wanted → ActiveSplit → Type 0
-IsHeldUp wanted active = (need : LeafRead) × Among need active.needs × IsMissing wanted need.segment
+-- no column is kept of a leaf that the active split needs, and the bytes of its segment did not come
+abbrev pub IsHeldUp : List Kept → List Wanted → ActiveSplit → Type 0
+IsHeldUp leaves wanted active = (need : LeafRead) × Among need active.needs × (kept_at leaves need.leaf ≡ None) × IsMissing wanted need.segment
 
 -- Splits are left, and the next read is handed out: its number is the count of the reads before it, and none of them
 -- was of its segment.
@@ -74,7 +77,7 @@ pub record HandsRead (job : Job) (old new : Progress) (request : ReadRequest) : 
   pub some_left : left_of job old ≡ [] → ⊥
   pub left : left_of job new ≡ left_of job old
 
--- The column of a split that was left is given, and the split is left no more.
+-- The column of a split that was left is given, and the split is left no more. The leaves that it reads are kept.
 pub record GivesOutput (nodes : List Node) (job : Job) (old new : Progress) (number : ℕ) (column : ColumnData) : Type 0 where
   pub place : ℕ
   pub at : slice_get (left_of job old) place ≡ Some number
@@ -82,6 +85,7 @@ pub record GivesOutput (nodes : List Node) (job : Job) (old new : Progress) (num
   pub split : Split
   pub split_at : slice_get job.splits.items number ≡ Some split
   pub output : IsSplitOutput nodes job old new.wholes split column
+  pub leaves : AreLeavesKept nodes job split new.leaves
   pub handed : new.reads.handed ≡ old.reads.handed
 
 -- Nothing can be done: no split can be started, all wanted segments were handed out, and some split is active, each
@@ -92,7 +96,7 @@ pub record IsWaiting (job : Job) (old new : Progress) : Type 0 where
   pub none_to_start : CanStart job new → ⊥
   pub all_handed : new.reads.handed ≡ length new.reads.wanted
   pub some : length new.active.items ≡ 0 → ⊥
-  pub held : (active : ActiveSplit) → Among active new.active.items → IsHeldUp new.reads.wanted active
+  pub held : (active : ActiveSplit) → Among active new.active.items → IsHeldUp old.leaves new.reads.wanted active
 
 -- No split is left.
 pub record IsDone (job : Job) (old new : Progress) : Type 0 where
@@ -106,23 +110,34 @@ TakesTurn nodes job old new (Output number column) = GivesOutput nodes job old n
 TakesTurn nodes job old new Waiting = IsWaiting job old new
 TakesTurn nodes job old new Done = IsDone job old new
 
--- the column of the active split at the place
+-- the splits that were active in a turn: those that still are, and that whose column it gives
+abbrev pub active_in : Result Turn StepError → Progress → List ℕ
+active_in (Ok (Output number column)) new = number ∷ active_of new
+active_in result new = active_of new
+
+-- the same where a column was given or not
+abbrev pub tried_in : Option (ℕ × ColumnData) → Progress → List ℕ
+tried_in (Some given) new = given.0 ∷ active_of new
+tried_in None new = active_of new
+
+-- the column of the active split at the place, whose leaves are kept
 pub record IsActiveOutput (nodes : List Node) (job : Job) (old new : Progress) (place : ℕ) (column : ColumnData) : Type 0 where
   pub active : ActiveSplit
   pub active_at : slice_get old.active.items place ≡ Some active
   pub split : Split
   pub split_at : slice_get job.splits.items active.split ≡ Some split
   pub output : IsSplitOutput nodes job old new.wholes split column
+  pub leaves : AreLeavesKept nodes job split new.leaves
 
 -- the active split at the place is held up
 abbrev pub IsHeldAt : Progress → ℕ → Type 0
-IsHeldAt progress place = (active : ActiveSplit) → slice_get progress.active.items place ≡ Some active → IsHeldUp progress.reads.wanted active
+IsHeldAt progress place = (active : ActiveSplit) → slice_get progress.active.items place ≡ Some active → IsHeldUp progress.leaves progress.reads.wanted active
 
 -- All active splits were tried, and each is held up.
 pub record HoldsAll (old new : Progress) : Type 0 where
   pub next : new.next ≡ old.next
   pub active : new.active.items ≡ old.active.items
-  pub held : (active : ActiveSplit) → Among active new.active.items → IsHeldUp new.reads.wanted active
+  pub held : (active : ActiveSplit) → Among active new.active.items → IsHeldUp old.leaves new.reads.wanted active
 
 -- ---- a scan ends
 

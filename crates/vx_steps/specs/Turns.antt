@@ -15,6 +15,7 @@ use Rattle.vx_steps.specs.declared.wholes.Wholes.{Wholes}
 use Rattle.vx_steps.specs.Computed.{HasCause}
 use Rattle.vx_steps.specs.Delivered.{IsOf, SomeTornCause}
 use Rattle.vx_steps.specs.Given.{handed_by, row_value}
+use Rattle.vx_steps.specs.Kept.{IsKept}
 use Rattle.vx_steps.specs.KeptData.{Kept}
 use Rattle.vx_steps.specs.ReadTableData.{Wanted}
 use Rattle.vx_steps.specs.Rows.{rows_of, AreOf}
@@ -24,6 +25,10 @@ use Rattle.vx_steps.specs.Wholes.{AreThere, HasInsideCause}
 -- a selected row of the split reads the leaf
 abbrev pub ReadsFor : List Node → Job → Split → LeafRead → Type 0
 ReadsFor nodes job split read = ReadsLeaf nodes job.given job.plan split.rows.start split.mask read
+
+-- each leaf that a selected row of the split reads is kept
+abbrev pub AreLeavesKept : List Node → Job → Split → List Kept → Type 0
+AreLeavesKept nodes job split leaves = (read : LeafRead) → ReadsFor nodes job split read → IsKept leaves read.leaf
 
 -- The column has the plan's dtype, and the plan's values at the split's selected rows, in their order, with the values
 -- that were handed in in place of the whole ones, by whatever lies outside of which the scan is. The whole values that

@@ -29,6 +29,10 @@ IsAsked wanted segment = (place : ℕ) × StandsAt wanted segment place
 abbrev pub IsNeeded : List LeafRead → List Kept → ℕ → Type 0
 IsNeeded needs handed segment = (read : LeafRead) × Among read needs × (kept_at handed read.leaf ≡ None) × (read.segment ≡ segment)
 
+-- one of the needed leaves has the number
+abbrev pub IsNeededLeaf : List LeafRead → ℕ → Type 0
+IsNeededLeaf needs n = (read : LeafRead) × Among read needs × (read.leaf ≡ n)
+
 -- what stands in the old list stands in the new one, at the same place
 abbrev pub Grows : List Wanted → List Wanted → Type 0
 Grows old new = (place : ℕ) (w : Wanted) → slice_get old place ≡ Some w → slice_get new place ≡ Some w

@@ -94,6 +94,13 @@ impl Progress {
     {
         self.leaves = leaves;
     }
+
+    /// Puts these whole values in place of those that were made.
+    pub(crate) fn hand_in_made(&mut self, made: KeptColumns)
+        ensures { self.new ≡ record self.old { wholes = record self.old.wholes { made = made } } }
+    {
+        self.wholes.made = made;
+    }
 }
 
 /// Indexes what was handed in, so that none of it is looked through. Where memory is wanting, all is as before.
@@ -102,5 +109,6 @@ pub(crate) fn index_handed(job: &mut Job, progress: &mut Progress) -> Result<(),
     ensures progress { progress.new ≡ progress.old }
 {
     job.given.index()?;
-    progress.leaves.index()
+    progress.leaves.index()?;
+    progress.wholes.made.index()
 }

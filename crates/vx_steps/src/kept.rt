@@ -1,6 +1,6 @@
 //! Whole columns that are kept, each for a plan.
 
-ghost use Rattle.std.specs.Prelude.{◌≡◌, ◌+◌, ◌<◌, length, take, [], ◌∷◌, ◌++◌, None, map, IfOk, OnOk, OnErr, option_copied};
+ghost use Rattle.std.specs.Prelude.{◌≡◌, ◌+◌, ◌<◌, length, take, [], ◌∷◌, ◌++◌, None, map, IfOk, MatchResult, OnOk, OnErr, option_copied};
 ghost use Rattle.vx_steps.specs.Kept.{kept_at, kept_data, ArePlaces};
 
 use std::alloc::{AllocError, Global};
@@ -16,8 +16,8 @@ pub struct KeptValue {
     pub column: Column,
 }
 
-/// Kept columns in the order in which they came, the first for each plan. Those that were handed in all at
-/// once are looked through until they are indexed.
+/// Kept columns in the order in which they came; for a plan the first of its columns counts. Those that were handed
+/// in all at once are looked through until they are indexed.
 #[derive(Drop)]
 pub(crate) struct KeptColumns {
     columns: Vec<KeptValue>,
@@ -84,7 +84,7 @@ impl KeptColumns {
         }
     }
 
-    /// The column of a plan, where one is kept.
+    /// The first column of a plan, where one is kept.
     pub(crate) fn find(&self, node: u32) -> Option<&Column>
         ensures { option_copied result ≡ kept_at self.now node }
     {
@@ -150,5 +150,22 @@ impl KeptColumns {
         ensures { map kept_data result.items ≡ self }
     {
         self.columns
+    }
+
+    /// The kept columns and their places, where all are indexed, and else the columns alone.
+    pub(crate) fn into_indexed(
+        self,
+    ) -> Result<(Vec<KeptValue>, BTreeMap<u32, usize>), Vec<KeptValue>>
+        ensures { MatchResult result (λ found. (map kept_data found.0.items ≡ self) × ArePlaces found.1 self) (λ columns. map kept_data columns.items ≡ self) }
+    {
+        if self.indexed < self.columns.len() {
+            return Err(self.columns);
+        }
+        let KeptColumns {
+            columns,
+            places,
+            ..
+        } = self;
+        Ok((columns, places))
     }
 }

@@ -1,7 +1,10 @@
-//! The laws of what a scan visits: it is what the plan reads. Each is the contract of a function that does nothing.
+//! The laws of a scan: what it visits is what the plan reads, and what it used serves in place of what was handed in.
+//! Each is the contract of a function that does nothing.
 
-ghost use Rattle.vx_steps.specs.Laws.{LeafVisitIsRead, LeafVisitIsPlanRead, ReadIsLeafVisit, PlanReadIsLeafVisit, NoColumnsHandNone, SelectedVisitIsRead, SelectedReadIsVisit, ListVisitIsRead, ReadIsListVisit, TypedGivenFits, BadCodeIsRead, ReadIsBadCode, EvalFaultIsWorkedOut, SelectedLeafIsRead, CauseIsRead, OutermostTakeIsAsked, TakesAreThere};
+ghost use Rattle.vx_steps.specs.GivenLaws.{ServedStays, UsedServe, UsedGiveValues, UsedGiveColumns, CertifiedServe, CertifiedGiveColumns};
+ghost use Rattle.vx_steps.specs.Laws.{LeafVisitIsRead, LeafVisitIsPlanRead, ReadIsLeafVisit, PlanReadIsLeafVisit, NoColumnsHandNone, SelectedVisitIsRead, SelectedReadIsVisit, ListVisitIsRead, ReadIsListVisit, TypedGivenFits, BadCodeIsRead, ReadIsBadCode, EvalFaultIsWorkedOut, SelectedLeafIsRead, CauseIsRead, OutermostTakeIsAsked, TakesAreThere, NoShareInTable, EvalFaultIsOutside};
 ghost use Rattle.vx_steps.specs.ScanLaws.{WantedIsRead, SplitCauseIsRead};
+ghost use Rattle.vx_steps.specs.TakeLaws.{OutputHasTakes, EvalFaultHasTakes, UnstartedHasTakes, TurnKeepsTakes, SameKeepsTakes, DoneHasTakes, OneSplitHasTakes, ScanHasTakes};
 
 /// The leaves and lists that a row visits are those that it reads. Whatever whole values are handed in, a row visits
 /// no segment that the plan doesn't read; where none are, it visits each that the plan reads.
@@ -37,11 +40,28 @@ pub fn causes_are_read()
     ensures causes { CauseIsRead }
 {}
 
-/// Where no share stands in the table, rows ask for the whole values of each outermost take that they read; so where
-/// all that they ask for was made or used, those were.
+/// Where no share stands in a plan, its rows ask for the whole values of each outermost take that they read; so where
+/// all that they ask for was made or used, those were. Where besides no expression stands below a take, no fault of an
+/// expression is one of whole values.
 pub fn outermost_takes_are_asked()
     ensures asked { OutermostTakeIsAsked }
     ensures there { TakesAreThere }
+    ensures tables { NoShareInTable }
+    ensures faults { EvalFaultIsOutside }
+{}
+
+/// Where no share stands in the plan and no expression below a take, a scan of one split that is done without a
+/// refusal, or is refused for an expression that is a fault, used or made the whole values of each outermost take that
+/// the split's selected rows read. The clauses say it of each split, from step to step, and of a whole scan.
+pub fn splits_have_their_takes()
+    ensures outputs { OutputHasTakes }
+    ensures faults { EvalFaultHasTakes }
+    ensures unstarted { UnstartedHasTakes }
+    ensures turns { TurnKeepsTakes }
+    ensures others { SameKeepsTakes }
+    ensures done { DoneHasTakes }
+    ensures one { OneSplitHasTakes }
+    ensures scan { ScanHasTakes }
 {}
 
 /// Each segment that a scan wants is one that a selected row of a split reads; and each refusal has its cause in what
@@ -49,4 +69,15 @@ pub fn outermost_takes_are_asked()
 pub fn splits_are_read()
     ensures wanted { WantedIsRead }
     ensures causes { SplitCauseIsRead }
+{}
+
+/// The values that were used serve in place of all that were handed in: each selected row is derived with them alike.
+/// Where each of them is the whole values of its plan, the row is worth what the plan says.
+pub fn used_values_serve()
+    ensures stays { ServedStays }
+    ensures rows { UsedServe }
+    ensures values { UsedGiveValues }
+    ensures columns { UsedGiveColumns }
+    ensures certified { CertifiedServe }
+    ensures certified_columns { CertifiedGiveColumns }
 {}

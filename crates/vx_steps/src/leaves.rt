@@ -9,6 +9,8 @@ ghost use Rattle.vx_steps.specs.Delivered.{KeepsLeaves, LacksNeed, HasTornCause,
 ghost use Rattle.vx_steps.specs.Kept.{kept_at, IsKept};
 ghost use Rattle.vx_steps.specs.Needs.{Among, AreLeaves};
 ghost use Rattle.vx_steps.specs.ReadTable.{bytes_of};
+ghost use Rattle.vx_steps.specs.Wants.{IsNeededLeaf};
+ghost use Rattle.vx_steps.specs.Wholes.{AddsOnly};
 
 use crate::errors::StepError;
 use crate::kept::KeptColumns;
@@ -30,6 +32,7 @@ fn decode_need(
     requires known { need.leaf < length table.now }
     requires leaf { HasShape table.now need.leaf (Leaf need.segment) }
     ensures keeps { KeepsLeaves table.now reads.now.wanted leaves.old leaves.new }
+    ensures only { AddsOnly (λ n. need.leaf ≡ n) leaves.old leaves.new }
     ensures there { IfOk result (λ there. MatchBool there (IsKept leaves.new need.leaf) ((kept_at leaves.old need.leaf ≡ None) × (bytes_of reads.now.wanted need.segment ≡ None))) }
     ensures torn { IfErr result (HasTornCause table.now reads.now.wanted need) }
 {
@@ -64,6 +67,7 @@ fn decode_from(
 ) -> Result<usize, StepError>
     requires { AreLeaves table.now needs.now }
     ensures keeps { KeepsLeaves table.now reads.now.wanted leaves.old leaves.new }
+    ensures only { AddsOnly (IsNeededLeaf needs.now) leaves.old leaves.new }
     ensures missing { IfOk result (λ place. place < length needs.now → LacksNeed reads.now.wanted leaves.old needs.now) }
     ensures torn { IfErr result (SomeTornCause table.now reads.now.wanted needs.now) }
 {
@@ -87,6 +91,7 @@ fn decode_needs(
 ) -> Result<bool, StepError>
     requires { AreLeaves table.now needs.now }
     ensures keeps { KeepsLeaves table.now reads.now.wanted leaves.old leaves.new }
+    ensures only { AddsOnly (IsNeededLeaf needs.now) leaves.old leaves.new }
     ensures all { IfOk result (λ there. there ≡ true → (need : LeafRead) → Among need needs.now → IsKept leaves.new need.leaf) }
     ensures none { IfOk result (λ there. there ≡ false → LacksNeed reads.now.wanted leaves.old needs.now) }
     ensures torn { IfErr result (SomeTornCause table.now reads.now.wanted needs.now) }
@@ -137,6 +142,7 @@ impl NeededLeaves {
         requires { AreLeaves table.now self.old }
         ensures same { self.new ≡ self.old }
         ensures keeps { KeepsLeaves table.now reads.now.wanted leaves.old leaves.new }
+        ensures only { AddsOnly (IsNeededLeaf self.old) leaves.old leaves.new }
         ensures all { IfOk result (λ there. there ≡ true → (need : LeafRead) → Among need self.old → IsKept leaves.new need.leaf) }
         ensures none { IfOk result (λ there. there ≡ false → LacksNeed reads.now.wanted leaves.old self.old) }
         ensures torn { IfErr result (SomeTornCause table.now reads.now.wanted self.old) }

@@ -10,6 +10,7 @@ mod kept;
 mod laws;
 mod leaf_reads;
 mod leaves;
+mod leavings;
 mod needs;
 mod offers;
 mod outputs;
@@ -27,6 +28,7 @@ pub use laws::{
     bad_codes_are_read, causes_are_read, outermost_takes_are_asked, selected_visits_are_reads,
     splits_are_read, visits_are_reads,
 };
+pub use leavings::ScanKept;
 pub use progress::Turn;
 pub use reads::{ReadId, ReadRequest};
 pub use scan::Scan;

@@ -1,9 +1,11 @@
 //! The steps of a scan over what it is to do and how far it is.
 
-ghost use Rattle.std.specs.Prelude.{◌≡◌, ◌+◌, ◌<◌, ℕ, [], length, Some, None, IfOk, IfErr, IfSome, OnOk};
+ghost use Rattle.std.specs.Prelude.{◌≡◌, ◌+◌, ◌<◌, ◌≤◌, ℕ, [], length, Some, None, IfOk, IfErr, IfSome, OnOk};
 ghost use Rattle.std.specs.Bool.{MatchBool};
-ghost use Rattle.vx_steps.specs.Jobs.{IsGood, KeepsTold, KeepsWholes, OnlyKeeps, Starts, CanStart, WantsOnly};
-ghost use Rattle.vx_steps.specs.Steps.{GivesOutput, HoldsAll, IsActiveOutput, IsHeldAt, IsStepRefusal, TakesTurn};
+ghost use Rattle.vx_steps.specs.Jobs.{active_of, AddsLeaves, IsGood, KeepsBound, KeepsColumns, KeepsTold, KeepsWholesFor, OnlyKeeps, Starts, CanStart, WantsFor};
+ghost use Rattle.vx_steps.specs.Needs.{AreAmong};
+ghost use Rattle.vx_steps.specs.Steps.{active_in, tried_in, GivesOutput, HoldsAll, IsActiveOutput, IsHeldAt, IsStepRefusal, TakesTurn};
+ghost use Rattle.vx_steps.specs.Wants.{Grows};
 
 use crate::errors::StepError;
 use crate::jobs::{ActiveSplit, Job, Progress, index_handed};
@@ -38,7 +40,10 @@ fn start_next(
     requires good { IsGood table.now job.now progress.old }
     ensures good { IsGood table.now job.now progress.new }
     ensures told { KeepsTold table.now job.now progress.old progress.new }
+    ensures grows { Grows progress.old.reads.wanted progress.new.reads.wanted }
+    ensures leaves { progress.new.leaves ≡ progress.old.leaves }
     ensures wholes { progress.new.wholes ≡ progress.old.wholes }
+    ensures bounded { length progress.new.active.items ≤ length progress.old.active.items + 1 }
     ensures next { IfOk result (λ _. progress.new.next ≡ progress.old.next + 1) }
     ensures starts { IfOk result (λ _. Starts table.now job.now progress.old progress.new) }
 {
@@ -81,7 +86,10 @@ fn start_splits(
     requires { IsGood table.now job.now progress.old }
     ensures good { IsGood table.now job.now progress.new }
     ensures told { KeepsTold table.now job.now progress.old progress.new }
+    ensures grows { Grows progress.old.reads.wanted progress.new.reads.wanted }
+    ensures leaves { progress.new.leaves ≡ progress.old.leaves }
     ensures wholes { progress.new.wholes ≡ progress.old.wholes }
+    ensures bounded { KeepsBound job.now progress.old progress.new }
     ensures starts { IfOk result (λ _. Starts table.now job.now progress.old progress.new) }
     ensures all { IfOk result (λ _. CanStart job.now progress.new → ⊥) }
 {
@@ -130,11 +138,16 @@ fn finish_some(
     requires { IsGood table.now job.now progress.old }
     ensures good { IsGood table.now job.now progress.new }
     ensures told { KeepsTold table.now job.now progress.old progress.new }
-    ensures wholes { KeepsWholes table.now job.now progress.old.wholes progress.new.wholes }
+    ensures wholes { KeepsWholesFor table.now job.now (active_of progress.old) progress.old.wholes progress.new.wholes }
     ensures reads { progress.new.reads ≡ progress.old.reads }
+    ensures leaves { KeepsColumns progress.old.leaves progress.new.leaves }
+    ensures leaves_only { AddsLeaves table.now job.now (active_of progress.old) progress.old.leaves progress.new.leaves }
+    ensures bounded { length progress.new.active.items ≤ length progress.old.active.items }
+    ensures active { IfOk result (λ output. AreAmong (active_of progress.old) (tried_in output progress.new)) }
     ensures output { IfOk result (λ output. IfSome output (λ given. GivesOutput table.now job.now progress.old progress.new given.0 given.1)) }
     ensures none { IfOk result (λ output. output ≡ None → HoldsAll progress.old progress.new) }
     ensures cause { IfErr result (IsStepRefusal table.now job.now progress.old progress.new) }
+    ensures refused { IfErr result (λ _. progress.new.active.items ≡ progress.old.active.items) }
 {
     for place in 0..progress.active.len() {
         match finish_at(alloc, table, job, place, progress) {
@@ -159,8 +172,12 @@ fn advance(
     requires { IsGood table.now job.now progress.old }
     ensures good { IsGood table.now job.now progress.new }
     ensures told { KeepsTold table.now job.now progress.old progress.new }
-    ensures wholes { KeepsWholes table.now job.now progress.old.wholes progress.new.wholes }
-    ensures wants { IfOk result (λ _. WantsOnly table.now job.now progress.old progress.new) }
+    ensures grows { Grows progress.old.reads.wanted progress.new.reads.wanted }
+    ensures leaves { KeepsColumns progress.old.leaves progress.new.leaves }
+    ensures leaves_only { AddsLeaves table.now job.now (active_in result progress.new) progress.old.leaves progress.new.leaves }
+    ensures wholes { KeepsWholesFor table.now job.now (active_in result progress.new) progress.old.wholes progress.new.wholes }
+    ensures bounded { KeepsBound job.now progress.old progress.new }
+    ensures wants { IfOk result (λ _. WantsFor table.now job.now (active_in result progress.new) progress.old progress.new) }
     ensures turn { IfOk result (TakesTurn table.now job.now progress.old progress.new) }
     ensures cause { IfErr result (IsStepRefusal table.now job.now progress.old progress.new) }
 {
@@ -189,8 +206,12 @@ pub(crate) fn next_turn(
     ensures job { job.new ≡ job.old }
     ensures good { IsGood table.now job.old progress.new }
     ensures told { KeepsTold table.now job.old progress.old progress.new }
-    ensures wholes { KeepsWholes table.now job.old progress.old.wholes progress.new.wholes }
-    ensures wants { IfOk result (λ _. WantsOnly table.now job.old progress.old progress.new) }
+    ensures grows { Grows progress.old.reads.wanted progress.new.reads.wanted }
+    ensures leaves { KeepsColumns progress.old.leaves progress.new.leaves }
+    ensures leaves_only { AddsLeaves table.now job.old (active_in result progress.new) progress.old.leaves progress.new.leaves }
+    ensures wholes { KeepsWholesFor table.now job.old (active_in result progress.new) progress.old.wholes progress.new.wholes }
+    ensures bounded { KeepsBound job.old progress.old progress.new }
+    ensures wants { IfOk result (λ _. WantsFor table.now job.old (active_in result progress.new) progress.old progress.new) }
     ensures turn { IfOk result (TakesTurn table.now job.old progress.old progress.new) }
     ensures cause { IfErr result (IsStepRefusal table.now job.old progress.old progress.new) }
 {

@@ -6,22 +6,26 @@ ghost use Rattle.vx_plan.specs.Refs.{number_of};
 ghost use Rattle.vx_plan.specs.Rules.{node_at};
 ghost use Rattle.vx_steps.specs.declared.progress.Turn.TheVariants.{Done};
 ghost use Rattle.vx_steps.specs.Held.{AreTyped, FitsOffset};
-ghost use Rattle.vx_steps.specs.Jobs.{IsUnstarted, KeepsTold, KeepsWholes, WantsOnly};
-ghost use Rattle.vx_steps.specs.Kept.{kept_data};
+ghost use Rattle.vx_steps.specs.Jobs.{AddsLeaves, IsUnstarted, KeepsBound, KeepsColumns, KeepsTold, KeepsWholes, KeepsWholesFor, WantsFor, WantsOnly};
+ghost use Rattle.vx_steps.specs.Kept.{kept_data, AreApart};
+ghost use Rattle.vx_steps.specs.Leavings.{IsReadBehind};
 ghost use Rattle.vx_steps.specs.Offers.{IsForLeaf, IsForPlan, Keeps};
 ghost use Rattle.vx_steps.specs.ReadTable.{IsOutstanding};
-ghost use Rattle.vx_steps.specs.ScanData.{IsNew, IsOfLeaves, StaysTold, TakesBytes};
+ghost use Rattle.vx_steps.specs.ScanData.{IsNew, IsOfHanded, StaysTold, TakesBytes};
 ghost use Rattle.vx_steps.specs.Splits.{IsInside};
-ghost use Rattle.vx_steps.specs.Steps.{GoesOn, IsStepRefusal, TakesTurn, work_left};
+ghost use Rattle.vx_steps.specs.Steps.{active_in, GoesOn, IsStepRefusal, TakesTurn, work_left};
+ghost use Rattle.vx_steps.specs.Wants.{Grows};
 ghost use Rattle.vx_steps.specs.Wholes.{UsesGiven};
 
 use crate::errors::{DeliverError, StepError};
 use crate::jobs::{Job, Progress};
 use crate::kept::{KeptColumns, KeptValue};
+use crate::leavings::{ScanKept, leaves_behind};
 use crate::offers::{for_leaves, for_plans};
 use crate::progress::{Turn, next_turn};
 use crate::reads::ReadId;
 use crate::splits::{ScanBuildError, Split, check_splits};
+use crate::wholes::Wholes;
 use std::alloc::Global;
 use std::marker::Model;
 use vx_plan::{PlanRef, PlanTable};
@@ -90,7 +94,7 @@ impl<'a> Scan<'a> {
         requires unstarted { IsUnstarted self.progress }
         requires fits { FitsOffset self.nodes offset }
         ensures scan { result ≡ record self.entry { job = record self.entry.job { offset = offset } } }
-        ensures told { StaysTold self.entry result }
+        ensures told { IsOfHanded result }
     {
         self.job.offset = offset;
         self
@@ -117,10 +121,31 @@ impl<'a> Scan<'a> {
         ensures leaves { Keeps (IsForLeaf self.entry.nodes) (map kept_data leaves.items) result.progress.leaves }
         ensures others { result ≡ record self.entry { progress = record self.entry.progress { leaves = result.progress.leaves } } }
         ensures unstarted { IsUnstarted result.progress }
-        ensures told { IsOfLeaves result }
+        ensures told { IsOfHanded result }
     {
         let leaves = KeptColumns::of(self.alloc, for_leaves(self.table, leaves));
         self.progress.hand_in(leaves);
+        self
+    }
+
+    /// The scan, with whole values that an earlier scan made over the same table and with the same offset. They are not
+    /// made again, and stand among those that were made; where a value was handed in by `with_value_cache` for one of
+    /// their plans, that one is used. One of another dtype or length than its plan's is dropped. It takes no memory,
+    /// and is called before the first step.
+    ///
+    /// A value that was handed in by `with_value_cache` may be anybody's, so that it is listed in `used` once it was
+    /// used, by a copy. These are the caller's own: `used` lists none of them, and no copy is taken.
+    pub fn with_made(mut self, made: Vec<KeptValue>) -> Scan<'a>
+        requires unstarted { IsUnstarted self.progress }
+        requires apart { AreApart (map kept_data made.items) }
+        ensures made { Keeps (IsForPlan self.entry.nodes) (map kept_data made.items) result.progress.wholes.made }
+        ensures others { result ≡ record self.entry { progress = record self.entry.progress { wholes = record self.entry.progress.wholes { made = result.progress.wholes.made } } } }
+        ensures apart { AreApart result.progress.wholes.made }
+        ensures unstarted { IsUnstarted result.progress }
+        ensures told { IsOfHanded result }
+    {
+        let made = KeptColumns::of(self.alloc, for_plans(self.table, made));
+        self.progress.hand_in_made(made);
         self
     }
 
@@ -134,40 +159,100 @@ impl<'a> Scan<'a> {
         Ok(())
     }
 
-    /// The values that were handed in and used.
+    /// The values that were handed in and used, each once.
     pub fn used(&self) -> &[KeptValue]
         ensures values { map kept_data result.now ≡ self.now.progress.wholes.used }
         ensures uses { UsesGiven self.now.job.given [] self.now.progress.wholes.used }
         ensures typed { AreTyped self.now.nodes self.now.progress.wholes.used }
+        ensures apart { AreApart self.now.progress.wholes.used }
     {
         self.progress.wholes.used.columns()
     }
 
-    /// The whole values that were made.
+    /// The whole values that were made, or handed in by `with_made`, each once.
     pub fn made(&self) -> &[KeptValue]
         ensures values { map kept_data result.now ≡ self.now.progress.wholes.made }
         ensures typed { AreTyped self.now.nodes self.now.progress.wholes.made }
+        ensures apart { AreApart self.now.progress.wholes.made }
     {
         self.progress.wholes.made.columns()
     }
 
-    /// The columns of leaves that were handed in or decoded.
+    /// The columns of leaves that were handed in or decoded, and whose rows reach past those of the splits: the row
+    /// behind them reads the leaf. The leaves of a take's values and of a share are among them. It takes no memory.
     pub fn into_leaves(self) -> Vec<KeptValue>
-        ensures values { map kept_data result.items ≡ self.entry.progress.leaves }
-        ensures typed { AreTyped self.entry.nodes self.entry.progress.leaves }
+        ensures leaves { Keeps (λ kept. IsReadBehind self.entry.nodes self.entry.job kept.node) self.entry.progress.leaves (map kept_data result.items) }
+        ensures typed { AreTyped self.entry.nodes (map kept_data result.items) }
     {
-        let Scan { progress, .. } = self;
+        let Scan {
+            alloc,
+            table,
+            job,
+            progress,
+            ..
+        } = self;
         let Progress { leaves, .. } = progress;
-        leaves.into_columns()
+        leaves_behind(alloc, table, &job, leaves)
     }
 
-    /// The next turn: a read that is to be made, an output, or that there is none.
+    /// What the scan leaves to the next one: the leaves that `into_leaves` gives, and the whole values that `used` and
+    /// `made` list, all handed on without a copy. It takes no memory.
+    pub fn into_kept(self) -> ScanKept
+        ensures leaves { Keeps (λ kept. IsReadBehind self.entry.nodes self.entry.job kept.node) self.entry.progress.leaves (map kept_data result.leaves.items) }
+        ensures used { map kept_data result.used.items ≡ self.entry.progress.wholes.used }
+        ensures made { map kept_data result.made.items ≡ self.entry.progress.wholes.made }
+        ensures uses { UsesGiven self.entry.job.given [] self.entry.progress.wholes.used }
+        ensures typed_leaves { AreTyped self.entry.nodes (map kept_data result.leaves.items) }
+        ensures typed_used { AreTyped self.entry.nodes self.entry.progress.wholes.used }
+        ensures typed_made { AreTyped self.entry.nodes self.entry.progress.wholes.made }
+        ensures apart_used { AreApart self.entry.progress.wholes.used }
+        ensures apart_made { AreApart self.entry.progress.wholes.made }
+    {
+        let Scan {
+            alloc,
+            table,
+            job,
+            progress,
+            ..
+        } = self;
+        let Progress { leaves, wholes, .. } = progress;
+        let Wholes { made, used } = wholes;
+        ScanKept {
+            leaves: leaves_behind(alloc, table, &job, leaves),
+            used: used.into_columns(),
+            made: made.into_columns(),
+        }
+    }
+
+    /// The next turn. A step starts splits while one is left and fewer are active than may be, and wants the segments
+    /// that they read. Then it comes to the first of these:
+    ///
+    /// - `Done`: no split is left. A split that selects no row is never one of those that are left.
+    /// - `Read`: the next wanted segment is to be read, and its bytes delivered under that number. Each segment is handed
+    ///   out once, and its bytes serve each leaf that names it.
+    /// - `Output`: the column of an active split whose needed bytes all came, which then is active no more. Splits are
+    ///   given in whatever order their bytes come.
+    /// - `Waiting`: all wanted segments were handed out, and each active split needs bytes that did not come.
+    ///
+    /// # Errors
+    ///
+    /// A refusal names what an active split comes to: `Unsupported` a list of which it reads a row, `BadSegment` a
+    /// segment whose delivered bytes spell no rows of a leaf that it reads, `BadCode` a code that is neither null nor the
+    /// place of a value, `EvalFault` a row at which an expression is a fault. Want of memory, `Memory`, is a refusal like
+    /// these. None is tried again: later steps answer `Done`, whatever is left. What was made, used and decoded until
+    /// then stays.
     pub fn step(&mut self) -> Result<Turn, StepError>
         ensures nodes { self.new.nodes ≡ self.old.nodes }
         ensures job { self.new.job ≡ self.old.job }
         ensures told { KeepsTold self.old.nodes self.old.job self.old.progress self.new.progress }
+        ensures grows { Grows self.old.progress.reads.wanted self.new.progress.reads.wanted }
+        ensures leaves { KeepsColumns self.old.progress.leaves self.new.progress.leaves }
+        ensures leaves_only { AddsLeaves self.old.nodes self.old.job (active_in result self.new.progress) self.old.progress.leaves self.new.progress.leaves }
         ensures wholes { KeepsWholes self.old.nodes self.old.job self.old.progress.wholes self.new.progress.wholes }
+        ensures wholes_for { KeepsWholesFor self.old.nodes self.old.job (active_in result self.new.progress) self.old.progress.wholes self.new.progress.wholes }
+        ensures bounded { KeepsBound self.old.job self.old.progress self.new.progress }
         ensures wants { IfOk result (λ _. WantsOnly self.old.nodes self.old.job self.old.progress self.new.progress) }
+        ensures wants_for { IfOk result (λ _. WantsFor self.old.nodes self.old.job (active_in result self.new.progress) self.old.progress self.new.progress) }
         ensures turn { self.old.refused ≡ false → IfOk result (TakesTurn self.old.nodes self.old.job self.old.progress self.new.progress) }
         ensures lowers { IfOk result (λ turn. GoesOn turn → work_left self.old.job self.new.progress < work_left self.old.job self.old.progress) }
         ensures after_refusal { self.old.refused ≡ true → (result ≡ Ok Done) × (self.new ≡ self.old) }

@@ -8,9 +8,9 @@ ghost use Rattle.vx_steps.specs.Delivered.{KeepsLeaves, LacksNeed};
 ghost use Rattle.vx_steps.specs.Held.{AreTyped, FitsOffset};
 ghost use Rattle.vx_steps.specs.Kept.{kept_at};
 ghost use Rattle.vx_steps.specs.Needs.{Among, AreLeaves};
-ghost use Rattle.vx_steps.specs.Turns.{IsOutput, IsRefusal, LeavesWholes, ReadsFor};
-ghost use Rattle.vx_steps.specs.Wants.{AreNeeds, Grows, IsAsked, IsNeeded};
-ghost use Rattle.vx_steps.specs.Wholes.{AddsAsked, KeepsValues, UsesGiven};
+ghost use Rattle.vx_steps.specs.Turns.{AreLeavesKept, IsOutput, IsRefusal, LeavesWholes, ReadsFor};
+ghost use Rattle.vx_steps.specs.Wants.{AreNeeds, Grows, IsAsked, IsNeeded, IsNeededLeaf};
+ghost use Rattle.vx_steps.specs.Wholes.{AddsAsked, AddsOnly, KeepsValues, UsesGiven};
 
 use crate::errors::StepError;
 use crate::jobs::Job;
@@ -78,10 +78,12 @@ pub(crate) fn finish_split(
     requires typed_made { AreTyped table.now wholes.old.made }
     ensures same { needs.new ≡ needs.old }
     ensures keeps { KeepsLeaves table.now reads.now.wanted leaves.old leaves.new }
+    ensures only { AddsOnly (IsNeededLeaf needs.old) leaves.old leaves.new }
     ensures made { KeepsValues table.now leaves.new job.now.offset wholes.old.made wholes.new.made }
     ensures used { UsesGiven job.now.given wholes.old.used wholes.new.used }
     ensures asked { AddsAsked table.now job.now.given job.now.plan split.now.rows.start split.now.mask wholes.old wholes.new }
     ensures output { IfOk result (λ output. IfSome output (IsOutput table.now job.now split.now reads.now.wanted leaves.old wholes.old.made wholes.new)) }
+    ensures leaves { IfOk result (λ output. IfSome output (λ _. AreLeavesKept table.now job.now split.now leaves.new)) }
     ensures waiting { IfOk result (λ output. output ≡ None → LacksNeed reads.now.wanted leaves.old needs.old) }
     ensures cause { IfErr result (IsRefusal table.now job.now split.now needs.old reads.now.wanted leaves.old wholes.old.made) }
     ensures left { IfErr result (LeavesWholes table.now job.now split.now reads.now.wanted leaves.old wholes.old.made wholes.new) }

@@ -1,6 +1,5 @@
 use Rattle.std.proofs.Common.{◌+◌, ◌*◌, ◌≤◌, ◌-◌, length, take}
 use Rattle.std.specs.Prelude.{option_map}
-use Rattle.vx_plan.specs.Plans.{plan_at}
 use Rattle.vx_plan.specs.Rules.{node_at}
 use Rattle.vx_steps.specs.Given.{handed_by}
 use Rattle.vx_steps.specs.Needs.{Adds, AreLeaves}

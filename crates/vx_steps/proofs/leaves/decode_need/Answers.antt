@@ -1,7 +1,8 @@
-use Rattle.std.proofs.Common.{sym, ◌∙◌}
+use Rattle.std.proofs.Common.{◌≡◌, sym, ◌∙◌}
 use Rattle.vx_steps.specs.Kept.{kept_at}
 use Rattle.vx_steps.proofs.Shaping.{leaf_plan}
 use Rattle.vx_steps.proofs.Decoding.{keeps_none, decoded_keeps, none_kept, kept_here}
+use Rattle.vx_steps.proofs.WholeMaking.{none_more, one_only}
 use Rattle.vx_steps.proofs.leaves.decode_need.Goals as goal
 
 pub returns-in_err-keep-clause-keeps : goal.returns-in_err-keep-clause-keeps
@@ -23,3 +24,9 @@ returns-clause-there c =
 
 pub decode-requires : goal.decode-requires
 decode-requires c = record { leaf = rw c.dtype.ensures (leaf_plan c.args.table.now c.args.need.leaf c.args.need.segment c.requires.known c.requires.leaf).leaf }
+
+pub returns-in_err-keep-clause-only : goal.returns-in_err-keep-clause-only
+returns-in_err-keep-clause-only c = none_more (λ n. c.args.need.leaf ≡ n) c.args.leaves.now c.keep.new.self c.in_err-keep.ensures.as_before
+
+pub returns-clause-only : goal.returns-clause-only
+returns-clause-only c = one_only c.args.leaves.now c.keep.new.self c.args.need.leaf c.in-Ok.column c.in_ok-keep.ensures.kept

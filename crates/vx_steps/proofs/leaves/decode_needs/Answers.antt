@@ -1,4 +1,5 @@
-use Rattle.vx_steps.proofs.Decoding.{keeps_then, torn_up, kept_more, not_kept_before}
+use Rattle.vx_steps.specs.Wants.{IsNeededLeaf}
+use Rattle.vx_steps.proofs.Decoding.{adds_then, keeps_then, need_added, torn_up, kept_more, not_kept_before}
 use Rattle.vx_steps.proofs.Needing.{need_at, need_is, need_among}
 use Rattle.vx_steps.proofs.leaves.decode_needs.Goals as goal
 
@@ -9,6 +10,7 @@ loop-need-preserved c =
     let there = rw c.in-Ok-true.field-0-test at c.in-Ok-true.ensures.there in
     record {
       keeps = keeps_then c.args.table.now c.args.reads.now.wanted c.args.leaves.now c.loop-need.leaves c.decode_need.new.leaves c.loop-need.invariant.keeps c.in-Ok-true.ensures.keeps;
+      only = adds_then (IsNeededLeaf needs) c.args.leaves.now c.loop-need.leaves c.decode_need.new.leaves c.loop-need.invariant.only (need_added needs (need_at needs i) c.loop-need.leaves c.decode_need.new.leaves (need_among needs i (need_at needs i) c.loop-need-test.true (need_is needs i c.loop-need-test.true)) c.in-Ok-true.ensures.only);
       all = kept_more c.args.table.now c.args.reads.now.wanted c.loop-need.leaves c.decode_need.new.leaves needs i (need_at needs i) c.loop-need-test.true (need_is needs i c.loop-need-test.true) c.loop-need.invariant.all c.in-Ok-true.ensures.keeps there;
     }
 
@@ -30,3 +32,15 @@ returns-in-Err-clause-torn c =
     let needs = c.args.needs.now in
     let i = c.loop-need.need-index in
     torn_up c.args.table.now c.args.reads.now.wanted needs (need_at needs i) c.in-Err.error (need_among needs i (need_at needs i) c.loop-need-test.true (need_is needs i c.loop-need-test.true)) c.in-Err.ensures.torn
+
+pub returns-in-Ok-false-clause-only : goal.returns-in-Ok-false-clause-only
+returns-in-Ok-false-clause-only c =
+    let needs = c.args.needs.now in
+    let i = c.loop-need.need-index in
+    adds_then (IsNeededLeaf needs) c.args.leaves.now c.loop-need.leaves c.decode_need.new.leaves c.loop-need.invariant.only (need_added needs (need_at needs i) c.loop-need.leaves c.decode_need.new.leaves (need_among needs i (need_at needs i) c.loop-need-test.true (need_is needs i c.loop-need-test.true)) c.in-Ok-false.ensures.only)
+
+pub returns-in-Err-clause-only : goal.returns-in-Err-clause-only
+returns-in-Err-clause-only c =
+    let needs = c.args.needs.now in
+    let i = c.loop-need.need-index in
+    adds_then (IsNeededLeaf needs) c.args.leaves.now c.loop-need.leaves c.decode_need.new.leaves c.loop-need.invariant.only (need_added needs (need_at needs i) c.loop-need.leaves c.decode_need.new.leaves (need_among needs i (need_at needs i) c.loop-need-test.true (need_is needs i c.loop-need-test.true)) c.in-Err.ensures.only)

@@ -1,8 +1,13 @@
-use Rattle.std.proofs.Common.{rules, ◌≡◌, List, length, sym, subst}
+use Rattle.std.proofs.Common.{rules, ◌≡◌, ◌∙◌, List, ◌∷◌, ap, arith, length, sym, subst}
 use Rattle.vx_steps.specs.ReadTableData.{Wanted}
 use Rattle.vx_steps.specs.Delivered.{IsOf}
+use Rattle.vx_steps.specs.declared.jobs.ActiveSplit.{ActiveSplit}
 use Rattle.vx_steps.specs.declared.jobs.Progress.{Progress}
-use Rattle.vx_steps.proofs.Finishing.{starts_reads, told_reads, gives_later, hands_read, refusal_before}
+use Rattle.vx_steps.specs.Jobs.{active_of}
+use Rattle.vx_steps.specs.KeptData.{Kept}
+use Rattle.vx_steps.specs.Needs.{Among}
+use Rattle.vx_steps.specs.Steps.{IsHeldUp}
+use Rattle.vx_steps.proofs.Finishing.{starts_reads, told_reads, gives_later, hands_read, leaves_for, refusal_before, same_among, wants_for, wholes_for}
 use Rattle.vx_steps.proofs.progress.advance.Goals as goal
 
 pub returns-in-Some-clause-told : goal.returns-in-Some-clause-told
@@ -35,3 +40,82 @@ pub returns-in-Some-clause-turn : goal.returns-in-Some-clause-turn
 returns-in-Some-clause-turn c =
     let some : length c.start_splits.new.progress.active.items ≡ 0 → ⊥ = search rules in
     hands_read c.args.table.now c.args.job.now c.args.progress.now c.start_splits.new.progress c.hand_out.new.self c.in-Some.read c.in_ok-start_splits.ensures.starts c.in-Some.ensures some
+
+pub returns-in-Ok-None-clause-turn : goal.returns-in-Ok-None-clause-turn
+returns-in-Ok-None-clause-turn c =
+    let L : List Kept → Type 0 = λ leaves. (active : ActiveSplit) → Among active c.finish_some.new.progress.active.items → IsHeldUp leaves c.finish_some.new.progress.reads.wanted active in
+    let holds = c.in-Ok-None.ensures.none c.in-Ok-None.field-0-is in
+    let held : L c.args.progress.now.leaves = subst L c.in_ok-start_splits.ensures.leaves holds.held in
+    search rules
+
+pub returns-in-Some-clause-wants : goal.returns-in-Some-clause-wants
+returns-in-Some-clause-wants c =
+    let started = c.start_splits.new.progress in
+    let handed : Progress = record { next = started.next; active = started.active; reads = c.hand_out.new.self; leaves = started.leaves; wholes = started.wholes } in
+    wants_for c.args.table.now c.args.job.now (active_of started) (active_of handed) c.args.progress.now started handed (λ number among. among) c.in-Some.ensures.wanted c.in_ok-start_splits.ensures.starts.wants
+
+pub returns-in-Ok-Some-clause-wants : goal.returns-in-Ok-Some-clause-wants
+returns-in-Ok-Some-clause-wants c =
+    let started = c.start_splits.new.progress in
+    let given = c.finish_some.new.progress in
+    wants_for c.args.table.now c.args.job.now (active_of started) (c.in-Ok-Some.number ∷ active_of given) c.args.progress.now started given (rw c.in-Ok-Some.field-0-is at c.in-Ok-Some.ensures.active) (ap (λ r. r.wanted) (c.in-Ok-Some.ensures.reads ∙ c.in_default.ensures.1)) c.in_ok-start_splits.ensures.starts.wants
+
+pub returns-in-Ok-None-clause-wants : goal.returns-in-Ok-None-clause-wants
+returns-in-Ok-None-clause-wants c =
+    let started = c.start_splits.new.progress in
+    let tried = c.finish_some.new.progress in
+    wants_for c.args.table.now c.args.job.now (active_of started) (active_of tried) c.args.progress.now started tried (rw c.in-Ok-None.field-0-is at c.in-Ok-None.ensures.active) (ap (λ r. r.wanted) (c.in-Ok-None.ensures.reads ∙ c.in_default.ensures.1)) c.in_ok-start_splits.ensures.starts.wants
+
+pub returns-in-Ok-Some-clause-bounded : goal.returns-in-Ok-Some-clause-bounded
+returns-in-Ok-Some-clause-bounded c =
+    let bound = c.in_ok-start_splits.ensures.bounded in
+    let fewer = c.in-Ok-Some.ensures.bounded in
+    omega arith
+
+pub returns-in-Ok-None-clause-bounded : goal.returns-in-Ok-None-clause-bounded
+returns-in-Ok-None-clause-bounded c =
+    let bound = c.in_ok-start_splits.ensures.bounded in
+    let fewer = c.in-Ok-None.ensures.bounded in
+    omega arith
+
+pub returns-in-Err-clause-bounded : goal.returns-in-Err-clause-bounded
+returns-in-Err-clause-bounded c =
+    let bound = c.in_ok-start_splits.ensures.bounded in
+    let fewer = c.in-Err.ensures.bounded in
+    omega arith
+
+pub returns-in-Ok-Some-clause-wholes : goal.returns-in-Ok-Some-clause-wholes
+returns-in-Ok-Some-clause-wholes c =
+    let started = c.start_splits.new.progress in
+    let given = c.finish_some.new.progress in
+    wholes_for c.args.table.now c.args.job.now (active_of started) (c.in-Ok-Some.number ∷ active_of given) c.args.progress.now.wholes started.wholes given.wholes (rw c.in-Ok-Some.field-0-is at c.in-Ok-Some.ensures.active) c.in_ok-start_splits.ensures.wholes c.in-Ok-Some.ensures.wholes
+
+pub returns-in-Ok-None-clause-wholes : goal.returns-in-Ok-None-clause-wholes
+returns-in-Ok-None-clause-wholes c =
+    let started = c.start_splits.new.progress in
+    let tried = c.finish_some.new.progress in
+    wholes_for c.args.table.now c.args.job.now (active_of started) (active_of tried) c.args.progress.now.wholes started.wholes tried.wholes (rw c.in-Ok-None.field-0-is at c.in-Ok-None.ensures.active) c.in_ok-start_splits.ensures.wholes c.in-Ok-None.ensures.wholes
+
+pub returns-in-Err-clause-wholes : goal.returns-in-Err-clause-wholes
+returns-in-Err-clause-wholes c =
+    let started = c.start_splits.new.progress in
+    let tried = c.finish_some.new.progress in
+    wholes_for c.args.table.now c.args.job.now (active_of started) (active_of tried) c.args.progress.now.wholes started.wholes tried.wholes (same_among started.active.items tried.active.items c.in-Err.ensures.refused) c.in_ok-start_splits.ensures.wholes c.in-Err.ensures.wholes
+
+pub returns-in-Ok-Some-clause-leaves_only : goal.returns-in-Ok-Some-clause-leaves_only
+returns-in-Ok-Some-clause-leaves_only c =
+    let started = c.start_splits.new.progress in
+    let given = c.finish_some.new.progress in
+    leaves_for c.args.table.now c.args.job.now (active_of started) (c.in-Ok-Some.number ∷ active_of given) c.args.progress.now.leaves started.leaves given.leaves (rw c.in-Ok-Some.field-0-is at c.in-Ok-Some.ensures.active) c.in_ok-start_splits.ensures.leaves c.in-Ok-Some.ensures.leaves_only
+
+pub returns-in-Ok-None-clause-leaves_only : goal.returns-in-Ok-None-clause-leaves_only
+returns-in-Ok-None-clause-leaves_only c =
+    let started = c.start_splits.new.progress in
+    let tried = c.finish_some.new.progress in
+    leaves_for c.args.table.now c.args.job.now (active_of started) (active_of tried) c.args.progress.now.leaves started.leaves tried.leaves (rw c.in-Ok-None.field-0-is at c.in-Ok-None.ensures.active) c.in_ok-start_splits.ensures.leaves c.in-Ok-None.ensures.leaves_only
+
+pub returns-in-Err-clause-leaves_only : goal.returns-in-Err-clause-leaves_only
+returns-in-Err-clause-leaves_only c =
+    let started = c.start_splits.new.progress in
+    let tried = c.finish_some.new.progress in
+    leaves_for c.args.table.now c.args.job.now (active_of started) (active_of tried) c.args.progress.now.leaves started.leaves tried.leaves (same_among started.active.items tried.active.items c.in-Err.ensures.refused) c.in_ok-start_splits.ensures.leaves c.in-Err.ensures.leaves_only

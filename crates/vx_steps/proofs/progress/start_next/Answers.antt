@@ -3,10 +3,10 @@ use Rattle.std.proofs.lemmas.Grind.{common_steps}
 use Rattle.vx_base.specs.Masks.{true_count}
 use Rattle.vx_steps.specs.declared.jobs.ActiveSplit.{ActiveSplit}
 use Rattle.vx_steps.specs.declared.leaf_reads.LeafRead.{LeafRead}
-use Rattle.vx_steps.specs.Needs.{Among}
+use Rattle.vx_steps.specs.Needs.{Among, AreAmong}
 use Rattle.vx_steps.specs.Jobs.{IsActive, number_of_active, numbers_from}
 use Rattle.vx_steps.proofs.Agreeing.{of_wanted}
-use Rattle.vx_steps.proofs.Starting.{got_at, actives_more, good_wanted, left_started, wants_split}
+use Rattle.vx_steps.proofs.Starting.{got_at, actives_more, good_wanted, left_started, pushed_among, still_pushed, wants_split}
 use Rattle.vx_steps.proofs.progress.start_next.Goals as goal
 
 pub returns-in_err-needs-clause-good : goal.returns-in_err-needs-clause-good
@@ -20,7 +20,7 @@ returns-in_err-push-clause-good c =
     let good = good_wanted c.args.table.now c.args.job.now c.args.progress.now c.start_split.new.reads c.in_ok-needs.ensures.grows c.requires.good in
     let same : c.push.new.self.items ≡ c.args.progress.now.active.items = grind (arith, common_steps) in
     let P : List ActiveSplit → Type 0 = λ actives. (a : ActiveSplit) → Among a actives → IsActive c.args.table.now c.args.job.now c.args.progress.now.leaves c.start_split.new.reads.wanted a in
-    record { known = good.known; inside = good.inside; fits = good.fits; typed_given = good.typed_given; typed_leaves = good.typed_leaves; typed_made = good.typed_made; uses = good.uses; actives = subst P (sym same) good.actives }
+    record { known = good.known; inside = good.inside; fits = good.fits; typed_given = good.typed_given; typed_leaves = good.typed_leaves; typed_made = good.typed_made; apart_made = good.apart_made; apart_used = good.apart_used; uses = good.uses; actives = subst P (sym same) good.actives }
 
 pub returns-in_err-push-clause-told : goal.returns-in_err-push-clause-told
 returns-in_err-push-clause-told c = of_wanted c.args.table.now c.args.job.now.offset c.args.progress.now.reads.wanted c.start_split.new.reads.wanted c.args.progress.now.leaves c.args.progress.now.wholes.made c.in_ok-needs.ensures.agrees
@@ -39,7 +39,7 @@ returns-clause-good c =
     let is : Q c.of.result = subst Q (sym c.of.ensures) own in
     let P : List ActiveSplit → Type 0 = λ actives. (a : ActiveSplit) → Among a actives → IsActive c.args.table.now c.args.job.now c.args.progress.now.leaves c.start_split.new.reads.wanted a in
     let good = c.requires.good in
-    record { known = good.known; inside = good.inside; fits = good.fits; typed_given = good.typed_given; typed_leaves = good.typed_leaves; typed_made = good.typed_made; uses = good.uses; actives = subst P (sym c.in_ok-push.ensures.items) (actives_more c.args.table.now c.args.job.now c.args.progress.now.leaves c.args.progress.now.reads.wanted c.start_split.new.reads.wanted c.args.progress.now.active.items active c.in_ok-needs.ensures.grows good.actives is) }
+    record { known = good.known; inside = good.inside; fits = good.fits; typed_given = good.typed_given; typed_leaves = good.typed_leaves; typed_made = good.typed_made; apart_made = good.apart_made; apart_used = good.apart_used; uses = good.uses; actives = subst P (sym c.in_ok-push.ensures.items) (actives_more c.args.table.now c.args.job.now c.args.progress.now.leaves c.args.progress.now.reads.wanted c.start_split.new.reads.wanted c.args.progress.now.active.items active c.in_ok-needs.ensures.grows good.actives is) }
 
 pub returns-clause-starts : goal.returns-clause-starts
 returns-clause-starts c =
@@ -51,9 +51,12 @@ returns-clause-starts c =
     let active : ActiveSplit = record { split = next; needs = c.of.result } in
     let some : (true_count split.mask == 0) ≡ false = grind (arith, common_steps) in
     let P : List ActiveSplit → Type 0 = λ actives. map number_of_active actives ++ numbers_from (next + 1) (drop (next + 1) splits) ≡ map number_of_active c.args.progress.now.active.items ++ numbers_from next (drop next splits) in
+    let A : List ActiveSplit → Type 0 = λ actives. AreAmong (map number_of_active c.args.progress.now.active.items) (map number_of_active actives) in
+    let N : List ActiveSplit → Type 0 = λ actives. Among next (map number_of_active actives) in
     record {
       left = subst P (sym c.in_ok-push.ensures.items) (left_started splits split c.args.progress.now.active.items active c.requires.left c.index-split.ensures some);
-      wants = wants_split c.args.table.now c.args.job.now c.args.progress.now.leaves c.args.progress.now.reads.wanted c.start_split.new.reads.wanted next split c.in_ok-needs.needs.items at needs c.in_ok-needs.ensures.only;
+      active = subst A (sym c.in_ok-push.ensures.items) (still_pushed c.args.progress.now.active.items active);
+      wants = wants_split c.args.table.now c.args.job.now c.args.progress.now.leaves c.args.progress.now.reads.wanted c.start_split.new.reads.wanted next (map number_of_active c.push.new.self.items) split c.in_ok-needs.needs.items (subst N (sym c.in_ok-push.ensures.items) (pushed_among c.args.progress.now.active.items active)) at needs c.in_ok-needs.ensures.only;
       grows = c.in_ok-needs.ensures.grows;
       handed = c.in_ok-needs.ensures.handed;
       leaves = refl;

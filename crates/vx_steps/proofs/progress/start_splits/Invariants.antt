@@ -1,5 +1,5 @@
 use Rattle.std.proofs.Common.{◌≡◌, ◌-◌, length}
-use Rattle.vx_steps.specs.Jobs.{IsGood, KeepsTold, Starts}
+use Rattle.vx_steps.specs.Jobs.{IsGood, KeepsBound, KeepsTold, Starts}
 use Rattle.vx_steps.proofs.progress.start_splits.Given as goal
 
 abbrev pub decreases-splits : goal.decreases-splits
@@ -10,5 +10,6 @@ invariant-splits l = record {
   good : IsGood l.table l.job l.progress;
   told : KeepsTold l.table l.job l.fn.progress l.progress;
   wholes : l.progress.wholes ≡ l.fn.progress.wholes;
+  bounded : KeepsBound l.job l.fn.progress l.progress;
   starts : Starts l.table l.job l.fn.progress l.progress;
 }

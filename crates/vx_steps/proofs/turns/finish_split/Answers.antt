@@ -28,3 +28,6 @@ pub returns-in-Err-output_of-clause-left : goal.returns-in-Err-output_of-clause-
 returns-in-Err-output_of-clause-left c =
     row_leaves c.args.table.now c.args.job.now c.args.split.now c.args.reads.now.wanted c.args.leaves.now c.args.wholes.now.made c.output_of.new.wholes c.in-Err-output_of.error
     (⊎_elim (λ there. inl there) (λ fails. inr (λ outside is. fails (leaves_of outside) (record { leaves_are = c.in-Ok-true.ensures.keeps.right outside is.bytes is.leaves_are; made_are = is.made_are }))) c.in-Err-output_of.ensures.left)
+
+pub returns-in-Ok-clause-leaves : goal.returns-in-Ok-clause-leaves
+returns-in-Ok-clause-leaves c = λ read reads. c.in-Ok-true.ensures.all c.in-Ok-true.field-0-test read (c.requires.needs.all read reads)

@@ -23,8 +23,9 @@ returns-in_ok-keep-in-Ok-clause-made c =
     let F : Held → Type 0 = λ h. ComputesWhole h c.args.plan (Ok c.in-Ok.column) in
     let D : Held → Type 0 = λ h. c.in-Ok.column.dtype ≡ (node_at h.nodes c.args.plan).dtype in
     let R : Held → Type 0 = λ h. length c.in-Ok.column.values ≡ (node_at h.nodes c.args.plan).rows in
+    let none : kept_at c.args.wholes.now.made c.args.number ≡ None = grind (arith, common_steps) in
     made_one c.args.grounds.table.now c.requires.good c.args.grounds.leaves.now c.args.grounds.offset (Some c.args.grounds.given.now) c.args.wholes.now.made c.keep.new.self c.args.number c.args.plan c.in-Ok.column c.requires.same
-    (subst D c.sources.ensures c.in-Ok.ensures.dtype) (subst R c.sources.ensures c.in-Ok.ensures.rows) (subst F c.sources.ensures c.in-Ok.ensures.computed) c.in_ok-keep-in-Ok.ensures.kept
+    (subst D c.sources.ensures c.in-Ok.ensures.dtype) (subst R c.sources.ensures c.in-Ok.ensures.rows) none (subst F c.sources.ensures c.in-Ok.ensures.computed) c.in_ok-keep-in-Ok.ensures.kept
 
 pub returns-in_ok-keep-in-Ok-clause-there : goal.returns-in_ok-keep-in-Ok-clause-there
 returns-in_ok-keep-in-Ok-clause-there c =

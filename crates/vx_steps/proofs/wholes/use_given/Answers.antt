@@ -7,7 +7,8 @@ use Rattle.vx_steps.proofs.wholes.use_given.Goals as goal
 pub returns-in_ok-keep-in-Some-clause-uses : goal.returns-in_ok-keep-in-Some-clause-uses
 returns-in_ok-keep-in-Some-clause-uses c =
     let there : kept_at c.args.given.now c.args.number ≡ Some c.in_ok-copy-in-Some.field-0 = grind (arith, common_steps) in
-    uses_one c.args.given.now c.args.used.now c.keep.new.self c.args.number c.in_ok-copy-in-Some.field-0 there (c.in_ok-keep-in-Some.ensures.kept)
+    let none : kept_at c.args.used.now c.args.number ≡ None = grind (arith, common_steps) in
+    uses_one c.args.given.now c.args.used.now c.keep.new.self c.args.number c.in_ok-copy-in-Some.field-0 there none (c.in_ok-keep-in-Some.ensures.kept)
 
 pub returns-in_ok-keep-in-Some-clause-one : goal.returns-in_ok-keep-in-Some-clause-one
 returns-in_ok-keep-in-Some-clause-one c = one_only c.args.used.now c.keep.new.self c.args.number c.in_ok-copy-in-Some.field-0 c.in_ok-keep-in-Some.ensures.kept

@@ -1,5 +1,6 @@
 use Rattle.std.proofs.Common.{subst}
 use Rattle.vx_steps.specs.Held.{AreTyped}
+use Rattle.vx_steps.specs.Kept.{AreApart}
 use Rattle.vx_steps.specs.ScanData.{ScanData}
 use Rattle.vx_steps.proofs.scan.Scan.made.Goals as goal
 
@@ -7,3 +8,8 @@ pub returns-clause-typed : goal.returns-clause-typed
 returns-clause-typed c =
     let P : ScanData → Type 0 = λ scan. AreTyped scan.nodes scan.progress.wholes.made in
     subst P c.self.view_is c.self.invariant.typed_made
+
+pub returns-clause-apart : goal.returns-clause-apart
+returns-clause-apart c =
+    let P : ScanData → Type 0 = λ scan. AreApart scan.progress.wholes.made in
+    subst P c.self.view_is c.self.invariant.apart_made

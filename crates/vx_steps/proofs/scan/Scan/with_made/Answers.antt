@@ -1,0 +1,23 @@
+use Rattle.std.proofs.Common.{map, sym, subst}
+use Rattle.vx_steps.specs.Held.{AreTyped}
+use Rattle.vx_steps.specs.Jobs.{IsUnstarted}
+use Rattle.vx_steps.specs.Kept.{kept_data, AreApart}
+use Rattle.vx_steps.specs.Offers.{IsForPlan}
+use Rattle.vx_steps.specs.ScanData.{ScanData}
+use Rattle.vx_steps.proofs.Beginning.{good_with_made}
+use Rattle.vx_steps.proofs.Offering.{apart_kept, typed_kept}
+use Rattle.vx_steps.proofs.scan.Scan.with_made.Goals as goal
+
+pub invariant_of-self : goal.invariant_of-self
+invariant_of-self c =
+    let nodes = c.self.inside.table.now in
+    let P : ScanData → Type 0 = λ scan. IsUnstarted scan.progress in
+    let typed = typed_kept nodes (IsForPlan nodes) (λ k is. is) (map kept_data c.args.made.items) (map kept_data c.for_plans.result.items) c.for_plans.ensures in
+    let apart = apart_kept (IsForPlan nodes) (map kept_data c.args.made.items) (map kept_data c.for_plans.result.items) c.for_plans.ensures c.requires.apart in
+    good_with_made nodes c.self.inside.job c.self.inside.progress c.hand_in_made.new.self c.of-made.result (subst P (sym c.self.view_is) c.requires.unstarted) c.self.invariant (subst (AreTyped nodes) (sym c.of-made.ensures) typed) (subst AreApart (sym c.of-made.ensures) apart) c.hand_in_made.ensures
+
+pub returns-clause-apart : goal.returns-clause-apart
+returns-clause-apart c =
+    let nodes = c.self.inside.table.now in
+    let apart = apart_kept (IsForPlan nodes) (map kept_data c.args.made.items) (map kept_data c.for_plans.result.items) c.for_plans.ensures c.requires.apart in
+    rw c.hand_in_made.ensures (subst AreApart (sym c.of-made.ensures) apart)

@@ -1,0 +1,224 @@
+//! What a scan leaves to the next one: the columns of those leaves that the row behind its splits reads, and the
+//! whole values.
+
+ghost use Rattle.std.specs.Prelude.{◌≡◌, ◌+◌, ◌<◌, ◌≤◌, ◌↔◌, ℕ, false, length, map, true, IsTrue, None};
+ghost use Rattle.std.specs.BTreeMap.{get};
+ghost use Rattle.std.specs.Ordering.{nat_cmp};
+ghost use Rattle.vx_plan.specs.declared.shapes.Shape.TheVariants.{Chunks};
+ghost use Rattle.vx_plan.specs.Kinds.{HasKind, IsPack};
+ghost use Rattle.vx_plan.specs.Refs.{number_of};
+ghost use Rattle.vx_plan.specs.Rules.{node_at};
+ghost use Rattle.vx_plan.specs.Shapes.{HasShape};
+ghost use Rattle.vx_plan.specs.Tables.{IsGoodTable};
+ghost use Rattle.vx_steps.specs.Kept.{kept_data};
+ghost use Rattle.vx_steps.specs.Leavings.{behind_all, behind_split, IsReadBehind, Meets, RowReads, RowsRead};
+ghost use Rattle.vx_steps.specs.Offers.{Keeps};
+
+use crate::chunks::chunk_at;
+use crate::jobs::Job;
+use crate::kept::{KeptColumns, KeptValue};
+use crate::splits::Split;
+use std::alloc::Global;
+use std::collections::BTreeMap;
+use vx_plan::{PlanRef, PlanTable, Shape};
+
+/// What a scan leaves to the next one.
+#[derive(Drop)]
+pub struct ScanKept {
+    /// The columns of leaves that the row behind the splits reads.
+    pub leaves: Vec<KeptValue>,
+    /// The values that were handed in and used.
+    pub used: Vec<KeptValue>,
+    /// The whole values that were made.
+    pub made: Vec<KeptValue>,
+}
+
+/// The row behind those of a split, which is the first of all where it has none.
+fn behind(split: &Split) -> u64
+    ensures { result ≡ behind_split split.now }
+{
+    if split.rows.start < split.rows.end {
+        split.rows.end
+    } else {
+        0
+    }
+}
+
+/// The row behind all those of the splits, selected or not.
+fn row_behind(splits: &[Split]) -> u64
+    ensures { result ≡ behind_all splits.now }
+{
+    let mut row: u64 = 0;
+    for place in 0..splits.len() {
+        let split = &splits[place];
+        row = row.max(behind(split));
+    }
+    row
+}
+
+/// The leaves that were not met yet on the way through a plan: those that stand in an index, and one that is looked for,
+/// until it is found.
+#[derive(Drop)]
+pub(crate) struct Sieve {
+    places: BTreeMap<u32, usize>,
+    wanted: u32,
+    found: bool,
+}
+
+impl Sieve {
+    /// Over the leaves of an index; none is looked for besides.
+    fn over(places: BTreeMap<u32, usize>) -> Sieve
+        ensures places { result.places ≡ places }
+        ensures found { result.found ≡ true }
+    {
+        Sieve {
+            places,
+            wanted: 0,
+            found: true,
+        }
+    }
+
+    /// For one leaf that is looked for. It takes no memory.
+    fn for_leaf(alloc: Global, leaf: u32) -> Sieve
+        ensures places { (n : ℕ) → get nat_cmp result.places n ≡ None }
+        ensures wanted { result.wanted ≡ leaf }
+        ensures found { result.found ≡ false }
+    {
+        Sieve {
+            places: BTreeMap::new(alloc),
+            wanted: leaf,
+            found: false,
+        }
+    }
+
+    /// Meets the leaf.
+    fn meet(&mut self, leaf: u32)
+        ensures { Meets (λ n. leaf ≡ n) self.old self.new }
+    {
+        self.places.remove(&leaf);
+        if self.wanted == leaf {
+            self.found = true;
+        }
+    }
+}
+
+/// Meets the leaves that so many rows of a plan read, counted from the start on, where no whole values are handed in
+/// for them.
+#[cycle(leavings)]
+fn meet_rows(table: &PlanTable, plan: u32, start: u64, count: u64, sieve: &mut Sieve)
+    requires known { plan < length table.now }
+    requires inside { start + count ≤ (node_at table.now plan).rows }
+    ensures { Meets (RowsRead table.now plan start count) sieve.old sieve.new }
+{
+    if count == 0 {
+        return;
+    }
+    match table.shape(PlanRef(plan)) {
+        Shape::Leaf(_) => sieve.meet(plan),
+        Shape::Same(child) => meet_rows(table, child, start, count, sieve),
+        Shape::Over(child) => meet_rows(table, child, start, count, sieve),
+        Shape::Zoned(content, _) => meet_rows(table, content, start, count, sieve),
+        Shape::Chunks => meet_chunks(table, plan, start, count, sieve),
+        Shape::Fields(_) => meet_fields(table, plan, start, count, sieve),
+        Shape::LookUp(codes, values) => {
+            meet_rows(table, codes, start, count, sieve);
+            meet_rows(table, values, 0, table.row_count(PlanRef(values)), sieve)
+        }
+        Shape::Shared(child) => {
+            meet_rows(table, child, 0, table.row_count(PlanRef(child)), sieve)
+        }
+        Shape::Lists => {}
+        Shape::RowNumbers => {}
+    }
+}
+
+/// Meets the leaves that so many rows of each child read.
+#[cycle(leavings)]
+fn meet_fields(table: &PlanTable, plan: u32, start: u64, count: u64, sieve: &mut Sieve)
+    requires good { IsGoodTable table.now }
+    requires known { HasKind IsPack table.now plan }
+    requires inside { start + count ≤ (node_at table.now plan).rows }
+    ensures { Meets (RowsRead table.now plan start count) sieve.old sieve.new }
+{
+    for place in 0..table.child_count(PlanRef(plan)) {
+        let child = table.child_required(PlanRef(plan), place);
+        meet_rows(table, child.0, start, count, sieve);
+    }
+}
+
+/// Meets the leaves that so many rows of a concat read: it enters each child that holds one of them, found by a search
+/// in the offsets.
+#[cycle(leavings)]
+fn meet_chunks(table: &PlanTable, plan: u32, start: u64, count: u64, sieve: &mut Sieve)
+    requires good { IsGoodTable table.now }
+    requires known { plan < length table.now }
+    requires concat { HasShape table.now plan Chunks }
+    requires inside { start + count ≤ (node_at table.now plan).rows }
+    ensures { Meets (RowsRead table.now plan start count) sieve.old sieve.new }
+{
+    // The contract of `row_count` says that the rows are so few that their numbers fit.
+    let _rows = table.row_count(PlanRef(plan));
+    let mut done: u64 = 0;
+    while done < count {
+        let row = start + done;
+        let chunk = chunk_at(table, plan, row);
+        let here = (chunk.end - row).min(count - done);
+        meet_rows(table, chunk.child, row - chunk.start, here, sieve);
+        done += here;
+    }
+}
+
+/// Meets the leaves that a row of a plan reads, if there is such a row.
+fn meet_row(table: &PlanTable, plan: u32, row: u64, sieve: &mut Sieve)
+    requires { plan < length table.now }
+    ensures { Meets (λ leaf. (row < (node_at table.now plan).rows) × RowReads table.now plan row leaf) sieve.old sieve.new }
+{
+    if row < table.row_count(PlanRef(plan)) {
+        meet_rows(table, plan, row, 1, sieve);
+    }
+}
+
+/// Whether there is such a row, and it reads the leaf.
+fn row_reads(alloc: Global, table: &PlanTable, plan: u32, row: u64, leaf: u32) -> bool
+    requires { plan < length table.now }
+    ensures { IsTrue result ↔ ((row < (node_at table.now plan).rows) × RowReads table.now plan row leaf) }
+{
+    let mut sieve = Sieve::for_leaf(alloc, leaf);
+    meet_row(table, plan, row, &mut sieve);
+    sieve.found
+}
+
+/// Whether the leaf of the column stands in the index no more.
+fn is_met(places: &BTreeMap<u32, usize>, value: &KeptValue) -> bool
+    ensures { IsTrue result ↔ (get nat_cmp places.now (number_of value.now.node) ≡ None) }
+{
+    places.get(&value.node.0).is_none()
+}
+
+/// The columns of those leaves that the row behind the splits reads. It takes no memory.
+pub(crate) fn leaves_behind(
+    alloc: Global,
+    table: &PlanTable,
+    job: &Job,
+    leaves: KeptColumns,
+) -> Vec<KeptValue>
+    requires { job.now.plan < length table.now }
+    ensures { Keeps (λ kept. IsReadBehind table.now job.now kept.node) leaves (map kept_data result.items) }
+{
+    let row = row_behind(&job.splits);
+    let plan = job.plan;
+    match leaves.into_indexed() {
+        Ok((mut columns, places)) => {
+            let mut sieve = Sieve::over(places);
+            meet_row(table, plan, row, &mut sieve);
+            let Sieve { places, .. } = sieve;
+            columns.retain(|value| is_met(&places, value));
+            columns
+        }
+        // What was handed in is indexed by the first step.
+        Err(mut columns) => {
+            columns.retain(|value| row_reads(alloc, table, plan, row, value.node.0));
+            columns
+        }
+    }
+}
