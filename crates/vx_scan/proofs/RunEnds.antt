@@ -1,0 +1,250 @@
+-- How a run of a scan over a session ends.
+use Rattle.std.proofs.Common.{◌≡◌, ℕ, zero, suc, ◌<◌, ◌≤◌, inl, inr, Bool, false, true, List, [], ◌∷◌, ◌++◌, Option, Some, None, Ok, Err, length, map, take, drop, refl, sym, ap, ◌∙◌, subst, arith, append_assoc}
+use Rattle.std.specs.Prelude.{if◌then◌else◌, ◌==◌, slice_get, slice_index_or}
+use Rattle.std.specs.List.{All}
+use Rattle.std.proofs.lemmas.List.{map-append, length-append}
+use Rattle.std.proofs.lemmas.List.Elements.{All-append, All-tail, All-take}
+use Rattle.std.proofs.lemmas.Bool.{eqb-true}
+use Rattle.vx_base.specs.Columns.{ColumnData}
+use Rattle.vx_base.specs.Masks.{true_count}
+use Rattle.vx_base.specs.Sources.{SourceState, Rose}
+use Rattle.vx_base.specs.declared.locations.SegmentLocation.{SegmentLocation}
+use Rattle.vx_io.specs.declared.requests.IoRequest.{IoRequest}
+use Rattle.vx_io.specs.Fetches.{FetchedSome, asked_for, place_of}
+use Rattle.vx_io.specs.Session.{SessionState}
+use Rattle.vx_layout.specs.Rows.{segment_bytes}
+use Rattle.vx_plan.specs.Nodes.{Node}
+use Rattle.vx_rows.specs.SegmentLeaves.{Bytes}
+use Rattle.vx_steps.specs.declared.errors.StepError.{StepError}
+use Rattle.vx_steps.specs.declared.errors.StepError.TheVariants as step_errors
+use Rattle.vx_steps.specs.declared.jobs.Job.{Job}
+use Rattle.vx_steps.specs.declared.splits.Split.{Split}
+use Rattle.vx_steps.specs.ScanData.{ScanData}
+use Rattle.vx_steps.specs.Steps.{HasCauseIn, RefusesSplit}
+use Rattle.vx_steps.proofs.SplitVisits.{split_cause}
+use Rattle.vx_scan.specs.declared.adaptor_errors.AdaptorError.{AdaptorError}
+use Rattle.vx_scan.specs.declared.adaptor_errors.AdaptorError.TheVariants as errors
+use Rattle.vx_scan.specs.declared.adaptors.State.TheVariants.{Waiting, Done}
+use Rattle.vx_scan.specs.declared.errors.ScanError.{ScanError}
+use Rattle.vx_scan.specs.declared.errors.ScanError.TheVariants as scan_errors
+use Rattle.vx_scan.specs.AdaptorData.{AdaptorData, reads_of}
+use Rattle.vx_scan.specs.Asks.{AsksOnly, Lasts}
+use Rattle.vx_scan.specs.Computes.{Batches, StopCause, Stops, WhyYields, Yields}
+use Rattle.vx_scan.specs.Continues.{splits_left}
+use Rattle.vx_scan.specs.Fetched.{AreApart, location_of, segments_in}
+use Rattle.vx_scan.specs.Runs.{GivesOutput, IsReadByStart, IsStepCause, RunCause, RunGives, WhereScanned, scan_error}
+use Rattle.vx_scan.specs.Starts.{IsUnread, split_of}
+use Rattle.vx_scan.specs.Waits.{SendGives, WaitFails}
+use Rattle.vx_scan.proofs.Running.{KeptSoFar, ScanSoFar, all_taken, kept_then, only_split, so_far_then}
+use Rattle.vx_scan.proofs.SessionRuns.{OutputSoFar, Running, output_waits, segments_more}
+use Rattle.vx_scan.proofs.Sessions.{asked_then, fetches_places, fetches_taken}
+
+-- ---- what was asked
+
+wanted_so_far : (locations : List SegmentLocation) (start : ScanData) (before : SourceState) (adaptor : AdaptorData) → ScanSoFar locations start before adaptor.scan → All (IsReadByStart start) (segments_in (reads_of adaptor))
+wanted_so_far locations start before adaptor scan = all_taken (IsReadByStart start) adaptor.asked adaptor.scan.progress.reads.wanted scan.wanted
+
+asks_so_far : (locations : List SegmentLocation) (start : ScanData) (before : SourceState) (adaptor : AdaptorData) (output : Option ColumnData) (state : SessionState) (after : SourceState) → Running locations start before adaptor output state → after.asked ≡ state.source.asked → AsksOnly (IsReadByStart start) locations before after
+asks_so_far locations start before adaptor output state after run same = record {
+  segments = segments_in (reads_of adaptor);
+  asks = record { apart = run.ready.apart; located = run.ready.located; asked = same ∙ run.asked };
+  wanted = wanted_so_far locations start before adaptor run.scan;
+}
+
+-- ---- what the scan keeps
+
+-- the answer, with what was asked and what lasts
+gives_with : (locations : List SegmentLocation) (limit : ℕ) (start scan : ScanData) (before after : SourceState) (error : ScanError) → KeptSoFar locations start before scan → RunCause locations limit start error before after → AsksOnly (IsReadByStart start) locations before after → Lasts before after →
+    RunGives locations limit start (Err error) scan before after
+gives_with locations limit start scan before after error kept cause asks lasts = record {
+  answer = cause;
+  asks = asks;
+  nodes = kept.nodes;
+  job = kept.job;
+  told = kept.told;
+  leaves = kept.leaves;
+  wholes = kept.wholes;
+  lasts = lasts;
+}
+
+lasts_after : (before now after : SourceState) → now.file ≡ before.file → now.faults ≡ before.faults → before.idle ≤ now.idle → after.file ≡ now.file → now.faults ≤ after.faults → now.idle ≤ after.idle → Lasts before after
+lasts_after before now after file faults idle same more later = record { file = same ∙ file; faults = omega (arith, faults, more); idle = omega (arith, idle, later) }
+
+rose_after : (before now after : SourceState) → now.faults ≡ before.faults → Rose now.faults after.faults → Rose before.faults after.faults
+rose_after before now after same rose = subst (λ (n : ℕ). Rose n after.faults) same rose
+
+-- ---- a run that is done
+
+cons_is_none : (rest : List ℕ) (x : ℕ) → x ∷ rest ≡ [] → ⊥
+cons_is_none rest x both = cc
+
+none_selected : (count : ℕ) → if◌then◌else◌ {A = List ℕ} (count == 0) [] (0 ∷ []) ≡ [] → count ≡ 0
+none_selected count is = by_test (count == 0) refl is
+  where
+    by_test : (test : Bool) → (count == 0) ≡ test → if◌then◌else◌ {A = List ℕ} test [] (0 ∷ []) ≡ [] → count ≡ 0
+    by_test true same none = eqb-true count 0 same
+    by_test false same none = absurd (cons_is_none [] 0 none)
+
+pub run_returns : (locations : List SegmentLocation) (limit : ℕ) (start : ScanData) (before : SourceState) (adaptor next : AdaptorData) (output : Option ColumnData) (state : SessionState) →
+    Running locations start before adaptor output state → Yields adaptor next → next.state ≡ Done → RunGives locations limit start (Ok output) next.scan before state.source
+run_returns locations limit start before adaptor next output state run yields done =
+    let kept = kept_then locations start before adaptor.scan next.scan run.scan.kept yields.scan.keeps in
+    record {
+      answer = answer (output_waits locations start before adaptor next output yields run.so_far);
+      asks = asks_so_far locations start before adaptor output state state.source run refl;
+      nodes = kept.nodes;
+      job = kept.job;
+      told = kept.told;
+      leaves = kept.leaves;
+      wholes = kept.wholes;
+      lasts = record { file = run.file; faults = let p = run.faults in omega (arith, p); idle = run.idle };
+    }
+  where
+    none_left : WhyYields adaptor next → splits_left adaptor.scan ≡ []
+    none_left (inl (waits, some)) = let both : Waiting ≡ Done = sym waits ∙ done in absurd cc
+    none_left (inr (is, inl left)) = left
+    none_left (inr (is, inr refused)) = let both : true ≡ false = sym refused ∙ run.scan.refused in absurd cc
+
+    by_output : (one : Option ColumnData) → output ≡ one → OutputSoFar locations start before next one → GivesOutput locations start next.scan before one
+    by_output (Some column) is (inr (left, other, inl (there, empty), gave)) =
+        let both : Some column ≡ Some other = there in
+        let same : column ≡ other = cc in
+        rw same gave
+    by_output None is (inr (left, other, inl (there, empty), gave)) = absurd (let both : None ≡ Some other = there in cc)
+    by_output one is (inr (left, other, inr (none, number, full), gave)) = absurd (let both : None ≡ Some (number, other) = sym yields.none ∙ full in cc)
+    by_output (Some column) is (inl (left, there, empty)) = absurd (let both : Some column ≡ None = there in cc)
+    by_output None is (inl (left, there, empty)) =
+        none_selected (true_count (split_of start).mask) (sym (sym (yields.left) ∙ left ∙ run.unread.left) ∙ none_left yields.why)
+
+    answer : OutputSoFar locations start before next output → GivesOutput locations start next.scan before output
+    answer is = by_output output refl is
+
+-- ---- refusals of the source
+
+pub run_stalls : (locations : List SegmentLocation) (limit : ℕ) (start : ScanData) (before : SourceState) (adaptor : AdaptorData) (output : Option ColumnData) (state : SessionState) (after : SourceState) (error : ScanError) →
+    Running locations start before adaptor output state → WaitFails limit error state.source after → RunGives locations limit start (Err error) adaptor.scan before after
+run_stalls locations limit start before adaptor output state after scan_errors.ReadFault run (keeps, rose, idle) =
+    gives_with locations limit start adaptor.scan before after scan_errors.ReadFault run.scan.kept (rose_after before state.source after run.faults rose) (asks_so_far locations start before adaptor output state after run keeps.asked)
+    (lasts_after before state.source after run.file run.faults run.idle keeps.file rose.kept idle)
+run_stalls locations limit start before adaptor output state after scan_errors.Stalled run (keeps, faults, waited) =
+    gives_with locations limit start adaptor.scan before after scan_errors.Stalled run.scan.kept
+    (record { kept = let p = waited.kept in let q = run.idle in omega (arith, p, q); raised = let p = waited.raised in let q = run.idle in omega (arith, p, q) })
+    (asks_so_far locations start before adaptor output state after run keeps.asked)
+    (lasts_after before state.source after run.file run.faults run.idle keeps.file (omega (arith, faults)) waited.kept)
+run_stalls locations limit start before adaptor output state after scan_errors.Memory run (keeps, faults, idle) =
+    gives_with locations limit start adaptor.scan before after scan_errors.Memory run.scan.kept tt (asks_so_far locations start before adaptor output state after run keeps.asked)
+    (lasts_after before state.source after run.file run.faults run.idle keeps.file (omega (arith, faults)) idle)
+run_stalls locations limit start before adaptor output state after scan_errors.BadProjection run gives = absurd gives
+run_stalls locations limit start before adaptor output state after scan_errors.OffsetOverflow run gives = absurd gives
+run_stalls locations limit start before adaptor output state after scan_errors.OutOfRange run gives = absurd gives
+run_stalls locations limit start before adaptor output state after (scan_errors.Unsupported list) run gives = absurd gives
+run_stalls locations limit start before adaptor output state after (scan_errors.NoLocation segment) run gives = absurd gives
+run_stalls locations limit start before adaptor output state after (scan_errors.BadSegment segment) run gives = absurd gives
+run_stalls locations limit start before adaptor output state after (scan_errors.BadCode take row) run gives = absurd gives
+run_stalls locations limit start before adaptor output state after (scan_errors.EvalFault row) run gives = absurd gives
+
+get_front : (ones twos : List ℕ) (i d : ℕ) → i < length ones → slice_index_or (ones ++ twos) i d ≡ slice_index_or ones i d
+get_front [] twos i d within = absurd (omega (arith, within))
+get_front (one ∷ ones) twos zero d within = refl
+get_front (one ∷ ones) twos (suc i) d within = get_front ones twos i d (omega (arith, within))
+
+apart_front : (ones twos : List ℕ) → AreApart (ones ++ twos) → AreApart ones
+apart_front ones twos apart i j d lt within same =
+    let size = length-append ones twos in
+    apart i j d lt (omega (arith, within, size)) (get_front ones twos i d (omega (arith, lt, within)) ∙ same ∙ sym (get_front ones twos j d within))
+
+taken_dropped : (n : ℕ) (segments : List ℕ) → take n segments ++ drop n segments ≡ segments
+taken_dropped zero segments = refl
+taken_dropped (suc n) [] = refl
+taken_dropped (suc n) (segment ∷ segments) = ap (λ (ss : List ℕ). segment ∷ ss) (taken_dropped n segments)
+
+-- segments behind others are wanted where all are
+wanted_behind : (P : ℕ → Type 0) (ones twos : List ℕ) → All P (ones ++ twos) → All P twos
+wanted_behind P [] twos all = all
+wanted_behind P (one ∷ ones) twos all = wanted_behind P ones twos (All-tail P one (ones ++ twos) all)
+
+-- what was asked where a batch was refused
+asks_some : (locations : List SegmentLocation) (start : ScanData) (before : SourceState) (batch : List IoRequest) (adaptor next : AdaptorData) (output : Option ColumnData) (state new : SessionState) →
+    Running locations start before adaptor output state → Batches locations batch adaptor next → FetchedSome batch state new → AsksOnly (IsReadByStart start) locations before new.source
+asks_some locations start before batch adaptor next output state new run batched some =
+    let ones : List ℕ = segments_in (reads_of adaptor) in
+    let twos : List ℕ = take some.count batched.segments in
+    let more : segments_in (reads_of next) ≡ ones ++ batched.segments = ap segments_in batched.reads ∙ segments_more (reads_of adaptor) batched.segments in
+    let whole : segments_in (reads_of next) ≡ (ones ++ twos) ++ drop some.count batched.segments =
+    more ∙ ap (λ (ss : List ℕ). ones ++ ss) (sym (taken_dropped some.count batched.segments)) ∙ sym (append_assoc ones twos (drop some.count batched.segments)) in
+    let scan = so_far_then locations start before adaptor.scan next.scan run.scan batched.scan in
+    record {
+      segments = ones ++ twos;
+      asks = record {
+        apart = apart_front (ones ++ twos) (drop some.count batched.segments) (subst AreApart whole batched.apart);
+        located = All-append (λ segment. segment < length locations) ones twos run.ready.located (All-take (λ segment. segment < length locations) some.count batched.segments batched.located);
+        asked = some.asked ∙ (λ i. asked_for (map place_of (take some.count (batched.batch_is i))) (run.asked i))
+            ∙ ap (λ (places : List SegmentLocation). asked_for places (asked_for (map (location_of locations) ones) before.asked))
+            (ap (map place_of) (fetches_taken locations adaptor.asked some.count batched.segments) ∙ fetches_places locations adaptor.asked twos)
+            ∙ asked_then (map (location_of locations) ones) (map (location_of locations) twos) before.asked
+            ∙ ap (λ (places : List SegmentLocation). asked_for places before.asked) (sym (map-append (location_of locations) ones twos));
+      };
+      wanted = All-append (IsReadByStart start) ones twos (wanted_so_far locations start before adaptor run.scan)
+          (All-take (IsReadByStart start) some.count batched.segments
+          (wanted_behind (IsReadByStart start) ones batched.segments (subst (All (IsReadByStart start)) more (wanted_so_far locations start before next scan))));
+    }
+
+pub run_unsent : (locations : List SegmentLocation) (limit : ℕ) (start : ScanData) (before : SourceState) (batch : List IoRequest) (adaptor next : AdaptorData) (output : Option ColumnData) (state new : SessionState) (error : ScanError) →
+    Running locations start before adaptor output state → Batches locations batch adaptor next → SendGives batch (Err error) state new → RunGives locations limit start (Err error) next.scan before new.source
+run_unsent locations limit start before batch adaptor next output state new scan_errors.ReadFault run batched (some, stays, rose) =
+    gives_with locations limit start next.scan before new.source scan_errors.ReadFault (kept_then locations start before adaptor.scan next.scan run.scan.kept batched.scan.keeps) (rose_after before state.source new.source run.faults rose)
+    (asks_some locations start before batch adaptor next output state new run batched some)
+    (lasts_after before state.source new.source run.file run.faults run.idle stays.file rose.kept (let p = stays.idle in omega (arith, p)))
+run_unsent locations limit start before batch adaptor next output state new scan_errors.Memory run batched (some, stays, faults) =
+    gives_with locations limit start next.scan before new.source scan_errors.Memory (kept_then locations start before adaptor.scan next.scan run.scan.kept batched.scan.keeps) tt
+    (asks_some locations start before batch adaptor next output state new run batched some)
+    (lasts_after before state.source new.source run.file run.faults run.idle stays.file (omega (arith, faults)) (let p = stays.idle in omega (arith, p)))
+run_unsent locations limit start before batch adaptor next output state new scan_errors.Stalled run batched gives = absurd gives
+run_unsent locations limit start before batch adaptor next output state new scan_errors.BadProjection run batched gives = absurd gives
+run_unsent locations limit start before batch adaptor next output state new scan_errors.OffsetOverflow run batched gives = absurd gives
+run_unsent locations limit start before batch adaptor next output state new scan_errors.OutOfRange run batched gives = absurd gives
+run_unsent locations limit start before batch adaptor next output state new (scan_errors.Unsupported list) run batched gives = absurd gives
+run_unsent locations limit start before batch adaptor next output state new (scan_errors.NoLocation segment) run batched gives = absurd gives
+run_unsent locations limit start before batch adaptor next output state new (scan_errors.BadSegment segment) run batched gives = absurd gives
+run_unsent locations limit start before batch adaptor next output state new (scan_errors.BadCode take row) run batched gives = absurd gives
+run_unsent locations limit start before batch adaptor next output state new (scan_errors.EvalFault row) run batched gives = absurd gives
+
+-- ---- refusals of the scan
+
+-- a refused step has its cause in the split
+has_cause : (locations : List SegmentLocation) (start old new : ScanData) (before : SourceState) (error : StepError) → IsUnread start → KeptSoFar locations start before old → (refuses : RefusesSplit old.nodes old.job old.progress new.progress error) →
+    WhereScanned locations start before (λ bytes. HasCauseIn start.nodes start.job new.progress.reads.wanted (split_of start) bytes error)
+has_cause locations start old new before error unread kept refuses file is held =
+    let bytes : Bytes = segment_bytes file locations in
+    let at : slice_get start.job.splits.items refuses.number ≡ Some refuses.split = ap (λ (j : Job). slice_get j.splits.items refuses.number) (sym kept.job) ∙ refuses.at in
+    let split : refuses.split ≡ split_of start = only_split start.job.splits.items (split_of start) refuses.split refuses.number unread.splits at in
+    let cause : HasCauseIn old.nodes old.job new.progress.reads.wanted refuses.split bytes error = refuses.cause bytes (kept.told file is held) in
+    subst (λ (s : Split). HasCauseIn start.nodes start.job new.progress.reads.wanted s bytes error) split
+    (subst (λ (j : Job). HasCauseIn start.nodes j new.progress.reads.wanted refuses.split bytes error) kept.job
+    (subst (λ (ns : List Node). HasCauseIn ns old.job new.progress.reads.wanted refuses.split bytes error) kept.nodes cause))
+
+is_step_cause : (locations : List SegmentLocation) (start old new : ScanData) (before : SourceState) (error : StepError) → IsUnread start → KeptSoFar locations start before old → KeptSoFar locations start before new → RefusesSplit old.nodes old.job old.progress new.progress error →
+    IsStepCause locations start before error
+is_step_cause locations start old new before error unread kept later refuses file is held =
+    split_cause start.nodes unread.good start.job unread.known unread.typed new.progress.reads.wanted (split_of start) (segment_bytes file locations) error
+    (later.told file is held).bytes (has_cause locations start old new before error unread kept refuses file is held)
+
+stop_cause : (locations : List SegmentLocation) (limit : ℕ) (start old new : ScanData) (before now : SourceState) (error : AdaptorError) → IsUnread start → ScanSoFar locations start before old → KeptSoFar locations start before new → StopCause locations error old new → RunCause locations limit start (scan_error error) before now
+stop_cause locations limit start old new before now (errors.NoLocation segment) unread scan kept lacks =
+    ((so_far_then locations start before old new scan lacks.scan).wanted segment (lacks.place, lacks.read), lacks.lacks)
+stop_cause locations limit start old new before now (errors.Step (step_errors.Unsupported list)) unread scan kept refuses = is_step_cause locations start old new before (step_errors.Unsupported list) unread scan.kept kept refuses.cause
+stop_cause locations limit start old new before now (errors.Step (step_errors.BadSegment segment)) unread scan kept refuses = is_step_cause locations start old new before (step_errors.BadSegment segment) unread scan.kept kept refuses.cause
+stop_cause locations limit start old new before now (errors.Step (step_errors.BadCode take row)) unread scan kept refuses = is_step_cause locations start old new before (step_errors.BadCode take row) unread scan.kept kept refuses.cause
+stop_cause locations limit start old new before now (errors.Step (step_errors.EvalFault row)) unread scan kept refuses = has_cause locations start old new before (step_errors.EvalFault row) unread scan.kept refuses.cause
+stop_cause locations limit start old new before now (errors.Step step_errors.Memory) unread scan kept refuses = tt
+stop_cause locations limit start old new before now errors.NotOutstanding unread scan kept cause = absurd cause
+stop_cause locations limit start old new before now errors.Memory unread scan kept cause = tt
+
+pub run_stops : (locations : List SegmentLocation) (limit : ℕ) (start : ScanData) (before : SourceState) (adaptor next : AdaptorData) (output : Option ColumnData) (state : SessionState) (error : AdaptorError) →
+    Running locations start before adaptor output state → Stops locations error adaptor next → RunGives locations limit start (Err (scan_error error)) next.scan before state.source
+run_stops locations limit start before adaptor next output state error run stops =
+    let kept = kept_then locations start before adaptor.scan next.scan run.scan.kept stops.scan in
+    gives_with locations limit start next.scan before state.source (scan_error error) kept
+    (stop_cause locations limit start adaptor.scan next.scan before state.source error run.unread run.scan kept stops.cause)
+    (asks_so_far locations start before adaptor output state state.source run refl)
+    (record { file = run.file; faults = let p = run.faults in omega (arith, p); idle = run.idle })

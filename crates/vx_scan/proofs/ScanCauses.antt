@@ -1,0 +1,172 @@
+-- What the chunks of a scan give, in the words of its answer.
+use Rattle.std.proofs.Common.{◌≡◌, ℕ, zero, suc, ◌+◌, inl, inr, List, [], ◌∷◌, Option, Some, length, map, take, refl, sym, ap, ◌∙◌, subst, arith}
+use Rattle.std.specs.List.{slice_get, AllByRecursion}
+use Rattle.vx_base.specs.Columns.{ColumnData}
+use Rattle.vx_base.specs.Data.{Datum}
+use Rattle.vx_base.specs.Sources.{SourceState, RoseBy}
+use Rattle.vx_layout.specs.Rows.{segment_bytes}
+use Rattle.vx_lower.specs.Projected.{Projection, projected_at}
+use Rattle.vx_plan.specs.Plans.{Plan}
+use Rattle.vx_plan.specs.PlanRows.{plan_derivation, plan_reads, plan_value}
+use Rattle.vx_plan.specs.Refs.{number_of}
+use Rattle.vx_rows.specs.Derivations.{Derivation, Leaves, derived}
+use Rattle.vx_rows.specs.Given.{with_given}
+use Rattle.vx_rows.specs.Reads.{directly, Found, reads_of, AnyOf, Finds, IsIn}
+use Rattle.vx_rows.specs.Renumbered.{found_renumbered}
+use Rattle.vx_rows.specs.SegmentLeaves.{Bytes, leaves_of}
+use Rattle.vx_rows.proofs.ByteLeaves.{give_fitting}
+use Rattle.vx_splits.specs.declared.selected_rows.SelectedRows.{SelectedRows}
+use Rattle.vx_splits.specs.Trimmed.{chosen_rows}
+use Rattle.vx_steps.specs.Given.{values_for, row_value}
+use Rattle.vx_steps.specs.Laws.{HandsNone, IsRowOf, IsBadCodeAt, row_reads}
+use Rattle.vx_steps.specs.Rows.{rows_of, SomeRow}
+use Rattle.vx_steps.specs.ScanLaws.{IsTornIn}
+use Rattle.vx_steps.specs.Visits.{Visits, HasEvalFault}
+use Rattle.vx_steps.proofs.ReadVisits.{no_columns}
+use Rattle.vx_steps.proofs.VisitedReads.{none_served}
+use Rattle.vx_scan.specs.declared.errors.ScanError.{ScanError}
+use Rattle.vx_scan.specs.declared.errors.ScanError.TheVariants.{BadProjection, OffsetOverflow, OutOfRange, Unsupported, NoLocation, ReadFault, Stalled, BadSegment, BadCode, EvalFault, Memory}
+use Rattle.vx_scan.specs.declared.plans.ScanPlans.{ScanPlans}
+use Rattle.vx_scan.specs.Answer.{FileScan, row_count, scan_pieces, IsAnswer, ArePieces}
+use Rattle.vx_scan.specs.Batches.{AreBatches, HasPiece, LowestFailure}
+use Rattle.vx_scan.specs.Causes.{ScanFinds, ScanReaches, ReadsTorn, ReadsBadCode, IsFaultAt, FaultsAt}
+use Rattle.vx_scan.specs.ChunkRows.{given_to, ChunkFinds, ChunkReaches, IsPiece}
+use Rattle.vx_scan.specs.Outcomes.{told_by, Causes}
+use Rattle.vx_scan.specs.Plans.{bytes_of, projection_plan}
+use Rattle.vx_scan.specs.Preparing.{node_of, ArePlansOf, LiesInside, AreChunksOf}
+use Rattle.vx_scan.specs.Scanned.{CausedBy, HasAnswer, LowestCause}
+use Rattle.vx_scan.proofs.ScanReads.{chunk_rows, some_chosen, chunk_finds, in_moved, torn_moved, row_moved, code_moved}
+
+-- ---- nothing is given
+
+none_given : (plans : ScanPlans) → HandsNone (given_to plans [])
+none_given plans = no_columns plans.table
+
+-- a row is derived as the plan says
+same_row : (plans : ScanPlans) (d : Derivation) → with_given (values_for (given_to plans [])) d ≡ d
+same_row plans d = none_served (values_for (given_to plans [])) (none_given plans) d
+
+same_reads : (plans : ScanPlans) (P : Found → Type 0) (offset : ℕ) (q : Plan) (row : ℕ) → Finds P (row_reads (given_to plans []) offset q row) → Finds P (plan_reads offset q row)
+same_reads plans P offset q row any = subst (λ (d : Derivation). Finds P (reads_of directly d)) (same_row plans (plan_derivation offset q row)) any
+
+same_value : (plans : ScanPlans) (leaves : Leaves) (offset : ℕ) (q : Plan) (row : ℕ) → row_value leaves (given_to plans []) offset q row ≡ plan_value leaves offset q row
+same_value plans leaves offset q row = ap (derived leaves) (same_row plans (plan_derivation offset q row))
+
+some_mapped : (P Q : ℕ → Type 0) → ((row : ℕ) → P row → Q row) → (start : ℕ) (bits : List _) → SomeRow P start bits → SomeRow Q start bits
+some_mapped P Q f start bits some = (some.0, some.1, f (start + some.0) some.2)
+
+-- ---- reads
+
+finds_of : (scan : FileScan) (limit : ℕ) (plans : ScanPlans) → ArePlansOf scan limit plans → (P Q : Found → Type 0) → ((found : Found) → P found → Q (found_renumbered (node_of scan.projection) found)) → (chunk : SelectedRows) → LiesInside (row_count scan) chunk → ChunkFinds P plans [] chunk → ScanFinds Q scan.projection (chosen_rows chunk)
+finds_of scan limit plans are P Q moved chunk inside some =
+    let q : Plan = projection_plan plans in
+    let same : SomeRow (λ row. Finds P (plan_reads plans.row_offset q row)) chunk.scope.rows.start chunk.mask =
+    some_mapped (λ row. Finds P (row_reads (given_to plans []) plans.row_offset q row)) (λ row. Finds P (plan_reads plans.row_offset q row)) (same_reads plans P plans.row_offset q) chunk.scope.rows.start chunk.mask some in
+    chunk_finds scan.projection q are.plan P Q moved (row_count scan) chunk inside
+    (subst (λ (offset : ℕ). SomeRow (λ row. Finds P (plan_reads offset q row)) chunk.scope.rows.start chunk.mask) are.offset same)
+
+pub reaches_of : (scan : FileScan) (limit : ℕ) (plans : ScanPlans) → ArePlansOf scan limit plans → (chunk : SelectedRows) → LiesInside (row_count scan) chunk → (segment : ℕ) → ChunkReaches plans chunk segment → ScanReaches scan.projection (chosen_rows chunk) segment
+reaches_of scan limit plans are chunk inside segment read =
+    let q : Plan = projection_plan plans in
+    let some : SomeRow (λ row. Finds (IsIn segment) (plan_reads plans.row_offset q row)) chunk.scope.rows.start chunk.mask = (read.row, read.chosen, read.read) in
+    chunk_finds scan.projection q are.plan (IsIn segment) (IsIn segment) (in_moved (node_of scan.projection) segment) (row_count scan) chunk inside
+    (subst (λ (offset : ℕ). SomeRow (λ row. Finds (IsIn segment) (plan_reads offset q row)) chunk.scope.rows.start chunk.mask) are.offset some)
+
+-- ---- values
+
+map_same : (f g : ℕ → Option Datum) → ((row : ℕ) → f row ≡ g row) → (rows : List ℕ) → map f rows ≡ map g rows
+map_same f g same [] = refl
+map_same f g same (row ∷ rows) =
+    let p : f row ≡ g row = same row in
+    let q : map f rows ≡ map g rows = map_same f g same rows in
+    cc
+
+row_worth : (scan : FileScan) (limit : ℕ) (plans : ScanPlans) → ArePlansOf scan limit plans → (bytes : Bytes) (row : ℕ) → row_value (leaves_of bytes) (given_to plans []) plans.row_offset (projection_plan plans) row ≡ projected_at (leaves_of bytes) scan.projection row
+row_worth scan limit plans are bytes row =
+    same_value plans (leaves_of bytes) plans.row_offset (projection_plan plans) row
+    ∙ (ap (λ (offset : ℕ). plan_value (leaves_of bytes) offset (projection_plan plans) row) are.offset
+    ∙ are.plan.values (leaves_of bytes) (give_fitting bytes) row)
+
+piece_answers : (scan : FileScan) (limit : ℕ) (plans : ScanPlans) → ArePlansOf scan limit plans → (bytes : Bytes) (chunk : SelectedRows) → LiesInside (row_count scan) chunk → (column : ColumnData) → IsPiece (leaves_of bytes) plans [] chunk column → IsAnswer (leaves_of bytes) scan.projection (chosen_rows chunk) column.values
+piece_answers scan limit plans are bytes chunk inside column piece =
+    let leaves : Leaves = leaves_of bytes in
+    ap (map (projected_at leaves scan.projection)) (sym (chunk_rows (row_count scan) chunk inside))
+    ∙ (sym (map_same (row_value leaves (given_to plans []) plans.row_offset (projection_plan plans)) (projected_at leaves scan.projection) (row_worth scan limit plans are bytes) (rows_of chunk.scope.rows.start chunk.mask))
+    ∙ piece)
+
+-- the bytes of the segments are the same by the scan and by its plans
+pub same_bytes : (scan : FileScan) (limit : ℕ) (plans : ScanPlans) → ArePlansOf scan limit plans → (file : List ℕ) → bytes_of plans file ≡ segment_bytes file scan.locations
+same_bytes scan limit plans are file = ap (segment_bytes file) are.locations
+
+pub pieces_answer : (scan : FileScan) (limit : ℕ) (plans : ScanPlans) → ArePlansOf scan limit plans → (bytes : Bytes) (chunks : List SelectedRows) → AllByRecursion (LiesInside (row_count scan)) chunks → (batches : List ColumnData) → AreBatches (leaves_of bytes) plans chunks batches → ArePieces (leaves_of bytes) scan.projection (map chosen_rows chunks) (map (λ (batch : ColumnData). batch.values) batches)
+pieces_answer scan limit plans are bytes [] inside [] batches = tt
+pieces_answer scan limit plans are bytes [] inside (batch ∷ batches) is = absurd is
+pieces_answer scan limit plans are bytes (chunk ∷ chunks) inside [] is = absurd is
+pieces_answer scan limit plans are bytes (chunk ∷ chunks) inside (batch ∷ batches) is =
+    (piece_answers scan limit plans are bytes chunk inside.0 batch is.0, pieces_answer scan limit plans are bytes chunks inside.1 batches is.1)
+
+have_answers : (scan : FileScan) (limit : ℕ) (plans : ScanPlans) → ArePlansOf scan limit plans → (bytes : Bytes) (chunks : List SelectedRows) → AllByRecursion (LiesInside (row_count scan)) chunks → (k : ℕ) → AllByRecursion (HasPiece (leaves_of bytes) plans) (take k chunks) → AllByRecursion (HasAnswer (leaves_of bytes) scan.projection) (take k (map chosen_rows chunks))
+have_answers scan limit plans are bytes chunks inside zero have = tt
+have_answers scan limit plans are bytes [] inside (suc k) have = tt
+have_answers scan limit plans are bytes (chunk ∷ chunks) inside (suc k) have =
+    (((have.0).0.values, piece_answers scan limit plans are bytes chunk inside.0 (have.0).0 (have.0).1), have_answers scan limit plans are bytes chunks inside.1 k have.1)
+
+-- ---- causes
+
+inside_at : (count : ℕ) (chunks : List SelectedRows) (k : ℕ) (chunk : SelectedRows) → AllByRecursion (LiesInside count) chunks → slice_get chunks k ≡ Some chunk → LiesInside count chunk
+inside_at count [] k chunk inside at = absurd cc
+inside_at count (one ∷ chunks) zero chunk inside at = let e : one ≡ chunk = cc in subst (LiesInside count) e inside.0
+inside_at count (one ∷ chunks) (suc k) chunk inside at = inside_at count chunks k chunk inside.1 at
+
+rows_at : (chunks : List SelectedRows) (k : ℕ) (chunk : SelectedRows) → slice_get chunks k ≡ Some chunk → slice_get (map chosen_rows chunks) k ≡ Some (chosen_rows chunk)
+rows_at [] k chunk at = absurd cc
+rows_at (one ∷ chunks) zero chunk at = let e : one ≡ chunk = cc in ap (λ (c : SelectedRows). Some (chosen_rows c)) e
+rows_at (one ∷ chunks) (suc k) chunk at = rows_at chunks k chunk at
+
+fault_row : (scan : FileScan) (limit : ℕ) (plans : ScanPlans) → ArePlansOf scan limit plans → (leaves : Leaves) (at row : ℕ) → Visits (HasEvalFault leaves plans.row_offset at) (given_to plans []) (projection_plan plans) row → (row ≡ at) × IsFaultAt leaves scan.projection row
+fault_row scan limit plans are leaves at row visit =
+    are.plan.faults leaves (given_to plans []) row at (none_given plans)
+    (subst (λ (offset : ℕ). Visits (HasEvalFault leaves offset at) (given_to plans []) (projection_plan plans) row) are.offset visit)
+
+faults_among : (leaves : Leaves) (p : Projection) (at : ℕ) (rows : List ℕ) → AnyOf (λ row. (row ≡ at) × IsFaultAt leaves p row) rows → FaultsAt leaves p rows at
+faults_among leaves p at [] any = absurd any
+faults_among leaves p at (row ∷ rows) (inl here) = (inl here.0, subst (IsFaultAt leaves p) here.0 here.1)
+faults_among leaves p at (row ∷ rows) (inr later) = let rest = faults_among leaves p at rows later in (inr rest.0, rest.1)
+
+cause_of : (scan : FileScan) (limit : ℕ) (plans : ScanPlans) → ArePlansOf scan limit plans → (chunk : SelectedRows) → LiesInside (row_count scan) chunk → (error : ScanError) (before after : SourceState) → Causes (told_by plans before) plans [] chunk error before after → CausedBy scan limit (chosen_rows chunk) error before after
+cause_of scan limit plans are chunk inside BadProjection before after cause = cause
+cause_of scan limit plans are chunk inside OffsetOverflow before after cause = cause
+cause_of scan limit plans are chunk inside OutOfRange before after cause = cause
+cause_of scan limit plans are chunk inside (Unsupported list) before after cause = λ file told.
+    finds_of scan limit plans are (IsRowOf (number_of list)) (IsRowOf (node_of scan.projection (number_of list))) (row_moved (node_of scan.projection) (number_of list)) chunk inside (cause file told)
+cause_of scan limit plans are chunk inside (NoLocation segment) before after cause =
+    let count : length plans.locations.items ≡ length scan.locations = ap length are.locations in
+    (reaches_of scan limit plans are chunk inside segment cause.0, λ below. let lacks = cause.1 in omega (arith, count, below, lacks))
+cause_of scan limit plans are chunk inside ReadFault before after cause = cause
+cause_of scan limit plans are chunk inside Stalled before after cause = subst (λ (n : ℕ). RoseBy n before.idle after.idle) are.limit_is cause
+cause_of scan limit plans are chunk inside (BadSegment segment) before after cause = λ file told.
+    subst (λ (bytes : Bytes). ReadsTorn bytes scan.projection (chosen_rows chunk) segment) (same_bytes scan limit plans are file)
+    (finds_of scan limit plans are (IsTornIn (bytes_of plans file) segment) (IsTornIn (bytes_of plans file) segment) (torn_moved (node_of scan.projection) (bytes_of plans file) segment) chunk inside (cause file told))
+cause_of scan limit plans are chunk inside (BadCode code_take row) before after cause = λ file told.
+    subst (λ (bytes : Bytes). ReadsBadCode (leaves_of bytes) scan.projection (chosen_rows chunk) (node_of scan.projection (number_of code_take)) row) (same_bytes scan limit plans are file)
+    (finds_of scan limit plans are (IsBadCodeAt (leaves_of (bytes_of plans file)) (number_of code_take) row) (IsBadCodeAt (leaves_of (bytes_of plans file)) (node_of scan.projection (number_of code_take)) row) (code_moved (node_of scan.projection) (leaves_of (bytes_of plans file)) (number_of code_take) row) chunk inside (cause file told))
+cause_of scan limit plans are chunk inside (EvalFault at) before after cause = λ file told.
+    let leaves : Leaves = leaves_of (bytes_of plans file) in
+    let some : AnyOf (λ row. (row ≡ at) × IsFaultAt leaves scan.projection row) (chosen_rows chunk) =
+    some_chosen (λ row. (row ≡ at) × IsFaultAt leaves scan.projection row) (row_count scan) chunk inside
+    (some_mapped (Visits (HasEvalFault leaves plans.row_offset at) (given_to plans []) (projection_plan plans)) (λ row. (row ≡ at) × IsFaultAt leaves scan.projection row) (fault_row scan limit plans are leaves at) chunk.scope.rows.start chunk.mask (cause file told)) in
+    subst (λ (bytes : Bytes). FaultsAt (leaves_of bytes) scan.projection (chosen_rows chunk) at) (same_bytes scan limit plans are file)
+    (faults_among leaves scan.projection at (chosen_rows chunk) some)
+cause_of scan limit plans are chunk inside Memory before after cause = tt
+
+pub lowest_of : (scan : FileScan) (limit : ℕ) (plans : ScanPlans) → ArePlansOf scan limit plans → (chunks : List SelectedRows) → AreChunksOf scan chunks → (error : ScanError) (before after : SourceState) → LowestFailure plans chunks error before after → LowestCause scan limit error before after
+lowest_of scan limit plans are chunks of_scan error before after lowest = record {
+  place = lowest.place;
+  rows = chosen_rows lowest.chunk;
+  here = ap (λ (pieces : List (List ℕ)). slice_get pieces lowest.place) (sym of_scan.pieces) ∙ rows_at chunks lowest.place lowest.chunk lowest.here;
+  cause = cause_of scan limit plans are lowest.chunk (inside_at (row_count scan) chunks lowest.place lowest.chunk of_scan.inside lowest.here) error before after lowest.cause;
+  lower = λ file told.
+      subst (λ (bytes : Bytes). AllByRecursion (HasAnswer (leaves_of bytes) scan.projection) (take lowest.place (scan_pieces scan))) (same_bytes scan limit plans are file)
+      (subst (λ (pieces : List (List ℕ)). AllByRecursion (HasAnswer (leaves_of (bytes_of plans file)) scan.projection) (take lowest.place pieces)) of_scan.pieces
+      (have_answers scan limit plans are (bytes_of plans file) chunks of_scan.inside lowest.place (lowest.lower file told)));
+}

@@ -1,0 +1,145 @@
+-- A valid scan has no cause to fail.
+use Rattle.std.proofs.Common.{◌≡◌, ℕ, zero, suc, ◌+◌, ◌<◌, inl, inr, List, [], ◌∷◌, ◌++◌, Option, Some, None, length, refl, sym, ap, ◌∙◌, subst, arith}
+use Rattle.std.specs.Prelude.{IfSome, IsSome, IsSomeAnd, option_and_then}
+use Rattle.std.specs.List.{slice_get, flat_map, AllByRecursion}
+use Rattle.vx_base.specs.Data.{Datum}
+use Rattle.vx_base.specs.Reading.{decoded}
+use Rattle.vx_base.specs.Sources.{SourceState, bytes_at}
+use Rattle.vx_base.specs.declared.locations.SegmentLocation.{SegmentLocation}
+use Rattle.vx_expr.specs.Meaning.{meaning}
+use Rattle.vx_layout.specs.Rows.{file_leaves, segment_bytes}
+use Rattle.vx_layout.specs.Trees.{head_of}
+use Rattle.vx_lower.specs.Projected.{Projection, root_value, projected_at, scan_reads}
+use Rattle.vx_plan.specs.Refs.{number_of}
+use Rattle.vx_rows.specs.Derivations.{Cell, Leaves, derived, no_bound}
+use Rattle.vx_rows.specs.Reads.{Found, a_cell, a_code, a_list_row, Read, IsAmong, Finds, FindsOnly, IsIn, IsFine, IsPlaceAmong}
+use Rattle.vx_rows.specs.SegmentLeaves.{Bytes, leaves_of}
+use Rattle.vx_steps.specs.Laws.{IsRowOf, IsBadCodeAt}
+use Rattle.vx_steps.specs.ScanLaws.{IsTornIn}
+use Rattle.vx_scan.specs.declared.errors.ScanError.{ScanError}
+use Rattle.vx_scan.specs.declared.errors.ScanError.TheVariants.{BadProjection, OffsetOverflow, OutOfRange, Unsupported, NoLocation, ReadFault, Stalled, BadSegment, BadCode, EvalFault, Memory}
+use Rattle.vx_scan.specs.Answer.{FileScan, scan_rows, scan_pieces, size_of}
+use Rattle.vx_scan.specs.Causes.{ScanFinds, IsFaultAt}
+use Rattle.vx_scan.specs.Plans.{IsQuiet}
+use Rattle.vx_scan.specs.Preparing.{node_of}
+use Rattle.vx_scan.specs.Scanned.{CausedBy, LowestCause}
+use Rattle.vx_scan.specs.Valid.{IsValidScan}
+use Rattle.vx_scan.proofs.Answered.{pieces_join}
+
+-- ---- no read of it is amiss
+
+-- such a find is not fine
+abbrev IsAmiss : Leaves → (Found → Type 0) → Type 0
+IsAmiss leaves P = (found : Found) → P found → IsFine leaves found → ⊥
+
+none_amiss : (leaves : Leaves) (P : Found → Type 0) → IsAmiss leaves P → (reads : List Read) → FindsOnly (IsFine leaves) reads → Finds P reads → ⊥
+none_amiss leaves P amiss [] fine any = any
+none_amiss leaves P amiss (read ∷ reads) fine (inl here) = amiss read.found here fine.0
+none_amiss leaves P amiss (read ∷ reads) fine (inr later) = none_amiss leaves P amiss reads fine.1 later
+
+rows_fine : (leaves : Leaves) (p : Projection) (P : Found → Type 0) → IsAmiss leaves P → (rows : List ℕ) → AllByRecursion (λ row. FindsOnly (IsFine leaves) (scan_reads p row)) rows → ScanFinds P p rows → ⊥
+rows_fine leaves p P amiss [] fine any = any
+rows_fine leaves p P amiss (row ∷ rows) fine (inl here) = none_amiss leaves P amiss (scan_reads p row) fine.0 here
+rows_fine leaves p P amiss (row ∷ rows) fine (inr later) = rows_fine leaves p P amiss rows fine.1 later
+
+row_amiss : (leaves : Leaves) (number : ℕ) → IsAmiss leaves (IsRowOf number)
+row_amiss leaves number (a_cell at) is fine = is
+row_amiss leaves number (a_code at) is fine = is
+row_amiss leaves number (a_list_row list row) is fine = fine
+
+torn_leaf : (bytes : Bytes) (at : Cell) (found : Option (List ℕ)) → bytes at.segment ≡ found → IsSomeAnd found (λ them. decoded at.dtype at.rows them ≡ None) → IsSome (option_and_then (decoded at.dtype at.rows) found) → ⊥
+torn_leaf bytes at None is torn fine = torn
+torn_leaf bytes at (Some them) is torn fine = let p : decoded at.dtype at.rows them ≡ None = torn in let q : IsSome {T = List Datum} None = subst IsSome p fine in cc
+
+torn_amiss : (bytes : Bytes) (segment : ℕ) → IsAmiss (leaves_of bytes) (IsTornIn bytes segment)
+torn_amiss bytes segment (a_cell at) is fine = torn_leaf bytes at (bytes at.segment) refl is.1 fine
+torn_amiss bytes segment (a_code at) is fine = is
+torn_amiss bytes segment (a_list_row list row) is fine = is
+
+bad_code : (count : ℕ) (v : Option Datum) → IsSomeAnd v (λ code. ¬ (IsPlaceAmong count code)) → IfSome v (IsPlaceAmong count) → ⊥
+bad_code count None bad fine = bad
+bad_code count (Some v) bad fine = bad fine
+
+code_amiss : (leaves : Leaves) (number at : ℕ) → IsAmiss leaves (IsBadCodeAt leaves number at)
+code_amiss leaves number at (a_cell one) is fine = is
+code_amiss leaves number at (a_code one) is fine = bad_code one.count (derived leaves one.code) is.2 fine
+code_amiss leaves number at (a_list_row list row) is fine = is
+
+no_place : (locations : List SegmentLocation) (segment : ℕ) → ¬ (segment < length locations) → slice_get locations segment ≡ None
+no_place [] segment past = refl
+no_place (at ∷ locations) zero past = absurd (past (omega arith))
+no_place (at ∷ locations) (suc segment) past = no_place locations segment (λ below. past (omega (arith, below)))
+
+no_bytes : (file : List ℕ) (locations : List SegmentLocation) (segment : ℕ) → ¬ (segment < length locations) → segment_bytes file locations segment ≡ None
+no_bytes file locations segment past = ap (option_and_then (bytes_at file)) (no_place locations segment past)
+
+unplaced_amiss : (file : List ℕ) (locations : List SegmentLocation) (segment : ℕ) → ¬ (segment < length locations) → IsAmiss (file_leaves file locations) (IsIn segment)
+unplaced_amiss file locations segment past (a_cell at) is fine =
+    let none : segment_bytes file locations at.segment ≡ None = ap (segment_bytes file locations) is ∙ no_bytes file locations segment past in
+    let gone : file_leaves file locations at.dtype at.rows at.segment ≡ None = ap (option_and_then (decoded at.dtype at.rows)) none in
+    let some : IsSome {T = List Datum} None = subst IsSome gone fine in
+    cc
+unplaced_amiss file locations segment past (a_code at) is fine = is
+unplaced_amiss file locations segment past (a_list_row list row) is fine = is
+
+-- ---- no row is a fault
+
+fault_none : (f : Datum → Option Datum) (v : Option Datum) → IsSomeAnd v (λ w. f w ≡ None) → option_and_then f v ≡ None
+fault_none f None fault = absurd fault
+fault_none f (Some v) fault = fault
+
+answered_at : (leaves : Leaves) (p : Projection) (at : ℕ) (rows : List ℕ) → AllByRecursion (λ row. IsSome (projected_at leaves p row)) rows → IsAmong at rows → IsFaultAt leaves p at → ⊥
+answered_at leaves p at [] answered among fault = among
+answered_at leaves p at (row ∷ rows) answered (inl here) fault =
+    let gone : projected_at leaves p at ≡ None = fault_none (λ v. meaning (head_of p.root).dtype no_bound p.expression.term v (p.offset + at)) (root_value leaves p at) fault in
+    let some : IsSome {T = Datum} None = subst IsSome gone (subst (λ (r : ℕ). IsSome (projected_at leaves p r)) here answered.0) in
+    cc
+answered_at leaves p at (row ∷ rows) answered (inr later) fault = answered_at leaves p at rows answered.1 later fault
+
+-- ---- the rows of a piece are rows of the scan
+
+all_front : (P : ℕ → Type 0) (ones twos : List ℕ) → AllByRecursion P (ones ++ twos) → AllByRecursion P ones
+all_front P [] twos each = tt
+all_front P (one ∷ ones) twos each = (each.0, all_front P ones twos each.1)
+
+all_back : (P : ℕ → Type 0) (ones twos : List ℕ) → AllByRecursion P (ones ++ twos) → AllByRecursion P twos
+all_back P [] twos each = each
+all_back P (one ∷ ones) twos each = all_back P ones twos each.1
+
+all_in_piece : (P : ℕ → Type 0) (pieces : List (List ℕ)) (place : ℕ) (rows : List ℕ) → slice_get pieces place ≡ Some rows → AllByRecursion P (flat_map (λ piece. piece) pieces) → AllByRecursion P rows
+all_in_piece P [] place rows at each = absurd cc
+all_in_piece P (piece ∷ pieces) zero rows at each = let e : piece ≡ rows = cc in subst (AllByRecursion P) e (all_front P piece (flat_map (λ piece. piece) pieces) each)
+all_in_piece P (piece ∷ pieces) (suc place) rows at each = all_in_piece P pieces place rows at (all_back P piece (flat_map (λ piece. piece) pieces) each)
+
+of_piece : (P : ℕ → Type 0) (scan : FileScan) (place : ℕ) (rows : List ℕ) → slice_get (scan_pieces scan) place ≡ Some rows → AllByRecursion P (scan_rows scan) → AllByRecursion P rows
+of_piece P scan place rows at each = all_in_piece P (scan_pieces scan) place rows at (subst (AllByRecursion P) (sym (pieces_join (size_of scan) (scan_rows scan))) each)
+
+-- ---- no cause but want of memory
+
+only_memory : (scan : FileScan) (limit : ℕ) (file : List ℕ) (before after : SourceState) → before.file ≡ Some file → IsQuiet limit before after → (rows : List ℕ)
+    → AllByRecursion (λ row. FindsOnly (IsFine (file_leaves file scan.locations)) (scan_reads scan.projection row)) rows → AllByRecursion (λ row. IsSome (projected_at (file_leaves file scan.locations) scan.projection row)) rows
+    → (error : ScanError) → CausedBy scan limit rows error before after → error ≡ Memory
+only_memory scan limit file before after told quiet rows fine answered BadProjection cause = absurd cause
+only_memory scan limit file before after told quiet rows fine answered OffsetOverflow cause = absurd cause
+only_memory scan limit file before after told quiet rows fine answered OutOfRange cause = absurd cause
+only_memory scan limit file before after told quiet rows fine answered (Unsupported list) cause =
+    absurd (rows_fine (file_leaves file scan.locations) scan.projection (IsRowOf (node_of scan.projection (number_of list))) (row_amiss (file_leaves file scan.locations) (node_of scan.projection (number_of list))) rows fine (cause file told))
+only_memory scan limit file before after told quiet rows fine answered (NoLocation segment) cause =
+    absurd (rows_fine (file_leaves file scan.locations) scan.projection (IsIn segment) (unplaced_amiss file scan.locations segment cause.1) rows fine cause.0)
+only_memory scan limit file before after told quiet rows fine answered ReadFault cause = absurd (quiet.faults cause)
+only_memory scan limit file before after told quiet rows fine answered Stalled cause = absurd (quiet.idle cause)
+only_memory scan limit file before after told quiet rows fine answered (BadSegment segment) cause =
+    absurd (rows_fine (file_leaves file scan.locations) scan.projection (IsTornIn (segment_bytes file scan.locations) segment) (torn_amiss (segment_bytes file scan.locations) segment) rows fine (cause file told))
+only_memory scan limit file before after told quiet rows fine answered (BadCode code_take row) cause =
+    absurd (rows_fine (file_leaves file scan.locations) scan.projection (IsBadCodeAt (file_leaves file scan.locations) (node_of scan.projection (number_of code_take)) row) (code_amiss (file_leaves file scan.locations) (node_of scan.projection (number_of code_take)) row) rows fine (cause file told))
+only_memory scan limit file before after told quiet rows fine answered (EvalFault at) cause =
+    let fault = cause file told in
+    absurd (answered_at (file_leaves file scan.locations) scan.projection at rows answered fault.0 fault.1)
+only_memory scan limit file before after told quiet rows fine answered Memory cause = refl
+
+pub valid_memory : (scan : FileScan) (limit : ℕ) (error : ScanError) (before after : SourceState) → LowestCause scan limit error before after → (file : List ℕ) → before.file ≡ Some file → IsValidScan (file_leaves file scan.locations) scan → IsQuiet limit before after → error ≡ Memory
+valid_memory scan limit error before after lowest file told valid quiet =
+    only_memory scan limit file before after told quiet lowest.rows
+    (of_piece (λ row. FindsOnly (IsFine (file_leaves file scan.locations)) (scan_reads scan.projection row)) scan lowest.place lowest.rows lowest.here valid.fine)
+    (of_piece (λ row. IsSome (projected_at (file_leaves file scan.locations) scan.projection row)) scan lowest.place lowest.rows lowest.here valid.answered)
+    error lowest.cause

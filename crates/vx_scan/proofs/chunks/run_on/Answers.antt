@@ -1,0 +1,30 @@
+use Rattle.std.proofs.Common.{◌≡◌, ◌∙◌, List, ap, refl, subst, sym}
+use Rattle.vx_plan.specs.Nodes.{Node}
+use Rattle.vx_steps.specs.Kept.{AreApart}
+use Rattle.vx_steps.specs.KeptData.{Kept}
+use Rattle.vx_steps.specs.Offers.{IsForLeaf, IsForPlan, Keeps}
+use Rattle.vx_steps.specs.ScanData.{ScanData}
+use Rattle.vx_scan.specs.Outcomes.{data_of}
+use Rattle.vx_scan.proofs.ChunkOutcomes.{lacks_on, runs_on}
+use Rattle.vx_scan.proofs.ChunkScanning.{with_handed}
+use Rattle.vx_scan.proofs.chunks.run_on.Goals as goal
+
+pub returns : goal.returns
+returns g c =
+    let scan = c.in-Ok.ensures {u = tt} in
+    let leaves : List Kept = c.with_leaves.result.progress.leaves in
+    let made : List Kept = c.with_made-scan.result.progress.wholes.made in
+    let is = with_handed c.args.plans.now c.args.chosen.now leaves made c.in-Ok.scan c.with_leaves.result c.with_made-scan.result scan c.with_leaves.ensures.others c.with_made-scan.ensures.others c.with_made-scan.ensures.told in
+    let fits_leaves : Keeps (IsForLeaf c.args.plans.now.table) (data_of c.args.handed.leaves.items) leaves =
+    subst (λ (ns : List Node). Keeps (IsForLeaf ns) (data_of c.args.handed.leaves.items) leaves) scan.nodes c.with_leaves.ensures.leaves in
+    let nodes : c.with_leaves.result.nodes ≡ c.args.plans.now.table = ap (λ (s : ScanData). s.nodes) c.with_leaves.ensures.others ∙ scan.nodes in
+    let fits_made : Keeps (IsForPlan c.args.plans.now.table) (data_of c.args.handed.made.items) made =
+    subst (λ (ns : List Node). Keeps (IsForPlan ns) (data_of c.args.handed.made.items) made) nodes c.with_made-scan.ensures.made in
+    let kept = c.run_over-output.ensures.kept in
+    let apart : AreApart (data_of c.run_over-output.result.kept.made.items) = subst AreApart (sym kept.made) kept.apart_made in
+    runs_on c.args.plans.now c.args.chosen.now c.args.handed leaves made c.with_made-scan.result c.run_over-output.result
+    (record { piece = c.piece_of.result; handed = record { leaves = c.run_over-output.result.kept.leaves; made = c.run_over-output.result.kept.made } }) (g.S.SegmentSource.state c.args.source.now) (g.S.SegmentSource.state c.run_over-output.new.source) c.requires.handed fits_leaves fits_made is c.run_over-output.ensures c.piece_of.ensures refl refl apart
+
+pub returns-in_default : goal.returns-in_default
+returns-in_default g c =
+    lacks_on c.args.plans.now c.args.chosen.now c.args.handed (record { piece = _; handed = c.args.handed }) (g.S.SegmentSource.state c.args.source.now) (g.S.SegmentSource.state c.clear.new.self) c.requires.handed refl refl c.clear.ensures

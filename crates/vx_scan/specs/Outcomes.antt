@@ -1,0 +1,139 @@
+-- What the run of a chunk gives.
+use Rattle.std.specs.Prelude.{◌≡◌, ℕ, ◌<◌, ◌≤◌, ◌⊎◌, List, [], length, map, Some, None, Err, IfOk, IfErr}
+use Rattle.vx_base.specs.Columns.{ColumnData}
+use Rattle.vx_base.specs.Masks.{true_count}
+use Rattle.vx_base.specs.Sources.{SourceState, Rose, RoseBy}
+use Rattle.vx_plan.specs.Refs.{number_of}
+use Rattle.vx_rows.specs.SegmentLeaves.{Bytes, leaves_of}
+use Rattle.vx_splits.specs.declared.selected_rows.SelectedRows.{SelectedRows}
+use Rattle.vx_steps.specs.Held.{AreMade, AreTyped, HaveLeaves}
+use Rattle.vx_steps.specs.Kept.{kept_at, kept_data, AreApart, IsKept}
+use Rattle.vx_steps.specs.KeptData.{Kept}
+use Rattle.vx_steps.specs.declared.kept.KeptValue.{KeptValue}
+use Rattle.vx_steps.specs.Offers.{IsForLeaf, IsForPlan, Keeps}
+use Rattle.vx_steps.specs.Visits.{IsLeafRead, IsWholeRead}
+use Rattle.vx_scan.specs.declared.errors.ScanError.{ScanError}
+use Rattle.vx_scan.specs.declared.errors.ScanError.TheVariants.{Unsupported, NoLocation, ReadFault, Stalled, BadSegment, BadCode, EvalFault, Memory}
+use Rattle.vx_scan.specs.declared.outcomes.ChunkOutcome.{ChunkOutcome}
+use Rattle.vx_scan.specs.declared.outcomes.HandedOn.{HandedOn}
+use Rattle.vx_scan.specs.declared.outcomes.Ran.{Ran}
+use Rattle.vx_scan.specs.declared.plans.ScanPlans.{ScanPlans}
+use Rattle.vx_scan.specs.Asks.{AsksOnly, Lasts}
+use Rattle.vx_scan.specs.ChunkRows.{ChunkReaches, ChunkVisits, FaultsAt, IsPiece, ReadsBadCode, ReadsList, ReadsTorn}
+use Rattle.vx_scan.specs.Plans.{bytes_of, projection_node}
+
+-- ---- what is claimed of bytes
+
+-- Of which bytes of the segments something is claimed: it holds of them all.
+abbrev pub Claims : Type 1
+Claims = (Bytes → Type 0) → Type 0
+
+-- those of the file, where the source tells it
+abbrev pub told_by : ScanPlans → SourceState → Claims
+told_by plans source P = (file : List ℕ) → source.file ≡ Some file → P (bytes_of plans file)
+
+-- what is handed on is so by the bytes
+pub record AreHandedBy (plans : ScanPlans) (leaves made : List Kept) (bytes : Bytes) : Type 0 where
+  pub leaves_are : HaveLeaves plans.table leaves (leaves_of bytes)
+  pub made_are : AreMade plans.table plans.row_offset made (leaves_of bytes)
+
+-- ---- pieces and causes
+
+-- The column has the projection's dtype, and its values at the chunk's selected rows, in order.
+pub record GivesPiece (Told : Claims) (plans : ScanPlans) (given : List Kept) (chosen : SelectedRows) (column : ColumnData) : Type 0 where
+  pub dtype : column.dtype ≡ (projection_node plans).dtype
+  pub count : length column.values ≡ true_count chosen.mask
+  pub values : Told (λ bytes. IsPiece (leaves_of bytes) plans given chosen column)
+
+-- why a chunk has no piece
+abbrev pub Causes : Claims → ScanPlans → List Kept → SelectedRows → ScanError → SourceState → SourceState → Type 0
+Causes Told plans given chosen (Unsupported list) before after = Told (λ bytes. ReadsList plans given chosen (number_of list))
+Causes Told plans given chosen (NoLocation segment) before after = ChunkReaches plans chosen segment × (length plans.locations.items ≤ segment)
+Causes Told plans given chosen ReadFault before after = Rose before.faults after.faults
+Causes Told plans given chosen Stalled before after = RoseBy plans.idle_limit before.idle after.idle
+Causes Told plans given chosen (BadSegment segment) before after = Told (λ bytes. ReadsTorn bytes plans given chosen segment)
+Causes Told plans given chosen (BadCode take row) before after = Told (λ bytes. ReadsBadCode (leaves_of bytes) plans given chosen (number_of take) row)
+Causes Told plans given chosen (EvalFault row) before after = Told (λ bytes. FaultsAt (leaves_of bytes) plans given chosen row)
+Causes Told plans given chosen Memory before after = Unit {0}
+Causes Told plans given chosen error before after = ⊥
+
+-- A selected row reads the segment by a leaf that was not handed in, and not only for values that are given.
+pub record IsWanted (plans : ScanPlans) (given leaves : List Kept) (chosen : SelectedRows) (segment : ℕ) : Type 0 where
+  pub leaf : ℕ
+  pub visited : ChunkVisits (IsLeafRead (record { leaf = leaf; segment = segment })) plans given chosen
+  pub not_handed : kept_at leaves leaf ≡ None
+  pub reached : ChunkReaches plans chosen segment
+
+-- some selected row asks for the whole values of that number
+abbrev pub ChunkAsks : ScanPlans → List Kept → SelectedRows → ℕ → Type 0
+ChunkAsks plans given chosen n = ChunkVisits (IsWholeRead n) plans given chosen
+
+-- ---- a chunk with values that are given
+
+-- what is kept of whole values
+abbrev pub data_of : List KeptValue → List Kept
+data_of values = map kept_data values
+
+-- the whole values of the number were used where they are given, and else made
+abbrev pub AreUsedOrMade : List Kept → List Kept → List Kept → ℕ → Type 0
+AreUsedOrMade given used made n = (IsKept given n × IsKept used n) ⊎ ((kept_at given n ≡ None) × IsKept made n)
+
+-- Only given values were used. Those that were made are whole by the file. Those that the selected rows of a piece ask
+-- for were used where they are given, and else made.
+pub record KeepsValues (plans : ScanPlans) (given : List Kept) (chosen : SelectedRows) (outcome : ChunkOutcome) (before : SourceState) : Type 0 where
+  pub used : (n : ℕ) (column : ColumnData) → kept_at (data_of outcome.used.items) n ≡ Some column → kept_at given n ≡ Some column
+  pub made : told_by plans before (λ bytes. AreMade plans.table plans.row_offset (data_of outcome.made.items) (leaves_of bytes))
+  pub typed : AreTyped plans.table (data_of outcome.made.items)
+  pub there : IfOk outcome.piece (λ column. (n : ℕ) → ChunkAsks plans given chosen n → AreUsedOrMade given (data_of outcome.used.items) (data_of outcome.made.items) n)
+
+pub record RunsChunk (plans : ScanPlans) (chosen : SelectedRows) (given : List Kept) (outcome : ChunkOutcome) (before after : SourceState) : Type 0 where
+  -- the given values that fit their plans: they stand in place of whole ones; where memory lacked, none may count
+  pub fitting : List Kept
+  pub fits : Keeps (IsForPlan plans.table) given fitting ⊎ (outcome.piece ≡ Err Memory)
+  -- Ok is the chunk's piece by the file
+  pub content : IfOk outcome.piece (GivesPiece (told_by plans before) plans fitting chosen)
+  pub values : KeepsValues plans fitting chosen outcome before
+  -- each error has its cause
+  pub cause : IfErr outcome.piece (λ error. Causes (told_by plans before) plans fitting chosen error before after)
+  -- segments that the chunk's rows read were asked for, each once, and none that is read only for values that are given
+  pub asks : AsksOnly (IsWanted plans fitting [] chosen) plans.locations.items before after
+  pub lasts : Lasts before after
+  pub in_flight : after.in_flight ≡ []
+
+-- ---- a chunk among those of one source
+
+-- What is handed on has the dtypes and the rows of its plans, and no plan stands twice among whole values.
+pub record CanHandOn (plans : ScanPlans) (handed : HandedOn) : Type 0 where
+  pub leaves : AreTyped plans.table (data_of handed.leaves.items)
+  pub made : AreTyped plans.table (data_of handed.made.items)
+  pub apart : AreApart (data_of handed.made.items)
+
+-- what is handed on is so by the bytes
+abbrev pub IsHandedBy : ScanPlans → HandedOn → Bytes → Type 0
+IsHandedBy plans handed bytes = AreHandedBy plans (data_of handed.leaves.items) (data_of handed.made.items) bytes
+
+-- those of the file, where the source tells it and what was handed in is so by them
+abbrev pub told_on : ScanPlans → HandedOn → SourceState → Claims
+told_on plans handed source P = (file : List ℕ) → source.file ≡ Some file → IsHandedBy plans handed (bytes_of plans file) → P (bytes_of plans file)
+
+-- What is handed on is so by the file, if what was handed in is. The values that were made before stay, and those that
+-- the selected rows of a piece ask for are among them.
+pub record HandsOnMore (plans : ScanPlans) (chosen : SelectedRows) (handed : HandedOn) (ran : Ran) (before : SourceState) : Type 0 where
+  pub can : CanHandOn plans ran.handed
+  pub by_file : told_on plans handed before (IsHandedBy plans ran.handed)
+  pub stays : (n : ℕ) (column : ColumnData) → n < length plans.table → kept_at (data_of handed.made.items) n ≡ Some column → kept_at (data_of ran.handed.made.items) n ≡ Some column
+  pub there : IfOk ran.piece (λ column. (n : ℕ) → ChunkAsks plans [] chosen n → IsKept (data_of ran.handed.made.items) n)
+
+pub record RunsOn (plans : ScanPlans) (chosen : SelectedRows) (handed : HandedOn) (ran : Ran) (before after : SourceState) : Type 0 where
+  -- the leaves that fit their plans; where memory lacked, none may count
+  pub leaves : List Kept
+  pub fits : Keeps (IsForLeaf plans.table) (data_of handed.leaves.items) leaves ⊎ (ran.piece ≡ Err Memory)
+  -- Ok is the chunk's piece by the file, if what was handed in is so by it
+  pub content : IfOk ran.piece (GivesPiece (told_on plans handed before) plans [] chosen)
+  -- each error has its cause
+  pub cause : IfErr ran.piece (λ error. Causes (told_on plans handed before) plans [] chosen error before after)
+  -- segments that the chunk's rows read by leaves that were not handed in were asked for, each once
+  pub asks : AsksOnly (IsWanted plans [] leaves chosen) plans.locations.items before after
+  pub more : HandsOnMore plans chosen handed ran before
+  pub lasts : Lasts before after
+  pub in_flight : after.in_flight ≡ []

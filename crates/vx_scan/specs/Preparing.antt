@@ -1,0 +1,63 @@
+-- What a scan is prepared to: a plan of its projection, and its chunks.
+use Rattle.std.specs.Prelude.{◌≡◌, ℕ, ◌-◌, ◌<◌, ◌≤◌, List, length, map}
+use Rattle.std.specs.List.{AllByRecursion}
+use Rattle.vx_io.specs.Ranges.{IsTableOf}
+use Rattle.vx_layout.specs.Trees.{head_of}
+use Rattle.vx_lower.specs.Lowered.{lowered}
+use Rattle.vx_lower.specs.OldNumbers.{old_number}
+use Rattle.vx_lower.specs.Projected.{Projection, kept_of, projected_at, scan_reads}
+use Rattle.vx_plan.specs.Plans.{Plan, plan_head, plan_at}
+use Rattle.vx_plan.specs.PlanRows.{plan_value, plan_reads}
+use Rattle.vx_plan.specs.Refs.{number_of}
+use Rattle.vx_plan.specs.Tables.{IsGoodTable}
+use Rattle.vx_rows.specs.Derivations.{Leaves}
+use Rattle.vx_rows.specs.Renumbered.{read_renumbered}
+use Rattle.vx_rows.specs.Whole.{GiveFitting}
+use Rattle.vx_splits.specs.declared.selected_rows.SelectedRows.{SelectedRows}
+use Rattle.vx_splits.specs.Trimmed.{chosen_rows}
+use Rattle.vx_steps.specs.Given.{Handed}
+use Rattle.vx_steps.specs.Laws.{HandsNone}
+use Rattle.vx_steps.specs.Visits.{Visits, HasEvalFault}
+use Rattle.vx_scan.specs.declared.plans.ScanPlans.{ScanPlans}
+use Rattle.vx_scan.specs.Answer.{FileScan, row_count, scan_pieces}
+use Rattle.vx_scan.specs.Causes.{IsFaultAt}
+
+-- ---- the plan
+
+-- the number of the node that a plan of the scan's table was lowered from
+abbrev pub node_of : Projection → ℕ → ℕ
+node_of p number = old_number 0 (lowered p.root (kept_of p)) number
+
+-- The plan is worth at each row what the projection is worth there, and reads what it reads, but for the numbers of
+-- dictionaries and lists. Where a row visits a row of an expression that is a fault, that is its own, and the projection
+-- is a fault over the root's value.
+pub record IsPlanOf (p : Projection) (q : Plan) : Type 0 where
+  pub dtype : (plan_head q).dtype ≡ p.expression.dtype
+  pub rows : (plan_head q).rows ≡ (head_of p.root).rows
+  pub values : (leaves : Leaves) → GiveFitting leaves → (row : ℕ) → plan_value leaves p.offset q row ≡ projected_at leaves p row
+  pub reads : (row : ℕ) → map (read_renumbered (node_of p)) (plan_reads p.offset q row) ≡ scan_reads p row
+  pub faults : (leaves : Leaves) (handed : Handed) (row at : ℕ) → HandsNone handed
+      → Visits (HasEvalFault leaves p.offset at) handed q row → (row ≡ at) × IsFaultAt leaves p row
+
+-- What the chunks of the scan share: a good table with the plan of the projection, and where the segments lie.
+pub record ArePlansOf (scan : FileScan) (limit : ℕ) (plans : ScanPlans) : Type 0 where
+  pub good : IsGoodTable plans.table
+  pub known : number_of plans.projection < length plans.table
+  pub plan : IsPlanOf scan.projection (plan_at plans.table (number_of plans.projection))
+  pub locations : plans.locations.items ≡ scan.locations
+  pub ranges : IsTableOf plans.ranges scan.locations
+  pub offset : plans.row_offset ≡ scan.projection.offset
+  pub limit_is : plans.idle_limit ≡ limit
+
+-- ---- the chunks
+
+-- the chunk's rows lie among so many, and its mask is as long as its scope
+pub record LiesInside (count : ℕ) (chunk : SelectedRows) : Type 0 where
+  pub forwards : chunk.scope.rows.start ≤ chunk.scope.rows.end
+  pub below : chunk.scope.rows.end ≤ count
+  pub mask : length chunk.mask ≡ chunk.scope.rows.end - chunk.scope.rows.start
+
+-- The chunks have the pieces of the scan's rows, in order.
+pub record AreChunksOf (scan : FileScan) (chunks : List SelectedRows) : Type 0 where
+  pub pieces : map chosen_rows chunks ≡ scan_pieces scan
+  pub inside : AllByRecursion (LiesInside (row_count scan)) chunks

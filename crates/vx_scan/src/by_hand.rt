@@ -1,0 +1,42 @@
+//! Scans that were written by hand, on which the definitions of answers and of causes are checked.
+
+ghost use Rattle.std.specs.Prelude.{◌≡◌, ◌∷◌, []};
+ghost use Rattle.std.specs.Prelude.{Some, None};
+ghost use Rattle.vx_base.specs.Data.{null};
+ghost use Rattle.vx_layout.specs.Rows.{file_leaves, segment_bytes};
+ghost use Rattle.vx_layout.specs.WorkedRows.{at, no_values, no_values_at, null_codes, code_zero, torn_value, torn_file, torn_at, list_field};
+ghost use Rattle.vx_lower.specs.WorkedPlans.{all_have, natural, naturals, projection, ten_through_a, two_behind, u64};
+ghost use Rattle.vx_layout.specs.WorkedRows.{i64};
+ghost use Rattle.vx_scan.specs.Answer.{IsAnswer, pieces_of};
+ghost use Rattle.vx_scan.specs.Causes.{FaultsAt, LacksLocation, ReadsBadCode, ReadsList, ReadsTorn, ScanReaches};
+ghost use Rattle.vx_scan.specs.WorkedScans.{nine_numbers, nine_numbers_at, nine_numbers_file, three_numbers, three_numbers_file, whole_of};
+
+/// Rows lie in one piece exactly where they share a chunk.
+pub fn pieces_by_hand()
+    ensures threes { pieces_of 3 (0 ∷ 1 ∷ 2 ∷ 3 ∷ 5 ∷ 9 ∷ []) ≡ (0 ∷ 1 ∷ 2 ∷ []) ∷ (3 ∷ 5 ∷ []) ∷ (9 ∷ []) ∷ [] }
+    ensures cut { pieces_of 65536 (0 ∷ 65535 ∷ 65536 ∷ []) ≡ (0 ∷ 65535 ∷ []) ∷ (65536 ∷ []) ∷ [] }
+    ensures none { pieces_of 65536 [] ≡ [] }
+{}
+
+/// The numbers of a leaf; two rows of three chunks, and which segments they reach; null codes of a dictionary without
+/// values; an expression at two rows of three, and one over the rows' numbers.
+pub fn answers_by_hand()
+    ensures leaf { IsAnswer (file_leaves three_numbers_file (at 0 24 ∷ [])) (whole_of three_numbers) (0 ∷ 1 ∷ 2 ∷ []) (naturals (1 ∷ 2 ∷ 300 ∷ [])) }
+    ensures chunks { IsAnswer (file_leaves nine_numbers_file nine_numbers_at) (whole_of nine_numbers) (0 ∷ 7 ∷ []) (naturals (1 ∷ 8 ∷ [])) }
+    ensures reached { ScanReaches (whole_of nine_numbers) (0 ∷ 7 ∷ []) 2 }
+    ensures not_reached { ScanReaches (whole_of nine_numbers) (0 ∷ 7 ∷ []) 1 → ⊥ }
+    ensures dictionary { IsAnswer (file_leaves null_codes no_values_at) (whole_of no_values) (0 ∷ 1 ∷ 2 ∷ []) (null ∷ null ∷ null ∷ []) }
+    ensures divided { IsAnswer (all_have (naturals (5 ∷ 0 ∷ 2 ∷ []))) (projection ten_through_a i64 0) (0 ∷ 2 ∷ []) (naturals (2 ∷ 5 ∷ [])) }
+    ensures numbers { IsAnswer (all_have []) (projection two_behind u64 18446744073709551612) (0 ∷ 1 ∷ []) (naturals (18446744073709551614 ∷ 18446744073709551615 ∷ [])) }
+{}
+
+/// A code of no value, a torn value that no row has, a row of a list, a segment without a location, a division by zero,
+/// and a number past the greatest.
+pub fn faults_by_hand()
+    ensures code { ReadsBadCode (file_leaves code_zero no_values_at) (whole_of no_values) (0 ∷ 1 ∷ 2 ∷ []) 0 0 }
+    ensures torn { ReadsTorn (segment_bytes torn_file torn_at) (whole_of torn_value) (0 ∷ []) 1 }
+    ensures list { ReadsList (whole_of list_field) (0 ∷ []) 2 }
+    ensures location { LacksLocation [] (whole_of three_numbers) (0 ∷ []) 0 }
+    ensures divided { FaultsAt (all_have (naturals (5 ∷ 0 ∷ 2 ∷ []))) (projection ten_through_a i64 0) (0 ∷ 1 ∷ 2 ∷ []) 1 }
+    ensures number { FaultsAt (all_have []) (projection two_behind u64 18446744073709551612) (0 ∷ 1 ∷ 2 ∷ []) 2 }
+{}

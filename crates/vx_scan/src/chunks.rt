@@ -1,0 +1,120 @@
+//! The run of a chunk: the scan of its selected rows, from which its piece comes.
+
+ghost use Rattle.std.specs.Prelude.{[], IfOk};
+ghost use Rattle.vx_scan.specs.ChunkScans.{IsChunkScan};
+ghost use Rattle.vx_scan.specs.Outcomes.{data_of, CanHandOn, RunsChunk, RunsOn};
+ghost use Rattle.vx_scan.specs.Pieces.{PieceOf};
+ghost use Rattle.vx_scan.specs.Plans.{ArePlans, IsChunkOf};
+
+use crate::errors::ScanError;
+use crate::outcomes::{ChunkOutcome, HandedOn, Ran};
+use crate::plans::ScanPlans;
+use crate::runs::{Finished, run_over};
+use std::alloc::{AllocError, Global};
+use vx_base::{Column, SegmentSource};
+use vx_splits::SelectedRows;
+use vx_steps::{KeptValue, Scan, ScanBuildError, ScanKept, Split};
+
+/// The scan of a chunk's selected rows.
+fn scan_of<'a>(
+    alloc: Global,
+    plans: &'a ScanPlans,
+    chosen: &SelectedRows,
+) -> Result<Scan<'a>, AllocError>
+    requires plans { ArePlans plans.now }
+    requires chunk { IsChunkOf plans.now chosen.now }
+    ensures { IfOk result (IsChunkScan plans.now chosen.now [] [] []) }
+{
+    let mut splits = Vec::with_capacity(alloc, 1)?;
+    splits.push(Split {
+        rows: chosen.scope.rows.start..chosen.scope.rows.end,
+        mask: chosen.mask.copy(alloc)?,
+    })?;
+    // The contract of `len` says that the table keeps its rules.
+    let _plans = plans.table.len();
+    match Scan::try_new(alloc, &plans.table, plans.projection, splits) {
+        Ok(scan) => Ok(scan.with_row_offset(plans.row_offset)),
+        Err(ScanBuildError::OutOfRange) => unreachable!(),
+    }
+}
+
+/// The column of the scan's split as the piece of the chunk: an empty one where no row is selected.
+fn piece_of(
+    alloc: Global,
+    plans: &ScanPlans,
+    output: Result<Option<Column>, ScanError>,
+) -> Result<Column, ScanError>
+    requires { ArePlans plans.now }
+    ensures { PieceOf plans.now output result }
+{
+    match output {
+        Ok(Some(column)) => Ok(column),
+        Ok(None) => {
+            let dtype = plans.table.dtype(plans.projection).copy(alloc)?;
+            Ok(Column::empty(alloc, dtype)?)
+        }
+        Err(error) => Err(error),
+    }
+}
+
+/// Runs a chunk on a new session over the source. The given values stand in place of the whole values of their plans; one
+/// of another dtype or length than its plan's counts for nothing. Whatever it answers, nothing is in flight at the
+/// source afterwards.
+pub fn run_chunk<S: SegmentSource>(
+    alloc: Global,
+    plans: &ScanPlans,
+    chosen: &SelectedRows,
+    source: &mut S,
+    given: Vec<KeptValue>,
+) -> ChunkOutcome
+    requires plans { ArePlans plans.now }
+    requires chunk { IsChunkOf plans.now chosen.now }
+    ensures { RunsChunk plans.now chosen.now (data_of given.items) result (S.state source.old) (S.state source.new) }
+{
+    let Ok(scan) = scan_of(alloc, plans, chosen) else {
+        source.clear();
+        return ChunkOutcome {
+            piece: Err(ScanError::Memory),
+            used: Vec::new(alloc),
+            made: Vec::new(alloc),
+        };
+    };
+    let Finished { output, kept } = run_over(alloc, plans, scan.with_value_cache(given), source);
+    let ScanKept { used, made, .. } = kept;
+    ChunkOutcome {
+        piece: piece_of(alloc, plans, output),
+        used,
+        made,
+    }
+}
+
+/// Runs a chunk with what earlier chunks of the source handed on, and hands on what the later ones can use. Whatever it
+/// answers, nothing is in flight at the source afterwards.
+pub(crate) fn run_on<S: SegmentSource>(
+    alloc: Global,
+    plans: &ScanPlans,
+    chosen: &SelectedRows,
+    source: &mut S,
+    handed: HandedOn,
+) -> Ran
+    requires plans { ArePlans plans.now }
+    requires chunk { IsChunkOf plans.now chosen.now }
+    requires handed { CanHandOn plans.now handed }
+    ensures { RunsOn plans.now chosen.now handed result (S.state source.old) (S.state source.new) }
+{
+    let Ok(scan) = scan_of(alloc, plans, chosen) else {
+        source.clear();
+        return Ran {
+            piece: Err(ScanError::Memory),
+            handed,
+        };
+    };
+    let HandedOn { leaves, made } = handed;
+    let scan = scan.with_leaves(leaves).with_made(made);
+    let Finished { output, kept } = run_over(alloc, plans, scan, source);
+    let ScanKept { leaves, made, .. } = kept;
+    Ran {
+        piece: piece_of(alloc, plans, output),
+        handed: HandedOn { leaves, made },
+    }
+}
