@@ -7,8 +7,8 @@ use scan_commands::{run, status_text};
 use std::alloc::{AllocError, Global};
 use vx_base::{BytesSink, BytesSource, Script, ScriptSource};
 
-/// The bytes of a request: what stands behind a `~` is repeated.
-fn request_bytes(alloc: Global, text: &str, times: usize) -> Option<Vec<u8>> {
+/// The bytes of a text: what stands behind a `~` is repeated.
+fn repeated_bytes(alloc: Global, text: &str, times: usize) -> Option<Vec<u8>> {
     let (front, again) = text.split_once('~').unwrap_or((text, ""));
     let mut bytes = bytes_of(alloc, front)?;
     let again = bytes_of(alloc, again)?;
@@ -31,7 +31,7 @@ fn source_of(alloc: Global, file: &str, options: &str) -> Option<ScriptSource> {
         order,
     };
     let (_, text) = file.split_once(' ').unwrap_or((file, ""));
-    let bytes = bytes_of(alloc, text)?;
+    let bytes = repeated_bytes(alloc, text, number(options, "file_times", 0))?;
     Some(ScriptSource::new(alloc, bytes, script))
 }
 
@@ -66,7 +66,7 @@ fn ran<R: AllocGlobal>(
 {
     let alloc = rt.alloc();
     let words = words_of(alloc, option(options, "words").unwrap_or("scan,s,r"))?;
-    let bytes = request_bytes(alloc, request, number(options, "times", 0))?;
+    let bytes = repeated_bytes(alloc, request, number(options, "times", 0))?;
     let reads = number(options, "reads", usize::MAX).max(1);
     let fails = list(alloc, options, "read_fails")?;
     let mut request = BytesSource::new(alloc, bytes, reads, fails);
@@ -74,7 +74,35 @@ fn ran<R: AllocGlobal>(
     let fails = list(alloc, options, "write_fails")?;
     let mut out = BytesSink::new(alloc, writes, fails);
     let status = run(rt, &words, &mut request, sources, &mut out);
-    report_of(alloc, status, request.faults(), sources, &out).ok()
+    let text = match option(options, "brief") {
+        Some(_) => brief_text(alloc, out.written()),
+        None => whole_text(alloc, out.written()),
+    };
+    report_of(
+        alloc,
+        status,
+        &text.ok()?,
+        request.faults(),
+        out.faults(),
+        sources,
+    )
+    .ok()
+}
+
+/// What was written, whole.
+fn whole_text(alloc: Global, written: &[u8]) -> Result<String, AllocError> {
+    let lines = str::from_utf8(written).unwrap_or("no text");
+    format!(in alloc; "{lines:?}")
+}
+
+/// How many bytes were written, and the sum of them.
+fn brief_text(alloc: Global, written: &[u8]) -> Result<String, AllocError> {
+    let count = written.len();
+    let mut sum: u64 = 0;
+    for byte in written {
+        sum = sum.wrapping_add(u64::from(*byte));
+    }
+    format!(in alloc; "{count} bytes of sum {sum}")
 }
 
 /// The status, what was written, the faults of the request and of the sink, and of each source the ranges that
@@ -82,14 +110,13 @@ fn ran<R: AllocGlobal>(
 fn report_of(
     alloc: Global,
     status: u8,
+    written: &String,
     faults: u64,
+    more: u64,
     sources: &[ScriptSource],
-    out: &BytesSink,
 ) -> Result<String, AllocError> {
     let text = status_text(status);
-    let lines = str::from_utf8(out.written()).unwrap_or("no text");
-    let more = out.faults();
-    let mut report = format!(in alloc; "{status} {text}, wrote {lines:?}, faults {faults} {more}")?;
+    let mut report = format!(in alloc; "{status} {text}, wrote {written}, faults {faults} {more}")?;
     for source in sources {
         let (asked, faults, idle) = (source.asked(), source.faults(), source.idle());
         write!(report, "; asked {asked:?}, faults {faults}, idle {idle}")?;

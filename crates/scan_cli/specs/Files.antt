@@ -3,7 +3,7 @@
 use Rattle.std.specs.Prelude.{◌≡◌, ℕ, List, [], None, IsTrue, false}
 use Rattle.vx_base.specs.Sources.{SourceState}
 use Rattle.vx_base.specs.Streams.{ReadState, WriteState}
-use Rattle.scan_commands.specs.Run.{Serves}
+use Rattle.scan_commands.specs.Runs.{Serves}
 use Rattle.scan_commands.specs.Statuses.{not_yet_status}
 use Rattle.scan_commands.specs.Words.{at_fault}
 
@@ -24,7 +24,7 @@ pub record ServesFiles (status : ℕ) : Type 0 where
   pub request : ReadState
   pub source : SourceState
   pub sink : WriteState
-  pub serves : Serves status unread request unasked source unwritten sink
+  pub serves : Serves status (record { request = unread; source = unasked; sink = unwritten }) (record { request = request; source = source; sink = sink })
 
 -- the status is the answer to these words
 pub record IsStatusOf (words : List (List ℕ)) (status : ℕ) : Type 0 where

@@ -4,9 +4,10 @@
 ghost use Rattle.std.specs.Prelude.{◌≡◌, ◌<◌, ◌≤◌, IfOk, IsTrue, false, length, map, string_bytes};
 ghost use Rattle.std.specs.Process.{exit_status};
 ghost use Rattle.scan_cli.specs.Files.{IsStatusOf};
-ghost use Rattle.scan_commands.specs.Run.{FirstOf, IsUntouched, Serves};
+ghost use Rattle.scan_commands.specs.Runs.{IsUntouched, Serves};
 ghost use Rattle.scan_commands.specs.Statuses.{not_yet_status};
 ghost use Rattle.scan_commands.specs.Words.{at_fault};
+ghost use Rattle.vx_scan.specs.Scanned.{FirstOf};
 
 pub use scan_commands::{run, status_text};
 use scan_commands::{DONE, NOT_YET, OUT_OF_MEMORY, are_at_fault};
@@ -86,7 +87,8 @@ fn answered<Q: Source, S: SegmentSource + Send, K: Sink>(
 
     // Other words: the request is served from the first source.
     ensures served { at_fault (map string_bytes words.now) ≡ false → FirstOf (λ old new. Serves (exit_status result)
-        (Q.state request.old) (Q.state request.new) old new (K.state out.old) (K.state out.new))
+        (record { request = Q.state request.old; source = old; sink = K.state out.old })
+        (record { request = Q.state request.new; source = new; sink = K.state out.new }))
         (map S.state sources.old) (map S.state sources.new) }
 {
     ended(rt, run(rt, words, request, sources, out))

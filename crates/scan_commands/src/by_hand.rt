@@ -1,8 +1,10 @@
 //! Words, statuses and lines that were written by hand, on which the definitions are checked.
 
 ghost use Rattle.std.specs.Prelude.{◌≡◌, ◌∷◌, [], true, false, pos, negsuc, codes};
-ghost use Rattle.vx_base.specs.Data.{number};
-ghost use Rattle.scan_commands.specs.Output.{lines};
+ghost use Rattle.vx_base.specs.Data.{int_type, number};
+ghost use Rattle.vx_base.specs.declared.dtypes.IntKind.TheVariants.{I64};
+ghost use Rattle.vx_base.specs.declared.dtypes.Nullability.TheVariants.{NonNullable};
+ghost use Rattle.scan_commands.specs.RowText.{lines};
 ghost use Rattle.scan_commands.specs.Statuses.{text_of_status};
 ghost use Rattle.scan_commands.specs.Words.{at_fault};
 
@@ -17,5 +19,5 @@ pub fn commands_by_hand()
     ensures option { at_fault (codes "scan" ∷ codes "s" ∷ codes "-r" ∷ []) ≡ true }
     ensures text { text_of_status 17 ≡ codes "bad segment" }
     ensures no_text { text_of_status 99 ≡ codes "unknown status" }
-    ensures two_lines { lines (number (pos 300) ∷ number (negsuc 0) ∷ []) ≡ 51 ∷ 48 ∷ 48 ∷ 10 ∷ 45 ∷ 49 ∷ 10 ∷ [] }
+    ensures two_lines { lines (int_type I64 NonNullable) (number (pos 300) ∷ number (negsuc 0) ∷ []) ≡ 51 ∷ 48 ∷ 48 ∷ 10 ∷ 45 ∷ 49 ∷ 10 ∷ [] }
 {}

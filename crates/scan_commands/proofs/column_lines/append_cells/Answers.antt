@@ -1,14 +1,17 @@
-use Rattle.std.proofs.Common.{◌≡◌, ◌∙◌, rules, string_bytes, to_z, of_z, SFits}
-use Rattle.std.specs.Int.{w128}
-use Rattle.std.proofs.lemmas.Int.{to_z-of_z}
+use Rattle.std.proofs.Common.{◌∙◌, ◌++◌, ap, refl}
 use Rattle.vx_base.specs.Cells.{cell_datum}
-use Rattle.scan_commands.proofs.Lines.{row_more}
+use Rattle.scan_commands.specs.RowText.{row_text}
+use Rattle.scan_commands.proofs.ColumnLines.{cell_more, none_yet, all_done}
 use Rattle.scan_commands.proofs.column_lines.append_cells.Goals as goal
+
+pub loop-row-init : goal.loop-row-init
+loop-row-init c = none_yet c.args.column.now.dtype c.args.column.now.values c.args.rows.start c.args.out.now.items c.args.out.now.items refl
 
 pub loop-row-preserved : goal.loop-row-preserved
 loop-row-preserved c =
-    let fits : SFits w128 c.number_of.result = search rules in
-    let passed : to_z w128 (of_z w128 c.number_of.result) ≡ c.number_of.result = to_z-of_z w128 c.number_of.result fits in
-    row_more c.args.column.now.values c.loop-row.row (cell_datum c.cell.result) (to_z w128 (of_z w128 c.number_of.result))
-    (string_bytes c.args.text.now) (string_bytes c.loop-row.text) (string_bytes c.append_line.new.text)
-    c.cell.ensures (passed ∙ c.number_of.ensures) c.in_ok-append_line.ensures c.loop-row.invariant
+    let v = cell_datum c.cell.result in
+    cell_more c.args.column.now.dtype c.args.column.now.values c.args.rows.start c.loop-row.row v c.loop-row.out.items c.append_cell.new.out.items c.push.new.self.items c.args.out.now.items
+    c.loop-row.auto.row c.cell.ensures (c.in_ok-append_cell.ensures ∙ ap (λ t. c.loop-row.out.items ++ row_text t v) c.dtype-dtype.ensures) c.in_ok-push.ensures.items c.loop-row.invariant
+
+pub returns : goal.returns
+returns c = all_done c.args.column.now.dtype c.args.column.now.values c.args.rows.start c.loop-row.row c.args.rows.end c.loop-row.out.items c.args.out.now.items c.loop-row-test.false (c.loop-row.auto.row-end c.requires.forwards) c.loop-row.invariant

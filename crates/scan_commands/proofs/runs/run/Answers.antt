@@ -1,6 +1,14 @@
-use Rattle.scan_commands.proofs.Complete.{first_completes}
+use Rattle.std.proofs.Common.{◌≡◌, ◌∙◌, length}
+use Rattle.scan_commands.proofs.Scanning.{first_also}
+use Rattle.scan_commands.proofs.Serving.{first_complete, first_whole, rest_same}
 use Rattle.scan_commands.proofs.runs.run.Goals as goal
 
+pub returns-clause-others : goal.returns-clause-others
+returns-clause-others g c =
+    let one : length c.serve.new.sources ≡ 1 = c.serve.auto.sources ∙ c.split_at_mut-first.ensures.front_len in
+    rest_same g.S.SegmentSource.state c.args.sources.now c.serve.new.sources c.split_at_mut-first.result.1.now one c.split_at_mut-first.ensures.back
+
 pub returns-clause-complete : goal.returns-clause-complete
-returns-clause-complete g c =
-    λ words. first_completes g.S.SegmentSource.state c.args.sources.now c.index-sources-0.result c.serve.new.source c.serve.result _ _ _ _ c.requires.some c.serve.ensures
+returns-clause-complete g c = λ words.
+    first_whole g.S.SegmentSource.state _ c.args.sources.now c.split_at_mut-first.result.0.now c.serve.new.sources c.split_at_mut-first.result.1.now c.split_at_mut-first.ensures.front
+    (first_also _ _ (λ old new ends. first_complete c.status.result c.serve.result _ _ _ _ c.status.ensures c.serve.ensures.pieces old new ends) _ _ c.serve.ensures.ends)

@@ -1,8 +1,0 @@
-use Rattle.std.proofs.Common.{◌≡◌, drop}
-use Rattle.serde_json.specs.View.{items_view}
-use Rattle.scan_commands.specs.Request.{each_form, location_form}
-use Rattle.scan_commands.proofs.Lists.{so_far}
-use Rattle.scan_commands.proofs.form.locations_in.Given as goal
-
-abbrev pub invariant-loop-item : goal.invariant-loop-item
-invariant-loop-item l = each_form location_form (items_view l.items) ≡ so_far location_form l.locations.items (drop l.item-index l.items)

@@ -1,0 +1,92 @@
+//! How a run ends, and with which status.
+
+ghost use Rattle.std.specs.Prelude.{◌≡◌};
+ghost use Rattle.scan_commands.specs.Endings.{refused_ending, scan_ending, scan_status as status_of_scan, status_of};
+
+use crate::request_errors::RequestError;
+use crate::statuses::{
+    BAD_CODE, BAD_LAYOUT, BAD_PROJECTION, BAD_REQUEST, BAD_SEGMENT, DONE, EXPRESSION_FAULT,
+    LISTS_UNSUPPORTED, NO_LOCATION, NOT_YET, OUT_OF_MEMORY, READ_FAULT, REQUEST_FAULT,
+    ROW_OFFSET_OVERFLOW, ROW_OUT_OF_RANGE, STALLED, WRITE_FAULT,
+};
+use vx_scan::ScanError;
+
+/// How a run ends.
+#[derive(Clone, Copy, Debug)]
+pub(crate) enum Ending {
+    /// The rows were written.
+    Done,
+    /// The request asks for what the program doesn't do, or is too large.
+    NotYet,
+    /// The request's bytes are no JSON in the form.
+    BadRequest,
+    /// The request's nodes break the rule at the node, the first such rule and its first node.
+    BadLayout { node: u32, rule: u8 },
+    /// The scan gave no rows.
+    NoRows(ScanError),
+    /// A write failed.
+    WriteFault,
+    /// A read of the request failed.
+    RequestFault,
+    /// Memory ran out.
+    OutOfMemory,
+}
+
+/// The status of a scan that gave no rows.
+fn scan_status(error: ScanError) -> u8
+    ensures { result ≡ status_of_scan error }
+{
+    match error {
+        ScanError::BadProjection => BAD_PROJECTION,
+        ScanError::OffsetOverflow => ROW_OFFSET_OVERFLOW,
+        ScanError::OutOfRange => ROW_OUT_OF_RANGE,
+        ScanError::Unsupported(_) => LISTS_UNSUPPORTED,
+        ScanError::NoLocation(_) => NO_LOCATION,
+        ScanError::ReadFault => READ_FAULT,
+        ScanError::Stalled => STALLED,
+        ScanError::BadSegment(_) => BAD_SEGMENT,
+        ScanError::BadCode { .. } => BAD_CODE,
+        ScanError::EvalFault(_) => EXPRESSION_FAULT,
+        ScanError::Memory => OUT_OF_MEMORY,
+    }
+}
+
+impl Ending {
+    /// The status that the run ends with.
+    pub(crate) fn status(self) -> u8
+        ensures { result ≡ status_of self }
+    {
+        match self {
+            Ending::Done => DONE,
+            Ending::NotYet => NOT_YET,
+            Ending::BadRequest => BAD_REQUEST,
+            Ending::BadLayout { .. } => BAD_LAYOUT,
+            Ending::NoRows(error) => scan_status(error),
+            Ending::WriteFault => WRITE_FAULT,
+            Ending::RequestFault => REQUEST_FAULT,
+            Ending::OutOfMemory => OUT_OF_MEMORY,
+        }
+    }
+}
+
+/// How a run ends whose request is refused.
+pub(crate) fn of_request(error: RequestError) -> Ending
+    ensures { result ≡ refused_ending error }
+{
+    match error {
+        RequestError::NotYet => Ending::NotYet,
+        RequestError::BadRequest => Ending::BadRequest,
+        RequestError::BadLayout { node, rule } => Ending::BadLayout { node, rule },
+        RequestError::Memory => Ending::OutOfMemory,
+    }
+}
+
+/// How a run ends whose scan gave no rows.
+pub(crate) fn of_scan(error: ScanError) -> Ending
+    ensures { result ≡ scan_ending error }
+{
+    match error {
+        ScanError::Memory => Ending::OutOfMemory,
+        error => Ending::NoRows(error),
+    }
+}
