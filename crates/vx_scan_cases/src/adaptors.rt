@@ -1,0 +1,124 @@
+//! Stories of an adaptor: what it gives and takes, step by step.
+
+use crate::answers::{write_column, write_error};
+use crate::commands::Desk;
+use crate::files::{bytes_of, places_of};
+use crate::splits::splits_of;
+use crate::trees::{lowered, tree_of};
+use std::alloc::{AllocError, Global};
+use vx_io::{IoRequest, IoRequestId, IoTarget};
+use vx_layout::LayoutTree;
+use vx_scan::{AdaptorError, AdaptorStep, ScanAdaptor, ScanError, State};
+use vx_steps::{Scan, StepError};
+
+/// The error of a scan whose adaptor refused so.
+fn refusal(error: AdaptorError) -> ScanError {
+    match error {
+        AdaptorError::NoLocation(segment) => ScanError::NoLocation(segment),
+        AdaptorError::Step(StepError::Unsupported(list)) => ScanError::Unsupported(list),
+        AdaptorError::Step(StepError::BadSegment(segment)) => ScanError::BadSegment(segment),
+        AdaptorError::Step(StepError::BadCode { node, row }) => ScanError::BadCode { node, row },
+        AdaptorError::Step(StepError::EvalFault(row)) => ScanError::EvalFault(row),
+        _ => ScanError::Memory,
+    }
+}
+
+/// Appends a batch of fetches, each as its number and its range.
+fn write_fetches(batch: &[IoRequest], out: &mut String) -> Result<(), AllocError> {
+    out.push_str(" fetch")?;
+    for request in batch {
+        let IoTarget::Range { offset, len, .. } = request.target;
+        write!(out, " {}:{offset}+{len}", request.request.0)?;
+    }
+    out.push(';')
+}
+
+/// Appends the next step of the adaptor.
+fn write_step(
+    alloc: Global,
+    adaptor: &mut ScanAdaptor<'_>,
+    out: &mut String,
+) -> Result<(), AllocError> {
+    match adaptor.compute() {
+        Ok(AdaptorStep::Yield) => out.push_str(" yield;"),
+        Ok(AdaptorStep::NeedsIo(batch)) => write_fetches(&batch, out),
+        Ok(AdaptorStep::Piece(column)) => {
+            out.push_str(" piece")?;
+            write_column(alloc, &column, out)
+        }
+        Err(error) => write_error(refusal(error), out),
+    }
+}
+
+/// Hands the adaptor the bytes of a fetch, as `0 05*3` for three bytes of fetch 0, and says whether it took them.
+fn write_taken(
+    alloc: Global,
+    adaptor: &mut ScanAdaptor<'_>,
+    words: &str,
+    out: &mut String,
+) -> Result<(), AllocError> {
+    let (number, words) = words.split_once(' ').unwrap_or((words, ""));
+    let bytes = bytes_of(alloc, words)?;
+    match adaptor.set_io_result(IoRequestId(number.parse::<u32>().unwrap_or(0)), bytes) {
+        Ok(()) => out.push_str(" taken;"),
+        Err(_) => out.push_str(" not outstanding;"),
+    }
+}
+
+/// Appends what each of the commands of a story gives.
+fn write_story(
+    alloc: Global,
+    adaptor: &mut ScanAdaptor<'_>,
+    story: &str,
+    out: &mut String,
+) -> Result<(), AllocError> {
+    for part in story.split(", ") {
+        let (command, words) = part.split_once(' ').unwrap_or((part, ""));
+        match command {
+            "compute" => write_step(alloc, adaptor, out)?,
+            "result" => write_taken(alloc, adaptor, words, out)?,
+            _ => match adaptor.state() {
+                State::NeedsCompute => out.push_str(" needs compute;")?,
+                State::Waiting => out.push_str(" waiting;")?,
+                State::Done => out.push_str(" done;")?,
+            },
+        }
+    }
+    Ok(())
+}
+
+/// Appends the story of an adaptor of a scan of splits; behind `2 of ` so many of them may be active at once.
+fn write_told(
+    alloc: Global,
+    tree: &LayoutTree,
+    places: &str,
+    words: &str,
+    out: &mut String,
+) -> Result<(), AllocError> {
+    let (words, story) = words.split_once(" | ").unwrap_or((words, ""));
+    let (active, words) = words.split_once(" of ").unwrap_or(("1", words));
+    let plans = lowered(alloc, tree)?;
+    let locations = places_of(alloc, places)?;
+    let splits = splits_of(alloc, words)?;
+    match Scan::try_new(alloc, &plans.table, plans.root, splits) {
+        Ok(scan) => {
+            let scan = scan.with_max_active(active.parse::<usize>().unwrap_or(1));
+            let mut adaptor = ScanAdaptor::new(alloc, scan, &locations);
+            write_story(alloc, &mut adaptor, story, out)
+        }
+        Err(_) => out.push_str(" out of range;"),
+    }
+}
+
+/// Appends the story of an adaptor over the tree.
+pub(crate) fn write_adaptor(
+    alloc: Global,
+    desk: Desk<'_>,
+    words: &str,
+    out: &mut String,
+) -> Result<(), AllocError> {
+    match tree_of(alloc, desk.nodes)? {
+        Some(tree) => write_told(alloc, &tree, desk.places, words, out),
+        None => out.push_str(" no tree;"),
+    }
+}

@@ -1,0 +1,87 @@
+//! What is answered, as words.
+
+ghost use Rattle.std.specs.Prelude.{◌≤◌, length};
+
+use std::alloc::{AllocError, Global};
+use std::ops::Range;
+use vx_base::{Column, ScriptSource};
+use vx_notation::column_text;
+use vx_scan::ScanError;
+use vx_steps::KeptValue;
+
+/// Appends the dtype of a column and the values of some rows.
+fn write_rows(
+    alloc: Global,
+    column: &Column,
+    rows: Range<u64>,
+    out: &mut String,
+) -> Result<(), AllocError>
+    requires forwards { rows.start ≤ rows.end }
+    requires inside { rows.end ≤ length column.now.values }
+{
+    let part = column.slice(alloc, rows)?;
+    match column_text(alloc, &part) {
+        Ok(text) => { write!(out, " {}", text.as_str()) }
+        Err(_) => Err(AllocError),
+    }
+}
+
+/// Appends the dtype of a column and its values; of many values, how many there are, the first, and the last.
+pub(crate) fn write_column(
+    alloc: Global,
+    column: &Column,
+    out: &mut String,
+) -> Result<(), AllocError> {
+    let rows = column.len();
+    if rows <= 8 {
+        write_rows(alloc, column, 0..rows, out)?;
+        return out.push(';');
+    }
+    write!(out, " {rows} rows from")?;
+    write_rows(alloc, column, 0..1, out)?;
+    out.push_str(" to")?;
+    write_rows(alloc, column, rows - 1..rows, out)?;
+    out.push(';')
+}
+
+/// Appends kept columns, each behind a word and the number of its plan.
+pub(crate) fn write_columns(
+    alloc: Global,
+    word: &str,
+    columns: &[KeptValue],
+    out: &mut String,
+) -> Result<(), AllocError> {
+    for kept in columns {
+        write!(out, " {word} {}", kept.node.0)?;
+        write_column(alloc, &kept.column, out)?;
+    }
+    Ok(())
+}
+
+/// Appends why there are no rows.
+pub(crate) fn write_error(error: ScanError, out: &mut String) -> Result<(), AllocError> {
+    match error {
+        ScanError::Unsupported(plan) => { write!(out, " unsupported {};", plan.0) }
+        ScanError::NoLocation(segment) => { write!(out, " no location {segment};") }
+        ScanError::BadSegment(segment) => { write!(out, " bad segment {segment};") }
+        ScanError::BadCode { node, row } => { write!(out, " bad code {} {row};", node.0) }
+        ScanError::EvalFault(row) => { write!(out, " fault {row};") }
+        ScanError::Memory => Err(AllocError),
+        other => { write!(out, " {other};") }
+    }
+}
+
+/// Appends what a source was asked, in order, how often it failed, how often a read went on, and whether one is in
+/// flight.
+pub(crate) fn write_source(source: &ScriptSource, out: &mut String) -> Result<(), AllocError> {
+    out.push_str(" asked")?;
+    let mut in_flight = "none";
+    for (ticket, range) in source.asked().iter().enumerate() {
+        write!(out, " {}+{}", range.offset, range.length)?;
+        if source.is_in_flight(ticket as u64) {
+            in_flight = "some";
+        }
+    }
+    let (faults, idle) = (source.faults(), source.idle());
+    write!(out, "; {faults} faults, {idle} idle, {in_flight} in flight")
+}

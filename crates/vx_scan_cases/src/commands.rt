@@ -1,0 +1,64 @@
+//! The commands, over one file.
+
+use crate::adaptors::write_adaptor;
+use crate::chunks::write_chunk;
+use crate::scans::{write_dtype, write_scan};
+use crate::trees::write_tree;
+use std::alloc::{AllocError, Global};
+
+/// The file in words: the nodes of its tree, where its segments lie, its bytes, and the script that its source keeps
+/// to; and how often that may answer that a read goes on.
+#[derive(Clone, Copy)]
+pub(crate) struct Desk<'a> {
+    pub(crate) nodes: &'a str,
+    pub(crate) places: &'a str,
+    pub(crate) bytes: &'a str,
+    pub(crate) script: &'a str,
+    pub(crate) limit: u64,
+}
+
+/// Appends the answer to a line.
+fn write_answer<'a>(
+    alloc: Global,
+    desk: &mut Desk<'a>,
+    line: &'a str,
+    out: &mut String,
+) -> Result<(), AllocError> {
+    let (command, words) = line.split_once(' ').unwrap_or((line, ""));
+    match command {
+        "at" => desk.places = words,
+        "file" => desk.bytes = words,
+        "script" => desk.script = words,
+        "limit" => desk.limit = words.parse::<u64>().unwrap_or(0),
+        "tree" => {
+            desk.nodes = words;
+            write_tree(alloc, words, out)?;
+        }
+        "dtype" => write_dtype(alloc, *desk, out)?,
+        "scan" => write_scan(alloc, *desk, out)?,
+        "chunk" => write_chunk(alloc, *desk, words, out)?,
+        "adaptor" => write_adaptor(alloc, *desk, words, out)?,
+        _ => out.push_str(" no command")?,
+    }
+    Ok(())
+}
+
+/// Appends each line with its answer.
+pub(crate) fn write_lines(alloc: Global, lines: &str, out: &mut String) -> Result<(), AllocError> {
+    let mut desk = Desk {
+        nodes: "",
+        places: "",
+        bytes: "",
+        script: "",
+        limit: 1000000,
+    };
+    for line in lines.lines() {
+        out.push_str(line)?;
+        if !line.is_empty() && !line.starts_with("# ") {
+            out.push_str(" =>")?;
+            write_answer(alloc, &mut desk, line, out)?;
+        }
+        out.push('\n')?;
+    }
+    Ok(())
+}

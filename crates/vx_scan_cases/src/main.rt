@@ -1,0 +1,24 @@
+//! Cases of scans of files: reads a command a line, and prints the line with its answer.
+//!
+//! A line that is empty or begins with `# ` is printed as it is. The commands stand in `README.md`.
+#![tactic(auto)]
+
+mod adaptors;
+mod answers;
+mod chunks;
+mod commands;
+mod files;
+mod scans;
+mod splits;
+mod trees;
+
+use commands::write_lines;
+use std::io;
+
+fn main(rt: HostRuntime) -> io::Result<()> {
+    let alloc = rt.alloc();
+    let lines = io::read_to_string(alloc, rt.reader())?;
+    let mut out = String::new(alloc);
+    let _all = write_lines(alloc, lines.as_str(), &mut out);
+    print!(rt; "{out}")
+}

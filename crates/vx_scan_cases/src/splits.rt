@@ -1,0 +1,47 @@
+//! Splits as words: `0..9:101000001` selects rows by a mask, `3..6` all of them.
+
+use std::alloc::{AllocError, Global};
+use vx_base::Mask;
+use vx_steps::Split;
+
+/// The mask of these signs; `-` is none.
+fn mask_of(alloc: Global, signs: &str) -> Result<Mask, AllocError> {
+    let mut bits = Vec::new(alloc);
+    for sign in signs.bytes() {
+        if sign != b'-' {
+            bits.push(sign == b'1')?;
+        }
+    }
+    Mask::of(alloc, bits)
+}
+
+/// The split that is written so. A reversed one without a mask has one of no rows.
+pub(crate) fn split_of(alloc: Global, word: &str) -> Result<Split, AllocError> {
+    let (rows, signs) = word.split_once(':').unwrap_or((word, ""));
+    let (start, end) = rows.split_once("..").unwrap_or((rows, ""));
+    let rows = start.parse::<u64>().unwrap_or(0)..end.parse::<u64>().unwrap_or(0);
+    if signs.is_empty() && rows.start <= rows.end {
+        return Split::all(alloc, rows);
+    }
+    let mask = mask_of(alloc, signs)?;
+    Ok(Split { rows, mask })
+}
+
+/// Adds the splits that the words write, so many times.
+fn push_splits(alloc: Global, words: &str, splits: &mut Vec<Split>) -> Result<(), AllocError> {
+    for word in words.split_whitespace() {
+        let split = split_of(alloc, word)?;
+        splits.push(split)?;
+    }
+    Ok(())
+}
+
+/// The splits that the words write, behind `9*` so many times.
+pub(crate) fn splits_of(alloc: Global, words: &str) -> Result<Vec<Split>, AllocError> {
+    let (count, words) = words.split_once('*').unwrap_or(("1", words));
+    let mut splits = Vec::new(alloc);
+    for _time in 0..count.parse::<u64>().unwrap_or(0) {
+        push_splits(alloc, words, &mut splits)?;
+    }
+    Ok(splits)
+}
