@@ -1,6 +1,6 @@
 //! The yardstick: the program's job on the data sets of this folder, written plainly with the standard library
-//! alone. It reads the request, then each leaf's segment, tests its length, makes the lines in one buffer and
-//! writes them 64 KiB at a time. One thread, no proofs, no cleverness.
+//! alone. It reads the request, then each segment, tests it, makes the lines in one buffer, and writes them 64 KiB
+//! at a time. One thread, no proofs, no cleverness.
 //!
 //! plain SEGMENTS REQUEST
 
@@ -114,50 +114,172 @@ impl Reader<'_> {
     }
 }
 
-/// The leaves in the order of their rows: how many rows each has, and its segment.
-fn leaves(nodes: &[Json], number: usize, out: &mut Vec<(u64, usize)>) -> Option<()> {
-    let node = nodes.get(number)?;
-    if node.member("kind")?.text()? == "flat" {
-        out.push((node.member("rows")?.number()?, node.member("segment")?.number()? as usize));
-        return Some(());
-    }
-    node.member("children")?.items()?.iter().try_for_each(|child| leaves(nodes, child.number()? as usize, out))
+/// The request's lists, and the file of the segments.
+struct Scan<'a> {
+    segments: File,
+    locations: &'a [Json],
+    nodes: &'a [Json],
 }
 
-/// Appends a line for each number of a segment, which must be as long as its rows are.
-fn append_lines(bytes: &[u8], rows: u64, lines: &mut String) -> Option<()> {
-    if bytes.len() as u64 != 8 * rows {
-        return None;
-    }
-    for number in bytes.chunks_exact(8) {
-        writeln!(lines, "{}", i64::from_le_bytes(number.try_into().ok()?)).ok()?;
-    }
-    Some(())
+/// Rows as they lie in their segments, which are tested.
+enum Column {
+    /// Eight bytes a number.
+    Numbers(Vec<u8>),
+    Codes(Vec<u8>),
+    /// All texts behind one another, and where each ends.
+    Texts(String, Vec<usize>),
+    Struct(Vec<(String, Column)>),
+    Dict(Box<Column>, Vec<u8>),
 }
 
-/// The lines of all rows.
-fn scan(segments: &mut File, request: &Json) -> Option<String> {
-    let locations = request.member("locations")?.items()?;
-    let mut found = Vec::new();
-    leaves(request.member("nodes")?.items()?, 0, &mut found)?;
-    let mut lines = String::new();
-    for (rows, segment) in found {
-        let location = locations.get(segment)?.items()?;
+impl<'a> Scan<'a> {
+    fn segment(&mut self, number: usize) -> Option<Vec<u8>> {
+        let location = self.locations.get(number)?.items()?;
         let mut bytes = vec![0; location.get(1)?.number()? as usize];
-        segments.seek(SeekFrom::Start(location.first()?.number()?)).ok()?;
-        segments.read_exact(&mut bytes).ok()?;
-        append_lines(&bytes, rows, &mut lines)?;
+        self.segments.seek(SeekFrom::Start(location.first()?.number()?)).ok()?;
+        self.segments.read_exact(&mut bytes).ok()?;
+        Some(bytes)
     }
-    Some(lines)
+
+    fn node(&self, number: &Json) -> Option<&'a Json> {
+        self.nodes.get(number.number()? as usize)
+    }
+
+    /// The column of a node that isn't chunked.
+    fn column(&mut self, node: &Json) -> Option<Column> {
+        let dtype = node.member("dtype")?;
+        match node.member("kind")?.text()? {
+            "flat" => {
+                let bytes = self.segment(node.member("segment")?.number()? as usize)?;
+                leaf(dtype.text()?, bytes, node.member("rows")?.number()? as usize)
+            }
+            "struct" => {
+                let mut fields = Vec::new();
+                for (field, child) in dtype.member("struct")?.items()?.iter().zip(node.member("children")?.items()?) {
+                    let name = field.items()?.first()?.text()?.to_string();
+                    fields.push((name, self.column(self.node(child)?)?));
+                }
+                Some(Column::Struct(fields))
+            }
+            "dict" => {
+                let [values, codes] = node.member("children")?.items()? else { return None };
+                let values = self.column(self.node(values)?)?;
+                let Column::Codes(codes) = self.column(self.node(codes)?)? else { return None };
+                codes.iter().all(|code| (*code as usize) < values.len()).then(|| Column::Dict(Box::new(values), codes))
+            }
+            _ => None,
+        }
+    }
+
+    /// Appends a line for each row of a node, the chunks of a chunked one in order.
+    fn append_lines(&mut self, node: &Json, lines: &mut String) -> Option<()> {
+        if node.member("kind")?.text()? == "chunked" {
+            let children = node.member("children")?.items()?;
+            return children.iter().try_for_each(|child| self.append_lines(self.node(child)?, lines));
+        }
+        let column = self.column(node)?;
+        for row in 0..column.len() {
+            column.append(row, lines);
+            lines.push('\n');
+        }
+        Some(())
+    }
+}
+
+/// The rows of a segment, which must be as long as they are.
+fn leaf(dtype: &str, bytes: Vec<u8>, rows: usize) -> Option<Column> {
+    match dtype {
+        "i64" => (bytes.len() == 8 * rows).then_some(Column::Numbers(bytes)),
+        "u8" => (bytes.len() == rows).then_some(Column::Codes(bytes)),
+        "utf8" => texts(bytes.get(..4 * rows)?, &bytes[4 * rows..]),
+        _ => None,
+    }
+}
+
+/// Texts of these lengths, each of which must be UTF-8.
+fn texts(lengths: &[u8], bytes: &[u8]) -> Option<Column> {
+    let all = std::str::from_utf8(bytes).ok()?;
+    let (mut end, mut ends) = (0, Vec::with_capacity(lengths.len() / 4));
+    for length in lengths.chunks_exact(4) {
+        end += u32::from_le_bytes(length.try_into().ok()?) as usize;
+        if !all.is_char_boundary(end) {
+            return None;
+        }
+        ends.push(end);
+    }
+    (end == all.len()).then(|| Column::Texts(all.to_string(), ends))
+}
+
+impl Column {
+    fn len(&self) -> usize {
+        match self {
+            Column::Numbers(bytes) => bytes.len() / 8,
+            Column::Codes(codes) | Column::Dict(_, codes) => codes.len(),
+            Column::Texts(_, ends) => ends.len(),
+            Column::Struct(fields) => fields.first().map_or(0, |(_, field)| field.len()),
+        }
+    }
+
+    /// Appends the text of a row.
+    fn append(&self, row: usize, lines: &mut String) {
+        match self {
+            Column::Numbers(bytes) => {
+                let number = bytes[8 * row..8 * row + 8].try_into().unwrap();
+                write!(lines, "{}", i64::from_le_bytes(number)).unwrap()
+            }
+            Column::Codes(codes) => write!(lines, "{}", codes[row]).unwrap(),
+            Column::Texts(all, ends) => {
+                let start = if row == 0 { 0 } else { ends[row - 1] };
+                append_text(&all[start..ends[row]], lines)
+            }
+            Column::Dict(values, codes) => values.append(codes[row] as usize, lines),
+            Column::Struct(fields) => {
+                lines.push('{');
+                for (place, (name, field)) in fields.iter().enumerate() {
+                    if place != 0 {
+                        lines.push(',');
+                    }
+                    append_text(name, lines);
+                    lines.push(':');
+                    field.append(row, lines);
+                }
+                lines.push('}');
+            }
+        }
+    }
+}
+
+/// Appends a text as a JSON string.
+fn append_text(text: &str, lines: &mut String) {
+    lines.push('"');
+    for character in text.chars() {
+        match character {
+            '"' => lines.push_str("\\\""),
+            '\\' => lines.push_str("\\\\"),
+            '\u{8}' => lines.push_str("\\b"),
+            '\t' => lines.push_str("\\t"),
+            '\n' => lines.push_str("\\n"),
+            '\u{c}' => lines.push_str("\\f"),
+            '\r' => lines.push_str("\\r"),
+            '\0'..'\u{20}' => write!(lines, "\\u{:04x}", character as u32).unwrap(),
+            _ => lines.push(character),
+        }
+    }
+    lines.push('"');
 }
 
 fn main() -> io::Result<()> {
     let mut words = std::env::args().skip(1);
     let mut word = || words.next().ok_or_else(|| io::Error::other("usage: plain SEGMENTS REQUEST"));
-    let mut segments = File::open(word()?)?;
+    let segments = File::open(word()?)?;
     let bytes = fs::read(word()?)?;
     let request = Reader { bytes: &bytes, place: 0 }.value().ok_or_else(|| io::Error::other("no request"))?;
-    let lines = scan(&mut segments, &request).ok_or_else(|| io::Error::other("no such layout"))?;
+    let items = |name| request.member(name).and_then(Json::items).ok_or_else(|| io::Error::other("no request"));
+    let (locations, nodes) = (items("locations")?, items("nodes")?);
+    let mut lines = String::new();
+    let root = nodes.first().ok_or_else(|| io::Error::other("no layout"))?;
+    let scanned = Scan { segments, locations, nodes }.append_lines(root, &mut lines);
+    scanned.ok_or_else(|| io::Error::other("no such layout"))?;
     let mut out = io::stdout();
     lines.as_bytes().chunks(PIECE).try_for_each(|piece| out.write_all(piece))
 }

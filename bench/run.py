@@ -1,89 +1,178 @@
 #!/usr/bin/env python3
 """Runs the built program on made data, and prints times and memory beside those of a plain program.
 
-    python3 bench/run.py PROGRAM [--seed N] [--runs N]
+    python3 bench/run.py PROGRAM [--before PROGRAM] [--seed N] [--runs N] [--only NAME ..]
 
 PROGRAM is the built program, crates/scan_cli/out/scan_cli after a run or a check. The script makes its
 data from the seed into bench/data/, builds plain.rs there by rustc, checks each output of both against its
-own, and then runs both in turns with their output thrown away.
+own, and then runs both in turns with their output thrown away. Times are processor seconds, user and system.
 """
 import argparse
+import array
 import filecmp
 import json
 import os
 import random
-import resource
 import statistics
-import struct
 import subprocess
 import sys
-import time
+from collections import namedtuple
 
 HERE = os.path.dirname(os.path.abspath(__file__))
 DATA = os.path.join(HERE, "data")
+MILLION = 1_000_000
+FIELDS = 50
+
+# `values` names the files of the segments and of the lines that are wanted; `most` is how many times as long as
+# the plain program it should take at the most.
+DataSet = namedtuple("DataSet", "values rows runs most")
+DATA_SETS = {
+    "one_flat": DataSet("million", MILLION, 9, 2),
+    "chunks_128": DataSet("million", MILLION, 9, 2),
+    "first_quarter": DataSet("quarter", MILLION // 4, 9, 2),
+    "ten_flat": DataSet("ten_million", 10 * MILLION, 5, 2),
+    "ten_chunks": DataSet("ten_million", 10 * MILLION, 5, 2),
+    "struct_50": DataSet("struct", 100_000, 9, None),
+    "dict_texts": DataSet("dict", MILLION, 9, 2.5),
+    "texts": DataSet("texts", MILLION, 9, 2.5),
+    "leaves_290000": DataSet("one", 290_000, 5, None),
+}
+# Two data sets of one shape, and how many times the first one's time the second one's may be at the most.
+GROWTH = [("first_quarter", "chunks_128", 4.2), ("one_flat", "ten_flat", 10.5), ("chunks_128", "ten_chunks", 10.5)]
 
 
-def flat(rows, segment):
-    return {"kind": "flat", "dtype": "i64", "rows": rows, "segment": segment}
+def flat(rows, segment, dtype="i64"):
+    return {"kind": "flat", "dtype": dtype, "rows": rows, "segment": segment}
 
 
-def chunked(rows, count):
-    return {"kind": "chunked", "dtype": "i64", "rows": rows, "children": list(range(1, count + 1))}
+def inner(kind, dtype, rows, count):
+    """A node whose children are the nodes 1 to `count`."""
+    return {"kind": kind, "dtype": dtype, "rows": rows, "children": list(range(1, count + 1))}
 
 
-def one_flat(numbers):
-    return [[0, 8 * len(numbers), 8]], [flat(len(numbers), 0)]
+def one_after_another(lengths):
+    """Where segments of these lengths lie that follow each other in the file."""
+    places, offset = [], 0
+    for length in lengths:
+        places.append([offset, length, 1])
+        offset += length
+    return places
 
 
-def in_chunks(numbers, count):
-    size = -(-len(numbers) // count)
-    starts = range(0, len(numbers), size)
-    sizes = [min(size, len(numbers) - start) for start in starts]
-    locations = [[8 * start, 8 * rows, 8] for start, rows in zip(starts, sizes)]
-    leaves = [flat(rows, segment) for segment, rows in enumerate(sizes)]
-    return locations, [chunked(len(numbers), len(leaves))] + leaves
+def in_chunks(rows, count):
+    size = -(-rows // count)
+    sizes = [min(size, rows - start) for start in range(0, rows, size)]
+    leaves = [flat(size, segment) for segment, size in enumerate(sizes)]
+    return one_after_another([8 * size for size in sizes]), [inner("chunked", "i64", rows, len(leaves))] + leaves
 
 
 def path_of(name):
     return os.path.join(DATA, name)
 
 
-def write(name, content):
+def write(name, parts):
     with open(path_of(name), "wb") as out:
-        out.write(content)
+        out.writelines(parts)
 
 
-def make(name, numbers, locations, nodes):
-    """Writes the segments, the request, and the lines that are wanted."""
-    rows = nodes[0]["rows"]
-    numbers_of_rows = numbers * (rows // len(numbers))
-    write(name + ".seg", struct.pack("<%dq" % len(numbers), *numbers))
-    write(name + ".json", json.dumps({"locations": locations, "nodes": nodes}, separators=(",", ":")).encode())
-    write(name + ".lines", "".join("%d\n" % n for n in numbers_of_rows).encode())
+def write_values(name, segments, lines):
+    write(name + ".seg", segments)
+    write(name + ".lines", lines)
+
+
+def write_request(name, locations, nodes):
+    request = json.dumps({"locations": locations, "nodes": nodes}, separators=(",", ":"))
+    write(name + ".json", [request.encode()])
+
+
+def bytes_of(kind, numbers):
+    """Numbers as little-endian bytes; the kind is a letter of the module array."""
+    made = array.array(kind, numbers)
+    if sys.byteorder == "big":
+        made.byteswap()
+    return made.tobytes()
+
+
+def bytes_of_texts(texts):
+    """A segment of texts: the lengths, then the texts."""
+    encoded = [text.encode() for text in texts]
+    return bytes_of("I", map(len, encoded)) + b"".join(encoded)
+
+
+def lines_of(values):
+    return "".join(json.dumps(value, ensure_ascii=False) + "\n" for value in values).encode()
+
+
+def random_numbers(rng, count):
+    return [rng.randrange(-(2**63), 2**63) >> rng.randrange(0, 64) for _ in range(count)]
+
+
+def random_texts(rng, count):
+    """Texts of 0 to 23 characters, a few of them with characters that are escaped or not ASCII."""
+    letters = "abcdefghijklmnopqrstuvwxyz     0123456789" * 8 + "\"\\\n\té漢"
+    source = "".join(rng.choices(letters, k=100_000))
+    places = ((int(rng.random() * 99_000), int(rng.random() * 24)) for _ in range(count))
+    return [source[place : place + length] for place, length in places]
+
+
+def make_columns(numbers):
+    """One column of numbers, flat and in chunks."""
+    segment, lines = bytes_of("q", numbers), lines_of(numbers)
+    write_values("million", [segment], [lines])
+    write_values("quarter", [segment[: 2 * MILLION]], [lines_of(numbers[: MILLION // 4])])
+    write_values("ten_million", [segment] * 10, [lines] * 10)
+    write_values("one", [segment[:8]], [lines_of(numbers[:1]) * 290_000])
+    write_request("one_flat", one_after_another([8 * MILLION]), [flat(MILLION, 0)])
+    write_request("chunks_128", *in_chunks(MILLION, 128))
+    write_request("first_quarter", *in_chunks(MILLION // 4, 32))
+    write_request("ten_flat", one_after_another([80 * MILLION]), [flat(10 * MILLION, 0)])
+    write_request("ten_chunks", *in_chunks(10 * MILLION, 1280))
+    write_request("leaves_290000", [[0, 8, 8]], [inner("chunked", "i64", 290_000, 290_000)] + [flat(1, 0)] * 290_000)
+
+
+def make_struct(numbers, rows):
+    """Fifty columns of numbers side by side, each in one segment."""
+    names = ["field_%d" % place for place in range(FIELDS)]
+    # Each field is another piece of the numbers, and none lies beside its neighbour's.
+    starts = [(place * 7 * rows // 3) % (len(numbers) - rows) for place in range(FIELDS)]
+    fields = [numbers[start : start + rows] for start in starts]
+    form = "{" + ",".join('"%s":%%d' % name for name in names) + "}\n"
+    lines = "".join(form % row for row in zip(*fields))
+    write_values("struct", [bytes_of("q", field) for field in fields], [lines.encode()])
+    dtype = {"struct": [[name, "i64"] for name in names]}
+    nodes = [inner("struct", dtype, rows, FIELDS)] + [flat(rows, place) for place in range(FIELDS)]
+    write_request("struct_50", one_after_another([8 * rows] * FIELDS), nodes)
+
+
+def make_texts(rng):
+    """A column of texts, and one of codes of sixteen texts."""
+    texts = random_texts(rng, MILLION)
+    segment = bytes_of_texts(texts)
+    write_values("texts", [segment], [lines_of(texts)])
+    write_request("texts", one_after_another([len(segment)]), [flat(MILLION, 0, "utf8")])
+    values, codes = [text for text in texts if len(text) > 7][:16], bytes(rng.choices(range(16), k=MILLION))
+    lines = [lines_of([value]) for value in values]
+    segments = [bytes_of_texts(values), codes]
+    write_values("dict", segments, [lines[code] for code in codes])
+    nodes = [inner("dict", "utf8", MILLION, 2), flat(16, 0, "utf8"), flat(MILLION, 1, "u8")]
+    write_request("dict_texts", one_after_another(map(len, segments)), nodes)
 
 
 def make_all(seed):
     os.makedirs(DATA, exist_ok=True)
     rng = random.Random(seed)
-    numbers = [rng.randrange(-(2**63), 2**63) >> rng.randrange(0, 64) for _ in range(1_000_000)]
-    few = numbers[:250_000]
-    make("one_flat", numbers, *one_flat(numbers))
-    make("chunks_128", numbers, *in_chunks(numbers, 128))
-    make("first_quarter", few, *in_chunks(few, 32))
-    make("leaves_290000", numbers[:1], [[0, 8, 8]], [chunked(290_000, 290_000)] + [flat(1, 0)] * 290_000)
-
-
-DATA_SETS = {"one_flat": 1_000_000, "chunks_128": 1_000_000, "first_quarter": 250_000, "leaves_290000": 290_000}
+    numbers = random_numbers(rng, MILLION)
+    make_columns(numbers)
+    make_struct(numbers, DATA_SETS["struct_50"].rows)
+    make_texts(rng)
 
 
 def child(arguments, out):
-    """Status, seconds and peak bytes of one process whose output goes to a file."""
+    """Status, processor seconds and peak bytes of one process whose output goes to a file."""
     with open(out, "wb") as sink:
-        start = time.perf_counter()
-        process = subprocess.Popen(arguments, stdout=sink)
+        process = subprocess.Popen(arguments, stdout=sink, stderr=subprocess.DEVNULL)
         _, status, used = os.wait4(process.pid, 0)
-        seconds = time.perf_counter() - start
-    return os.waitstatus_to_exitcode(status), seconds, used.ru_maxrss * 1024
+    return os.waitstatus_to_exitcode(status), used.ru_utime + used.ru_stime, used.ru_maxrss * 1024
 
 
 def build_plain():
@@ -93,38 +182,45 @@ def build_plain():
     return plain
 
 
-def check(arguments, name):
-    """Stops where the output isn't the lines that are wanted."""
+def is_right(arguments, name, values):
+    """Whether the output is the lines that are wanted."""
     out = path_of("out.txt")
-    status = child(arguments, out)[0]
-    if status != 0 or not filecmp.cmp(out, path_of(name + ".lines"), shallow=False):
-        sys.exit("%s: %s: status %d, or another output" % (arguments[0], name, status))
+    return child(arguments, out)[0] == 0 and filecmp.cmp(out, path_of(values + ".lines"), shallow=False)
 
 
-def measure(program, plain, name, rows, runs):
-    """The best seconds of some runs, after a line is printed."""
-    words = [path_of(name + ".seg"), path_of(name + ".json")]
-    both = {"proved": [program, "scan"] + words, "plain": [plain] + words}
-    for arguments in both.values():
-        check(arguments, name)
-    times, peaks = {one: [] for one in both}, {one: 0 for one in both}
-    for _ in range(runs):
-        for one, arguments in both.items():
-            _, seconds, used = child(arguments, os.devnull)
-            times[one].append(seconds)
+def measure(programs, name, most_runs):
+    """The best seconds of the proved program, after a line is printed."""
+    values, rows, runs, most = DATA_SETS[name]
+    words = [path_of(values + ".seg"), path_of(name + ".json")]
+    right = {one: command + words for one, command in programs.items() if is_right(command + words, name, values)}
+    for one in ("proved", "plain"):
+        if one not in right:
+            sys.exit("%s: the %s program gives another output than the wanted one" % (name, one))
+    times, peaks = {one: [] for one in right}, {one: 0 for one in right}
+    for _ in range(min(runs, most_runs)):
+        for one, arguments in right.items():
+            _, taken, used = child(arguments, os.devnull)
+            times[one].append(taken)
             peaks[one] = max(peaks[one], used)
-    best, median = ({one: pick(taken) for one, taken in times.items()} for pick in (min, statistics.median))
-    print("%-14s %8.4f %8.4f %8.4f %8.4f %7.2f %7.2f %9.1f %9.1f %9.1f" % (
-        name, best["proved"], median["proved"], best["plain"], median["plain"], best["proved"] / best["plain"],
-        median["proved"] / median["plain"], peaks["proved"] / 1e6, peaks["plain"] / 1e6, peaks["proved"] / rows))
+    best, median = ({one: pick(all_taken) for one, all_taken in times.items()} for pick in (min, statistics.median))
+    ratios = [seconds["proved"] / seconds["plain"] for seconds in (best, median)]
+    print("%-14s %8.4f %8.4f %8.4f %8.4f %7.2f %7.2f %5s %9.1f %9.1f %9.1f" % (
+        name, best["proved"], median["proved"], best["plain"], median["plain"], *ratios, most or "",
+        peaks["proved"] / 1e6, peaks["plain"] / 1e6, peaks["proved"] / rows), flush=True)
+    if "before" in right:
+        ratios = [seconds["proved"] / seconds["before"] for seconds in (best, median)]
+        line = "%-14s %8.4f %8.4f %17s %7.2f %7.2f"
+        print(line % ("  before", best["before"], median["before"], "", *ratios), flush=True)
     return best["proved"]
 
 
 def main():
     parser = argparse.ArgumentParser(description=__doc__)
     parser.add_argument("program")
+    parser.add_argument("--before", metavar="PROGRAM", help="an earlier build, timed too where its output is right")
     parser.add_argument("--seed", type=int, default=1)
-    parser.add_argument("--runs", type=int, default=9)
+    parser.add_argument("--runs", type=int, default=9, help="at most so many runs of each data set")
+    parser.add_argument("--only", nargs="+", choices=DATA_SETS, default=list(DATA_SETS), help="these data sets alone")
     parser.add_argument("--make", action="store_true", help="make the data and no more")
     options = parser.parse_args()
     if options.make:
@@ -132,12 +228,16 @@ def main():
         return
     # In a process of its own: a child's peak memory counts from the size of the one that starts it.
     subprocess.check_call([sys.executable, __file__, options.program, "--seed", str(options.seed), "--make"])
-    plain = build_plain()
-    print("%-14s %17s %17s %15s %19s %9s" % ("", "proved, seconds", "plain, seconds", "ratio", "peak MB", "proved"))
-    print("%-14s %8s %8s %8s %8s %7s %7s %9s %9s %9s" % (
-        "data set", "best", "median", "best", "median", "best", "median", "proved", "plain", "bytes/row"))
-    best = {name: measure(options.program, plain, name, rows, options.runs) for name, rows in DATA_SETS.items()}
-    print("from 250,000 to 1,000,000 rows: x %.2f" % (best["chunks_128"] / best["first_quarter"]))
+    programs = {"proved": [options.program, "scan"], "plain": [build_plain()]}
+    if options.before:
+        programs["before"] = [options.before, "scan"]
+    print("%-14s %17s %17s %21s %19s %9s" % ("", "proved, seconds", "plain, seconds", "ratio", "peak MB", "proved"))
+    print("%-14s %8s %8s %8s %8s %7s %7s %5s %9s %9s %9s" % (
+        "data set", "best", "median", "best", "median", "best", "median", "most", "proved", "plain", "bytes/row"))
+    best = {name: measure(programs, name, options.runs) for name in options.only}
+    for fewer, more, most in GROWTH:
+        if fewer in best and more in best:
+            print("from %s to %s: x %.2f (at most %s)" % (fewer, more, best[more] / best[fewer], most))
 
 
 if __name__ == "__main__":
