@@ -1,0 +1,5 @@
+pub mod Apart
+pub mod Claims
+pub mod Limits
+pub mod Rules
+pub mod Views
