@@ -213,6 +213,18 @@ impl BoundExpression {
         bind(alloc, &self.expr, dtype)
     }
 
+    /// The same expression over another root dtype, over which it has the same dtype. It may nest deeper than
+    /// `bind` allows.
+    pub fn with_root(&self, alloc: Global, dtype: &DType) -> Result<BoundExpression, AllocError>
+        requires { type_of (data_type dtype.now) self.now.term ≡ Some self.now.dtype }
+        ensures { IfOk result (λ bound. bound ≡ record self.now { root = data_type dtype.now }) }
+    {
+        let expr = self.expr.copy(alloc)?;
+        let root = dtype.copy(alloc)?;
+        let dtype = self.dtype.copy(alloc)?;
+        Ok(BoundExpression { expr, root, dtype })
+    }
+
     /// The expression with the root in the place of the row's number, bound to non-nullable `u64`. Its
     /// dtype stays.
     #[tactic(auto, using(crate::proofs::RewrittenTypes::type_as_root))]

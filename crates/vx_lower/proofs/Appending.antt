@@ -3,18 +3,19 @@ use Rattle.std.proofs.Common.{◌≡◌, ℕ, ◌+◌, ◌<◌, ◌≤◌, List,
 use Rattle.std.proofs.lemmas.List.{map-append}
 use Rattle.std.proofs.lemmas.List.Elements.{All-append, All-cons, All-nil, All-weaker, All-head, All-tail}
 use Rattle.vx_plan.specs.Alike.{SameHead}
+use Rattle.vx_plan.specs.Kinds.{IsRowIdx}
 use Rattle.vx_plan.specs.Nodes.{Node}
 use Rattle.vx_plan.specs.Plans.{Head, Plan, no_plan, concat_plan, eval_plan, filter_plan, pack_plan, take_plan, share_plan, list_plan, row_idx_plan, scan_plan, zoned_plan, plan_head, head_at, plan_at, plan_grown_as}
 use Rattle.vx_plan.specs.Rules.{node_at, nodes_at}
 use Rattle.vx_plan.specs.Tables.{AreIn, IsAdded, IsGoodTable}
 use Rattle.vx_plan.proofs.Adding.{all_stay, head_in_table, length_added, plan_added}
-use Rattle.vx_lower.specs.Numbered.{head_with, numbered, list_size, list_numbered, AddsPlan, AddsPlans}
+use Rattle.vx_lower.specs.Numbered.{head_with, numbered, list_size, list_numbered, AddsPlan, AddsPlans, NumberNoRows}
 use Rattle.vx_lower.specs.Sizes.{plan_size}
 
 -- ---- plans in a row
 
 pub none_added : (old : List Node) → IsGoodTable old → AddsPlans old old [] []
-none_added old good = record { more = []; appended = search rules; count = omega arith; known = All-nil (λ n. n < length old); plans_are = refl; good = good }
+none_added old good = record { more = []; appended = search rules; count = omega arith; known = All-nil (λ n. n < length old); plans_are = refl; unnumbered = tt; good = good }
 
 pub one_added : (old new : List Node) (p : Plan) (n : ℕ) → AddsPlan old new p n → AddsPlans old new (p ∷ []) (n ∷ [])
 one_added old new p n adds = record {
@@ -23,6 +24,7 @@ one_added old new p n adds = record {
   count = omega (arith, adds.count);
   known = All-cons (λ k. k < length new) n [] (omega (arith, adds.last)) (All-nil (λ k. k < length new));
   plans_are = ap (λ (q : Plan). q ∷ []) adds.plan_is;
+  unnumbered = adds.unnumbered;
   good = adds.good;
 }
 
@@ -35,6 +37,10 @@ numbered_append first [] qs = let e : first ≡ first + 0 = omega arith in ap (�
 numbered_append first (p ∷ ps) qs =
     let e : first + plan_size p + list_size ps ≡ first + (plan_size p + list_size ps) = omega arith in
     ap (λ (l : List Plan). numbered first p ∷ l) (numbered_append (first + plan_size p) ps qs ∙ ap (λ (s : ℕ). list_numbered (first + plan_size p) ps ++ list_numbered s qs) e)
+
+unnumbered_joined : (nodes more : List Node) → NumberNoRows nodes → NumberNoRows more → NumberNoRows (nodes ++ more)
+unnumbered_joined [] more first second = second
+unnumbered_joined (node ∷ nodes) more first second = (first.0, unnumbered_joined nodes more first.1 second)
 
 -- plans, and then others
 pub joined_added : (old mid new : List Node) (ps qs : List Plan) (ns ms : List ℕ) → AddsPlans old mid ps ns → AddsPlans mid new qs ms → AddsPlans old new (ps ++ qs) (ns ++ ms)
@@ -49,6 +55,7 @@ joined_added old mid new ps qs ns ms adds then =
       count = omega (arith, then.count, adds.count, size_append ps qs);
       known = All-append (λ k. k < length new) ns ms (All-weaker (λ k. k < length mid) (λ k. k < length new) (λ k lt. omega arith) ns adds.known) then.known;
       plans_are = map-append (plan_at new) ns ms ∙ ap (λ (l : List Plan). l ++ map (plan_at new) ms) own ∙ ap (λ (l : List Plan). list_numbered (length old) ps ++ l) last ∙ sym (numbered_append (length old) ps qs);
+      unnumbered = unnumbered_joined adds.more then.more adds.unnumbered then.unnumbered;
       good = then.good;
     }
 
@@ -67,16 +74,18 @@ pub record IsGrown (old new : List Node) (node : Node) (n : ℕ) (ps : List Plan
   pub appended : new ≡ old ++ more
   pub count : length new ≡ length old + (list_size ps + 1)
   pub last : n + 1 ≡ length new
+  pub unnumbered : NumberNoRows more
   pub good : IsGoodTable new
 
-pub grown_over : (old mid new : List Node) (ps : List Plan) (node : Node) (n : ℕ) → AddsPlans old mid ps node.children → IsAdded mid new node n → IsGrown old new node n ps
-grown_over old mid new ps node n adds added = record {
+pub grown_over : (old mid new : List Node) (ps : List Plan) (node : Node) (n : ℕ) → AddsPlans old mid ps node.children → IsAdded mid new node n → ¬ (IsRowIdx node.kind) → IsGrown old new node n ps
+grown_over old mid new ps node n adds added none = record {
   plan_is = plan_added mid new node n added adds.known ∙ ap (plan_grown_as (head_at n node) node.kind) adds.plans_are;
   number = added.last ∙ adds.count;
   more = adds.more ++ node ∷ [];
   appended = added.appended ∙ ap (λ (nodes : List Node). nodes ++ node ∷ []) adds.appended ∙ append_assoc old adds.more (node ∷ []);
   count = omega (arith, length_added mid new node n added, adds.count);
   last = omega (arith, length_added mid new node n added, added.last);
+  unnumbered = unnumbered_joined adds.more (node ∷ []) adds.unnumbered (none, tt);
   good = added.good;
 }
 
@@ -88,6 +97,7 @@ adds_by old new node n ps p grown size is = record {
   count = omega (arith, grown.count);
   last = grown.last;
   plan_is = grown.plan_is ∙ is;
+  unnumbered = grown.unnumbered;
   good = grown.good;
 }
 

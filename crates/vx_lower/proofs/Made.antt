@@ -32,7 +32,7 @@ size_from (p ∷ ps) = ap (λ (n : ℕ). plan_size p + n) (size_from ps)
 scan_adds : (old new : List Node) (t : DataType) (rows segment n : ℕ) (head : Head) → IsGoodTable old → IsAdded old new (scan_node t rows segment) n → head.dtype ≡ t → head.rows ≡ rows → AddsPlan old new (scan_plan head segment) n
 scan_adds old new t rows segment n head good added dtype count =
     let node : Node = scan_node t rows segment in
-    let g : IsGrown old new node n [] = grown_over old old new [] node n (none_added old good) added in
+    let g : IsGrown old new node n [] = grown_over old old new [] node n (none_added old good) added (λ none. none) in
     let h : head_at n node ≡ head_with (length old) head = same_head n (length old) node head added.last (record { dtype = sym dtype; rows = sym count }) in
     adds_by old new node n [] (scan_plan head segment) g refl (ap (λ (h : Head). scan_plan h segment) h)
 
@@ -42,7 +42,7 @@ leaf_adds old mid new t rows segment a n head good scanned added dtype count =
     let one : AddsPlans old mid (scan_plan head segment ∷ []) (a ∷ []) = one_added old mid (scan_plan head segment) a scan in
     let like : AreLike (nodes_at mid (a ∷ [])) (scan_plan head segment ∷ []) = added_like old mid (scan_plan head segment ∷ []) (a ∷ []) one in
     let node : Node = filter_node mid a in
-    let g : IsGrown old new node n (scan_plan head segment ∷ []) = grown_over old mid new (scan_plan head segment ∷ []) node n one added in
+    let g : IsGrown old new node n (scan_plan head segment ∷ []) = grown_over old mid new (scan_plan head segment ∷ []) node n one added (λ none. none) in
     let h : head_at n node ≡ head_with (length old + 1) head = same_head n (length old + 1) node head (omega (arith, g.number)) (record { dtype = like.0.dtype; rows = like.0.rows }) in
     adds_by old new node n (scan_plan head segment ∷ []) (filter_plan head (scan_plan head segment)) g refl (ap (λ (h : Head). filter_plan h (scan_plan (head_with (length old) head) segment)) h)
 
@@ -62,7 +62,7 @@ rows_alike (node ∷ nodes) (p ∷ ps) like = omega (arith, sum_by-cons rows_of 
 pub concat_adds : (old mid new : List Node) (ps : List Plan) (ns : List ℕ) (t : DataType) (n : ℕ) (head : Head) → AddsPlans old mid ps ns → IsAdded mid new (concat_node mid t ns) n → head.dtype ≡ t → rows_of_all ps ≡ head.rows → AddsPlan old new (concat_plan head (plans_from ps)) n
 concat_adds old mid new ps ns t n head adds added dtype count =
     let node : Node = concat_node mid t ns in
-    let g : IsGrown old new node n ps = grown_over old mid new ps node n adds added in
+    let g : IsGrown old new node n ps = grown_over old mid new ps node n adds added (λ none. none) in
     let like : AreLike (nodes_at mid ns) ps = added_like old mid ps ns adds in
     let m : ℕ = length old + plans_size (plans_from ps) in
     let h : head_at n node ≡ head_with m head = same_head n m node head (omega (arith, g.number, size_from ps)) (record { dtype = sym dtype; rows = rows_alike (nodes_at mid ns) ps like ∙ count }) in
@@ -107,7 +107,7 @@ pub pack_adds : (old mid new : List Node) (ps : List Plan) (w : PlanValidity) (n
 pack_adds old mid new ps w ns v t rows n head adds given added dtype count =
     let node : Node = packed_node t rows ns v in
     let all_plans : List Plan = ps ++ validity_list w in
-    let g : IsGrown old new node n all_plans = grown_over old mid new all_plans node n adds added in
+    let g : IsGrown old new node n all_plans = grown_over old mid new all_plans node n adds added (λ none. none) in
     let size : list_size all_plans ≡ plans_size (plans_from ps) + plan_validity_size w = omega (arith, size_append ps (validity_list w), validity_size_of w, size_from ps) in
     let m : ℕ = length old + (plans_size (plans_from ps) + plan_validity_size w) in
     let h : head_at n node ≡ head_with m head = same_head n m node head (omega (arith, g.number, size)) (record { dtype = sym dtype; rows = sym count }) in
@@ -123,7 +123,7 @@ pack_adds old mid new ps w ns v t rows n head adds given added dtype count =
 pub take_adds : (old mid new : List Node) (p q : Plan) (c v n : ℕ) (head : Head) → AddsPlans old mid (p ∷ q ∷ []) (c ∷ v ∷ []) → IsAdded mid new (take_node mid c v) n → head.dtype ≡ nullable_where (nullability_of (plan_head p).dtype) (plan_head q).dtype → (plan_head p).rows ≡ head.rows → AddsPlan old new (take_plan head p q) n
 take_adds old mid new p q c v n head adds added dtype count =
     let node : Node = take_node mid c v in
-    let g : IsGrown old new node n (p ∷ q ∷ []) = grown_over old mid new (p ∷ q ∷ []) node n adds added in
+    let g : IsGrown old new node n (p ∷ q ∷ []) = grown_over old mid new (p ∷ q ∷ []) node n adds added (λ none. none) in
     let like : AreLike (nodes_at mid (c ∷ v ∷ [])) (p ∷ q ∷ []) = added_like old mid (p ∷ q ∷ []) (c ∷ v ∷ []) adds in
     let t : node.dtype ≡ head.dtype = ap (λ (s : DataType). nullable_where (nullability_of s) (node_at mid v).dtype) like.0.dtype ∙ ap (nullable_where (nullability_of (plan_head p).dtype)) like.1.0.dtype ∙ sym dtype in
     let m : ℕ = length old + (plan_size p + plan_size q) in
@@ -134,7 +134,7 @@ pub list_adds : (old mid new : List Node) (p q : Plan) (w : PlanValidity) (e o :
 list_adds old mid new p q w e o v k rows n head adds given added dtype count =
     let node : Node = list_node mid k rows e o v in
     let all_plans : List Plan = p ∷ q ∷ validity_list w in
-    let g : IsGrown old new node n all_plans = grown_over old mid new all_plans node n adds added in
+    let g : IsGrown old new node n all_plans = grown_over old mid new all_plans node n adds added (λ none. none) in
     let like : AreLike (nodes_at mid (e ∷ o ∷ given_validity v)) all_plans = added_like old mid all_plans (e ∷ o ∷ given_validity v) adds in
     let t : node.dtype ≡ head.dtype = ap (λ (s : DataType). list_type s k) like.0.dtype ∙ sym dtype in
     let m : ℕ = length old + (plan_size p + (plan_size q + plan_validity_size w)) in
@@ -148,14 +148,14 @@ list_adds old mid new p q w e o v k rows n head adds given added dtype count =
 pub zoned_adds : (old mid new : List Node) (p q : Plan) (is_legacy : Bool) (zone_len : ℕ) (stats : List Statistic) (c z n : ℕ) (head : Head) → AddsPlans old mid (p ∷ q ∷ []) (c ∷ z ∷ []) → IsAdded mid new (zones_node is_legacy mid c z zone_len stats) n → SameHead (plan_head p) head → AddsPlan old new (zoned_plan head (zones_of is_legacy zone_len stats) p q) n
 zoned_adds old mid new p q false zone_len stats c z n head adds added same =
     let node : Node = zones_node false mid c z zone_len stats in
-    let g : IsGrown old new node n (p ∷ q ∷ []) = grown_over old mid new (p ∷ q ∷ []) node n adds added in
+    let g : IsGrown old new node n (p ∷ q ∷ []) = grown_over old mid new (p ∷ q ∷ []) node n adds added (λ none. none) in
     let like : AreLike (nodes_at mid (c ∷ z ∷ [])) (p ∷ q ∷ []) = added_like old mid (p ∷ q ∷ []) (c ∷ z ∷ []) adds in
     let m : ℕ = length old + (plan_size p + plan_size q) in
     let h : head_at n node ≡ head_with m head = same_head n m node head (omega (arith, g.number)) (record { dtype = like.0.dtype ∙ same.dtype; rows = like.0.rows ∙ same.rows }) in
     adds_by old new node n (p ∷ q ∷ []) (zoned_plan head (zones_of false zone_len stats) p q) g (omega arith) (ap (λ (h : Head). zoned_plan h (zones_of false zone_len stats) (numbered (length old) p) (numbered (length old + plan_size p) q)) h)
 zoned_adds old mid new p q true zone_len stats c z n head adds added same =
     let node : Node = zones_node true mid c z zone_len stats in
-    let g : IsGrown old new node n (p ∷ q ∷ []) = grown_over old mid new (p ∷ q ∷ []) node n adds added in
+    let g : IsGrown old new node n (p ∷ q ∷ []) = grown_over old mid new (p ∷ q ∷ []) node n adds added (λ none. none) in
     let like : AreLike (nodes_at mid (c ∷ z ∷ [])) (p ∷ q ∷ []) = added_like old mid (p ∷ q ∷ []) (c ∷ z ∷ []) adds in
     let m : ℕ = length old + (plan_size p + plan_size q) in
     let h : head_at n node ≡ head_with m head = same_head n m node head (omega (arith, g.number)) (record { dtype = like.0.dtype ∙ same.dtype; rows = like.0.rows ∙ same.rows }) in
@@ -165,7 +165,7 @@ pub eval_adds : (old mid new : List Node) (p : Plan) (a : Bound) (c n : ℕ) (he
 eval_adds old mid new p a c n head e adds added dtype count is =
     let one : AddsPlans old mid (p ∷ []) (c ∷ []) = one_added old mid p c adds in
     let node : Node = eval_node mid a c in
-    let g : IsGrown old new node n (p ∷ []) = grown_over old mid new (p ∷ []) node n one added in
+    let g : IsGrown old new node n (p ∷ []) = grown_over old mid new (p ∷ []) node n one added (λ none. none) in
     let like : AreLike (nodes_at mid (c ∷ [])) (p ∷ []) = added_like old mid (p ∷ []) (c ∷ []) one in
     let m : ℕ = length old + plan_size p in
     let h : head_at n node ≡ head_with m head = same_head n m node head (omega (arith, g.number)) (record { dtype = sym dtype; rows = like.0.rows ∙ count }) in

@@ -1,6 +1,8 @@
 -- The numbers of a plan that is appended to a table: children first, in their order, and each plan after its
 -- children.
 use Rattle.std.specs.Prelude.{◌≡◌, ℕ, ◌+◌, List, [], ◌∷◌, ◌++◌, length, map}
+use Rattle.std.specs.List.{AllByRecursion}
+use Rattle.vx_plan.specs.Kinds.{IsRowIdx}
 use Rattle.vx_plan.specs.Nodes.{Node}
 use Rattle.vx_plan.specs.Plans.{Head, Plan, no_plan, concat_plan, eval_plan, filter_plan, pack_plan, take_plan, share_plan, list_plan, row_idx_plan, scan_plan, zoned_plan, Plans, no_plans, plan, PlanValidity, all_valid, valid_as, plan_at}
 use Rattle.vx_plan.specs.Tables.{AreIn, IsGoodTable}
@@ -41,13 +43,19 @@ abbrev mutual
   validity_numbered first all_valid = all_valid
   validity_numbered first (valid_as validity) = valid_as (numbered first validity)
 
--- The table holds the plan and its parts behind what it held before; the plan is the last, and has this number.
+-- none of the nodes is that of row numbers
+abbrev pub NumberNoRows : List Node → Type 0
+NumberNoRows nodes = AllByRecursion (λ node. ¬ (IsRowIdx node.kind)) nodes
+
+-- The table holds the plan and its parts behind what it held before; the plan is the last, and has this number. None of
+-- them numbers rows.
 pub record AddsPlan (old new : List Node) (p : Plan) (number : ℕ) : Type 0 where
   pub more : List Node
   pub appended : new ≡ old ++ more
   pub count : length new ≡ length old + plan_size p
   pub last : number + 1 ≡ length new
   pub plan_is : plan_at new number ≡ numbered (length old) p
+  pub unnumbered : NumberNoRows more
   pub good : IsGoodTable new
 
 -- ---- plans in a row
@@ -61,11 +69,12 @@ list_numbered first [] = []
 list_numbered first (p ∷ ps) = numbered first p ∷ list_numbered (first + plan_size p) ps
 
 -- The table holds these plans, one after another, and their parts behind what it held before; they have these
--- numbers.
+-- numbers. None of them numbers rows.
 pub record AddsPlans (old new : List Node) (ps : List Plan) (numbers : List ℕ) : Type 0 where
   pub more : List Node
   pub appended : new ≡ old ++ more
   pub count : length new ≡ length old + list_size ps
   pub known : AreIn new numbers
   pub plans_are : map (plan_at new) numbers ≡ list_numbered (length old) ps
+  pub unnumbered : NumberNoRows more
   pub good : IsGoodTable new

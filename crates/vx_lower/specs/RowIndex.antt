@@ -44,3 +44,24 @@ abbrev pub meaning_over : Leaves → ℕ → Term → Plan → ℕ → Option Da
 meaning_over leaves offset e child row =
     option_and_then (λ v. meaning (plan_head child).dtype no_bound e v (row + offset))
     (if uses_root e then plan_value leaves offset child row else Some null)
+
+-- ---- with the numbers of a table
+
+-- the head of a plan of that number and dtype, with the rows of another
+abbrev pub head_with : ℕ → DataType → Plan → Head
+head_with n t child = record { number = n; dtype = t; rows = (plan_head child).rows }
+
+-- by whether the expression uses the root, and whether it uses the row's number
+abbrev pub row_index_plan_from_by : Bool → Bool → ℕ → Bound → Plan → Plan
+row_index_plan_from_by false false n a child =
+    eval_plan (head_with (n + 1) a.dtype child) a.term (pack_plan (head_with n (struct_type no_members NonNullable) child) no_plans all_valid)
+row_index_plan_from_by false true n a child =
+    eval_plan (head_with (n + 1) a.dtype child) (row_number_as_root a).term (row_idx_plan (head_with n row_number_type child))
+row_index_plan_from_by true false n a child = eval_plan (head_with n a.dtype child) a.term child
+row_index_plan_from_by true true n a child =
+    eval_plan (head_with (n + 2) a.dtype child) (over_row_number a).term
+    (pack_plan (head_with (n + 1) (with_row_number (plan_head child).dtype) child) (plan (row_idx_plan (head_with n row_number_type child)) (plan child no_plans)) all_valid)
+
+-- the plan of a bound expression over a plan, whose own plans are numbered from that number on, each behind its children
+abbrev pub row_index_plan_from : ℕ → Bound → Plan → Plan
+row_index_plan_from n a child = row_index_plan_from_by (uses_root a.term) (uses_row_number a.term) n a child

@@ -9,7 +9,7 @@ ghost use Rattle.vx_plan.specs.Tables.{IsGoodTable};
 ghost use Rattle.vx_lower.specs.KeptRows.{MayKeep};
 ghost use Rattle.vx_lower.specs.Lowered.{lowered};
 ghost use Rattle.vx_lower.specs.NodeParts.{CanLower};
-ghost use Rattle.vx_lower.specs.Numbered.{numbered, AddsPlan};
+ghost use Rattle.vx_lower.specs.Numbered.{numbered, AddsPlan, NumberNoRows};
 ghost use Rattle.vx_lower.specs.TreePlans.{HasTreeReads, HasTreeRows, HasTreeType, HasTreeValues};
 
 use crate::keeping::Keeping;
@@ -63,6 +63,8 @@ pub fn lower(alloc: Global, tree: &LayoutTree, kept: &Kept) -> Result<Lowered, A
     ensures good { IfOk result (λ made. IsGoodTable made.table) }
     // The table has at most twice as many plans as the tree has nodes.
     ensures small { IfOk result (λ made. length made.table ≤ 2 * length tree.now) }
+    // None of them numbers rows.
+    ensures unnumbered { IfOk result (λ made. NumberNoRows made.table) }
     // The root has the tree's dtype and values without the fields that aren't kept, its rows, and its reads.
     ensures dtype { IfOk result (λ made. HasTreeType (subtree tree.now 0) (kept_data kept.now) (plan_at made.table (number_of made.root))) }
     ensures rows { IfOk result (λ made. HasTreeRows (subtree tree.now 0) (plan_at made.table (number_of made.root))) }

@@ -85,8 +85,9 @@ end_fits nodes n offsets over row place child holds at =
     let here = ap rows_of (node_there nodes children place child at.at) in
     omega (arith, end_inside below 0 place inside, over.rows, over.few, same, here)
 
-pub is_chunk : (nodes : List Node) (n : ℕ) (offsets : List ℕ) → IsConcatPlan nodes n offsets → (row place child : ℕ) → row < (node_at nodes n).rows → HoldsPlace offsets row place (place + 1) → IsChildAt nodes n place child → IsChunk nodes n row (record { child = child; start = slice_index offsets place; end = slice_index offsets place + (node_at nodes child).rows })
-is_chunk nodes n offsets over row place child h holds at =
+pub is_chunk : (nodes : List Node) (n : ℕ) (offsets : List ℕ) → IsConcatPlan nodes n offsets → (row place child behind : ℕ) → row < (node_at nodes n).rows → HoldsPlace offsets row place (place + 1) → IsChildAt nodes n place child →
+    IsChunk nodes n row (record { child = child; start = slice_index offsets place; end = slice_index offsets place + (node_at nodes child).rows; next = behind })
+is_chunk nodes n offsets over row place child behind h holds at =
     let children : List ℕ = (node_at nodes n).children in
     let below : List Node = nodes_at nodes children in
     let inside : place < length below = omega (arith, place_inside nodes n offsets over row place holds, length-map children (node_at nodes)) in

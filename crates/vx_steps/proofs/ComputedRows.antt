@@ -1,26 +1,18 @@
 -- The column of the selected rows, kind by kind.
-use Rattle.std.proofs.Common.{◌≡◌, ℕ, zero, suc, ◌+◌, ◌-◌, ◌<◌, ◌≤◌, ◌⊎◌, inl, inr, pos, negsuc, ◌≤ℤ◌, Bool, true, List, [], ◌∷◌, ◌++◌, Option, Some, None, Result, Ok, Err, length, map, take, drop, replicate, refl, sym, ap, ◌∙◌, subst, arith}
+use Rattle.std.proofs.Common.{◌≡◌, ℕ, zero, suc, ◌+◌, ◌<◌, ◌≤◌, ◌⊎◌, inl, inr, pos, negsuc, ◌≤ℤ◌, Bool, true, List, [], ◌∷◌, Option, Some, None, Result, Ok, Err, length, map, replicate, refl, sym, ap, ◌∙◌, subst, arith}
 use Rattle.std.specs.Prelude.{slice_range, IsSomeAnd, IfOk, IfErr, IfSome, MatchResult, option_and_then}
-use Rattle.std.specs.List.{slice_get, range_with_len, flat_map, sum_by, AllByRecursion}
-use Rattle.std.proofs.lemmas.Grind.{flat_map-append}
-use Rattle.std.proofs.lemmas.List.Sums.{sum_by-cons}
-use Rattle.std.proofs.lemmas.List.{append-nil, length-append, map-append}
-use Rattle.vx_plan.specs.Tables.{IsGoodTable}
-use Rattle.vx_steps.specs.declared.chunks.Chunk.{Chunk}
-use Rattle.vx_steps.specs.Chunks.{IsChunk}
-use Rattle.vx_steps.proofs.ChunkRows.{chunk_derivation, chunk_up, IsConcatPlan}
-use Rattle.vx_steps.proofs.Selecting.{got_range}
+use Rattle.std.specs.List.{slice_get, range_with_len}
 use Rattle.std.proofs.lemmas.Int.{ints}
 use Rattle.vx_base.specs.ColumnCalls.{natural}
 use Rattle.vx_base.specs.Columns.{ColumnData}
 use Rattle.vx_base.specs.Data.{DataType, Datum, null, truth, number, text, structure}
-use Rattle.vx_base.specs.Masks.{chosen, true_count}
+use Rattle.vx_base.specs.Masks.{chosen}
 use Rattle.vx_expr.specs.Bound.{Bound}
 use Rattle.vx_expr.specs.Meaning.{meaning}
 use Rattle.vx_expr.specs.Terms.{Term}
 use Rattle.vx_expr.specs.Types.{on_both}
 use Rattle.vx_rows.specs.Derivations.{Derivation, Leaves, look_up, no_bound, one_more, each_row, derived, derived_each}
-use Rattle.vx_rows.specs.Given.{all_given, given_row, share_with, values_with, with_given}
+use Rattle.vx_rows.specs.Given.{all_given, given_row, share_with, values_with}
 use Rattle.vx_rows.specs.Reads.{IsPlaceAmong}
 use Rattle.vx_plan.specs.declared.children.PlanRef.{PlanRef}
 use Rattle.vx_plan.specs.declared.shapes.Shape.TheVariants as shapes
@@ -38,10 +30,11 @@ use Rattle.vx_steps.specs.Held.{Held, AreTyped, IsBy, IsHeld, alone, handed_in}
 use Rattle.vx_steps.specs.KeptData.{Kept}
 use Rattle.vx_steps.specs.Kept.{kept_at, values_of, whole_of}
 use Rattle.vx_steps.specs.RowFaults.{root_meaning, IsCodeFault, IsEvalFault, IsPastCode, IsRowAt}
-use Rattle.vx_steps.specs.Rows.{rows_of, AreOf, SelectsNone, SelectsSome}
+use Rattle.vx_steps.specs.Rows.{rows_of, SelectsNone, SelectsSome}
 use Rattle.vx_steps.specs.Visits.{Test, Visits, SomeVisit, HasBadCode, HasEvalFault, IsListRead}
 use Rattle.vx_rows.proofs.Givens.{none_given as none_given_is}
-use Rattle.vx_steps.proofs.SelectedRows.{map_same, picked_rows, row_bit, rows_all, rows_append, rows_count, rows_none, rows_same, then_rows, value_row}
+use Rattle.vx_steps.proofs.Keeping.{got_inside}
+use Rattle.vx_steps.proofs.SelectedRows.{map_same, picked_rows, row_bit, rows_all, rows_none, rows_same, then_rows, value_row}
 use Rattle.vx_steps.proofs.Shaping.{head_of, IsEvalPlan, IsLeafPlan, IsListPlan, IsSharePlan, IsTakePlan, IsZonedPlan}
 
 -- ---- causes
@@ -260,11 +253,6 @@ codes_failed h n codes values start bits fault over computed leaves are =
     subst (OutcomeOf h leaves start bits (Err fault)) (sym over.law)
     (cause_up leaves h.offset (handed_in h) (plan_at h.nodes codes) start bits (handed_in h) (take_plan (head_of h.nodes n) (plan_at h.nodes codes) (plan_at h.nodes values)) start bits (λ P r. (r.0, r.1, inr (inl r.2))) fault (computed leaves are))
 
-pub got_inside : {X : Type 0} (xs : List X) (i : ℕ) (x : X) → slice_get xs i ≡ Some x → i < length xs
-got_inside [] i x at = absurd cc
-got_inside (y ∷ xs) zero x at = omega arith
-got_inside (y ∷ xs) (suc i) x at = omega (arith, got_inside xs i x at)
-
 row_below : (bs : List Bool) (rows : ℕ) → length bs ≡ rows → (place : ℕ) → slice_get bs place ≡ Some true → 0 + place < rows
 row_below bs rows long place at = omega (arith, got_inside bs place true at)
 
@@ -350,6 +338,12 @@ share_there h leaves n child column over are at = by (whole_kept h.given h.made 
     by (inl e) = inl (handed_values h.nodes h.given n n over.given ∙ ap values_of e)
     by (inr e) = inr (handed_values h.nodes h.given n n over.given ∙ ap values_of e.0, sym (share_whole h leaves n child over) ∙ are.made_are n column e.1)
 
+-- what is made of a share's child, where nothing is there for the share
+pub share_made : (h : Held) (leaves : Leaves) (n child : ℕ) (vs : List Datum) → IsSharePlan h.nodes n child → whole_in h n ≡ None → whole_value leaves h.offset (plan_at h.nodes child) ≡ Some vs → AreWhole h leaves n child (node_at h.nodes child).rows vs
+share_made h leaves n child vs over none made =
+    let F : ℕ → Type 0 = λ rows. derived_each leaves (each_row (plan_derivation h.offset (plan_at h.nodes child)) 0 rows) ≡ Some vs in
+    whole_made h leaves n n child (node_at h.nodes child).rows vs over.given none (subst F (ap (λ h. h.rows) over.child_head) made)
+
 -- the child has a fault, where nothing is there for the share
 pub shared_failed : (h : Held) (n child start : ℕ) (bits : List Bool) (fault : StepError) → IsSharePlan h.nodes n child → whole_in h n ≡ None → SelectsSome bits → ComputesWhole h child (Err fault) → Computes h n start bits (Err fault)
 shared_failed h n child start bits fault over none some computed leaves are =
@@ -392,105 +386,6 @@ whole_computed h n result head computed leaves are = by_result result (computed 
 
 pub whole_memory : (h : Held) (n : ℕ) → ComputesWhole h n (Err Memory)
 whole_memory h n leaves are = (replicate (node_at h.nodes n).rows true, length_all (node_at h.nodes n).rows, tt)
-
--- ---- one child of a concat after another
-
-pub all_taken : {X : Type 0} (xs : List X) (n : ℕ) → length xs ≤ n → take n xs ≡ xs
-all_taken [] zero h = refl
-all_taken [] (suc n) h = refl
-all_taken (x ∷ xs) zero h = absurd (omega arith)
-all_taken {X} (x ∷ xs) (suc n) h = ap (λ (rest : List X). x ∷ rest) (all_taken xs n (omega arith))
-
-taken_more : (xs : List Bool) (a b : ℕ) → take (a + b) xs ≡ take a xs ++ take b (drop a xs)
-taken_more xs zero b = ap (λ (k : ℕ). take k xs) (omega arith)
-taken_more [] (suc a) zero =
-    let e : suc a + 0 ≡ suc a = omega arith in
-    ap (λ (k : ℕ). take k []) e
-taken_more [] (suc a) (suc b) =
-    let e : suc a + suc b ≡ suc (a + suc b) = omega arith in
-    ap (λ (k : ℕ). take k []) e
-taken_more (x ∷ xs) (suc a) b =
-    let e : suc a + b ≡ suc (a + b) = omega arith in
-    ap (λ (k : ℕ). take k (x ∷ xs)) e ∙ ap (λ (bits : List Bool). x ∷ bits) (taken_more xs a b)
-
-pub range_is : (xs : List Bool) (from count : ℕ) → take (from + count) xs ≡ take from xs ++ slice_range xs from (from + count)
-range_is xs from count =
-    let e : from + count - from ≡ count = omega arith in
-    rw e (taken_more xs from count)
-
-length_taken : (xs : List Bool) (n : ℕ) → n ≤ length xs → length (take n xs) ≡ n
-length_taken [] zero h = refl
-length_taken [] (suc n) h = absurd (omega arith)
-length_taken (x ∷ xs) zero h = refl
-length_taken (x ∷ xs) (suc n) h = omega (arith, length_taken xs n (omega arith))
-
-pub length_range : (xs : List Bool) (from count : ℕ) → length (slice_range xs from (from + count)) ≤ count
-length_range xs from count =
-    let e : from + count - from ≡ count = omega arith in
-    rw e (short (drop from xs) count)
-  where
-    short : (ys : List Bool) (n : ℕ) → length (take n ys) ≤ n
-    short [] zero = omega arith
-    short [] (suc n) = omega arith
-    short (y ∷ ys) zero = omega arith
-    short (y ∷ ys) (suc n) = omega (arith, short ys n)
-
-count_append : (xs ys : List Bool) → true_count (xs ++ ys) ≡ true_count xs + true_count ys
-count_append xs ys =
-    let rows : length (rows_of 0 (xs ++ ys)) ≡ length (rows_of 0 xs) + length (rows_of (0 + length xs) ys) = ap length (rows_append 0 xs ys) ∙ length-append (rows_of 0 xs) (rows_of (0 + length xs) ys) in
-    omega (arith, rows, rows_count 0 (xs ++ ys), rows_count 0 xs, rows_count (0 + length xs) ys)
-
-pub count_more : (xs : List Bool) (from count : ℕ) → true_count (take (from + count) xs) ≡ true_count (take from xs) + true_count (slice_range xs from (from + count))
-count_more xs from count = ap true_count (range_is xs from count) ∙ count_append (take from xs) (slice_range xs from (from + count))
-
--- a row of the child is worth to the concat what it is worth there
-chunk_value : (h : Held) (leaves : Leaves) → IsGoodTable h.nodes → (n at_row : ℕ) (chunk : Chunk) → IsChunk h.nodes n at_row chunk → IsConcatPlan h.nodes n → (row : ℕ) → row < (node_at h.nodes chunk.child).rows → row_value leaves (handed_in h) h.offset (plan_at h.nodes n) (chunk.start + row) ≡ row_value leaves (handed_in h) h.offset (plan_at h.nodes chunk.child) row
-chunk_value h leaves good n at_row chunk is over row less = ap (λ (d : Derivation). derived leaves (with_given (values_for (handed_in h)) d)) (chunk_derivation h.nodes good h.offset n at_row chunk is over row less)
-
-pub chunk_values : (h : Held) (leaves : Leaves) → IsGoodTable h.nodes → (n start done here : ℕ) (bits : List Bool) (chunk : Chunk) (parts : List ColumnData) (part : ColumnData) → IsChunk h.nodes n (start + done) chunk → IsConcatPlan h.nodes n → here ≤ chunk.end - (start + done) → done ≤ length bits →
-    AreOf (row_value leaves (handed_in h) h.offset (plan_at h.nodes n)) (rows_of start (take done bits)) (flat_map (λ part. part.values) parts) → AreOf (row_value leaves (handed_in h) h.offset (plan_at h.nodes chunk.child)) (rows_of (start + done - chunk.start) (slice_range bits done (done + here))) part.values →
-    AreOf (row_value leaves (handed_in h) h.offset (plan_at h.nodes n)) (rows_of start (take (done + here) bits)) (flat_map (λ part. part.values) (parts ++ part ∷ []))
-chunk_values h leaves good n start done here bits chunk parts part is over fits inside before now =
-    let f : ℕ → Option Datum = row_value leaves (handed_in h) h.offset (plan_at h.nodes n) in
-    let g : ℕ → Option Datum = row_value leaves (handed_in h) h.offset (plan_at h.nodes chunk.child) in
-    let some : List Bool = slice_range bits done (done + here) in
-    let low : chunk.start ≤ start + done = is.at_most in
-    let end : chunk.end ≡ chunk.start + (node_at h.nodes chunk.child).rows = is.end in
-    let rows : rows_of start (take (done + here) bits) ≡ rows_of start (take done bits) ++ rows_of (start + done) some = ap (rows_of start) (range_is bits done here) ∙ rows_append start (take done bits) some ∙ ap (λ (k : ℕ). rows_of start (take done bits) ++ rows_of (start + k) some) (length_taken bits done inside) in
-    let short : length some ≤ here = length_range bits done here in
-    let same : map f (rows_of (start + done) some) ≡ map g (rows_of (start + done - chunk.start) some) = rows_same f g (start + done) (start + done - chunk.start) some (λ k less.
-    let at : start + done + k ≡ chunk.start + (start + done - chunk.start + k) = omega arith in
-    ap f at ∙ chunk_value h leaves good n (start + done) chunk is over (start + done - chunk.start + k) (omega arith)) in
-    let joined : flat_map (λ (p : ColumnData). p.values) (parts ++ part ∷ []) ≡ flat_map (λ (p : ColumnData). p.values) parts ++ part.values = flat_map-append (λ (p : ColumnData). p.values) parts (part ∷ []) ∙ ap (λ (vs : List Datum). flat_map (λ (p : ColumnData). p.values) parts ++ vs) (append-nil part.values) in
-    ap (map f) rows ∙ map-append f (rows_of start (take done bits)) (rows_of (start + done) some) ∙ ap (λ (vs : List (Option Datum)). vs ++ map f (rows_of (start + done) some)) before ∙ ap (λ (vs : List (Option Datum)). map Some (flat_map (λ (p : ColumnData). p.values) parts) ++ vs) (same ∙ now)
-    ∙ sym (map-append Some (flat_map (λ (p : ColumnData). p.values) parts) part.values) ∙ ap (map Some) (sym joined)
-
-pub chunk_failed : (h : Held) → IsGoodTable h.nodes → (n start done here : ℕ) (bits : List Bool) (chunk : Chunk) (fault : StepError) → IsChunk h.nodes n (start + done) chunk → IsConcatPlan h.nodes n → here ≤ chunk.end - (start + done) →
-    Computes h chunk.child (start + done - chunk.start) (slice_range bits done (done + here)) (Err fault) → Computes h n start bits (Err fault)
-chunk_failed h good n start done here bits chunk fault is over fits computed leaves are =
-    cause_up leaves h.offset (handed_in h) (plan_at h.nodes chunk.child) (start + done - chunk.start) (slice_range bits done (done + here)) (handed_in h) (plan_at h.nodes n) start bits (λ P r.
-    let t = got_range bits done here r.0 true r.1 in
-    let below : r.0 < here = t.0 in
-    let low : chunk.start ≤ start + done = is.at_most in
-    let end : chunk.end ≡ chunk.start + (node_at h.nodes chunk.child).rows = is.end in
-    let same : chunk.start + (start + done - chunk.start + r.0) ≡ start + (done + r.0) = omega arith in
-    let F : ℕ → Type 0 = Visits P (handed_in h) (plan_at h.nodes n) in
-    (done + r.0, t.1, subst F same (chunk_up P (handed_in h) h.nodes good n (start + done) chunk is over (start + done - chunk.start + r.0) (omega arith) r.2)))
-    fault (computed leaves are)
-
-pub all_pushed : (P : ColumnData → Type 0) (xs : List ColumnData) (x : ColumnData) → AllByRecursion P xs → P x → AllByRecursion P (xs ++ x ∷ [])
-all_pushed P [] x h p = (p, tt)
-all_pushed P (y ∷ xs) x h p = (h.0, all_pushed P xs x h.1 p)
-
-pub joined_count : (parts : List ColumnData) → length (flat_map (λ part. part.values) parts) ≡ sum_by (λ part. length part.values) parts
-joined_count [] = refl
-joined_count (part ∷ parts) = length-append part.values (flat_map (λ (part : ColumnData). part.values) parts) ∙ ap (λ (n : ℕ). length part.values + n) (joined_count parts) ∙ sym (sum_by-cons (λ (part : ColumnData). length part.values) part parts)
-
--- what is made of a share's child, where nothing is there for the share
-pub share_made : (h : Held) (leaves : Leaves) (n child : ℕ) (vs : List Datum) → IsSharePlan h.nodes n child → whole_in h n ≡ None → whole_value leaves h.offset (plan_at h.nodes child) ≡ Some vs → AreWhole h leaves n child (node_at h.nodes child).rows vs
-share_made h leaves n child vs over none made =
-    let F : ℕ → Type 0 = λ rows. derived_each leaves (each_row (plan_derivation h.offset (plan_at h.nodes child)) 0 rows) ≡ Some vs in
-    whole_made h leaves n n child (node_at h.nodes child).rows vs over.given none (subst F (ap (λ h. h.rows) over.child_head) made)
 
 -- what is there for a plan has its dtype and its rows
 given_typed : (nodes : List Node) (given : Option (List Kept)) (n : ℕ) (column : ColumnData) → IfSome given (AreTyped nodes) → kept_in given n ≡ Some column → (column.dtype ≡ (node_at nodes n).dtype) × (length column.values ≡ (node_at nodes n).rows)

@@ -29,7 +29,8 @@ use Rattle.vx_steps.specs.Given.{Handed, row_value, values_for}
 use Rattle.vx_steps.specs.Held.{Held, IsBy, handed_in}
 use Rattle.vx_steps.specs.Structs.{HaveTypes}
 use Rattle.vx_steps.specs.Visits.{Test, Visits, VisitsField, VisitsValidity}
-use Rattle.vx_steps.proofs.ComputedRows.{cause_up, got_inside}
+use Rattle.vx_steps.proofs.ComputedRows.{cause_up}
+use Rattle.vx_steps.proofs.Keeping.{got_inside}
 use Rattle.vx_steps.proofs.Shaping.{head_of, validity_fits, IsPackPlan}
 
 -- ---- visits

@@ -4,12 +4,12 @@ use Rattle.std.specs.Prelude.{IsSomeAnd, OnErr, if◌then◌else◌}
 use Rattle.std.specs.List.{slice_get}
 use Rattle.std.proofs.Math.ListN.{length-drop}
 use Rattle.std.proofs.lemmas.Bool.{cases_eq}
-use Rattle.std.specs.BTreeMap.{BTreeMap, get}
-use Rattle.std.specs.Ordering.{nat_cmp}
 use Rattle.vx_plan.specs.Refs.{number_of}
 use Rattle.vx_steps.specs.declared.kept.KeptValue.{KeptValue}
+use Rattle.vx_steps.specs.declared.places.PlaceTable.{PlaceTable}
 use Rattle.vx_steps.specs.KeptData.{Kept}
 use Rattle.vx_steps.specs.Kept.{kept_at, kept_data, IsPlace}
+use Rattle.vx_steps.specs.Places.{place_in, KeepsPlaces}
 use Rattle.vx_steps.proofs.Keeping.{step_new, kept_new, kept_old, got_old, place_old, is_place_other, places_more, got_inside, same_got}
 
 take_none : {X : Type 0} (xs : List X) → take zero xs ≡ []
@@ -93,31 +93,30 @@ length_taken [] i h = absurd (omega arith)
 length_taken (x ∷ xs) zero h = refl
 length_taken (x ∷ xs) (suc i) h = ap suc (length_taken xs i (omega arith))
 
-same_places : (places : BTreeMap ℕ ℕ) (kept : List Kept) (k : Kept) → (get nat_cmp places k.node ≡ None → ⊥) → ((n : ℕ) → IsPlace kept n (get nat_cmp places n)) → (n : ℕ) → (o : Option ℕ) → get nat_cmp places n ≡ o → IsPlace kept n o → IsPlace (kept ++ k ∷ []) n o
+same_places : (places : PlaceTable) (kept : List Kept) (k : Kept) → (place_in places k.node ≡ None → ⊥) → ((n : ℕ) → IsPlace kept n (place_in places n)) → (n : ℕ) → (o : Option ℕ) → place_in places n ≡ o → IsPlace kept n o → IsPlace (kept ++ k ∷ []) n o
 same_places places kept k present placed n (Some place) e h = place_old kept (k ∷ []) n (slice_get kept place) place refl h
 same_places places kept k present placed n None e h =
-    ⊎_elim (λ (same : k.node ≡ n). absurd (present (ap (get nat_cmp places) same ∙ e))) (λ (apart : k.node ≡ n → ⊥). let f : (k.node == n) ≡ false = grind arith in is_place_other kept k.node k.column n f None h) (cases_eq k.node n)
+    ⊎_elim (λ (same : k.node ≡ n). absurd (present (ap (place_in places) same ∙ e))) (λ (apart : k.node ≡ n → ⊥). let f : (k.node == n) ≡ false = grind arith in is_place_other kept k.node k.column n f None h) (cases_eq k.node n)
 
-pub index_same : (places : BTreeMap ℕ ℕ) (xs : List KeptValue) (i : ℕ) (x : KeptValue) → i < length xs → x ≡ get_or xs i x → (get nat_cmp places (number_of x.node) ≡ None → ⊥) → ((n : ℕ) → IsPlace (take i (map kept_data xs)) n (get nat_cmp places n)) → (n : ℕ) → IsPlace (take (suc i) (map kept_data xs)) n (get nat_cmp places n)
+pub index_same : (places : PlaceTable) (xs : List KeptValue) (i : ℕ) (x : KeptValue) → i < length xs → x ≡ get_or xs i x → (place_in places (number_of x.node) ≡ None → ⊥) → ((n : ℕ) → IsPlace (take i (map kept_data xs)) n (place_in places n)) → (n : ℕ) → IsPlace (take (suc i) (map kept_data xs)) n (place_in places n)
 index_same places xs i x inside is present placed n =
-    let P : List Kept → Type 0 = λ ks. IsPlace ks n (get nat_cmp places n) in
-    subst P (sym (take_one (map kept_data xs) i (kept_data x) (got_data xs i x inside is))) (same_places places (take i (map kept_data xs)) (kept_data x) present placed n (get nat_cmp places n) refl (placed n))
+    let P : List Kept → Type 0 = λ ks. IsPlace ks n (place_in places n) in
+    subst P (sym (take_one (map kept_data xs) i (kept_data x) (got_data xs i x inside is))) (same_places places (take i (map kept_data xs)) (kept_data x) present placed n (place_in places n) refl (placed n))
 
-pub index_more : (old new : BTreeMap ℕ ℕ) (xs : List KeptValue) (i : ℕ) (x : KeptValue) → i < length xs → x ≡ get_or xs i x → get nat_cmp old (number_of x.node) ≡ None → ((n : ℕ) → IsPlace (take i (map kept_data xs)) n (get nat_cmp old n)) → ((n : ℕ) → get nat_cmp new n ≡ cond ((number_of x.node) == n) (Some i) (get nat_cmp old n)) →
-    (n : ℕ) → IsPlace (take (suc i) (map kept_data xs)) n (get nat_cmp new n)
+pub index_more : (old new : PlaceTable) (xs : List KeptValue) (i : ℕ) (x : KeptValue) → i < length xs → x ≡ get_or xs i x → place_in old (number_of x.node) ≡ None → ((n : ℕ) → IsPlace (take i (map kept_data xs)) n (place_in old n)) → ((n : ℕ) → place_in new n ≡ cond ((number_of x.node) == n) (Some i) (place_in old n)) →
+    (n : ℕ) → IsPlace (take (suc i) (map kept_data xs)) n (place_in new n)
 index_more old new xs i x inside is absent placed put n =
-    let P : List Kept → Type 0 = λ ks. IsPlace ks n (get nat_cmp new n) in
+    let P : List Kept → Type 0 = λ ks. IsPlace ks n (place_in new n) in
     let N : Option ℕ → Type 0 = λ o. IsPlace (take i (map kept_data xs)) (number_of x.node) o in
     let count = length_data xs in
     let taken : length (take i (map kept_data xs)) ≡ i = length_taken (map kept_data xs) i (omega arith) in
-    subst P (sym (take_one (map kept_data xs) i (kept_data x) (got_data xs i x inside is))) (places_more old new (take i (map kept_data xs)) (number_of x.node) x.column placed (subst N absent (placed (number_of x.node))) (λ m. put m ∙ ap (λ (c : ℕ). cond ((number_of x.node) == m) (Some c) (get nat_cmp old m)) (sym taken)) n)
+    subst P (sym (take_one (map kept_data xs) i (kept_data x) (got_data xs i x inside is))) (places_more old new (take i (map kept_data xs)) (number_of x.node) x.column placed (subst N absent (placed (number_of x.node))) (λ m. put m ∙ ap (λ (c : ℕ). cond ((number_of x.node) == m) (Some c) (place_in old m)) (sym taken)) n)
 
 pub on_err : {A E : Type 0} (r : Result A E) (P : Type 0) → P → OnErr r P
 on_err (Ok a) P p = tt
 on_err (Err e) P p = p
 
-pub places_unchanged : (old new : BTreeMap ℕ ℕ) (kept : List Kept) → new.entries ≡ old.entries → ((n : ℕ) → IsPlace kept n (get nat_cmp old n)) → (n : ℕ) → IsPlace kept n (get nat_cmp new n)
+pub places_unchanged : (old new : PlaceTable) (kept : List Kept) → KeepsPlaces old new → ((n : ℕ) → IsPlace kept n (place_in old n)) → (n : ℕ) → IsPlace kept n (place_in new n)
 places_unchanged old new kept same placed n =
     let P : Option ℕ → Type 0 = IsPlace kept n in
-    let e : get nat_cmp new n ≡ get nat_cmp old n = rw same in
-    subst P (sym e) (placed n)
+    subst P (sym (same n)) (placed n)

@@ -2,13 +2,13 @@
 use Rattle.std.proofs.Common.{◌≡◌, Bor, ℕ, zero, suc, ◌<◌, ◌==◌, Bool, true, false, cond, List, [], ◌∷◌, ◌++◌, Option, Some, None, length, refl, sym, ap, ◌∙◌, subst, arith}
 use Rattle.std.specs.Prelude.{IsSomeAnd, if◌then◌else◌}
 use Rattle.std.specs.List.{slice_get}
-use Rattle.std.specs.BTreeMap.{BTreeMap, get}
-use Rattle.std.specs.Ordering.{nat_cmp}
 use Rattle.vx_base.specs.Columns.{ColumnData}
+use Rattle.vx_steps.specs.declared.places.PlaceTable.{PlaceTable}
 use Rattle.vx_steps.specs.KeptData.{Kept}
 use Rattle.std.specs.Option.{option_copied, is_some}
 use Rattle.vx_base.specs.Data.{Datum}
 use Rattle.vx_steps.specs.Kept.{kept_at, IsPlace, values_of, whole_of}
+use Rattle.vx_steps.specs.Places.{place_in}
 
 pub step_new : (b : Bool) (x : ColumnData) (old more new : Option ColumnData) → (old ≡ None → more ≡ new) → (if b then Some x else old) ≡ None → (if b then Some x else more) ≡ new
 step_new true x old more new f h = cc
@@ -53,18 +53,18 @@ is_place_here kept node column none =
     subst P (sym (got_new kept k)) (kept_new kept (k ∷ []) node none ∙ ap (λ (b : Bool). if b then Some column else None) e)
 
 -- the places, when one more column was kept
-pub places_more : (old new : BTreeMap ℕ ℕ) (kept : List Kept) (node : ℕ) (column : ColumnData) → ((n : ℕ) → IsPlace kept n (get nat_cmp old n)) → kept_at kept node ≡ None →
-    ((n : ℕ) → get nat_cmp new n ≡ cond (node == n) (Some (length kept)) (get nat_cmp old n)) → (n : ℕ) → IsPlace (kept ++ record { node = node; column = column } ∷ []) n (get nat_cmp new n)
+pub places_more : (old new : PlaceTable) (kept : List Kept) (node : ℕ) (column : ColumnData) → ((n : ℕ) → IsPlace kept n (place_in old n)) → kept_at kept node ≡ None →
+    ((n : ℕ) → place_in new n ≡ cond (node == n) (Some (length kept)) (place_in old n)) → (n : ℕ) → IsPlace (kept ++ record { node = node; column = column } ∷ []) n (place_in new n)
 places_more old new kept node column places none put n =
     let P : Option ℕ → Type 0 = IsPlace (kept ++ record { node = node; column = column } ∷ []) n in
     subst P (sym (put n)) (chosen (node == n) refl)
   where
-    chosen : (b : Bool) → (node == n) ≡ b → IsPlace (kept ++ record { node = node; column = column } ∷ []) n (cond b (Some (length kept)) (get nat_cmp old n))
+    chosen : (b : Bool) → (node == n) ≡ b → IsPlace (kept ++ record { node = node; column = column } ∷ []) n (cond b (Some (length kept)) (place_in old n))
     chosen true e =
         let same : node ≡ n = grind arith in
         let Q : ℕ → Type 0 = λ m. IsPlace (kept ++ record { node = node; column = column } ∷ []) m (Some (length kept)) in
         subst Q same (is_place_here kept node column none)
-    chosen false e = is_place_other kept node column n e (get nat_cmp old n) (places n)
+    chosen false e = is_place_other kept node column n e (place_in old n) (places n)
 
 -- what a search says of the values that are given
 pub found_given : (found : Option (Bor ColumnData)) (kept : List Kept) (n : ℕ) → option_copied found ≡ kept_at kept n → is_some found ≡ true → whole_of kept n ≡ None → ⊥

@@ -1,9 +1,7 @@
 -- The leaves that so many rows of a plan read, kind by kind.
 use Rattle.std.proofs.Common.{◌≡◌, ℕ, zero, suc, ◌+◌, ◌-◌, ◌<◌, ◌≤◌, ◌==◌, ◌⊎◌, inl, inr, ⊎_elim, Bool, true, false, List, [], ◌∷◌, Some, None, length, map, drop, max, cond, get_or, refl, sym, ap, ◌∙◌, subst, arith, add-one}
 use Rattle.std.specs.Prelude.{◌↔◌, IsTrue}
-use Rattle.std.specs.BTreeMap.{get}
 use Rattle.std.specs.List.{slice_get}
-use Rattle.std.specs.Ordering.{nat_cmp}
 use Rattle.std.proofs.Math.Seq.{drop-cons}
 use Rattle.std.proofs.lemmas.Bool.{cases_lt}
 use Rattle.vx_plan.specs.Nodes.{Node}
@@ -15,6 +13,7 @@ use Rattle.vx_steps.specs.declared.leavings.Sieve.{Sieve}
 use Rattle.vx_steps.specs.declared.splits.Split.{Split}
 use Rattle.vx_steps.specs.Chunks.{IsChunk}
 use Rattle.vx_steps.specs.Leavings.{behind_all, behind_split, IsLeafOf, IsMet, Meets, RowReads, RowsRead}
+use Rattle.vx_steps.specs.Places.{place_in}
 use Rattle.vx_steps.specs.Visits.{Visits}
 use Rattle.vx_steps.proofs.ChunkRows.{chunk_down, chunk_up, IsConcatPlan}
 use Rattle.vx_steps.proofs.Shaping.{head_of, IsLeafPlan, IsListPlan, IsOverPlan, IsPackPlan, IsSharePlan, IsTakePlan, IsZonedPlan}
@@ -292,7 +291,7 @@ behind_end splits place row past so_far =
 
 -- ---- one leaf is met
 
-pub meets_one : (old : Sieve) (leaf : ℕ) (new : Sieve) → ((n : ℕ) → get nat_cmp new.places n ≡ cond (leaf == n) None (get nat_cmp old.places n)) → new.wanted ≡ old.wanted → new.found ≡ cond (old.wanted == leaf) true old.found → Meets (λ n. leaf ≡ n) old new
+pub meets_one : (old : Sieve) (leaf : ℕ) (new : Sieve) → ((n : ℕ) → place_in new.places n ≡ cond (leaf == n) None (place_in old.places n)) → new.wanted ≡ old.wanted → new.found ≡ cond (old.wanted == leaf) true old.found → Meets (λ n. leaf ≡ n) old new
 meets_one old leaf new put same found = record {
   only = λ n met. only (leaf == n) n refl met;
   kept = λ n met. kept (leaf == n) n refl met;
@@ -302,7 +301,7 @@ meets_one old leaf new put same found = record {
   found = λ was. found ∙ still (old.wanted == leaf) was;
 }
   where
-    either : (b : Bool) (n : ℕ) → get nat_cmp old.places n ≡ None → cond b None (get nat_cmp old.places n) ≡ None
+    either : (b : Bool) (n : ℕ) → place_in old.places n ≡ None → cond b None (place_in old.places n) ≡ None
     either true n none = refl
     either false n none = none
 
@@ -317,11 +316,11 @@ meets_one old leaf new put same found = record {
     here : IsMet new leaf
     here =
         let itself : (leaf == leaf) ≡ true = grind arith in
-        (put leaf ∙ ap (λ (b : Bool). cond b None (get nat_cmp old.places leaf)) itself, λ is. found ∙ there (old.wanted == leaf) refl (sym same ∙ is))
+        (put leaf ∙ ap (λ (b : Bool). cond b None (place_in old.places leaf)) itself, λ is. found ∙ there (old.wanted == leaf) refl (sym same ∙ is))
 
     kept : (b : Bool) (n : ℕ) → (leaf == n) ≡ b → IsMet old n → IsMet new n
     kept true n e met = let is : leaf ≡ n = grind arith in subst (IsMet new) is here
-    kept false n e met = (put n ∙ ap (λ (b : Bool). cond b None (get nat_cmp old.places n)) e ∙ met.0, λ is. found ∙ still (old.wanted == leaf) (met.1 (sym same ∙ is)))
+    kept false n e met = (put n ∙ ap (λ (b : Bool). cond b None (place_in old.places n)) e ∙ met.0, λ is. found ∙ still (old.wanted == leaf) (met.1 (sym same ∙ is)))
 
     passed : (b : Bool) (n : ℕ) → (leaf == n) ≡ false → (old.wanted == leaf) ≡ b → old.wanted ≡ n → cond b true old.found ≡ old.found
     passed true n e f is = absurd (grind arith)
@@ -329,22 +328,22 @@ meets_one old leaf new put same found = record {
 
     only : (b : Bool) (n : ℕ) → (leaf == n) ≡ b → IsMet new n → IsMet old n ⊎ (leaf ≡ n)
     only true n e met = inr (grind arith)
-    only false n e met = inl (sym (put n ∙ ap (λ (b : Bool). cond b None (get nat_cmp old.places n)) e) ∙ met.0, λ is. sym (found ∙ passed (old.wanted == leaf) n e refl is) ∙ met.1 (same ∙ is))
+    only false n e met = inl (sym (put n ∙ ap (λ (b : Bool). cond b None (place_in old.places n)) e) ∙ met.0, λ is. sym (found ∙ passed (old.wanted == leaf) n e refl is) ∙ met.1 (same ∙ is))
 
 -- ---- what was met in the end
 
 -- the leaf that was looked for
-pub found_met : (P : ℕ → Type 0) (old new : Sieve) (leaf : ℕ) → Meets P old new → get nat_cmp old.places leaf ≡ None → old.wanted ≡ leaf → old.found ≡ false → IsTrue new.found ↔ P leaf
+pub found_met : (P : ℕ → Type 0) (old new : Sieve) (leaf : ℕ) → Meets P old new → place_in old.places leaf ≡ None → old.wanted ≡ leaf → old.found ≡ false → IsTrue new.found ↔ P leaf
 found_met P old new leaf meets empty is not_yet = (λ t. ⊎_elim (λ (met : IsMet old leaf). absurd (none old.found not_yet (met.1 is))) (λ (p : P leaf). p) (meets.only leaf (meets.gone leaf empty, λ same. t)), λ p. (meets.all leaf p).1 (meets.wanted ∙ is))
   where
     none : (a : Bool) → a ≡ false → a ≡ true → ⊥
     none a e f = absurd cc
 
 -- a leaf that stood in the index
-pub place_met : (P : ℕ → Type 0) (old new : Sieve) (leaf place : ℕ) → Meets P old new → old.found ≡ true → get nat_cmp old.places leaf ≡ Some place → (get nat_cmp new.places leaf ≡ None) ↔ P leaf
+pub place_met : (P : ℕ → Type 0) (old new : Sieve) (leaf place : ℕ) → Meets P old new → old.found ≡ true → place_in old.places leaf ≡ Some place → (place_in new.places leaf ≡ None) ↔ P leaf
 place_met P old new leaf place meets nothing_else stands = (λ none. ⊎_elim (λ (met : IsMet old leaf). absurd (there met.0)) (λ (p : P leaf). p) (meets.only leaf (none, λ is. meets.found nothing_else)), λ p. (meets.all leaf p).0)
   where
-    there : get nat_cmp old.places leaf ≡ None → ⊥
+    there : place_in old.places leaf ≡ None → ⊥
     there none = absurd cc
 
 -- what is said of a test, said in other words

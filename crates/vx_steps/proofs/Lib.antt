@@ -5,6 +5,7 @@ pub mod CertifiedValues
 pub mod ChunkRows
 pub mod Chunking
 pub mod CodeVisits
+pub mod ComputedChunks
 pub mod ComputedRows
 pub mod Decoding
 pub mod Delivering
@@ -14,6 +15,7 @@ pub mod HandedRows
 pub mod Indexing
 pub mod Keeping
 pub mod LeavingRows
+pub mod MaskRanges
 pub mod Needing
 pub mod Offering
 pub mod OutermostTakes

@@ -2,10 +2,6 @@
 use Rattle.std.proofs.Common.{◌≡◌, ℕ, zero, suc, ◌==◌, inl, inr, Bool, true, false, List, [], ◌∷◌, Option, Some, None, length, map, refl, sym, ap, ◌∙◌, subst, arith}
 use Rattle.std.specs.Prelude.{◌↔◌, IsTrue, if◌then◌else◌}
 use Rattle.std.specs.List.{items_where_true, slice_get}
-use Rattle.std.specs.BTreeMap.{get}
-use Rattle.std.specs.Ordering.{nat_cmp}
-use Rattle.std.specs.declared.collections.BTreeMap.{BTreeMap}
-use Rattle.std.specs.declared.alloc.Global.{Global}
 use Rattle.std.specs.List.Retain.{IsFiltered, ReturnsInTurn}
 use Rattle.vx_base.specs.Columns.{ColumnData}
 use Rattle.vx_plan.specs.Nodes.{Node}
@@ -13,10 +9,12 @@ use Rattle.vx_plan.specs.Rules.{node_at}
 use Rattle.vx_steps.specs.Held.{AreTyped}
 use Rattle.vx_steps.specs.KeptData.{Kept}
 use Rattle.vx_steps.specs.declared.kept.KeptValue.{KeptValue}
+use Rattle.vx_steps.specs.declared.places.PlaceTable.{PlaceTable}
 use Rattle.vx_plan.specs.Refs.{number_of}
 use Rattle.vx_steps.specs.Kept.{kept_at, kept_data, AreApart, ArePlaces, IsPlace}
 use Rattle.vx_steps.specs.Needs.{Among}
 use Rattle.vx_steps.specs.Offers.{IsForPlan, Keeps}
+use Rattle.vx_steps.specs.Places.{place_in}
 
 no_truth : IsTrue false → ⊥
 no_truth h = cc
@@ -67,8 +65,8 @@ among_kept (y ∷ ys) x (inr among) none = among_kept ys x among (later (number_
     later true e = absurd cc
     later false e = e
 
-pub has_place : (places : BTreeMap ℕ ℕ Global) (xs : List KeptValue) (x : KeptValue) → ArePlaces places (map kept_data xs) → Among x xs → (place : ℕ) × (get nat_cmp places (number_of x.node) ≡ Some place)
-has_place places xs x are among = known (get nat_cmp places (number_of x.node)) (are (number_of x.node))
+pub has_place : (places : PlaceTable) (xs : List KeptValue) (x : KeptValue) → ArePlaces places (map kept_data xs) → Among x xs → (place : ℕ) × (place_in places (number_of x.node) ≡ Some place)
+has_place places xs x are among = known (place_in places (number_of x.node)) (are (number_of x.node))
   where
     known : (o : Option ℕ) → IsPlace (map kept_data xs) (number_of x.node) o → (place : ℕ) × (o ≡ Some place)
     known None none = absurd (among_kept xs x among none)

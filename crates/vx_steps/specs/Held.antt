@@ -47,6 +47,10 @@ pub record IsHeld (h : Held) : Type 0 where
   pub made : AreTyped h.nodes h.made
   pub offset : FitsOffset h.nodes h.offset
 
+-- the plan scans a segment, and this is its column
+abbrev pub IsLeafColumn : Held → ℕ → ColumnData → Type 0
+IsLeafColumn h n column = ((segment : ℕ) × HasShape h.nodes n (shapes.Leaf segment)) × (kept_at h.leaves n ≡ Some column)
+
 -- the kept columns of leaves have the leaves' values
 abbrev pub HaveLeaves : List Node → List Kept → Leaves → Type 0
 HaveLeaves nodes kept leaves = (n segment : ℕ) (column : ColumnData) → HasShape nodes n (shapes.Leaf segment) → kept_at kept n ≡ Some column → leaves (node_at nodes n).dtype (node_at nodes n).rows segment ≡ Some column.values

@@ -1,15 +1,13 @@
 -- Which column is kept for a plan.
 use Rattle.std.specs.Prelude.{◌≡◌, ℕ, ◌≤◌, ◌==◌, length, take, if◌then◌else◌, List, [], ◌∷◌, Option, Some, None, IsSomeAnd}
 use Rattle.std.specs.List.{slice_get}
-use Rattle.std.specs.Ordering.{nat_cmp}
-use Rattle.std.specs.BTreeMap.{get}
-use Rattle.std.specs.declared.collections.BTreeMap.{BTreeMap}
-use Rattle.std.specs.declared.alloc.Global.{Global}
 use Rattle.vx_base.specs.Columns.{ColumnData}
 use Rattle.vx_base.specs.Data.{Datum}
 use Rattle.vx_plan.specs.Refs.{number_of}
 use Rattle.vx_steps.specs.declared.kept.KeptValue.{KeptValue}
+use Rattle.vx_steps.specs.declared.places.PlaceTable.{PlaceTable}
 use Rattle.vx_steps.specs.KeptData.{Kept}
+use Rattle.vx_steps.specs.Places.{place_in}
 
 abbrev pub kept_data : KeptValue → Kept
 kept_data kept = record { node = number_of kept.node; column = kept.column }
@@ -24,11 +22,11 @@ abbrev pub IsPlace : List Kept → ℕ → Option ℕ → Type 0
 IsPlace kept n None = kept_at kept n ≡ None
 IsPlace kept n (Some place) = IsSomeAnd (slice_get kept place) (λ k. kept_at kept n ≡ Some k.column)
 
-abbrev pub ArePlaces : BTreeMap ℕ ℕ Global → List Kept → Type 0
-ArePlaces places kept = (n : ℕ) → IsPlace kept n (get nat_cmp places n)
+abbrev pub ArePlaces : PlaceTable → List Kept → Type 0
+ArePlaces places kept = (n : ℕ) → IsPlace kept n (place_in places n)
 
 -- the places of the first columns, up to so many
-pub record AreIndexed (places : BTreeMap ℕ ℕ Global) (indexed : ℕ) (kept : List Kept) : Type 0 where
+pub record AreIndexed (places : PlaceTable) (indexed : ℕ) (kept : List Kept) : Type 0 where
   pub inside : indexed ≤ length kept
   pub placed : ArePlaces places (take indexed kept)
 

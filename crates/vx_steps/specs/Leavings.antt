@@ -1,13 +1,12 @@
 -- Which leaves the row reads that comes behind those of a scan's splits.
 use Rattle.std.specs.Prelude.{◌≡◌, ℕ, ◌+◌, ◌<◌, ◌⊎◌, max, nat_lt, if◌then◌else◌, true, List, [], ◌∷◌, None}
-use Rattle.std.specs.BTreeMap.{get}
-use Rattle.std.specs.Ordering.{nat_cmp}
 use Rattle.vx_plan.specs.Nodes.{Node}
 use Rattle.vx_plan.specs.Plans.{scan_plan, plan_at}
 use Rattle.vx_plan.specs.Rules.{node_at}
 use Rattle.vx_steps.specs.declared.jobs.Job.{Job}
 use Rattle.vx_steps.specs.declared.leavings.Sieve.{Sieve}
 use Rattle.vx_steps.specs.declared.splits.Split.{Split}
+use Rattle.vx_steps.specs.Places.{place_in}
 use Rattle.vx_steps.specs.Visits.{Test, Visits}
 
 -- the row behind those of the split, which is the first of all where it has none
@@ -40,13 +39,13 @@ IsReadBehind nodes job leaf = (behind_all job.splits.items < (node_at nodes job.
 
 -- the leaf stands in the index no more, and if it is the one that is looked for, that was found
 abbrev pub IsMet : Sieve → ℕ → Type 0
-IsMet sieve leaf = (get nat_cmp sieve.places leaf ≡ None) × (sieve.wanted ≡ leaf → sieve.found ≡ true)
+IsMet sieve leaf = (place_in sieve.places leaf ≡ None) × (sieve.wanted ≡ leaf → sieve.found ≡ true)
 
 -- Exactly those leaves were met that are so, besides those that were before.
 pub record Meets (P : ℕ → Type 0) (old new : Sieve) : Type 0 where
   pub only : (leaf : ℕ) → IsMet new leaf → IsMet old leaf ⊎ P leaf
   pub kept : (leaf : ℕ) → IsMet old leaf → IsMet new leaf
   pub all : (leaf : ℕ) → P leaf → IsMet new leaf
-  pub gone : (leaf : ℕ) → get nat_cmp old.places leaf ≡ None → get nat_cmp new.places leaf ≡ None
+  pub gone : (leaf : ℕ) → place_in old.places leaf ≡ None → place_in new.places leaf ≡ None
   pub wanted : new.wanted ≡ old.wanted
   pub found : old.found ≡ true → new.found ≡ true

@@ -13,6 +13,7 @@ pub mod Laws
 pub mod Leavings
 pub mod Needs
 pub mod Offers
+pub mod Places
 pub mod ReadTable
 pub mod ReadTableData
 pub mod RowFaults

@@ -43,6 +43,10 @@ IsThere given wholes n = (IsKept given n × IsKept wholes.used n) ⊎ ((kept_at 
 abbrev pub Asks : List Node → List Kept → ℕ → ℕ → List Bool → ℕ → Type 0
 Asks nodes given plan start bits n = SomeVisit (IsWholeRead n) (handed_by nodes (Some given)) (plan_at nodes plan) start bits
 
+-- no row of the plan asks for whole values
+abbrev pub AsksNone : List Node → ℕ → Type 0
+AsksNone nodes plan = (given : List Kept) (start : ℕ) (bits : List Bool) (n : ℕ) → Asks nodes given plan start bits n → ⊥
+
 -- all that the selected rows of a plan ask for are there
 abbrev pub AreThere : List Node → List Kept → Wholes → ℕ → ℕ → List Bool → Type 0
 AreThere nodes given wholes plan start bits = (n : ℕ) → Asks nodes given plan start bits n → IsThere given wholes n

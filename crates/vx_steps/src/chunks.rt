@@ -1,6 +1,6 @@
 //! Which child of a concat holds a row.
 
-ghost use Rattle.std.specs.Prelude.{◌≡◌, ◌+◌, ◌<◌, length};
+ghost use Rattle.std.specs.Prelude.{◌≡◌, ◌+◌, ◌<◌, length, IsTrue};
 ghost use Rattle.vx_plan.specs.declared.shapes.Shape.TheVariants.{Chunks};
 ghost use Rattle.vx_plan.specs.Rules.{node_at};
 ghost use Rattle.vx_plan.specs.Shapes.{HasShape};
@@ -8,12 +8,13 @@ ghost use Rattle.vx_steps.specs.Chunks.{IsChunk, HoldsPlace};
 
 use vx_plan::{PlanRef, PlanTable};
 
-/// A child of a concat, and its rows among those of the concat.
+/// A child of a concat, its rows among those of the concat, and the place of the child behind it.
 #[derive(Clone, Copy, Debug)]
 pub(crate) struct Chunk {
     pub(crate) child: u32,
     pub(crate) start: u64,
     pub(crate) end: u64,
+    pub(crate) next: usize,
 }
 
 /// The last place whose offset isn't past the row.
@@ -34,8 +35,31 @@ fn place_of(offsets: &[u64], row: u64) -> usize
     low
 }
 
-/// The child of a concat that holds a row, by a search in the offsets.
-pub(crate) fn chunk_at(table: &PlanTable, plan: u32, row: u64) -> Chunk
+/// Whether the place is the last one whose offset isn't past the row.
+fn is_place_of(offsets: &[u64], place: usize, row: u64) -> bool
+    ensures { IsTrue result → HoldsPlace offsets.now row place (place + 1) }
+{
+    if place >= offsets.len() || offsets[place] > row {
+        return false;
+    }
+    let next = place + 1;
+    next == offsets.len() || row < offsets[next]
+}
+
+/// The last place whose offset isn't past the row. It is searched for, unless it is the one that is tried.
+fn place_near(offsets: &[u64], tried: usize, row: u64) -> usize
+    requires { HoldsPlace offsets.now row 0 (length offsets.now) }
+    ensures { HoldsPlace offsets.now row result (result + 1) }
+{
+    if is_place_of(offsets, tried, row) {
+        return tried;
+    }
+    place_of(offsets, row)
+}
+
+/// The child of a concat that holds a row, by a search in the offsets, unless it is the one at the place that is
+/// tried.
+pub(crate) fn chunk_at(table: &PlanTable, plan: u32, row: u64, tried: usize) -> Chunk
     requires known { plan < length table.now }
     requires concat { HasShape table.now plan Chunks }
     requires inside { row < (node_at table.now plan).rows }
@@ -44,7 +68,7 @@ pub(crate) fn chunk_at(table: &PlanTable, plan: u32, row: u64) -> Chunk
     match table.as_concat(PlanRef(plan)) {
         Some(concat) => {
             let offsets = concat.row_offsets(table);
-            let place = place_of(offsets, row);
+            let place = place_near(offsets, tried, row);
             let child = table.child_required(PlanRef(plan), place);
             let start = offsets[place];
             let end = start + table.row_count(child);
@@ -52,6 +76,7 @@ pub(crate) fn chunk_at(table: &PlanTable, plan: u32, row: u64) -> Chunk
                 child: child.0,
                 start,
                 end,
+                next: place + 1,
             }
         }
         None => unreachable!(),

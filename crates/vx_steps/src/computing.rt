@@ -1,7 +1,7 @@
 //! The column of the selected rows of a plan, from the columns of its leaves.
 
-ghost use Rattle.std.specs.Prelude.{◌≡◌, ◌+◌, ◌<◌, ◌≤◌, length, Err, IfErr, IfOk};
-ghost use Rattle.std.specs.List.{AllByRecursion};
+ghost use Rattle.std.specs.Prelude.{◌≡◌, ◌+◌, ◌-◌, ◌<◌, ◌≤◌, length, slice_range, true, Err, IfErr, IfOk, IfSome, IsTrue};
+ghost use Rattle.std.specs.List.{All, AllByRecursion};
 ghost use Rattle.std.specs.Option.{option_copied};
 ghost use Rattle.vx_base.specs.ColumnCalls.{IsFitting};
 ghost use Rattle.vx_base.specs.Masks.{true_count};
@@ -11,14 +11,17 @@ ghost use Rattle.vx_plan.specs.Rules.{node_at};
 ghost use Rattle.vx_plan.specs.Shapes.{HasShape};
 ghost use Rattle.vx_plan.specs.Tables.{IsGoodTable};
 ghost use Rattle.vx_steps.specs.Computed.{whole_in, AreParts, AreReady, AreReadyWhole, Computes, ComputesWhole};
-ghost use Rattle.vx_steps.specs.Held.{held, IsHeld};
+ghost use Rattle.vx_steps.specs.Held.{held, IsHeld, IsLeafColumn};
 ghost use Rattle.vx_steps.specs.Rows.{SelectsSome};
 
 use crate::chunks::chunk_at;
 use crate::errors::StepError;
 use crate::kept::KeptColumns;
-use crate::picking::{looked_up, numbered, picked, selects_none, structs, worked_out};
+use crate::picking::{
+    looked_up, numbered, picked, picked_range, selects_none, structs, worked_out,
+};
 use std::alloc::Global;
+use std::ops::Range;
 use vx_base::{Column, Mask};
 use vx_plan::{PlanRef, PlanTable, Shape};
 
@@ -44,6 +47,17 @@ impl<'a> Sources<'a> {
             }
         }
         self.made.find(plan)
+    }
+
+    /// The column of a plan, where it scans a segment.
+    fn leaf(self, plan: u32) -> Option<&'a Column>
+        requires { plan < length self.table.now }
+        ensures { IfSome (option_copied result) (IsLeafColumn (held self.entry) plan) }
+    {
+        match self.table.shape(PlanRef(plan)) {
+            Shape::Leaf(_) => self.leaves.find(plan),
+            _ => None,
+        }
     }
 }
 
@@ -131,21 +145,63 @@ fn chunks_of(
 {
     // The contract of `row_count` says that the rows are so few that their numbers fit.
     let _rows = from.table.row_count(PlanRef(plan));
+    let selects_all = mask.all_true();
     let mut parts = Vec::new(alloc);
     let mut done: u64 = 0;
+    let mut place: usize = 0;
     while done < mask.len() {
         let row = start + done;
-        let chunk = chunk_at(from.table, plan, row);
+        let chunk = chunk_at(from.table, plan, row, place);
         let here = (chunk.end - row).min(mask.len() - done);
-        let some = mask.slice(alloc, done..done + here)?;
-        let part = match column_of(alloc, from, chunk.child, row - chunk.start, &some) {
+        let part = match range_of(
+            alloc,
+            from,
+            chunk.child,
+            row - chunk.start,
+            mask,
+            selects_all,
+            done..done + here,
+        ) {
             Ok(part) => part,
             Err(error) => return Err(error),
         };
         parts.push(part)?;
         done += here;
+        place = chunk.next;
     }
     Ok(Column::concat(alloc, from.table.dtype(PlanRef(plan)).copy(alloc)?, parts)?)
+}
+
+/// The rows of a plan that a range of a mask selects. Those of a segment are picked out of its column at once.
+#[cycle(computing)]
+fn range_of(
+    alloc: Global,
+    from: Sources<'_>,
+    plan: u32,
+    start: u64,
+    mask: &Mask,
+    selects_all: bool,
+    range: Range<u64>,
+) -> Result<Column, StepError>
+    requires known { plan < length from.table.now }
+    requires all { IsTrue selects_all → All (λ bit. bit ≡ true) mask.now }
+    requires forwards { range.start ≤ range.end }
+    requires masked { range.end ≤ length mask.now }
+    requires inside { start + (range.end - range.start) ≤ (node_at from.table.now plan).rows }
+    requires held { IsHeld (held from) }
+    requires ready { AreReady (held from) plan start (slice_range mask.now range.start range.end) }
+    ensures dtype { IfOk result (λ column. column.dtype ≡ (node_at from.entry.table.now plan).dtype) }
+    ensures rows { IfOk result (λ column. length column.values ≡ true_count (slice_range mask.now range.start range.end)) }
+    ensures computed { Computes (held from.entry) plan start (slice_range mask.now range.start range.end) result }
+{
+    if let Shape::Same(child) = from.table.shape(PlanRef(plan)) {
+        return range_of(alloc, from, child, start, mask, selects_all, range);
+    }
+    if let Some(column) = from.leaf(plan) {
+        return Ok(picked_range(alloc, column, start, mask, selects_all, range)?);
+    }
+    let some = mask.slice(alloc, range)?;
+    column_of(alloc, from, plan, start, &some)
 }
 
 /// The selected rows of each child, of which the last may be a validity.

@@ -3,8 +3,8 @@
 ghost use Rattle.std.specs.Prelude.{◌≡◌, ◌+◌, ◌<◌, length, take, [], ◌∷◌, ◌++◌, None, map, IfOk, MatchResult, OnOk, OnErr, option_copied};
 ghost use Rattle.vx_steps.specs.Kept.{kept_at, kept_data, ArePlaces};
 
+use crate::places::PlaceTable;
 use std::alloc::{AllocError, Global};
-use std::collections::BTreeMap;
 use std::marker::Model;
 use vx_base::Column;
 use vx_plan::PlanRef;
@@ -22,7 +22,7 @@ pub struct KeptValue {
 pub(crate) struct KeptColumns {
     columns: Vec<KeptValue>,
     indexed: usize,
-    places: BTreeMap<u32, usize>,
+    places: PlaceTable,
 }
 
 impl Model for KeptColumns {
@@ -54,21 +54,17 @@ fn first_for(columns: &[KeptValue], node: u32) -> Option<&Column>
 }
 
 /// Indexes one more column, unless one for its plan stands before it.
-fn index_at(
-    columns: &[KeptValue],
-    place: usize,
-    places: &mut BTreeMap<u32, usize>,
-) -> Result<(), AllocError>
+fn index_at(columns: &[KeptValue], place: usize, places: &mut PlaceTable) -> Result<(), AllocError>
     requires place { place < length columns.now }
     requires before { ArePlaces places.old (take place (map kept_data columns.now)) }
     ensures after { OnOk result (ArePlaces places.new (take (place + 1) (map kept_data columns.now))) }
     ensures as_before { OnErr result (ArePlaces places.new (take place (map kept_data columns.now))) }
 {
     let node = columns[place].node.0;
-    if places.get(&node).is_some() {
+    if places.get(node).is_some() {
         return Ok(());
     }
-    places.insert(node, place)?;
+    places.put(node, place)?;
     Ok(())
 }
 
@@ -80,7 +76,7 @@ impl KeptColumns {
         KeptColumns {
             columns: Vec::new(alloc),
             indexed: 0,
-            places: BTreeMap::new(alloc),
+            places: PlaceTable::new(alloc),
         }
     }
 
@@ -88,8 +84,8 @@ impl KeptColumns {
     pub(crate) fn find(&self, node: u32) -> Option<&Column>
         ensures { option_copied result ≡ kept_at self.now node }
     {
-        match self.places.get(&node) {
-            Some(place) => Some(&self.columns[*place].column),
+        match self.places.get(node) {
+            Some(place) => Some(&self.columns[place].column),
             None => first_for(&self.columns[self.indexed..], node),
         }
     }
@@ -101,7 +97,7 @@ impl KeptColumns {
         KeptColumns {
             columns,
             indexed: 0,
-            places: BTreeMap::new(alloc),
+            places: PlaceTable::new(alloc),
         }
     }
 
@@ -130,7 +126,7 @@ impl KeptColumns {
         if self.indexed < place {
             return Ok(());
         }
-        if self.places.insert(node, place).is_err() {
+        if self.places.put(node, place).is_err() {
             self.columns.pop();
             return Err(AllocError);
         }
@@ -153,9 +149,7 @@ impl KeptColumns {
     }
 
     /// The kept columns and their places, where all are indexed, and else the columns alone.
-    pub(crate) fn into_indexed(
-        self,
-    ) -> Result<(Vec<KeptValue>, BTreeMap<u32, usize>), Vec<KeptValue>>
+    pub(crate) fn into_indexed(self) -> Result<(Vec<KeptValue>, PlaceTable), Vec<KeptValue>>
         ensures { MatchResult result (λ found. (map kept_data found.0.items ≡ self) × ArePlaces found.1 self) (λ columns. map kept_data columns.items ≡ self) }
     {
         if self.indexed < self.columns.len() {

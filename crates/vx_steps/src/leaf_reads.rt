@@ -145,9 +145,10 @@ fn add_chunk_reads(
     // The contract of `row_count` says that the rows are so few that their numbers fit.
     let _rows = table.row_count(PlanRef(plan));
     let mut done: u64 = 0;
+    let mut place: usize = 0;
     while done < mask.len() {
         let row = start + done;
-        let chunk = chunk_at(table, plan, row);
+        let chunk = chunk_at(table, plan, row, place);
         let here = (chunk.end - row).min(mask.len() - done);
         let some = mask.slice(alloc, done..done + here)?;
         add_reads(
@@ -160,6 +161,7 @@ fn add_chunk_reads(
             reads,
         )?;
         done += here;
+        place = chunk.next;
     }
     Ok(())
 }

@@ -2,8 +2,6 @@
 //! whole values.
 
 ghost use Rattle.std.specs.Prelude.{◌≡◌, ◌+◌, ◌<◌, ◌≤◌, ◌↔◌, ℕ, false, length, map, true, IsTrue, None};
-ghost use Rattle.std.specs.BTreeMap.{get};
-ghost use Rattle.std.specs.Ordering.{nat_cmp};
 ghost use Rattle.vx_plan.specs.declared.shapes.Shape.TheVariants.{Chunks};
 ghost use Rattle.vx_plan.specs.Kinds.{HasKind, IsPack};
 ghost use Rattle.vx_plan.specs.Refs.{number_of};
@@ -13,13 +11,14 @@ ghost use Rattle.vx_plan.specs.Tables.{IsGoodTable};
 ghost use Rattle.vx_steps.specs.Kept.{kept_data};
 ghost use Rattle.vx_steps.specs.Leavings.{behind_all, behind_split, IsReadBehind, Meets, RowReads, RowsRead};
 ghost use Rattle.vx_steps.specs.Offers.{Keeps};
+ghost use Rattle.vx_steps.specs.Places.{place_in};
 
 use crate::chunks::chunk_at;
 use crate::jobs::Job;
 use crate::kept::{KeptColumns, KeptValue};
+use crate::places::PlaceTable;
 use crate::splits::Split;
 use std::alloc::Global;
-use std::collections::BTreeMap;
 use vx_plan::{PlanRef, PlanTable, Shape};
 
 /// What a scan leaves to the next one.
@@ -60,14 +59,14 @@ fn row_behind(splits: &[Split]) -> u64
 /// until it is found.
 #[derive(Drop)]
 pub(crate) struct Sieve {
-    places: BTreeMap<u32, usize>,
+    places: PlaceTable,
     wanted: u32,
     found: bool,
 }
 
 impl Sieve {
     /// Over the leaves of an index; none is looked for besides.
-    fn over(places: BTreeMap<u32, usize>) -> Sieve
+    fn over(places: PlaceTable) -> Sieve
         ensures places { result.places ≡ places }
         ensures found { result.found ≡ true }
     {
@@ -80,12 +79,12 @@ impl Sieve {
 
     /// For one leaf that is looked for. It takes no memory.
     fn for_leaf(alloc: Global, leaf: u32) -> Sieve
-        ensures places { (n : ℕ) → get nat_cmp result.places n ≡ None }
+        ensures places { (n : ℕ) → place_in result.places n ≡ None }
         ensures wanted { result.wanted ≡ leaf }
         ensures found { result.found ≡ false }
     {
         Sieve {
-            places: BTreeMap::new(alloc),
+            places: PlaceTable::new(alloc),
             wanted: leaf,
             found: false,
         }
@@ -95,7 +94,7 @@ impl Sieve {
     fn meet(&mut self, leaf: u32)
         ensures { Meets (λ n. leaf ≡ n) self.old self.new }
     {
-        self.places.remove(&leaf);
+        self.places.remove(leaf);
         if self.wanted == leaf {
             self.found = true;
         }
@@ -159,12 +158,14 @@ fn meet_chunks(table: &PlanTable, plan: u32, start: u64, count: u64, sieve: &mut
     // The contract of `row_count` says that the rows are so few that their numbers fit.
     let _rows = table.row_count(PlanRef(plan));
     let mut done: u64 = 0;
+    let mut place: usize = 0;
     while done < count {
         let row = start + done;
-        let chunk = chunk_at(table, plan, row);
+        let chunk = chunk_at(table, plan, row, place);
         let here = (chunk.end - row).min(count - done);
         meet_rows(table, chunk.child, row - chunk.start, here, sieve);
         done += here;
+        place = chunk.next;
     }
 }
 
@@ -189,10 +190,10 @@ fn row_reads(alloc: Global, table: &PlanTable, plan: u32, row: u64, leaf: u32) -
 }
 
 /// Whether the leaf of the column stands in the index no more.
-fn is_met(places: &BTreeMap<u32, usize>, value: &KeptValue) -> bool
-    ensures { IsTrue result ↔ (get nat_cmp places.now (number_of value.now.node) ≡ None) }
+fn is_met(places: &PlaceTable, value: &KeptValue) -> bool
+    ensures { IsTrue result ↔ (place_in places.now (number_of value.now.node) ≡ None) }
 {
-    places.get(&value.node.0).is_none()
+    places.get(value.node.0).is_none()
 }
 
 /// The columns of those leaves that the row behind the splits reads. It takes no memory.

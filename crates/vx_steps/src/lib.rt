@@ -15,6 +15,7 @@ mod needs;
 mod offers;
 mod outputs;
 mod picking;
+mod places;
 mod progress;
 mod reads;
 mod scan;

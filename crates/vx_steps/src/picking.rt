@@ -1,9 +1,9 @@
 //! Columns of selected rows: those of a whole column, values at codes, structs of parts, an expression over its root,
 //! and the numbers of the rows.
 
-ghost use Rattle.std.specs.Prelude.{◌≡◌, ◌+◌, ◌<◌, ◌≤◌, ◌^◌, ℕ, length, map, replicate, slice_range, Some, IfOk, IfErr, IsSomeAnd, IsTrue, MatchOption};
+ghost use Rattle.std.specs.Prelude.{◌≡◌, ◌+◌, ◌-◌, ◌<◌, ◌≤◌, ◌^◌, ℕ, length, map, replicate, slice_range, Some, true, IfOk, IfErr, IsSomeAnd, IsTrue, MatchOption};
 ghost use Rattle.std.specs.Bool.{MatchBool};
-ghost use Rattle.std.specs.List.{slice_get, AllByRecursion};
+ghost use Rattle.std.specs.List.{slice_get, All, AllByRecursion};
 ghost use Rattle.vx_base.specs.Data.{int_type};
 ghost use Rattle.vx_base.specs.Fits.{nullability_of};
 ghost use Rattle.vx_base.specs.ColumnCalls.{natural, nullable_where, IsCodeBelow, IsUnsigned};
@@ -20,6 +20,7 @@ ghost use Rattle.vx_steps.specs.Structs.{field_parts, front_parts, last_part, st
 
 use crate::errors::StepError;
 use std::alloc::{AllocError, Global};
+use std::ops::Range;
 use vx_base::{Cell, Column, Mask};
 use vx_expr::{ApplyError, BoundExpression, apply};
 use vx_plan::{PlanRef, PlanTable};
@@ -49,6 +50,32 @@ pub(crate) fn picked(
     } else {
         column.filter_range(alloc, rows, mask)
     }
+}
+
+/// The rows of a column that a range of a mask selects, from the first row of that range on. Where the whole mask is
+/// known to select each row, no mask is made of the range.
+pub(crate) fn picked_range(
+    alloc: Global,
+    column: &Column,
+    start: u64,
+    mask: &Mask,
+    selects_all: bool,
+    range: Range<u64>,
+) -> Result<Column, AllocError>
+    requires all { IsTrue selects_all → All (λ bit. bit ≡ true) mask.now }
+    requires forwards { range.start ≤ range.end }
+    requires masked { range.end ≤ length mask.now }
+    requires inside { start + (range.end - range.start) ≤ length column.now.values }
+    ensures dtype { IfOk result (λ picked. picked.dtype ≡ column.now.dtype) }
+    ensures values { IfOk result (λ picked. picked.values ≡ chosen (slice_range mask.now range.start range.end) (slice_range column.now.values start (start + length (slice_range mask.now range.start range.end)))) }
+{
+    if !selects_all {
+        let some = mask.slice(alloc, range)?;
+        return picked(alloc, column, start, &some);
+    }
+    let _rows = column.len();
+    let end = start + (range.end - range.start);
+    column.slice(alloc, start..end)
 }
 
 /// The selected row at a place among the selected rows.

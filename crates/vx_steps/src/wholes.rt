@@ -1,7 +1,7 @@
 //! The whole values that selected rows ask for: the values of takes, and shares. Each is made once, unless it was
 //! handed in.
 
-ghost use Rattle.std.specs.Prelude.{◌≡◌, ◌+◌, ◌<◌, ◌≤◌, length, Err, None, IfErr, IfOk, OnOk};
+ghost use Rattle.std.specs.Prelude.{◌≡◌, ◌+◌, ◌-◌, ◌<◌, ◌≤◌, length, slice_range, Err, None, IfErr, IfOk, IsTrue, OnOk};
 ghost use Rattle.std.specs.Bool.{MatchBool};
 ghost use Rattle.vx_plan.specs.declared.shapes.Shape.TheVariants.{Chunks};
 ghost use Rattle.vx_plan.specs.Kinds.{HasKind, IsPack};
@@ -11,7 +11,7 @@ ghost use Rattle.vx_plan.specs.Tables.{IsGoodTable};
 ghost use Rattle.vx_steps.specs.Computed.{AreReady, AreReadyWhole, Computes};
 ghost use Rattle.vx_steps.specs.Held.{held, IsHeld};
 ghost use Rattle.vx_steps.specs.Kept.{kept_at, IsKept};
-ghost use Rattle.vx_steps.specs.Wholes.{held_with, AddsAsked, AddsOne, AddsOnly, AreThere, FailsInside, IsThere, IsWholeOf, KeepsValues, UsesGiven, WholeFails};
+ghost use Rattle.vx_steps.specs.Wholes.{held_with, AddsAsked, AddsOne, AddsOnly, AreThere, AsksNone, FailsInside, IsThere, IsWholeOf, KeepsValues, UsesGiven, WholeFails};
 
 use crate::chunks::chunk_at;
 use crate::computing::{Sources, whole_of_plan};
@@ -19,6 +19,7 @@ use crate::errors::StepError;
 use crate::kept::KeptColumns;
 use crate::picking::selects_none;
 use std::alloc::{AllocError, Global};
+use std::ops::Range;
 use vx_base::Mask;
 use vx_plan::{PlanRef, PlanTable, Shape};
 
@@ -212,23 +213,70 @@ fn ready_chunks(
     // The contract of `row_count` says that the rows are so few that their numbers fit.
     let _rows = grounds.table.row_count(PlanRef(plan));
     let mut done: u64 = 0;
+    let mut place: usize = 0;
     while done < mask.len() {
         let row = start + done;
-        let chunk = chunk_at(grounds.table, plan, row);
+        let chunk = chunk_at(grounds.table, plan, row, place);
         let here = (chunk.end - row).min(mask.len() - done);
-        let some = mask.slice(alloc, done..done + here)?;
-        match ready_wholes(
+        match ready_range(
             alloc,
             grounds,
             chunk.child,
             row - chunk.start,
-            &some,
+            mask,
+            done..done + here,
             wholes,
         ) {
             Ok(()) => {}
             Err(error) => return Err(error),
         }
         done += here;
+        place = chunk.next;
     }
     Ok(())
+}
+
+/// Whether no row of the plan asks for whole values, since there is no plan below it.
+fn asks_none(table: &PlanTable, plan: u32) -> bool
+    requires { plan < length table.now }
+    ensures { IsTrue result → AsksNone table.now plan }
+{
+    matches!(
+        table.shape(PlanRef(plan)),
+        Shape::Leaf(_) | Shape::RowNumbers | Shape::Lists
+    )
+}
+
+/// Makes the whole values that the rows ask for which a range of a mask selects.
+#[cycle(wholes)]
+fn ready_range(
+    alloc: Global,
+    grounds: Grounds<'_>,
+    plan: u32,
+    start: u64,
+    mask: &Mask,
+    range: Range<u64>,
+    wholes: &mut Wholes,
+) -> Result<(), StepError>
+    requires known { plan < length grounds.table.now }
+    requires forwards { range.start ≤ range.end }
+    requires masked { range.end ≤ length mask.now }
+    requires inside { start + (range.end - range.start) ≤ (node_at grounds.table.now plan).rows }
+    requires held { IsHeld (held_with grounds wholes.old) }
+    requires ready { AreReady (held_with grounds wholes.old) plan start (slice_range mask.now range.start range.end) }
+    ensures made { KeepsValues grounds.entry.table.now grounds.entry.leaves.now grounds.entry.offset wholes.old.made wholes.new.made }
+    ensures used { UsesGiven grounds.entry.given.now wholes.old.used wholes.new.used }
+    ensures there { OnOk result (AreThere grounds.entry.table.now grounds.entry.given.now wholes.new plan start (slice_range mask.now range.start range.end)) }
+    ensures asked { AddsAsked grounds.entry.table.now grounds.entry.given.now plan start (slice_range mask.now range.start range.end) wholes.old wholes.new }
+    ensures cause { IfErr result (λ error. Computes (held_with grounds.entry wholes.old) plan start (slice_range mask.now range.start range.end) (Err error)) }
+    ensures inside { IfErr result (λ error. FailsInside (held_with grounds.entry wholes.old) plan start (slice_range mask.now range.start range.end) error) }
+{
+    if let Shape::Same(child) = grounds.table.shape(PlanRef(plan)) {
+        return ready_range(alloc, grounds, child, start, mask, range, wholes);
+    }
+    if asks_none(grounds.table, plan) {
+        return Ok(());
+    }
+    let some = mask.slice(alloc, range)?;
+    ready_wholes(alloc, grounds, plan, start, &some, wholes)
 }

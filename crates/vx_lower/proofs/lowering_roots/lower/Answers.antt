@@ -1,4 +1,4 @@
-use Rattle.std.proofs.Common.{◌≡◌, List, length, ap, ◌∙◌, arith}
+use Rattle.std.proofs.Common.{◌≡◌, List, ◌++◌, length, sym, ap, ◌∙◌, subst, arith}
 use Rattle.vx_layout.specs.Kept.{kept_data, KeptFields}
 use Rattle.vx_layout.specs.Trees.{subtree}
 use Rattle.vx_layout.proofs.Ruled.{good_sound}
@@ -6,7 +6,7 @@ use Rattle.vx_plan.specs.Nodes.{Node}
 use Rattle.vx_plan.specs.Plans.{plan_at, Plan}
 use Rattle.vx_plan.specs.Refs.{number_of}
 use Rattle.vx_lower.specs.Lowered.{lowered}
-use Rattle.vx_lower.specs.Numbered.{numbered}
+use Rattle.vx_lower.specs.Numbered.{numbered, NumberNoRows}
 use Rattle.vx_lower.proofs.LoweredSizes.{lowered_size}
 use Rattle.vx_lower.proofs.Roots.{tree_may, tree_names}
 use Rattle.vx_lower.proofs.TreePlans.{keeps_reads, keeps_rows, keeps_type, keeps_values}
@@ -66,3 +66,9 @@ returns-clause-reads c =
     let p : Plan = lowered (subtree nodes 0) (kept_data c.args.kept.now) in
     let is : plan_at c.lower_root.new.table (number_of c.in_ok-root.root) ≡ numbered 0 p = c.in_ok-root.ensures.plan_is ∙ ap (λ (table : List Node). numbered (length table) p) c.in_ok-table.ensures.empty in
     keeps_reads (subtree nodes 0) (kept_data c.args.kept.now) (plan_at c.lower_root.new.table (number_of c.in_ok-root.root)) (good_sound nodes good 0 good.nonempty) is
+
+pub returns-clause-unnumbered : goal.returns-clause-unnumbered
+returns-clause-unnumbered c =
+    let more : List Node = c.in_ok-root.ensures.more in
+    let all : c.lower_root.new.table ≡ more = c.in_ok-root.ensures.appended ∙ ap (λ (table : List Node). table ++ more) c.in_ok-table.ensures.empty in
+    subst NumberNoRows (sym all) c.in_ok-root.ensures.unnumbered

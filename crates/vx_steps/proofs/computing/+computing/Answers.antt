@@ -1,10 +1,11 @@
-use Rattle.std.proofs.Common.{arith, ◌≡◌, ◌+◌, ◌<◌, ◌≤◌, ◌-◌, ℕ, List, [], ◌∷◌, ◌++◌, Bool, Some, None, Ok, Err, Result, true, replicate, length, map, refl, sym, ap, ◌∙◌, subst}
+use Rattle.std.proofs.Common.{arith, ◌≡◌, ◌+◌, ◌<◌, ◌≤◌, ℕ, List, [], ◌∷◌, ◌++◌, Bool, Some, None, Result, true, replicate, length, map, refl, sym, ap, ◌∙◌, subst}
 use Rattle.std.proofs.lemmas.Result.{IfOk-weaker, err_from_is_err_and}
 use Rattle.vx_base.specs.Columns.{ColumnData}
 use Rattle.vx_base.specs.Masks.{true_count}
-use Rattle.std.proofs.lemmas.List.{length-map}
+use Rattle.std.proofs.lemmas.List.{length-map, take_all}
+use Rattle.std.proofs.lemmas.List.Concat.{length-flat_map}
 use Rattle.std.proofs.lemmas.List.Sums.{sum_by_push}
-use Rattle.std.specs.Prelude.{slice_range}
+use Rattle.std.specs.Prelude.{slice_range, IfOk}
 use Rattle.std.specs.List.{AllByRecursion}
 use Rattle.vx_base.specs.Data.{DataType}
 use Rattle.vx_rows.specs.Derivations.{Leaves}
@@ -25,7 +26,9 @@ use Rattle.vx_steps.specs.Rows.{rows_of, AreOf}
 use Rattle.vx_plan.specs.Rules.{node_at}
 use Rattle.vx_steps.specs.Held.{alone, held, handed_in, IsBy}
 use Rattle.vx_steps.proofs.ChunkRows.{chunk_dtype, concat_plan_at}
-use Rattle.vx_steps.proofs.ComputedRows.{all_pushed, all_taken, chunk_failed, chunk_values, codes_failed, count_more, eval_computed, eval_failed, joined_count, leaf_computed, length_all, length_range, none_computed, numbers_computed, same_computed, share_computed, share_made, share_there, shared_failed, take_computed, values_failed, whole_computed, whole_made, whole_memory, whole_there, whole_typed, zoned_computed}
+use Rattle.vx_steps.proofs.ComputedChunks.{chunk_failed, chunk_values}
+use Rattle.vx_steps.proofs.ComputedRows.{codes_failed, eval_computed, eval_failed, leaf_computed, length_all, none_computed, numbers_computed, same_computed, share_computed, share_made, share_there, shared_failed, take_computed, values_failed, whole_computed, whole_made, whole_memory, whole_there, whole_typed, zoned_computed}
+use Rattle.vx_steps.proofs.MaskRanges.{all_pushed, count_more, length_between}
 use Rattle.vx_steps.proofs.Readying.{nothing_given, ready_chunk, ready_field, ready_leaf, ready_same, ready_shared, ready_values, ready_whole, ready_zoned}
 use Rattle.vx_steps.proofs.SelectedRows.{count_none, picked_count, rows_count}
 use Rattle.vx_steps.proofs.Shaping.{eval_at, leaf_plan, over_plan, pack_plan_at, numbers_law, numbers_type, same_law, same_plan, share_plan_at, take_plan_at, zoned_law, zoned_like_plan}
@@ -101,38 +104,30 @@ column_of-returns-in_ok-numbered-in-RowNumbers-clause-computed g c = numbers_com
 
 -- ---- chunks
 
-pub chunks_of-column_of-requires : goal.chunks_of-column_of-requires
-chunks_of-column_of-requires g c =
+pub chunks_of-range_of-requires : goal.chunks_of-range_of-requires
+chunks_of-range_of-requires g c =
     let is = c.chunk_at-chunk.ensures in
     let low : c.chunk_at-chunk.result.start ≤ c.args.start + c.loop-done.done = is.at_most in
     let end : c.chunk_at-chunk.result.end ≡ c.chunk_at-chunk.result.start + (node_at c.args.from.table.now c.chunk_at-chunk.result.child).rows = is.end in
     let below : c.chunk_at-chunk.result.child < c.args.plan = is.below in
     let over = concat_plan_at c.args.from.table.now c.args.plan c.requires.known c.requires.concat in
-    let some : c.in_ok-some.some ≡ slice_range c.args.mask.now c.loop-done.done (c.loop-done.done + c.min-here.result) = c.in_ok-some.ensures in
-    let count : length c.in_ok-some.some ≤ c.min-here.result = omega (arith, ap length some, length_range c.args.mask.now c.loop-done.done c.min-here.result) in
-    let F : List Bool → Type 0 = λ bits. AreReady (held c.args.from) c.chunk_at-chunk.result.child (c.args.start + c.loop-done.done - c.chunk_at-chunk.result.start) bits in
-    (omega arith, (omega arith, (omega arith, (c.requires.held, subst F (sym some) (ready_chunk (held c.args.from) c.requires.good c.args.plan c.args.start c.loop-done.done c.min-here.result c.args.mask.now c.chunk_at-chunk.result is over (omega arith) c.requires.ready)))))
+    (omega arith, (omega arith, (c.all_true-selects_all.ensures.0, (omega arith, (omega arith, (omega arith, (c.requires.held, ready_chunk (held c.args.from) c.requires.good c.args.plan c.args.start c.loop-done.done c.min-here.result c.args.mask.now c.chunk_at-chunk.result is over (omega arith) c.requires.ready)))))))
 
 pub chunks_of-returns-in-Err-clause-computed : goal.chunks_of-returns-in-Err-clause-computed
 chunks_of-returns-in-Err-clause-computed g c =
-    let some : c.in_ok-some.some ≡ slice_range c.args.mask.now c.loop-done.done (c.loop-done.done + c.min-here.result) = c.in_ok-some.ensures in
-    let F : List Bool → Type 0 = λ bits. Computes (held c.args.from) c.chunk_at-chunk.result.child (c.args.start + c.loop-done.done - c.chunk_at-chunk.result.start) bits (Err c.in-Err.error) in
-    chunk_failed (held c.args.from) c.requires.good c.args.plan c.args.start c.loop-done.done c.min-here.result c.args.mask.now c.chunk_at-chunk.result c.in-Err.error c.chunk_at-chunk.ensures (concat_plan_at c.args.from.table.now c.args.plan c.requires.known c.requires.concat) (omega arith) (subst F some c.in-Err.ensures.computed)
+    chunk_failed (held c.args.from) c.requires.good c.args.plan c.args.start c.loop-done.done c.min-here.result c.args.mask.now c.chunk_at-chunk.result c.in-Err.error c.chunk_at-chunk.ensures (concat_plan_at c.args.from.table.now c.args.plan c.requires.known c.requires.concat) (omega arith) c.in-Err.ensures.computed
 
 pub chunks_of-loop-done-preserved : goal.chunks_of-loop-done-preserved
 chunks_of-loop-done-preserved g c =
     let over = concat_plan_at c.args.from.table.now c.args.plan c.requires.known c.requires.concat in
-    let some : c.in_ok-some.some ≡ slice_range c.args.mask.now c.loop-done.done (c.loop-done.done + c.min-here.result) = c.in_ok-some.ensures in
     let pushed : c.push.new.self.items ≡ c.loop-done.parts.items ++ c.in-Ok.part ∷ [] = c.in_ok-push.ensures.items in
-    let F : List Bool → Type 0 = λ bits. Computes (held c.args.from) c.chunk_at-chunk.result.child (c.args.start + c.loop-done.done - c.chunk_at-chunk.result.start) bits (Ok c.in-Ok.part) in
-    let here = subst F some c.in-Ok.ensures.computed in
     let type_is : (node_at c.args.from.table.now c.chunk_at-chunk.result.child).dtype ≡ (node_at c.args.from.table.now c.args.plan).dtype = chunk_dtype c.args.from.table.now c.requires.good c.args.plan (c.args.start + c.loop-done.done) c.chunk_at-chunk.result c.requires.known c.requires.concat c.chunk_at-chunk.ensures in
-    let count : length c.in-Ok.part.values ≡ true_count (slice_range c.args.mask.now c.loop-done.done (c.loop-done.done + c.min-here.result)) = c.in-Ok.ensures.rows ∙ ap true_count some in
+    let count : length c.in-Ok.part.values ≡ true_count (slice_range c.args.mask.now c.loop-done.done (c.loop-done.done + c.min-here.result)) = c.in-Ok.ensures.rows in
     record {
       inside = omega arith;
       dtypes = rw pushed (all_pushed (λ part. part.dtype ≡ (node_at c.args.from.table.now c.args.plan).dtype) c.loop-done.parts.items c.in-Ok.part c.loop-done.invariant.dtypes (c.in-Ok.ensures.dtype ∙ type_is));
       rows = rw pushed (omega (arith, sum_by_push (λ (part : ColumnData). length part.values) c.loop-done.parts.items c.in-Ok.part, c.loop-done.invariant.rows, count, count_more c.args.mask.now c.loop-done.done c.min-here.result));
-      values = λ leaves are. rw pushed (chunk_values (held c.args.from) leaves c.requires.good c.args.plan c.args.start c.loop-done.done c.min-here.result c.args.mask.now c.chunk_at-chunk.result c.loop-done.parts.items c.in-Ok.part c.chunk_at-chunk.ensures over (omega arith) c.loop-done.invariant.inside (c.loop-done.invariant.values leaves are) (here leaves are));
+      values = λ leaves are. rw pushed (chunk_values (held c.args.from) leaves c.requires.good c.args.plan c.args.start c.loop-done.done c.min-here.result c.args.mask.now c.chunk_at-chunk.result c.loop-done.parts.items c.in-Ok.part c.chunk_at-chunk.ensures over (omega arith) c.loop-done.invariant.inside (c.loop-done.invariant.values leaves are) (c.in-Ok.ensures.computed leaves are));
     }
 
 pub chunks_of-concat-requires : goal.chunks_of-concat-requires
@@ -142,12 +137,48 @@ chunks_of-concat-requires g c =
 
 pub chunks_of-returns-clause-rows : goal.chunks_of-returns-clause-rows
 chunks_of-returns-clause-rows g c =
-    ap length c.in_ok-concat.ensures.values ∙ joined_count c.loop-done.parts.items ∙ c.loop-done.invariant.rows ∙ ap true_count (all_taken c.args.mask.now c.loop-done.done (omega arith))
+    ap length c.in_ok-concat.ensures.values ∙ length-flat_map (λ (part : ColumnData). part.values) c.loop-done.parts.items ∙ c.loop-done.invariant.rows ∙ ap true_count (take_all c.loop-done.done c.args.mask.now (omega arith))
 
 pub chunks_of-returns-clause-computed : goal.chunks_of-returns-clause-computed
 chunks_of-returns-clause-computed g c =
     let F : List Bool → Type 0 = λ bits. (leaves : Leaves) → IsBy (held c.args.from) leaves → AreOf (row_value leaves (handed_in (held c.args.from)) c.args.from.offset (plan_at c.args.from.table.now c.args.plan)) (rows_of c.args.start bits) c.in_ok-concat.field-0.values in
-    subst F (all_taken c.args.mask.now c.loop-done.done (omega arith)) (λ leaves are. c.loop-done.invariant.values leaves are ∙ ap (map Some) (sym c.in_ok-concat.ensures.values))
+    subst F (take_all c.loop-done.done c.args.mask.now (omega arith)) (λ leaves are. c.loop-done.invariant.values leaves are ∙ ap (map Some) (sym c.in_ok-concat.ensures.values))
+
+pub range_of-range_of-requires : goal.range_of-range_of-requires
+range_of-range_of-requires g c =
+    let like = same_plan c.args.from.table.now c.args.plan c.in-Same.child c.requires.known c.in-Same.ensures.shape in
+    let lt : c.in-Same.child < c.args.plan = like.lower in
+    let rows : (node_at c.args.from.table.now c.args.plan).rows ≡ (node_at c.args.from.table.now c.in-Same.child).rows = like.rows in
+    (omega arith, (like.known, (c.requires.all, (c.requires.forwards, (c.requires.masked, (omega arith, (c.requires.held, ready_same (held c.args.from) c.args.plan c.in-Same.child c.args.start (slice_range c.args.mask.now c.args.range.start c.args.range.end) (same_law c.args.from.table.now c.args.plan c.in-Same.child c.requires.known c.in-Same.ensures.shape) c.requires.ready)))))))
+
+pub range_of-returns-in-Same-clause-dtype : goal.range_of-returns-in-Same-clause-dtype
+range_of-returns-in-Same-clause-dtype g c =
+    let like = same_plan c.args.from.table.now c.args.plan c.in-Same.child c.requires.known c.in-Same.ensures.shape in
+    IfOk-weaker c.range_of.result (λ column. column.dtype ≡ (node_at c.args.from.table.now c.in-Same.child).dtype) (λ column. column.dtype ≡ (node_at c.args.from.table.now c.args.plan).dtype) (λ column h. h ∙ sym like.dtype) c.range_of.ensures.dtype
+
+pub range_of-returns-in-Same-clause-computed : goal.range_of-returns-in-Same-clause-computed
+range_of-returns-in-Same-clause-computed g c = same_computed (held c.args.from) c.args.plan c.in-Same.child c.args.start (slice_range c.args.mask.now c.args.range.start c.args.range.end) c.range_of.result (same_law c.args.from.table.now c.args.plan c.in-Same.child c.requires.known c.in-Same.ensures.shape) c.range_of.ensures.computed
+
+pub range_of-returns-in-Some-clause-rows : goal.range_of-returns-in-Some-clause-rows
+range_of-returns-in-Some-clause-rows g c =
+    let bits : List Bool = slice_range c.args.mask.now c.args.range.start c.args.range.end in
+    let inside : c.args.start + length bits ≤ length c.in-Some.column.now.values = omega (arith, length_between c.args.mask.now c.args.range.start c.args.range.end c.requires.forwards c.requires.masked, c.requires.inside, (c.requires.held.leaves c.args.plan c.in-Some.column.now c.in-Some.ensures.1).1) in
+    ap length c.in_ok-picked_range.ensures.values ∙ picked_count c.in-Some.column.now.values c.args.start bits inside
+
+pub range_of-returns-in-Some-clause-computed : goal.range_of-returns-in-Some-clause-computed
+range_of-returns-in-Some-clause-computed g c =
+    let bits : List Bool = slice_range c.args.mask.now c.args.range.start c.args.range.end in
+    let shape = c.in-Some.ensures.0 in
+    let inside : c.args.start + length bits ≤ length c.in-Some.column.now.values = omega (arith, length_between c.args.mask.now c.args.range.start c.args.range.end c.requires.forwards c.requires.masked, c.requires.inside, (c.requires.held.leaves c.args.plan c.in-Some.column.now c.in-Some.ensures.1).1) in
+    leaf_computed (held c.args.from) c.args.plan shape.0 c.args.start bits c.in-Some.column.now c.in_ok-picked_range.field-0 (leaf_plan c.args.from.table.now c.args.plan shape.0 c.requires.known shape.1) shape.1 c.in-Some.ensures.1 inside c.in_ok-picked_range.ensures.values
+
+pub range_of-returns : goal.range_of-returns
+range_of-returns g c =
+    let bits : List Bool = slice_range c.args.mask.now c.args.range.start c.args.range.end in
+    let some : c.in_ok-some.some ≡ bits = c.in_ok-some.ensures in
+    let R : List Bool → Type 0 = λ bs. IfOk c.column_of.result (λ column. length column.values ≡ true_count bs) in
+    let C : List Bool → Type 0 = λ bs. Computes (held c.args.from) c.args.plan c.args.start bs c.column_of.result in
+    record { dtype = c.column_of.ensures.dtype; rows = subst R some c.column_of.ensures.rows; computed = subst C some c.column_of.ensures.computed }
 
 -- ---- expressions
 

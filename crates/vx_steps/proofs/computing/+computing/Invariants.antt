@@ -20,6 +20,9 @@ decreases-whole_of_plan l = 5 * l.plan + 3
 abbrev pub decreases-chunks_of : goal.decreases-chunks_of
 decreases-chunks_of l = 5 * l.plan
 
+abbrev pub decreases-range_of : goal.decreases-range_of
+decreases-range_of l = 5 * l.plan + 3
+
 abbrev pub decreases-parts_of : goal.decreases-parts_of
 decreases-parts_of l = 5 * l.plan
 

@@ -1,12 +1,11 @@
 use Rattle.std.proofs.Common.{rules, ◌≡◌, ℕ, List, None, map, sym, subst}
 use Rattle.std.specs.Prelude.{IsTrue}
-use Rattle.std.specs.BTreeMap.{get}
-use Rattle.std.specs.Ordering.{nat_cmp}
 use Rattle.vx_plan.specs.Refs.{number_of}
 use Rattle.vx_steps.specs.Kept.{kept_data, ArePlaces}
 use Rattle.vx_steps.specs.KeptData.{Kept}
 use Rattle.vx_steps.specs.Leavings.{behind_all, IsReadBehind, Meets}
 use Rattle.vx_steps.specs.Offers.{Keeps}
+use Rattle.vx_steps.specs.Places.{place_in}
 use Rattle.vx_steps.proofs.LeavingRows.{place_met, said_as, IsRowRead}
 use Rattle.vx_steps.proofs.Offering.{among_retained, has_place, keeps_retained}
 use Rattle.vx_steps.proofs.leavings.leaves_behind.Goals as goal
@@ -25,7 +24,7 @@ returns-in-Ok c =
     let K : List Kept → Type 0 = λ ks. Keeps P ks (map kept_data c.retain.new.self.items) in
     subst K same (among_retained _ kept_data P _ c.in-Ok.columns.items c.retain.new.self.items (λ x b q among step.
     let at = has_place c.in-Ok.places c.in-Ok.columns.items x are among in
-    said_as (IsTrue b) (get nat_cmp c.meet_row.new.sieve.places (number_of x.node) ≡ None) (P (kept_data x)) _ q (search rules) (place_met (IsRowRead nodes job.plan (behind_all job.splits.items)) c.over-sieve.result c.meet_row.new.sieve (number_of x.node) at.0 meets c.over-sieve.ensures.found (rw c.over-sieve.ensures.places at.1))) c.retain.ensures.filtered)
+    said_as (IsTrue b) (place_in c.meet_row.new.sieve.places (number_of x.node) ≡ None) (P (kept_data x)) _ q (search rules) (place_met (IsRowRead nodes job.plan (behind_all job.splits.items)) c.over-sieve.result c.meet_row.new.sieve (number_of x.node) at.0 meets c.over-sieve.ensures.found (rw c.over-sieve.ensures.places at.1))) c.retain.ensures.filtered)
 
 pub returns-in-Err : goal.returns-in-Err
 returns-in-Err c =

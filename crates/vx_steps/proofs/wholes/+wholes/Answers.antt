@@ -1,15 +1,15 @@
-use Rattle.std.proofs.Common.{arith, ◌≡◌, ◌<◌, ◌≤◌, ◌+◌, ◌-◌, List, Bool, Some, Err, length, take, sym, subst}
+use Rattle.std.proofs.Common.{arith, ◌≡◌, ◌<◌, ◌≤◌, ◌+◌, ◌-◌, Some, Err, take, refl}
 use Rattle.std.specs.Prelude.{slice_range}
 use Rattle.std.proofs.lemmas.Result.{on_ok_weaker, IfErr-weaker}
 use Rattle.vx_plan.specs.Rules.{node_at}
 use Rattle.vx_plan.proofs.Collecting.{field_part}
-use Rattle.vx_steps.specs.Computed.{AreReady, Computes}
+use Rattle.vx_steps.specs.Computed.{Computes}
 use Rattle.vx_steps.specs.Given.{handed_by}
 use Rattle.vx_steps.specs.Visits.{IsLeafRead}
-use Rattle.vx_steps.specs.Wholes.{held_with, AddsAsked, AreThere, FailsInside, WholeFails}
+use Rattle.vx_steps.specs.Wholes.{held_with, FailsInside, WholeFails}
 use Rattle.vx_steps.proofs.ChunkRows.{concat_plan_at}
 use Rattle.vx_steps.proofs.Shaping.{over_plan, pack_plan_at, same_law, share_plan_at, take_plan_at, zoned_law}
-use Rattle.vx_steps.proofs.Visiting.{chunk_inside, up_chunk, up_codes, up_field, up_over, up_same, up_shared, up_values, up_zoned}
+use Rattle.vx_steps.proofs.Visiting.{up_chunk, up_codes, up_field, up_over, up_same, up_shared, up_values, up_zoned}
 use Rattle.vx_steps.proofs.WholeFaults.{inside_by, shared_inside, still_inside, values_inside}
 use Rattle.vx_steps.proofs.WholeAsking.{asked_by, asked_then, chunk_there, chunks_there, field_there, fields_there, share_asked, still_there, take_asked, there_over, there_same, there_share, there_take, there_zoned}
 use Rattle.vx_steps.proofs.WholeMaking.{computed_by, error_by, held_by, keeps_then, ready_by, shared_fails, uses_then, values_fail}
@@ -159,44 +159,64 @@ pub ready_fields-returns-clause-there : goal.ready_fields-returns-clause-there
 ready_fields-returns-clause-there g c =
     fields_there c.args.grounds.table.now c.args.grounds.given.now c.loop-place.wholes c.args.plan c.args.start c.args.mask.now c.loop-place.place (pack_plan_at c.args.grounds.table.now c.requires.good c.args.plan c.requires.known) (omega arith) c.loop-place.invariant.there
 
-pub ready_chunks-ready_wholes-requires : goal.ready_chunks-ready_wholes-requires
-ready_chunks-ready_wholes-requires g c =
-    let lt : c.chunk_at-chunk.result.child < c.args.plan = c.chunk_at-chunk.ensures.below in
-    let I : List Bool → Type 0 = λ b. c.args.start + c.loop-done.done - c.chunk_at-chunk.result.start + length b ≤ (node_at c.args.grounds.table.now c.chunk_at-chunk.result.child).rows in
-    let F : List Bool → Type 0 = λ b. AreReady (held_with c.args.grounds c.args.wholes.now) c.chunk_at-chunk.result.child (c.args.start + c.loop-done.done - c.chunk_at-chunk.result.start) b in
-    (omega arith, (omega arith, (subst I (sym c.in_ok-some.ensures) (chunk_inside c.args.grounds.table.now c.args.plan c.args.start c.loop-done.done c.min-here.result c.args.mask.now c.chunk_at-chunk.result c.chunk_at-chunk.ensures (omega arith)), (held_by c.args.grounds.table.now c.args.grounds.leaves.now (Some c.args.grounds.given.now) c.args.grounds.offset c.args.wholes.now.made c.loop-done.wholes.made c.loop-done.invariant.made c.requires.held, subst F (sym c.in_ok-some.ensures) (ready_by (held_with c.args.grounds c.args.wholes.now) c.chunk_at-chunk.result.child (c.args.start + c.loop-done.done - c.chunk_at-chunk.result.start) (slice_range c.args.mask.now c.loop-done.done (c.loop-done.done + c.min-here.result)) c.args.plan c.args.start c.args.mask.now (up_chunk c.args.grounds.table.now c.requires.good (handed_by c.args.grounds.table.now (Some c.args.grounds.given.now)) c.args.plan c.args.start c.loop-done.done c.min-here.result c.args.mask.now c.chunk_at-chunk.result c.chunk_at-chunk.ensures (concat_plan_at c.args.grounds.table.now c.args.plan c.requires.known c.requires.concat) (omega arith)) c.requires.ready)))))
+pub ready_chunks-ready_range-requires : goal.ready_chunks-ready_range-requires
+ready_chunks-ready_range-requires g c =
+    let is = c.chunk_at-chunk.ensures in
+    let low : c.chunk_at-chunk.result.start ≤ c.args.start + c.loop-done.done = is.at_most in
+    let end : c.chunk_at-chunk.result.end ≡ c.chunk_at-chunk.result.start + (node_at c.args.grounds.table.now c.chunk_at-chunk.result.child).rows = is.end in
+    let lt : c.chunk_at-chunk.result.child < c.args.plan = is.below in
+    (omega arith, (omega arith, (omega arith, (omega arith, (omega arith, (held_by c.args.grounds.table.now c.args.grounds.leaves.now (Some c.args.grounds.given.now) c.args.grounds.offset c.args.wholes.now.made c.loop-done.wholes.made c.loop-done.invariant.made c.requires.held, ready_by (held_with c.args.grounds c.args.wholes.now) c.chunk_at-chunk.result.child (c.args.start + c.loop-done.done - c.chunk_at-chunk.result.start) (slice_range c.args.mask.now c.loop-done.done (c.loop-done.done + c.min-here.result)) c.args.plan c.args.start c.args.mask.now (up_chunk c.args.grounds.table.now c.requires.good (handed_by c.args.grounds.table.now (Some c.args.grounds.given.now)) c.args.plan c.args.start c.loop-done.done c.min-here.result c.args.mask.now c.chunk_at-chunk.result c.chunk_at-chunk.ensures (concat_plan_at c.args.grounds.table.now c.args.plan c.requires.known c.requires.concat) (omega arith)) c.requires.ready))))))
 
 pub ready_chunks-returns-in-Err-clause-made : goal.ready_chunks-returns-in-Err-clause-made
 ready_chunks-returns-in-Err-clause-made g c =
-    keeps_then c.args.grounds.table.now c.args.grounds.leaves.now c.args.grounds.offset c.args.wholes.now.made c.loop-done.wholes.made c.ready_wholes.new.wholes.made c.loop-done.invariant.made c.ready_wholes.ensures.made
+    keeps_then c.args.grounds.table.now c.args.grounds.leaves.now c.args.grounds.offset c.args.wholes.now.made c.loop-done.wholes.made c.ready_range.new.wholes.made c.loop-done.invariant.made c.ready_range.ensures.made
 
 pub ready_chunks-returns-in-Err-clause-cause : goal.ready_chunks-returns-in-Err-clause-cause
 ready_chunks-returns-in-Err-clause-cause g c =
-    let F : List Bool → Type 0 = λ b. Computes (held_with c.args.grounds c.loop-done.wholes) c.chunk_at-chunk.result.child (c.args.start + c.loop-done.done - c.chunk_at-chunk.result.start) b (Err c.in-Err.error) in
-    computed_by c.args.grounds.table.now c.args.grounds.leaves.now (Some c.args.grounds.given.now) c.args.grounds.offset c.args.wholes.now.made c.loop-done.wholes.made c.loop-done.invariant.made c.args.plan c.args.start c.args.mask.now (Err c.in-Err.error) (error_by (held_with c.args.grounds c.loop-done.wholes) c.chunk_at-chunk.result.child (c.args.start + c.loop-done.done - c.chunk_at-chunk.result.start) (slice_range c.args.mask.now c.loop-done.done (c.loop-done.done + c.min-here.result)) c.args.plan c.args.start c.args.mask.now (up_chunk c.args.grounds.table.now c.requires.good (handed_by c.args.grounds.table.now (Some c.args.grounds.given.now)) c.args.plan c.args.start c.loop-done.done c.min-here.result c.args.mask.now c.chunk_at-chunk.result c.chunk_at-chunk.ensures (concat_plan_at c.args.grounds.table.now c.args.plan c.requires.known c.requires.concat) (omega arith)) c.in-Err.error (subst F c.in_ok-some.ensures c.in-Err.ensures.cause))
+    computed_by c.args.grounds.table.now c.args.grounds.leaves.now (Some c.args.grounds.given.now) c.args.grounds.offset c.args.wholes.now.made c.loop-done.wholes.made c.loop-done.invariant.made c.args.plan c.args.start c.args.mask.now (Err c.in-Err.error)
+    (error_by (held_with c.args.grounds c.loop-done.wholes) c.chunk_at-chunk.result.child (c.args.start + c.loop-done.done - c.chunk_at-chunk.result.start) (slice_range c.args.mask.now c.loop-done.done (c.loop-done.done + c.min-here.result)) c.args.plan c.args.start c.args.mask.now (up_chunk c.args.grounds.table.now c.requires.good (handed_by c.args.grounds.table.now (Some c.args.grounds.given.now)) c.args.plan c.args.start c.loop-done.done c.min-here.result c.args.mask.now c.chunk_at-chunk.result c.chunk_at-chunk.ensures (concat_plan_at c.args.grounds.table.now c.args.plan c.requires.known c.requires.concat) (omega arith)) c.in-Err.error c.in-Err.ensures.cause)
 
 pub ready_chunks-returns-in-Err-clause-inside : goal.ready_chunks-returns-in-Err-clause-inside
 ready_chunks-returns-in-Err-clause-inside g c =
-    let F : List Bool → Type 0 = λ b. FailsInside (held_with c.args.grounds c.loop-done.wholes) c.chunk_at-chunk.result.child (c.args.start + c.loop-done.done - c.chunk_at-chunk.result.start) b c.in-Err.error in
-    still_inside c.args.grounds.table.now c.args.grounds.leaves.now (Some c.args.grounds.given.now) c.args.grounds.offset c.args.wholes.now.made c.loop-done.wholes.made c.loop-done.invariant.made c.args.plan c.args.start c.args.mask.now c.in-Err.error (inside_by (held_with c.args.grounds c.loop-done.wholes) c.chunk_at-chunk.result.child (c.args.start + c.loop-done.done - c.chunk_at-chunk.result.start) (slice_range c.args.mask.now c.loop-done.done (c.loop-done.done + c.min-here.result)) c.args.plan c.args.start c.args.mask.now (up_chunk c.args.grounds.table.now c.requires.good (handed_by c.args.grounds.table.now (Some c.args.grounds.given.now)) c.args.plan c.args.start c.loop-done.done c.min-here.result c.args.mask.now c.chunk_at-chunk.result c.chunk_at-chunk.ensures (concat_plan_at c.args.grounds.table.now c.args.plan c.requires.known c.requires.concat) (omega arith)) c.in-Err.error (subst F c.in_ok-some.ensures c.in-Err.ensures.inside))
+    still_inside c.args.grounds.table.now c.args.grounds.leaves.now (Some c.args.grounds.given.now) c.args.grounds.offset c.args.wholes.now.made c.loop-done.wholes.made c.loop-done.invariant.made c.args.plan c.args.start c.args.mask.now c.in-Err.error
+    (inside_by (held_with c.args.grounds c.loop-done.wholes) c.chunk_at-chunk.result.child (c.args.start + c.loop-done.done - c.chunk_at-chunk.result.start) (slice_range c.args.mask.now c.loop-done.done (c.loop-done.done + c.min-here.result)) c.args.plan c.args.start c.args.mask.now (up_chunk c.args.grounds.table.now c.requires.good (handed_by c.args.grounds.table.now (Some c.args.grounds.given.now)) c.args.plan c.args.start c.loop-done.done c.min-here.result c.args.mask.now c.chunk_at-chunk.result c.chunk_at-chunk.ensures (concat_plan_at c.args.grounds.table.now c.args.plan c.requires.known c.requires.concat) (omega arith)) c.in-Err.error c.in-Err.ensures.inside)
 
 pub ready_chunks-returns-in-Err-clause-asked : goal.ready_chunks-returns-in-Err-clause-asked
 ready_chunks-returns-in-Err-clause-asked g c =
-    let A : List Bool → Type 0 = λ b. AddsAsked c.args.grounds.table.now c.args.grounds.given.now c.chunk_at-chunk.result.child (c.args.start + c.loop-done.done - c.chunk_at-chunk.result.start) b c.loop-done.wholes c.ready_wholes.new.wholes in
-    asked_then c.args.grounds.table.now c.args.grounds.given.now c.args.plan c.args.start c.args.mask.now c.args.wholes.now c.loop-done.wholes c.ready_wholes.new.wholes c.loop-done.invariant.asked (asked_by c.args.grounds.table.now c.args.grounds.given.now c.chunk_at-chunk.result.child (c.args.start + c.loop-done.done - c.chunk_at-chunk.result.start) (slice_range c.args.mask.now c.loop-done.done (c.loop-done.done + c.min-here.result)) c.args.plan c.args.start c.args.mask.now (up_chunk c.args.grounds.table.now c.requires.good (handed_by c.args.grounds.table.now (Some c.args.grounds.given.now)) c.args.plan c.args.start c.loop-done.done c.min-here.result c.args.mask.now c.chunk_at-chunk.result c.chunk_at-chunk.ensures (concat_plan_at c.args.grounds.table.now c.args.plan c.requires.known c.requires.concat) (omega arith)) c.loop-done.wholes c.ready_wholes.new.wholes (subst A c.in_ok-some.ensures c.ready_wholes.ensures.asked))
+    asked_then c.args.grounds.table.now c.args.grounds.given.now c.args.plan c.args.start c.args.mask.now c.args.wholes.now c.loop-done.wholes c.ready_range.new.wholes c.loop-done.invariant.asked
+    (asked_by c.args.grounds.table.now c.args.grounds.given.now c.chunk_at-chunk.result.child (c.args.start + c.loop-done.done - c.chunk_at-chunk.result.start) (slice_range c.args.mask.now c.loop-done.done (c.loop-done.done + c.min-here.result)) c.args.plan c.args.start c.args.mask.now (up_chunk c.args.grounds.table.now c.requires.good (handed_by c.args.grounds.table.now (Some c.args.grounds.given.now)) c.args.plan c.args.start c.loop-done.done c.min-here.result c.args.mask.now c.chunk_at-chunk.result c.chunk_at-chunk.ensures (concat_plan_at c.args.grounds.table.now c.args.plan c.requires.known c.requires.concat) (omega arith)) c.loop-done.wholes c.ready_range.new.wholes c.ready_range.ensures.asked)
 
 pub ready_chunks-loop-done-preserved : goal.ready_chunks-loop-done-preserved
-ready_chunks-loop-done-preserved g c =
-    let A : List Bool → Type 0 = λ b. AddsAsked c.args.grounds.table.now c.args.grounds.given.now c.chunk_at-chunk.result.child (c.args.start + c.loop-done.done - c.chunk_at-chunk.result.start) b c.loop-done.wholes c.ready_wholes.new.wholes in
-    let F : List Bool → Type 0 = λ b. AreThere c.args.grounds.table.now c.args.grounds.given.now c.ready_wholes.new.wholes c.chunk_at-chunk.result.child (c.args.start + c.loop-done.done - c.chunk_at-chunk.result.start) b in
-    record {
-      inside = omega arith;
-      made = keeps_then c.args.grounds.table.now c.args.grounds.leaves.now c.args.grounds.offset c.args.wholes.now.made c.loop-done.wholes.made c.ready_wholes.new.wholes.made c.loop-done.invariant.made c.ready_wholes.ensures.made;
-      used = uses_then c.args.grounds.given.now c.args.wholes.now.used c.loop-done.wholes.used c.ready_wholes.new.wholes.used c.loop-done.invariant.used c.ready_wholes.ensures.used;
-      there = chunk_there c.args.grounds.table.now c.requires.good c.args.grounds.given.now c.ready_wholes.new.wholes c.args.plan c.args.start c.loop-done.done c.min-here.result c.args.mask.now c.chunk_at-chunk.result c.chunk_at-chunk.ensures (concat_plan_at c.args.grounds.table.now c.args.plan c.requires.known c.requires.concat) (omega arith) (still_there c.args.grounds.table.now c.args.grounds.leaves.now c.args.grounds.offset c.args.grounds.given.now c.loop-done.wholes c.ready_wholes.new.wholes c.ready_wholes.ensures.made c.ready_wholes.ensures.used c.args.plan c.args.start (take c.loop-done.done c.args.mask.now) c.loop-done.invariant.there) (subst F c.in_ok-some.ensures c.in-Ok.ensures.there);
-      asked = asked_then c.args.grounds.table.now c.args.grounds.given.now c.args.plan c.args.start c.args.mask.now c.args.wholes.now c.loop-done.wholes c.ready_wholes.new.wholes c.loop-done.invariant.asked (asked_by c.args.grounds.table.now c.args.grounds.given.now c.chunk_at-chunk.result.child (c.args.start + c.loop-done.done - c.chunk_at-chunk.result.start) (slice_range c.args.mask.now c.loop-done.done (c.loop-done.done + c.min-here.result)) c.args.plan c.args.start c.args.mask.now (up_chunk c.args.grounds.table.now c.requires.good (handed_by c.args.grounds.table.now (Some c.args.grounds.given.now)) c.args.plan c.args.start c.loop-done.done c.min-here.result c.args.mask.now c.chunk_at-chunk.result c.chunk_at-chunk.ensures (concat_plan_at c.args.grounds.table.now c.args.plan c.requires.known c.requires.concat) (omega arith)) c.loop-done.wholes c.ready_wholes.new.wholes (subst A c.in_ok-some.ensures c.ready_wholes.ensures.asked));
-    }
+ready_chunks-loop-done-preserved g c = record {
+  inside = omega arith;
+  made = keeps_then c.args.grounds.table.now c.args.grounds.leaves.now c.args.grounds.offset c.args.wholes.now.made c.loop-done.wholes.made c.ready_range.new.wholes.made c.loop-done.invariant.made c.ready_range.ensures.made;
+  used = uses_then c.args.grounds.given.now c.args.wholes.now.used c.loop-done.wholes.used c.ready_range.new.wholes.used c.loop-done.invariant.used c.ready_range.ensures.used;
+  there = chunk_there c.args.grounds.table.now c.requires.good c.args.grounds.given.now c.ready_range.new.wholes c.args.plan c.args.start c.loop-done.done c.min-here.result c.args.mask.now c.chunk_at-chunk.result c.chunk_at-chunk.ensures (concat_plan_at c.args.grounds.table.now c.args.plan c.requires.known c.requires.concat) (omega arith)
+      (still_there c.args.grounds.table.now c.args.grounds.leaves.now c.args.grounds.offset c.args.grounds.given.now c.loop-done.wholes c.ready_range.new.wholes c.ready_range.ensures.made c.ready_range.ensures.used c.args.plan c.args.start (take c.loop-done.done c.args.mask.now) c.loop-done.invariant.there) c.in-Ok.ensures.there;
+  asked = asked_then c.args.grounds.table.now c.args.grounds.given.now c.args.plan c.args.start c.args.mask.now c.args.wholes.now c.loop-done.wholes c.ready_range.new.wholes c.loop-done.invariant.asked
+      (asked_by c.args.grounds.table.now c.args.grounds.given.now c.chunk_at-chunk.result.child (c.args.start + c.loop-done.done - c.chunk_at-chunk.result.start) (slice_range c.args.mask.now c.loop-done.done (c.loop-done.done + c.min-here.result)) c.args.plan c.args.start c.args.mask.now (up_chunk c.args.grounds.table.now c.requires.good (handed_by c.args.grounds.table.now (Some c.args.grounds.given.now)) c.args.plan c.args.start c.loop-done.done c.min-here.result c.args.mask.now c.chunk_at-chunk.result c.chunk_at-chunk.ensures (concat_plan_at c.args.grounds.table.now c.args.plan c.requires.known c.requires.concat) (omega arith)) c.loop-done.wholes c.ready_range.new.wholes c.ready_range.ensures.asked);
+}
 
 pub ready_chunks-returns-clause-there : goal.ready_chunks-returns-clause-there
 ready_chunks-returns-clause-there g c =
     chunks_there c.args.grounds.table.now c.args.grounds.given.now c.loop-done.wholes c.args.plan c.args.start c.loop-done.done c.args.mask.now (omega arith) c.loop-done.invariant.there
+
+pub ready_range-returns-then-asks_none-clause-there : goal.ready_range-returns-then-asks_none-clause-there
+ready_range-returns-then-asks_none-clause-there g c =
+    λ n asks. absurd (c.if-asks_none.ensures refl c.args.grounds.given.now c.args.start (slice_range c.args.mask.now c.args.range.start c.args.range.end) n asks)
+
+pub ready_range-returns-in-Same-clause-there : goal.ready_range-returns-in-Same-clause-there
+ready_range-returns-in-Same-clause-there g c =
+    on_ok_weaker c.ready_range.result (there_same c.args.grounds.table.now c.args.grounds.given.now c.ready_range.new.wholes c.args.plan c.in-Same.child c.args.start (slice_range c.args.mask.now c.args.range.start c.args.range.end) (same_law c.args.grounds.table.now c.args.plan c.in-Same.child c.requires.known c.in-Same.ensures.shape)) c.ready_range.ensures.there
+
+pub ready_range-returns-in-Same-clause-cause : goal.ready_range-returns-in-Same-clause-cause
+ready_range-returns-in-Same-clause-cause g c =
+    IfErr-weaker c.ready_range.result (λ error. Computes (held_with c.args.grounds c.args.wholes.now) c.in-Same.child c.args.start (slice_range c.args.mask.now c.args.range.start c.args.range.end) (Err error)) (λ error. Computes (held_with c.args.grounds c.args.wholes.now) c.args.plan c.args.start (slice_range c.args.mask.now c.args.range.start c.args.range.end) (Err error)) (λ error computed. error_by (held_with c.args.grounds c.args.wholes.now) c.in-Same.child c.args.start (slice_range c.args.mask.now c.args.range.start c.args.range.end) c.args.plan c.args.start (slice_range c.args.mask.now c.args.range.start c.args.range.end) (up_same c.args.grounds.table.now (handed_by c.args.grounds.table.now (Some c.args.grounds.given.now)) c.args.plan c.in-Same.child c.args.start (slice_range c.args.mask.now c.args.range.start c.args.range.end) (same_law c.args.grounds.table.now c.args.plan c.in-Same.child c.requires.known c.in-Same.ensures.shape)) error computed) c.ready_range.ensures.cause
+
+pub ready_range-returns-in-Same-clause-inside : goal.ready_range-returns-in-Same-clause-inside
+ready_range-returns-in-Same-clause-inside g c =
+    IfErr-weaker c.ready_range.result (λ error. FailsInside (held_with c.args.grounds c.args.wholes.now) c.in-Same.child c.args.start (slice_range c.args.mask.now c.args.range.start c.args.range.end) error) (λ error. FailsInside (held_with c.args.grounds c.args.wholes.now) c.args.plan c.args.start (slice_range c.args.mask.now c.args.range.start c.args.range.end) error) (λ error fails. inside_by (held_with c.args.grounds c.args.wholes.now) c.in-Same.child c.args.start (slice_range c.args.mask.now c.args.range.start c.args.range.end) c.args.plan c.args.start (slice_range c.args.mask.now c.args.range.start c.args.range.end) (up_same c.args.grounds.table.now (handed_by c.args.grounds.table.now (Some c.args.grounds.given.now)) c.args.plan c.in-Same.child c.args.start (slice_range c.args.mask.now c.args.range.start c.args.range.end) (same_law c.args.grounds.table.now c.args.plan c.in-Same.child c.requires.known c.in-Same.ensures.shape)) error fails) c.ready_range.ensures.inside
+
+pub ready_range-returns-in-Same-clause-asked : goal.ready_range-returns-in-Same-clause-asked
+ready_range-returns-in-Same-clause-asked g c =
+    asked_by c.args.grounds.table.now c.args.grounds.given.now c.in-Same.child c.args.start (slice_range c.args.mask.now c.args.range.start c.args.range.end) c.args.plan c.args.start (slice_range c.args.mask.now c.args.range.start c.args.range.end) (up_same c.args.grounds.table.now (handed_by c.args.grounds.table.now (Some c.args.grounds.given.now)) c.args.plan c.in-Same.child c.args.start (slice_range c.args.mask.now c.args.range.start c.args.range.end) (same_law c.args.grounds.table.now c.args.plan c.in-Same.child c.requires.known c.in-Same.ensures.shape)) c.args.wholes.now c.ready_range.new.wholes c.ready_range.ensures.asked

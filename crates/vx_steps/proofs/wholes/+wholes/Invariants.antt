@@ -13,6 +13,9 @@ decreases-ready_fields l = 3 * l.plan
 abbrev pub decreases-ready_chunks : goal.decreases-ready_chunks
 decreases-ready_chunks l = 3 * l.plan
 
+abbrev pub decreases-ready_range : goal.decreases-ready_range
+decreases-ready_range l = 3 * l.plan + 2
+
 abbrev pub invariant-ready_fields-loop-place : goal.invariant-ready_fields-loop-place
 invariant-ready_fields-loop-place l = record {
   made : KeepsValues l.grounds.table.now l.grounds.leaves.now l.grounds.offset l.fn.wholes.made l.wholes.made;
