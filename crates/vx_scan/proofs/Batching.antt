@@ -2,30 +2,31 @@
 use Rattle.std.proofs.Common.{◌≡◌, ℕ, zero, suc, ◌+◌, ◌<◌, ◌≤◌, ◌⊎◌, inl, inr, List, [], ◌∷◌, ◌++◌, Some, Result, Ok, Err, Vec, Global, length, map, take, refl, sym, ap, ◌∙◌, subst, arith}
 use Rattle.std.specs.Prelude.{IfOk, IfErr, IsErrAnd, slice_index_or}
 use Rattle.std.specs.List.{slice_get, All, AllByRecursion}
-use Rattle.std.proofs.lemmas.List.{length-append, map-append, take_all}
-use Rattle.std.proofs.lemmas.List.Elements.{All-nil, All-append, All-head, All-tail}
+use Rattle.std.proofs.lemmas.List.{length-append, take_all}
+use Rattle.std.proofs.lemmas.List.Elements.{All-nil}
 use Rattle.vx_base.specs.Columns.{ColumnData}
 use Rattle.vx_base.specs.Sources.{SourceState, RoseBy}
-use Rattle.vx_base.specs.declared.locations.SegmentLocation.{SegmentLocation}
-use Rattle.vx_io.specs.Fetches.{asked_for}
 use Rattle.vx_rows.specs.Derivations.{Leaves}
-use Rattle.vx_rows.specs.Reads.{AnyOf}
 use Rattle.vx_rows.specs.SegmentLeaves.{Bytes, leaves_of}
 use Rattle.vx_splits.specs.declared.selected_rows.SelectedRows.{SelectedRows}
-use Rattle.vx_steps.specs.Kept.{AreApart}
-use Rattle.vx_steps.specs.KeptData.{Kept}
+use Rattle.vx_steps.specs.declared.leaf_reads.LeafRead.{LeafRead}
+use Rattle.vx_steps.specs.Kept.{AreApart, IsKept}
+use Rattle.vx_steps.specs.Visits.{IsLeafRead}
 use Rattle.vx_scan.specs.declared.errors.ScanError.{ScanError}
 use Rattle.vx_scan.specs.declared.errors.ScanError.TheVariants.{BadProjection, OffsetOverflow, OutOfRange, Unsupported, NoLocation, ReadFault, Stalled, BadSegment, BadCode, EvalFault, Memory}
 use Rattle.vx_scan.specs.declared.outcomes.HandedOn.{HandedOn}
 use Rattle.vx_scan.specs.declared.outcomes.Ran.{Ran}
 use Rattle.vx_scan.specs.declared.plans.ScanPlans.{ScanPlans}
-use Rattle.vx_scan.specs.Asks.{AsksOnly, Lasts}
+use Rattle.vx_scan.specs.Asks.{Lasts}
 use Rattle.vx_scan.specs.Batches.{AreBatches, HasPiece, AsksReached, GivesBatches}
-use Rattle.vx_scan.specs.ChunkRows.{ChunkReaches, IsPiece}
-use Rattle.vx_scan.specs.Fetched.{location_of}
-use Rattle.vx_scan.specs.Outcomes.{told_by, told_on, CanHandOn, IsHandedBy, Causes, GivesPiece, IsWanted, RunsOn}
-use Rattle.vx_scan.specs.Plans.{bytes_of, projection_node}
-use Rattle.vx_scan.proofs.Sessions.{asked_then, asked_nothing}
+use Rattle.vx_scan.specs.ChunkRows.{ChunkVisits, IsPiece}
+use Rattle.vx_scan.specs.LeafRows.{IsReadAt, LeavesLieTogether, row_behind}
+use Rattle.vx_scan.specs.Outcomes.{data_of, told_by, told_on, CanHandOn, IsHandedBy, Causes, GivesPiece, RunsOn}
+use Rattle.vx_scan.specs.Plans.{bytes_of, projection_node, projection_plan, AreInOrder, IsChunkOf}
+use Rattle.vx_scan.specs.Reasons.{read_for}
+use Rattle.vx_scan.proofs.Distinct.{distinct_none}
+use Rattle.vx_scan.proofs.NewReasons.{ArePast, HandsLeaves, asks_more, end_of, follow_front, past_more, reasons_front}
+use Rattle.vx_scan.proofs.Sessions.{asked_nothing}
 
 -- ---- the chunk at a place
 
@@ -33,6 +34,12 @@ pub got_at : (xs : List SelectedRows) (i : ℕ) (x : SelectedRows) → i < lengt
 got_at [] i x within is = absurd (omega (arith, within))
 got_at (one ∷ xs) zero x within is = ap Some (sym is)
 got_at (one ∷ xs) (suc i) x within is = got_at xs i x (omega (arith, within)) is
+
+-- what holds of all chunks holds of that at a place
+pub each_got : (P : SelectedRows → Type 0) (xs : List SelectedRows) (i : ℕ) (x : SelectedRows) → slice_get xs i ≡ Some x → AllByRecursion P xs → P x
+each_got P [] i x here each = absurd cc
+each_got P (one ∷ xs) zero x here each = let same : one ≡ x = cc in subst P same each.0
+each_got P (one ∷ xs) (suc i) x here each = each_got P xs i x here each.1
 
 take_suc : (xs : List SelectedRows) (i : ℕ) (x : SelectedRows) → slice_get xs i ≡ Some x → take (suc i) xs ≡ take i xs ++ x ∷ []
 take_suc [] i x here = absurd cc
@@ -55,15 +62,19 @@ pub record Batching (plans : ScanPlans) (done : List SelectedRows) (handed : Han
   pub can : CanHandOn plans handed
   pub handed_is : IsHanded plans handed before
   pub asks : AsksReached plans done before now
+  -- a leaf that was asked for is handed on where later rows read it
+  pub past : AreInOrder done → LeavesLieTogether (projection_plan plans) → ArePast plans (end_of 0 done) (data_of handed.leaves.items) asks.reasons
   pub lasts : Lasts before now
   pub in_flight : (now.in_flight ≡ []) ⊎ (now ≡ before)
 
-pub asks_none : (plans : ScanPlans) (chunks : List SelectedRows) (source : SourceState) → AsksReached plans chunks source source
+abbrev pub asks_none : (plans : ScanPlans) (chunks : List SelectedRows) (source : SourceState) → AsksReached plans chunks source source
 asks_none plans chunks source = record {
-  segments = [];
+  reasons = [];
+  are = tt;
   located = All-nil (λ segment. segment < length plans.locations.items);
   asked = sym (asked_nothing source.asked);
-  reached = tt;
+  once_a_chunk = distinct_none;
+  once_a_leaf = λ order together. distinct_none;
 }
 
 pub lasts_same : (source : SourceState) → Lasts source source
@@ -87,6 +98,7 @@ batch_none plans handed batches source no_leaves none_made empty = rw empty (rec
     made_are = rw none_made (λ n column at. absurd cc);
   };
   asks = asks_none plans [] source;
+  past = λ order together. tt;
   lasts = lasts_same source;
   in_flight = inr refl;
 })
@@ -114,41 +126,6 @@ each_more : (P : ColumnData → Type 0) (batches : List ColumnData) (column : Co
 each_more P [] column each is = (is, tt)
 each_more P (batch ∷ batches) column each is = (each.0, each_more P batches column each.1 is)
 
-any_front : (P : SelectedRows → Type 0) (ones twos : List SelectedRows) → AnyOf P ones → AnyOf P (ones ++ twos)
-any_front P [] twos any = absurd any
-any_front P (one ∷ ones) twos (inl here) = inl here
-any_front P (one ∷ ones) twos (inr later) = inr (any_front P ones twos later)
-
-any_last : (P : SelectedRows → Type 0) (ones : List SelectedRows) (one : SelectedRows) → P one → AnyOf P (ones ++ one ∷ [])
-any_last P [] one is = inl is
-any_last P (other ∷ ones) one is = inr (any_last P ones one is)
-
-reached_front : (plans : ScanPlans) (ones twos : List SelectedRows) (segments : List ℕ) → AllByRecursion (λ segment. AnyOf (λ chunk. ChunkReaches plans chunk segment) ones) segments → AllByRecursion (λ segment. AnyOf (λ chunk. ChunkReaches plans chunk segment) (ones ++ twos)) segments
-reached_front plans ones twos [] each = tt
-reached_front plans ones twos (segment ∷ segments) each = (any_front (λ (chunk : SelectedRows). ChunkReaches plans chunk segment) ones twos each.0, reached_front plans ones twos segments each.1)
-
-reached_then : (plans : ScanPlans) (chunks : List SelectedRows) (segments more : List ℕ) → AllByRecursion (λ segment. AnyOf (λ chunk. ChunkReaches plans chunk segment) chunks) segments → AllByRecursion (λ segment. AnyOf (λ chunk. ChunkReaches plans chunk segment) chunks) more → AllByRecursion (λ segment. AnyOf (λ chunk. ChunkReaches plans chunk segment) chunks) (segments ++ more)
-reached_then plans chunks [] more each others = others
-reached_then plans chunks (segment ∷ segments) more each others = (each.0, reached_then plans chunks segments more each.1 others)
-
-wanted_reached : (plans : ScanPlans) (given leaves : List Kept) (done : List SelectedRows) (chunk : SelectedRows) (segments : List ℕ) → All (IsWanted plans given leaves chunk) segments → AllByRecursion (λ segment. AnyOf (λ chunk. ChunkReaches plans chunk segment) (done ++ chunk ∷ [])) segments
-wanted_reached plans given leaves done chunk [] each = tt
-wanted_reached plans given leaves done chunk (segment ∷ segments) each = (
-  any_last (λ (chunk : SelectedRows). ChunkReaches plans chunk segment) done chunk (All-head (IsWanted plans given leaves chunk) segment segments each).reached,
-  wanted_reached plans given leaves done chunk segments (All-tail (IsWanted plans given leaves chunk) segment segments each),
-)
-
-asks_more : (plans : ScanPlans) (done : List SelectedRows) (chunk : SelectedRows) (given leaves : List Kept) (before now after : SourceState) → AsksReached plans done before now → AsksOnly (IsWanted plans given leaves chunk) plans.locations.items now after → AsksReached plans (done ++ chunk ∷ []) before after
-asks_more plans done chunk given leaves before now after asks more = record {
-  segments = asks.segments ++ more.segments;
-  located = All-append (λ segment. segment < length plans.locations.items) asks.segments more.segments asks.located more.asks.located;
-  asked = more.asks.asked
-      ∙ (ap (asked_for (map (location_of plans.locations.items) more.segments)) asks.asked
-      ∙ (asked_then (map (location_of plans.locations.items) asks.segments) (map (location_of plans.locations.items) more.segments) before.asked
-      ∙ ap (λ (places : List SegmentLocation). asked_for places before.asked) (sym (map-append (location_of plans.locations.items) asks.segments more.segments))));
-  reached = reached_then plans (done ++ chunk ∷ []) asks.segments more.segments (reached_front plans done (chunk ∷ []) asks.segments asks.reached) (wanted_reached plans given leaves done chunk more.segments more.wanted);
-}
-
 piece_of : (P : ColumnData → Type 0) (piece : Result ColumnData ScanError) (column : ColumnData) → piece ≡ Ok column → IfOk piece P → P column
 piece_of P (Ok one) column is holds = subst (IfOk_of P) is holds
   where
@@ -156,9 +133,15 @@ piece_of P (Ok one) column is holds = subst (IfOk_of P) is holds
     IfOk_of P result = IfOk result P
 piece_of P (Err error) column is holds = absurd cc
 
-pub batch_more : (plans : ScanPlans) (done : List SelectedRows) (chunk : SelectedRows) (handed : HandedOn) (ran : Ran) (column : ColumnData) (batches : List ColumnData) (before now after : SourceState) →
+-- what a chunk hands on of leaves
+hands_leaves : (plans : ScanPlans) (chunk : SelectedRows) (handed : HandedOn) (ran : Ran) (column : ColumnData) (before after : SourceState) → RunsOn plans chunk handed ran before after → ran.piece ≡ Ok column → HandsLeaves plans chunk (data_of handed.leaves.items) (data_of ran.handed.leaves.items)
+hands_leaves plans chunk handed ran column before after runs piece_is =
+    let there = piece_of (λ column. (read : LeafRead) → IsReadAt plans (row_behind chunk) read.leaf → ChunkVisits (IsLeafRead read) plans [] chunk → IsKept (data_of ran.handed.leaves.items) read.leaf) ran.piece column piece_is runs.more.leaves_there in
+    record { stay = runs.more.leaves_stay; there = λ reason past visits. there (read_for reason) past visits }
+
+pub batch_more : (plans : ScanPlans) (done : List SelectedRows) (chunk : SelectedRows) (handed : HandedOn) (ran : Ran) (column : ColumnData) (batches : List ColumnData) (before now after : SourceState) → IsChunkOf plans chunk →
     Batching plans done handed batches before now → RunsOn plans chunk handed ran now after → ran.piece ≡ Ok column → Batching plans (done ++ chunk ∷ []) ran.handed (batches ++ column ∷ []) before after
-batch_more plans done chunk handed ran column batches before now after so_far runs piece_is =
+batch_more plans done chunk handed ran column batches before now after is so_far runs piece_is =
     let piece : GivesPiece (told_on plans handed now) plans [] chunk column = piece_of (GivesPiece (told_on plans handed now) plans [] chunk) ran.piece column piece_is runs.content in
     record {
       content = λ file told.
@@ -168,7 +151,8 @@ batch_more plans done chunk handed ran column batches before now after so_far ru
       dtype = each_more (λ (batch : ColumnData). batch.dtype ≡ (projection_node plans).dtype) batches column so_far.dtype piece.dtype;
       can = runs.more.can;
       handed_is = told_before plans handed before now (IsHandedBy plans ran.handed) so_far.lasts so_far.handed_is runs.more.by_file;
-      asks = asks_more plans done chunk [] runs.leaves before now after so_far.asks runs.asks;
+      asks = asks_more plans done chunk (data_of handed.leaves.items) before now after is so_far.asks so_far.past runs.asks;
+      past = past_more plans done chunk (data_of handed.leaves.items) (data_of ran.handed.leaves.items) before now after is so_far.asks so_far.past runs.asks (hands_leaves plans chunk handed ran column now after runs piece_is);
       lasts = lasts_then before now after so_far.lasts runs.lasts;
       in_flight = inl runs.in_flight;
     }
@@ -189,7 +173,14 @@ asks_front : (plans : ScanPlans) (k : ℕ) (chunks : List SelectedRows) (before 
 asks_front plans k chunks before now asks =
     let rest = take_front k chunks in
     subst (λ (ones : List SelectedRows). AsksReached plans ones before now) (sym rest.1)
-    (record { segments = asks.segments; located = asks.located; asked = asks.asked; reached = reached_front plans (take k chunks) rest.0 asks.segments asks.reached })
+    (record {
+      reasons = asks.reasons;
+      are = reasons_front plans (take k chunks) rest.0 asks.reasons asks.are;
+      located = asks.located;
+      asked = asks.asked;
+      once_a_chunk = asks.once_a_chunk;
+      once_a_leaf = λ order together. asks.once_a_leaf (follow_front 0 (take k chunks) rest.0 order) together;
+    })
 
 -- memory ran out behind so many chunks
 pub batch_memory : (plans : ScanPlans) (chunks : List SelectedRows) (k : ℕ) (result : Result (Vec ColumnData Global) ScanError) (before now : SourceState) → IsErrAnd result (λ error. error ≡ Memory) → AsksReached plans (take k chunks) before now → Lasts before now → (now.in_flight ≡ []) ⊎ (now ≡ before) → GivesBatches plans chunks result before now
@@ -205,10 +196,10 @@ batch_memory plans chunks k (Err error) before now is asks lasts in_flight = rec
 }
 
 -- and so it did when the column of the last of them was to be kept
-pub batch_unkept : (plans : ScanPlans) (chunks : List SelectedRows) (k : ℕ) (chunk : SelectedRows) (handed : HandedOn) (ran : Ran) (batches : List ColumnData) (result : Result (Vec ColumnData Global) ScanError) (before now after : SourceState) → IsErrAnd result (λ error. error ≡ Memory) → slice_get chunks k ≡ Some chunk → Batching plans (take k chunks) handed batches before now → RunsOn plans chunk handed ran now after → GivesBatches plans chunks result before after
-batch_unkept plans chunks k chunk handed ran batches result before now after is here so_far runs =
+pub batch_unkept : (plans : ScanPlans) (chunks : List SelectedRows) (k : ℕ) (chunk : SelectedRows) (handed : HandedOn) (ran : Ran) (batches : List ColumnData) (result : Result (Vec ColumnData Global) ScanError) (before now after : SourceState) → IsChunkOf plans chunk → IsErrAnd result (λ error. error ≡ Memory) → slice_get chunks k ≡ Some chunk → Batching plans (take k chunks) handed batches before now → RunsOn plans chunk handed ran now after → GivesBatches plans chunks result before after
+batch_unkept plans chunks k chunk handed ran batches result before now after one is here so_far runs =
     batch_memory plans chunks (k + 1) result before after is
-    (subst (λ (ones : List SelectedRows). AsksReached plans ones before after) (sym (take_got chunks k chunk here)) (asks_more plans (take k chunks) chunk [] runs.leaves before now after so_far.asks runs.asks))
+    (subst (λ (ones : List SelectedRows). AsksReached plans ones before after) (sym (take_got chunks k chunk here)) (asks_more plans (take k chunks) chunk (data_of handed.leaves.items) before now after one so_far.asks so_far.past runs.asks))
     (lasts_then before now after so_far.lasts runs.lasts) (inl runs.in_flight)
 
 pieces_have : (leaves : Leaves) (plans : ScanPlans) (done : List SelectedRows) (batches : List ColumnData) → AreBatches leaves plans done batches → AllByRecursion (HasPiece leaves plans) done
@@ -240,15 +231,15 @@ error_of P (Err one) error is holds = subst (IfErr_of P) is holds
     IfErr_of : (ScanError → Type 0) → Result ColumnData ScanError → Type 0
     IfErr_of P result = IfErr result P
 
-pub batch_failed : (plans : ScanPlans) (chunks : List SelectedRows) (k : ℕ) (chunk : SelectedRows) (handed : HandedOn) (ran : Ran) (error : ScanError) (batches : List ColumnData) (before now after : SourceState) → slice_get chunks k ≡ Some chunk →
+pub batch_failed : (plans : ScanPlans) (chunks : List SelectedRows) (k : ℕ) (chunk : SelectedRows) (handed : HandedOn) (ran : Ran) (error : ScanError) (batches : List ColumnData) (before now after : SourceState) → IsChunkOf plans chunk → slice_get chunks k ≡ Some chunk →
     Batching plans (take k chunks) handed batches before now → RunsOn plans chunk handed ran now after → ran.piece ≡ Err error → GivesBatches plans chunks (Err error) before after
-batch_failed plans chunks k chunk handed ran error batches before now after here so_far runs error_is =
+batch_failed plans chunks k chunk handed ran error batches before now after one here so_far runs error_is =
     let cause : Causes (told_on plans handed now) plans [] chunk error now after = error_of (λ error. Causes (told_on plans handed now) plans [] chunk error now after) ran.piece error error_is runs.cause in
     record {
       content = tt;
       count = tt;
       dtype = tt;
-      asks = asks_front plans (k + 1) chunks before after (subst (λ (ones : List SelectedRows). AsksReached plans ones before after) (sym (take_got chunks k chunk here)) (asks_more plans (take k chunks) chunk [] runs.leaves before now after so_far.asks runs.asks));
+      asks = asks_front plans (k + 1) chunks before after (subst (λ (ones : List SelectedRows). AsksReached plans ones before after) (sym (take_got chunks k chunk here)) (asks_more plans (take k chunks) chunk (data_of handed.leaves.items) before now after one so_far.asks so_far.past runs.asks));
       cause = inr (record {
         place = k;
         chunk = chunk;

@@ -1,7 +1,7 @@
 -- The outcome of a chunk's run, from the run of its scan.
 use Rattle.std.proofs.Common.{◌≡◌, ℕ, zero, suc, ◌+◌, ◌<◌, ◌⊎◌, inl, inr, Bool, true, false, List, [], ◌∷◌, Option, Some, None, Ok, Err, length, map, refl, sym, ap, ◌∙◌, subst, arith}
 use Rattle.std.specs.Prelude.{slice_get, IfErr, IfOk, Result}
-use Rattle.std.proofs.lemmas.List.Elements.{All-nil}
+use Rattle.std.proofs.lemmas.List.Elements.{All-nil, All-weaker}
 use Rattle.vx_words.proofs.Places.{true_count-cons}
 use Rattle.vx_base.specs.Columns.{ColumnData}
 use Rattle.vx_base.specs.Data.{Datum}
@@ -9,17 +9,23 @@ use Rattle.vx_base.specs.Masks.{true_count}
 use Rattle.vx_base.specs.Sources.{SourceState, Cleared}
 use Rattle.vx_base.specs.declared.locations.SegmentLocation.{SegmentLocation}
 use Rattle.vx_plan.specs.Nodes.{Node}
+use Rattle.vx_plan.specs.Refs.{number_of}
+use Rattle.vx_plan.specs.Rules.{node_at}
+use Rattle.vx_plan.specs.Tables.{IsGoodTable}
 use Rattle.vx_rows.specs.SegmentLeaves.{Bytes, leaves_of}
 use Rattle.vx_splits.specs.declared.selected_rows.SelectedRows.{SelectedRows}
 use Rattle.vx_steps.specs.declared.jobs.Job.{Job}
+use Rattle.vx_steps.specs.declared.leaf_reads.LeafRead.{LeafRead}
 use Rattle.vx_steps.specs.declared.splits.Split.{Split}
 use Rattle.vx_steps.specs.Held.{AreMade, AreTyped, HaveLeaves}
+use Rattle.vx_steps.specs.Jobs.{KeepsColumns}
 use Rattle.vx_steps.specs.Kept.{AreApart, kept_at, IsKept}
 use Rattle.vx_steps.specs.KeptData.{Kept}
-use Rattle.vx_steps.specs.Leavings.{IsReadBehind}
+use Rattle.vx_steps.specs.Leavings.{behind_all, IsLeafOf, IsReadBehind, RowReads}
 use Rattle.vx_steps.specs.Offers.{IsForLeaf, IsForPlan, Keeps}
 use Rattle.vx_steps.specs.Rows.{AreOf, rows_of}
 use Rattle.vx_steps.specs.ScanData.{ScanData, IsScanOf}
+use Rattle.vx_steps.specs.Visits.{IsLeafRead}
 use Rattle.vx_steps.specs.Wholes.{IsThere, UsesGiven}
 use Rattle.vx_scan.specs.declared.errors.ScanError.{ScanError}
 use Rattle.vx_scan.specs.declared.errors.ScanError.TheVariants.{Memory}
@@ -29,15 +35,19 @@ use Rattle.vx_scan.specs.declared.outcomes.Ran.{Ran}
 use Rattle.vx_scan.specs.declared.plans.ScanPlans.{ScanPlans}
 use Rattle.vx_scan.specs.declared.runs.Finished.{Finished}
 use Rattle.vx_scan.specs.Asks.{AsksOnly, Lasts}
+use Rattle.vx_scan.specs.ChunkRows.{given_to, ChunkVisits}
 use Rattle.vx_scan.specs.ChunkScans.{IsChunkScan}
 use Rattle.vx_scan.specs.Finished.{Finishes}
+use Rattle.vx_scan.specs.LeafRows.{IsReadAt, row_behind, split_in}
 use Rattle.vx_scan.specs.Outcomes.{AreUsedOrMade, CanHandOn, Causes, ChunkAsks, Claims, GivesPiece, IsHandedBy, IsWanted, RunsChunk, RunsOn, data_of, told_by, told_on}
 use Rattle.vx_scan.specs.Pieces.{PieceOf}
-use Rattle.vx_scan.specs.Plans.{bytes_of}
+use Rattle.vx_scan.specs.Plans.{bytes_of, projection_plan}
 use Rattle.vx_scan.specs.Runs.{RunAnswer}
-use Rattle.vx_scan.proofs.ChunkViews.{Claimable, asked_there, asks_wanted, chunk_cause, gives_piece}
-use Rattle.vx_scan.proofs.Fitting.{leaves_fitting, made_fitting, no_leaves, node_first, none_made, none_typed, stays_fitting}
+use Rattle.vx_scan.proofs.ChunkViews.{Claimable, asked_there, asks_wanted, chunk_cause, gives_piece, read_there}
+use Rattle.vx_scan.proofs.Fitting.{kept_first, leaves_fitting, made_fitting, no_leaves, node_first, none_made, none_typed, stays_fitting}
+use Rattle.vx_scan.proofs.LeafShapes.{leaf_counts}
 use Rattle.vx_scan.proofs.Sessions.{asked_nothing}
+use Rattle.vx_scan.proofs.WeakerVisits.{leaf_read, weaker_visit}
 
 -- ---- chunks of which no row is selected
 
@@ -99,6 +109,15 @@ chunk_there plans chosen given leaves made start scan before after (Ok None) (Ok
     λ n asks. absurd (none_true chosen.mask asks.0 selected asks.1)
 chunk_there plans chosen given leaves made start scan before after (Ok None) (Err error) is none same = tt
 chunk_there plans chosen given leaves made start scan before after (Err error) piece is cause same = rw same tt
+
+pub chunk_leaves : (plans : ScanPlans) (chosen : SelectedRows) (given leaves made : List Kept) (start scan : ScanData) (before after : SourceState) (output : Result (Option ColumnData) ScanError) (piece : Result ColumnData ScanError) →
+    IsChunkScan plans chosen given leaves made start → RunAnswer plans.locations.items plans.idle_limit start output scan before after → PieceOf plans output piece → IfOk piece (λ column. (read : LeafRead) → ChunkVisits (IsLeafRead read) plans given chosen → IsKept scan.progress.leaves read.leaf)
+chunk_leaves plans chosen given leaves made start scan before after (Ok (Some column)) piece is gave same = rw same (λ read visits. read_there plans chosen given leaves made start scan before column is gave read visits)
+chunk_leaves plans chosen given leaves made start scan before after (Ok None) (Ok column) is none empty =
+    let selected : true_count chosen.mask ≡ 0 = sym (ap (λ (s : Split). true_count s.mask) is.split) ∙ none in
+    λ read visits. absurd (none_true chosen.mask visits.0 selected visits.1)
+chunk_leaves plans chosen given leaves made start scan before after (Ok None) (Err error) is none same = tt
+chunk_leaves plans chosen given leaves made start scan before after (Err error) piece is cause same = rw same tt
 
 -- ---- what is left of the scan
 
@@ -197,6 +216,61 @@ lacks_chunk plans chosen given outcome before after lacks none_used none_made_it
       in_flight = clears.in_flight;
     }
 
+-- ---- the leaves of a chunk among those of one source
+
+-- what the row behind the chunk reads, the row behind the scan's split reads
+read_behind : (plans : ScanPlans) (chosen : SelectedRows) (given leaves made : List Kept) (start scan : ScanData) (leaf : ℕ) → IsChunkScan plans chosen given leaves made start → scan.nodes ≡ start.nodes → scan.job ≡ start.job → IsReadAt plans (row_behind chosen) leaf → IsReadBehind scan.nodes scan.job leaf
+read_behind plans chosen given leaves made start scan leaf is same_nodes same_job read =
+    let nodes : scan.nodes ≡ plans.table = same_nodes ∙ is.nodes in
+    let plan : scan.job.plan ≡ number_of plans.projection = ap (λ (j : Job). j.plan) same_job ∙ is.plan in
+    let splits : scan.job.splits.items ≡ split_in chosen ∷ [] = ap (λ (j : Job). j.splits.items) same_job ∙ is.unread.splits ∙ ap (λ (s : Split). s ∷ []) is.split in
+    let R : List Node → ℕ → List Split → Type 0 = λ ns n ss. (behind_all ss < (node_at ns n).rows) × RowReads ns n (behind_all ss) leaf in
+    subst (λ (ns : List Node). R ns scan.job.plan scan.job.splits.items) (sym nodes)
+    (subst (λ (n : ℕ). R plans.table n scan.job.splits.items) (sym plan)
+    (subst (λ (ss : List Split). R plans.table (number_of plans.projection) ss) (sym splits) read))
+
+-- and its column is handed on
+leaf_on : (scan : ScanData) (after : List Kept) (leaf : ℕ) → Keeps (λ one. IsReadBehind scan.nodes scan.job one.node) scan.progress.leaves after → IsReadBehind scan.nodes scan.job leaf → IsKept scan.progress.leaves leaf → IsKept after leaf
+leaf_on scan after leaf keeps read (column, at) = (column, kept_first (λ one. IsReadBehind scan.nodes scan.job one.node) scan.progress.leaves after leaf column keeps read at)
+
+-- a leaf that was handed in counts, if a row of the plan reads it
+leaf_in : (plans : ScanPlans) (leaves : List Kept) (handed : HandedOn) → CanHandOn plans handed → Keeps (IsForLeaf plans.table) (data_of handed.leaves.items) leaves → IsGoodTable plans.table → number_of plans.projection < length plans.table →
+    (leaf row : ℕ) → RowReads plans.table (number_of plans.projection) row leaf → IsKept (data_of handed.leaves.items) leaf → IsKept leaves leaf
+leaf_in plans leaves handed can fits good there leaf row reads (column, at) =
+    (column, leaf_counts plans.table good (number_of plans.projection) there leaf row reads (data_of handed.leaves.items) leaves column can.leaves fits at)
+
+none_or : (columns : Option ColumnData) → ((column : ColumnData) → columns ≡ Some column → ⊥) → columns ≡ None
+none_or None never = refl
+none_or (Some column) never = absurd (never column refl)
+
+wanted_on : (plans : ScanPlans) (chosen : SelectedRows) (leaves : List Kept) (handed : HandedOn) → CanHandOn plans handed → Keeps (IsForLeaf plans.table) (data_of handed.leaves.items) leaves → IsGoodTable plans.table → number_of plans.projection < length plans.table →
+    (segment : ℕ) → IsWanted plans [] leaves chosen segment → IsWanted plans [] (data_of handed.leaves.items) chosen segment
+wanted_on plans chosen leaves handed can fits good there segment is =
+    let read : LeafRead = record { leaf = is.leaf; segment = segment } in
+    let row : ℕ = chosen.scope.rows.start + is.visited.0 in
+    let reads : RowReads plans.table (number_of plans.projection) row is.leaf =
+    weaker_visit (IsLeafRead read) (IsLeafOf is.leaf) (leaf_read read) (given_to plans []) (projection_plan plans) row is.visited.2 in
+    record {
+      leaf = is.leaf;
+      visited = is.visited;
+      not_handed = none_or (kept_at (data_of handed.leaves.items) is.leaf) (λ column at.
+          let kept : IsKept leaves is.leaf = leaf_in plans leaves handed can fits good there is.leaf row reads (column, at) in
+          let both : None ≡ Some kept.0 = sym is.not_handed ∙ kept.1 in
+          cc);
+      reached = is.reached;
+    }
+
+asks_on : (plans : ScanPlans) (chosen : SelectedRows) (leaves : List Kept) (handed : HandedOn) (before after : SourceState) → CanHandOn plans handed → Keeps (IsForLeaf plans.table) (data_of handed.leaves.items) leaves → IsGoodTable plans.table → number_of plans.projection < length plans.table →
+    AsksOnly (IsWanted plans [] leaves chosen) plans.locations.items before after → AsksOnly (IsWanted plans [] (data_of handed.leaves.items) chosen) plans.locations.items before after
+asks_on plans chosen leaves handed before after can fits good there asks = record {
+  segments = asks.segments;
+  asks = asks.asks;
+  wanted = All-weaker (IsWanted plans [] leaves chosen) (IsWanted plans [] (data_of handed.leaves.items) chosen) (wanted_on plans chosen leaves handed can fits good there) asks.segments asks.wanted;
+}
+
+stay_on : (n : ℕ) (old new : List Kept) → KeepsColumns old new → IsKept old n → IsKept new n
+stay_on n old new keeps (column, at) = (column, keeps n column at)
+
 none_there : (made : List Kept) (n : ℕ) (scan : ScanData) → made ≡ scan.progress.wholes.made → IsThere [] scan.progress.wholes n → IsKept made n
 none_there made n scan same (inl ((column, at), used)) = let both : None ≡ Some column = at in absurd cc
 none_there made n scan same (inr (none, kept)) = subst (λ (ks : List Kept). IsKept ks n) (sym same) kept
@@ -210,12 +284,13 @@ runs_on plans chosen handed leaves made start finished ran before after can fits
     let kept_leaves : data_of ran.handed.leaves.items ≡ data_of finished.kept.leaves.items = λ i. data_of (same_leaves i).items in
     let kept_made : data_of ran.handed.made.items ≡ scan.progress.wholes.made = (λ i. data_of (same_made i).items) ∙ done.kept.made in
     let claim = claim_on plans chosen handed leaves made start before can fits_leaves fits_made is in
+    let keeps : Keeps (λ one. IsReadBehind scan.nodes scan.job one.node) scan.progress.leaves (data_of ran.handed.leaves.items) = subst (Keeps (λ one. IsReadBehind scan.nodes scan.job one.node) scan.progress.leaves) (sym kept_leaves) done.kept.leaves in
+    let good : IsGoodTable plans.table = subst IsGoodTable is.nodes is.unread.good in
+    let there : number_of plans.projection < length plans.table = let known = is.unread.known in let nodes = ap length is.nodes in let plan = is.plan in omega (arith, known, nodes, plan) in
     record {
-      leaves = leaves;
-      fits = inl fits_leaves;
       content = chunk_content (told_on plans handed before) plans chosen [] leaves made start scan before after finished.output ran.piece is claim gives.answer piece;
       cause = chunk_causes (told_on plans handed before) plans chosen [] leaves made start scan before after finished.output ran.piece is claim gives.answer piece;
-      asks = asks_wanted plans chosen [] leaves made start before after is gives.asks;
+      asks = asks_on plans chosen leaves handed before after can fits_leaves good there (asks_wanted plans chosen [] leaves made start before after is gives.asks);
       more = record {
         can = record {
           leaves = typed_in plans chosen [] leaves made (data_of finished.kept.leaves.items) (data_of ran.handed.leaves.items) start scan is gives.nodes kept_leaves done.kept.typed_leaves;
@@ -223,7 +298,7 @@ runs_on plans chosen handed leaves made start finished ran before after can fits
           apart = apart;
         };
         by_file = claim (IsHandedBy plans ran.handed) (λ file told held. record {
-          leaves_are = leaves_in plans chosen [] leaves made (data_of ran.handed.leaves.items) start scan (bytes_of plans file) is gives.nodes (subst (Keeps (λ one. IsReadBehind scan.nodes scan.job one.node) scan.progress.leaves) (sym kept_leaves) done.kept.leaves) (gives.told file told held);
+          leaves_are = leaves_in plans chosen [] leaves made (data_of ran.handed.leaves.items) start scan (bytes_of plans file) is gives.nodes keeps (gives.told file told held);
           made_are = made_in plans chosen [] leaves made (data_of ran.handed.made.items) start scan (bytes_of plans file) is gives.nodes gives.job kept_made (gives.told file told held);
         });
         stays = λ n column known at. subst (λ (ks : List Kept). kept_at ks n ≡ Some column) (sym kept_made)
@@ -231,6 +306,13 @@ runs_on plans chosen handed leaves made start finished ran before after can fits
         there = there_as ran.piece (λ column. (n : ℕ) → ChunkAsks plans [] chosen n → IsThere [] scan.progress.wholes n) (λ column. (n : ℕ) → ChunkAsks plans [] chosen n → IsKept (data_of ran.handed.made.items) n)
             (λ column there n asks. none_there (data_of ran.handed.made.items) n scan kept_made (there n asks))
             (chunk_there plans chosen [] leaves made start scan before after finished.output ran.piece is gives.answer piece);
+        leaves_stay = λ leaf read kept.
+            leaf_on scan (data_of ran.handed.leaves.items) leaf keeps (read_behind plans chosen [] leaves made start scan leaf is gives.nodes gives.job read)
+            (stay_on leaf start.progress.leaves scan.progress.leaves gives.leaves
+            (subst (λ (ks : List Kept). IsKept ks leaf) (sym is.leaves_are) (leaf_in plans leaves handed can fits_leaves good there leaf (row_behind chosen) read.1 kept)));
+        leaves_there = there_as ran.piece (λ column. (read : LeafRead) → ChunkVisits (IsLeafRead read) plans [] chosen → IsKept scan.progress.leaves read.leaf) (λ column. (read : LeafRead) → IsReadAt plans (row_behind chosen) read.leaf → ChunkVisits (IsLeafRead read) plans [] chosen → IsKept (data_of ran.handed.leaves.items) read.leaf)
+            (λ column have read past visits. leaf_on scan (data_of ran.handed.leaves.items) read.leaf keeps (read_behind plans chosen [] leaves made start scan read.leaf is gives.nodes gives.job past) (have read visits))
+            (chunk_leaves plans chosen [] leaves made start scan before after finished.output ran.piece is gives.answer piece);
       };
       lasts = gives.lasts;
       in_flight = done.in_flight;
@@ -238,16 +320,16 @@ runs_on plans chosen handed leaves made start finished ran before after can fits
 
 pub lacks_on : (plans : ScanPlans) (chosen : SelectedRows) (handed : HandedOn) (ran : Ran) (before after : SourceState) → CanHandOn plans handed → ran.piece ≡ Err Memory → ran.handed ≡ handed → Cleared before after → RunsOn plans chosen handed ran before after
 lacks_on plans chosen handed ran before after can lacks same clears = record {
-  leaves = [];
-  fits = inr lacks;
   content = rw lacks tt;
   cause = rw lacks tt;
-  asks = asks_nothing (IsWanted plans [] [] chosen) plans.locations.items before after clears.asked;
+  asks = asks_nothing (IsWanted plans [] (data_of handed.leaves.items) chosen) plans.locations.items before after clears.asked;
   more = record {
     can = subst (CanHandOn plans) (sym same) can;
     by_file = λ file told by. subst (λ (h : HandedOn). IsHandedBy plans h (bytes_of plans file)) (sym same) by;
     stays = λ n column known at. subst (λ (h : HandedOn). kept_at (data_of h.made.items) n ≡ Some column) (sym same) at;
     there = rw lacks tt;
+    leaves_stay = λ leaf read kept. subst (λ (h : HandedOn). IsKept (data_of h.leaves.items) leaf) (sym same) kept;
+    leaves_there = rw lacks tt;
   };
   lasts = lasts_cleared before after clears;
   in_flight = clears.in_flight;

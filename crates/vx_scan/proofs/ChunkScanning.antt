@@ -15,7 +15,8 @@ use Rattle.vx_steps.specs.Offers.{IsForPlan, Keeps}
 use Rattle.vx_steps.specs.Splits.{IsInside}
 use Rattle.vx_steps.specs.ScanData.{ScanData, IsNew, IsOfHanded, StaysTold}
 use Rattle.vx_scan.specs.declared.plans.ScanPlans.{ScanPlans}
-use Rattle.vx_scan.specs.ChunkScans.{IsChunkScan, split_in}
+use Rattle.vx_scan.specs.ChunkScans.{IsChunkScan}
+use Rattle.vx_scan.specs.LeafRows.{split_in}
 use Rattle.vx_scan.specs.Plans.{ArePlans, IsChunkOf, projection_node}
 use Rattle.vx_scan.specs.Starts.{no_rows, split_of}
 use Rattle.vx_scan.proofs.Fitting.{fitting_typed, none_typed}

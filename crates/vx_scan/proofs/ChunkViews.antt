@@ -12,9 +12,10 @@ use Rattle.vx_plan.specs.Rules.{node_at}
 use Rattle.vx_rows.specs.Reads.{Found}
 use Rattle.vx_rows.specs.SegmentLeaves.{Bytes, leaves_of}
 use Rattle.vx_splits.specs.declared.selected_rows.SelectedRows.{SelectedRows}
+use Rattle.vx_steps.specs.declared.leaf_reads.LeafRead.{LeafRead}
 use Rattle.vx_steps.specs.declared.splits.Split.{Split}
 use Rattle.vx_steps.specs.Given.{handed_by, row_value}
-use Rattle.vx_steps.specs.Kept.{kept_at}
+use Rattle.vx_steps.specs.Kept.{kept_at, IsKept}
 use Rattle.vx_steps.specs.KeptData.{Kept}
 use Rattle.vx_steps.specs.Laws.{IsBadCodeAt, IsRowOf, SomeRead}
 use Rattle.vx_steps.specs.Rows.{AreOf, rows_of}
@@ -85,6 +86,12 @@ pub asked_there : (plans : ScanPlans) (chosen : SelectedRows) (given leaves made
     GivesSplit plans.locations.items start scan before column → (n : ℕ) → ChunkAsks plans given chosen n → IsThere given scan.progress.wholes n
 asked_there plans chosen given leaves made start scan before column is gave n asks =
     subst (λ (g : List Kept). IsThere g scan.progress.wholes n) is.given_is (gave.there n (subst (ViewVisits (IsWholeRead n)) (sym (view_same plans chosen given leaves made start is)) asks))
+
+-- and so are the leaves that they read
+pub read_there : (plans : ScanPlans) (chosen : SelectedRows) (given leaves made : List Kept) (start scan : ScanData) (before : SourceState) (column : ColumnData) → IsChunkScan plans chosen given leaves made start →
+    GivesSplit plans.locations.items start scan before column → (read : LeafRead) → ChunkVisits (IsLeafRead read) plans given chosen → IsKept scan.progress.leaves read.leaf
+read_there plans chosen given leaves made start scan before column is gave read visits =
+    gave.leaves read (subst (ViewVisits (IsLeafRead read)) (sym (view_same plans chosen given leaves made start is)) visits)
 
 -- ---- what is wanted
 

@@ -29,7 +29,7 @@ cause_between locations limit start (errors.EvalFault row) before after cause = 
 cause_between locations limit start errors.Memory before after cause = cause
 
 output_between : (locations : List SegmentLocation) (start scan : ScanData) (before : SourceState) (output : Option ColumnData) → GivesOutput locations start scan (record before { in_flight = [] }) output → GivesOutput locations start scan before output
-output_between locations start scan before (Some column) gave = record { dtype = gave.dtype; count = gave.count; right = gave.right; there = gave.there }
+output_between locations start scan before (Some column) gave = record { dtype = gave.dtype; count = gave.count; right = gave.right; there = gave.there; leaves = gave.leaves }
 output_between locations start scan before None none = none
 
 answer_between : (locations : List SegmentLocation) (limit : ℕ) (start : ScanData) (result : Result (Option ColumnData) ScanError) (scan : ScanData) (before after : SourceState) → RunAnswer locations limit start result scan (record before { in_flight = [] }) after → RunAnswer locations limit start result scan before (record after { in_flight = [] })

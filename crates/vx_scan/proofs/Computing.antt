@@ -7,6 +7,7 @@ use Rattle.std.proofs.lemmas.List.Elements.{All-weaker}
 use Rattle.vx_base.specs.Columns.{ColumnData}
 use Rattle.vx_base.specs.declared.locations.SegmentLocation.{SegmentLocation}
 use Rattle.vx_io.specs.declared.requests.IoRequest.{IoRequest}
+use Rattle.vx_plan.specs.Nodes.{Node}
 use Rattle.vx_steps.specs.declared.progress.Turn.{Turn}
 use Rattle.vx_steps.specs.declared.progress.Turn.TheVariants as turns
 use Rattle.vx_steps.specs.Jobs.{CanStart, left_of}
@@ -14,6 +15,7 @@ use Rattle.vx_steps.specs.Needs.{Among}
 use Rattle.vx_steps.specs.ReadTableData.{Wanted}
 use Rattle.vx_steps.specs.ScanData.{ScanData}
 use Rattle.vx_steps.specs.Steps.{GivesOutput, IsHeldUp, IsWaiting, TakesTurn}
+use Rattle.vx_steps.specs.Turns.{AreLeavesKept}
 use Rattle.vx_steps.specs.Wants.{IsAsked}
 use Rattle.vx_scan.specs.declared.adaptor_errors.AdaptorError.{AdaptorError}
 use Rattle.vx_scan.specs.declared.adaptors.State.{State}
@@ -126,6 +128,8 @@ comes_out locations batch old middle new number column gathered more gives = rec
   split = gives.split;
   split_at = subst (λ job. slice_get job.splits.items number ≡ Some gives.split) gathered.scan.keeps.job gives.split_at;
   output = output_before old middle new gives.split column gathered.scan.keeps gives.output;
+  leaves = subst (λ job. AreLeavesKept old.nodes job gives.split new.progress.leaves) gathered.scan.keeps.job
+      (subst (λ (nodes : List Node). AreLeavesKept nodes middle.job gives.split new.progress.leaves) gathered.scan.keeps.nodes gives.leaves);
 }
 
 output_of : (number : ℕ) (column : ColumnData) (old new : ScanData) → TookTurn (turns.Output number column) old new → GivesOutput old.nodes old.job old.progress new.progress number column

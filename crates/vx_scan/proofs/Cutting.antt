@@ -9,21 +9,54 @@ use Rattle.std.proofs.lemmas.List.FromFn.{length-range_with_len}
 use Rattle.vx_splits.specs.declared.selected_rows.SelectedRows.{SelectedRows}
 use Rattle.vx_splits.specs.declared.selected_rows.WorkScope.{WorkScope}
 use Rattle.vx_splits.specs.declared.selections.Selection.{Selection}
-use Rattle.vx_splits.specs.Chunks.{clipped_chunk, row_chunks}
+use Rattle.vx_splits.specs.Chunks.{clipped_chunk, row_chunks, Tile}
 use Rattle.vx_splits.specs.Taken.{rows_between, selects, selected_rows}
 use Rattle.vx_splits.specs.Trimmed.{selection_mask, chosen_rows, IsTrimmed}
-use Rattle.vx_splits.proofs.ChunkRows.{joins}
+use Rattle.vx_splits.proofs.ChunkRows.{joins, row_chunks-tile}
 use Rattle.vx_scan.specs.Answer.{pieces_of}
+use Rattle.vx_scan.specs.Plans.{AreInOrder}
 use Rattle.vx_scan.specs.Preparing.{LiesInside}
 use Rattle.vx_scan.proofs.Pieces.{nonempty}
 use Rattle.vx_scan.proofs.ChunkPieces.{selected_of, chunk_pieces}
+use Rattle.vx_scan.proofs.NewReasons.{end_of, end_next, follow_more}
 
-pub record Cutting (selection : Selection) (end : ℕ) (done : List (Range ℕ)) (chunks : List SelectedRows) : Type 0 where
+-- where the last of the ranges ends, and this row where there is none
+abbrev pub reach : ℕ → List (Range ℕ) → ℕ
+reach row [] = row
+reach row (range ∷ ranges) = reach range.end ranges
+
+pub record Cutting (selection : Selection) (start end : ℕ) (done : List (Range ℕ)) (chunks : List SelectedRows) : Type 0 where
   pub pieces : map chosen_rows chunks ≡ nonempty (map (selected_of (selects selection)) done)
   pub inside : AllByRecursion (LiesInside end) chunks
+  pub ordered : AreInOrder chunks
+  pub behind : end_of 0 chunks ≤ reach start done
 
-pub cut_none : (selection : Selection) (end : ℕ) (chunks : List SelectedRows) → chunks ≡ [] → Cutting selection end [] chunks
-cut_none selection end chunks empty = rw empty (record { pieces = refl; inside = tt })
+pub cut_none : (selection : Selection) (start end : ℕ) (chunks : List SelectedRows) → chunks ≡ [] → Cutting selection start end [] chunks
+cut_none selection start end chunks empty = rw empty (record { pieces = refl; inside = tt; ordered = tt; behind = omega arith })
+
+reach_more : (row : ℕ) (done : List (Range ℕ)) (range : Range ℕ) → reach row (done ++ range ∷ []) ≡ range.end
+reach_more row [] range = refl
+reach_more row (one ∷ done) range = reach_more one.end done range
+
+-- a range that tiles behind others begins where they end
+tile_at : (row end : ℕ) (done : List (Range ℕ)) (range : Range ℕ) (rest : List (Range ℕ)) → Tile row end (done ++ range ∷ rest) → (reach row done ≡ range.start) × (range.start < range.end)
+tile_at row end [] range rest tile = (sym tile.0, tile.1)
+tile_at row end (one ∷ done) range rest tile = tile_at one.end end done range rest tile.2
+
+some_range : (size start end : ℕ) (done : List (Range ℕ)) (range : Range ℕ) (rest : List (Range ℕ)) → done ++ range ∷ rest ≡ row_chunks size start end → start < end
+some_range size start end done range rest all = elim (cases_lt start end) [
+  | inl forwards ↦ forwards
+  | inr back ↦ absurd (none_there done range rest (all ∙ rw (le-ltb start end back) refl))
+]
+  where
+    none_there : (done : List (Range ℕ)) (range : Range ℕ) (rest : List (Range ℕ)) → done ++ range ∷ rest ≡ [] → ⊥
+    none_there [] range rest none = cc
+    none_there (one ∷ done) range rest none = cc
+
+-- the next range begins where those that were cut end
+pub range_next : (size start end : ℕ) → 0 < size → (done : List (Range ℕ)) (range : Range ℕ) (rest : List (Range ℕ)) → done ++ range ∷ rest ≡ row_chunks size start end → (reach start done ≡ range.start) × (range.start < range.end)
+range_next size start end some done range rest all =
+    tile_at start end done range rest (subst (Tile start end) (sym all) (row_chunks-tile size start end some (some_range size start end done range rest all)))
 
 nonempty_then : (ones twos : List (List ℕ)) → nonempty (ones ++ twos) ≡ nonempty ones ++ nonempty twos
 nonempty_then [] twos = refl
@@ -35,11 +68,13 @@ one_more selection done range =
     ap nonempty (map-append (selected_of (selects selection)) done (range ∷ [])) ∙ nonempty_then (map (selected_of (selects selection)) done) (selected_rows selection range.start range.end ∷ [])
 
 -- nothing of the range is selected
-pub cut_skip : (selection : Selection) (end : ℕ) (done : List (Range ℕ)) (range : Range ℕ) (chunks : List SelectedRows) → Cutting selection end done chunks → selected_rows selection range.start range.end ≡ [] → Cutting selection end (done ++ range ∷ []) chunks
-cut_skip selection end done range chunks so_far none = record {
+pub cut_skip : (selection : Selection) (start end : ℕ) (done : List (Range ℕ)) (range : Range ℕ) (chunks : List SelectedRows) → Cutting selection start end done chunks → (reach start done ≡ range.start) × (range.start < range.end) → selected_rows selection range.start range.end ≡ [] → Cutting selection start end (done ++ range ∷ []) chunks
+cut_skip selection start end done range chunks so_far next none = record {
   pieces = so_far.pieces ∙ (sym (append-nil (nonempty (map (selected_of (selects selection)) done)))
       ∙ (ap (λ (rows : List ℕ). nonempty (map (selected_of (selects selection)) done) ++ nonempty (rows ∷ [])) (sym none) ∙ sym (one_more selection done range)));
   inside = so_far.inside;
+  ordered = so_far.ordered;
+  behind = let low = so_far.behind in let last = reach_more start done range in let from = next.0 in let some = next.1 in omega (arith, low, last, from, some);
 }
 
 some_piece : (rows : List ℕ) → (rows ≡ [] → ⊥) → nonempty (rows ∷ []) ≡ rows ∷ []
@@ -64,11 +99,21 @@ lies_inside selection end scope chunk is below =
     let ends : chunk.scope.rows.end ≤ scope.rows.end = is.ends in
     record { forwards = omega (arith, count, some); below = omega (arith, below, ends); mask = count }
 
+has_rows : (selection : Selection) (scope : WorkScope) (chunk : SelectedRows) → IsTrimmed selection scope chunk → chunk.scope.rows.start < chunk.scope.rows.end
+has_rows selection scope chunk is =
+    let count : length chunk.mask ≡ chunk.scope.rows.end - chunk.scope.rows.start = ap length is.mask ∙ mask_length selection chunk.scope.rows.start chunk.scope.rows.end in
+    let some : 0 < length chunk.mask = first_there chunk.mask is.begins_with_true in
+    omega (arith, count, some)
+
 -- a chunk of the range is left
-pub cut_more : (selection : Selection) (end : ℕ) (done : List (Range ℕ)) (range : Range ℕ) (chunks : List SelectedRows) (scope : WorkScope) (chunk : SelectedRows) → Cutting selection end done chunks → scope.rows ≡ range → range.end ≤ end → IsTrimmed selection scope chunk → (selected_rows selection range.start range.end ≡ [] → ⊥) → Cutting selection end (done ++ range ∷ []) (chunks ++ chunk ∷ [])
-cut_more selection end done range chunks scope chunk so_far same below is some =
+pub cut_more : (selection : Selection) (start end : ℕ) (done : List (Range ℕ)) (range : Range ℕ) (chunks : List SelectedRows) (scope : WorkScope) (chunk : SelectedRows) → Cutting selection start end done chunks → (reach start done ≡ range.start) × (range.start < range.end) → scope.rows ≡ range → range.end ≤ end → IsTrimmed selection scope chunk →
+    (selected_rows selection range.start range.end ≡ [] → ⊥) → Cutting selection start end (done ++ range ∷ []) (chunks ++ chunk ∷ [])
+cut_more selection start end done range chunks scope chunk so_far next same below is some =
     let keeps : chosen_rows chunk ≡ selected_rows selection range.start range.end = is.keeps ∙ ap (λ (r : Range ℕ). selected_rows selection r.start r.end) same in
     let ends : scope.rows.end ≤ end = subst (λ (r : Range ℕ). r.end ≤ end) (sym same) below in
+    let has : chunk.scope.rows.start < chunk.scope.rows.end = has_rows selection scope chunk is in
+    let first : range.start ≤ chunk.scope.rows.start = subst (λ (r : Range ℕ). r.start ≤ chunk.scope.rows.start) same is.starts in
+    let last : chunk.scope.rows.end ≤ range.end = subst (λ (r : Range ℕ). chunk.scope.rows.end ≤ r.end) same is.ends in
     record {
       pieces = map-append chosen_rows chunks (chunk ∷ [])
           ∙ (ap (λ (pieces : List (List ℕ)). pieces ++ chosen_rows chunk ∷ []) so_far.pieces
@@ -76,6 +121,8 @@ cut_more selection end done range chunks scope chunk so_far same below is some =
           ∙ (ap (λ (pieces : List (List ℕ)). nonempty (map (selected_of (selects selection)) done) ++ pieces) (sym (some_piece (selected_rows selection range.start range.end) some))
           ∙ sym (one_more selection done range))));
       inside = each_more (LiesInside end) chunks chunk so_far.inside (lies_inside selection end scope chunk is ends);
+      ordered = follow_more 0 chunks chunk (record { before = so_far.ordered; behind = let low = so_far.behind in let from = next.0 in omega (arith, low, from, first); some = has });
+      behind = let here = end_next 0 chunks chunk in let there = reach_more start done range in omega (arith, here, there, last);
     }
 
 -- ---- the ranges
@@ -110,7 +157,7 @@ none_left [] none = refl
 none_left (one ∷ rest) none = absurd (omega (arith, none))
 
 -- all ranges were cut
-pub cut_all : (selection : Selection) (size start end : ℕ) (done rest : List (Range ℕ)) (chunks : List SelectedRows) → 0 < size → done ++ rest ≡ row_chunks size start end → length rest ≡ 0 → Cutting selection end done chunks → map chosen_rows chunks ≡ pieces_of size (selected_rows selection start end)
+pub cut_all : (selection : Selection) (size start end : ℕ) (done rest : List (Range ℕ)) (chunks : List SelectedRows) → 0 < size → done ++ rest ≡ row_chunks size start end → length rest ≡ 0 → Cutting selection start end done chunks → map chosen_rows chunks ≡ pieces_of size (selected_rows selection start end)
 cut_all selection size start end done rest chunks some all none so_far =
     let done_is : done ≡ row_chunks size start end = sym (append-nil done) ∙ (ap (λ (ranges : List (Range ℕ)). done ++ ranges) (sym (none_left rest none)) ∙ all) in
     so_far.pieces ∙ (ap (λ (ranges : List (Range ℕ)). nonempty (map (selected_of (selects selection)) ranges)) done_is

@@ -60,13 +60,13 @@ mutual
   chunks_plain t no_trees are = tt
   chunks_plain t (tree first rest) are = (lowered_plain first are.0, chunks_plain t rest are.2)
 
-  fields_plain : (ms : Members) (forest : Forest) (rows : ℕ) → AreFields ms rows forest → ArePlain (lowered_fields ms forest all)
+  pub fields_plain : (ms : Members) (forest : Forest) (rows : ℕ) → AreFields ms rows forest → ArePlain (lowered_fields ms forest all)
   fields_plain no_members no_trees rows are = tt
   fields_plain no_members (tree first rest) rows are = absurd are
   fields_plain (member name t ms) no_trees rows are = absurd are
   fields_plain (member name t ms) (tree first rest) rows are = (lowered_plain first are.0, fields_plain ms rest rows are.2)
 
-  validity_plain : (validity : Validity) (rows : ℕ) (n : Nullability) → IsValidity n rows validity → ValidityIsPlain (lowered_validity validity)
+  pub validity_plain : (validity : Validity) (rows : ℕ) (n : Nullability) → IsValidity n rows validity → ValidityIsPlain (lowered_validity validity)
   validity_plain always rows n is = tt
   validity_plain (valid_by validity) rows NonNullable is = absurd is
   validity_plain (valid_by validity) rows Nullable is = lowered_plain validity is.0
@@ -102,7 +102,7 @@ rows_sound leaves f sound zero from any = any
 rows_sound leaves f sound (suc count) from (inl here) = sound from here
 rows_sound leaves f sound (suc count) from (inr later) = rows_sound leaves f sound count (from + 1) later
 
-by_row : (b : Bool) (leaves : Leaves) (d e : Derivation) → (HasPart (IsFaultyTerm leaves) d → ⊥) → (HasPart (IsFaultyTerm leaves) e → ⊥) → HasPart (IsFaultyTerm leaves) (if b then d else e) → ⊥
+pub by_row : (b : Bool) (leaves : Leaves) (d e : Derivation) → (HasPart (IsFaultyTerm leaves) d → ⊥) → (HasPart (IsFaultyTerm leaves) e → ⊥) → HasPart (IsFaultyTerm leaves) (if b then d else e) → ⊥
 by_row true leaves d e one other any = one any
 by_row false leaves d e one other any = other any
 

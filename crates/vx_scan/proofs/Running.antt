@@ -21,6 +21,7 @@ use Rattle.vx_steps.specs.ReadTable.{StandsAt}
 use Rattle.vx_steps.specs.ReadTableData.{Wanted}
 use Rattle.vx_steps.specs.ScanData.{ScanData, IsScanOf, TakesBytes}
 use Rattle.vx_steps.specs.Steps.{IsSplitOutput}
+use Rattle.vx_steps.specs.Turns.{AreLeavesKept}
 use Rattle.vx_steps.specs.Wants.{IsAsked}
 use Rattle.vx_steps.specs.Wholes.{IsThere}
 use Rattle.vx_scan.specs.Continues.{ComesOut, Continues, KeepsScan, splits_left}
@@ -191,8 +192,15 @@ gave_now locations start old new before number column unread kept out =
       count = output.count;
       right = λ file is held. output.right (segment_bytes file locations) (told_of (segment_bytes file locations) (kept.told file is held));
       there = output.there;
+      leaves = leaves_of out.split (split_of start) split out.leaves;
     }
   where
+    leaves_of : (one split : Split) → one ≡ split → AreLeavesKept old.nodes old.job one new.progress.leaves → AreLeavesKept start.nodes start.job split new.progress.leaves
+    leaves_of one split same are =
+        subst (λ (s : Split). AreLeavesKept start.nodes start.job s new.progress.leaves) same
+        (subst (λ (j : Job). AreLeavesKept start.nodes j one new.progress.leaves) kept.job
+        (subst (λ (ns : List Node). AreLeavesKept ns old.job one new.progress.leaves) kept.nodes are))
+
     told_of : (outside : Bytes) → IsScanOf old outside → IsTold start.nodes start.job old.progress outside
     told_of outside is = subst (λ (j : Job). IsTold start.nodes j old.progress outside) kept.job (subst (λ (ns : List Node). IsTold ns old.job old.progress outside) kept.nodes is)
 
@@ -204,14 +212,16 @@ there_on : (nodes : List Node) (job : Job) (given : List Kept) (n : ℕ) (old ne
 there_on nodes job given n old new keeps (inl (is, used)) = inl (is, kept_on n old.used new.used keeps.used used)
 there_on nodes job given n old new keeps (inr (none, made)) = inr (none, kept_on n old.made new.made keeps.made made)
 
-pub gave_on : (locations : List SegmentLocation) (start old new : ScanData) (before : SourceState) (column : ColumnData) → KeepsWholes old.nodes old.job old.progress.wholes new.progress.wholes → GivesSplit locations start old before column → GivesSplit locations start new before column
-gave_on locations start old new before column keeps gave = record {
+pub gave_on : (locations : List SegmentLocation) (start old new : ScanData) (before : SourceState) (column : ColumnData) → KeepsWholes old.nodes old.job old.progress.wholes new.progress.wholes → KeepsColumns old.progress.leaves new.progress.leaves → GivesSplit locations start old before column → GivesSplit locations start new before column
+gave_on locations start old new before column keeps stay gave = record {
   dtype = gave.dtype;
   count = gave.count;
   right = gave.right;
   there = λ n asks. there_on old.nodes old.job start.job.given n old.progress.wholes new.progress.wholes keeps (gave.there n asks);
+  leaves = λ read reads. kept_on read.leaf old.progress.leaves new.progress.leaves stay (gave.leaves read reads);
 }
 
-pub gave_same : (locations : List SegmentLocation) (start old new : ScanData) (before : SourceState) (column : ColumnData) → new.progress.wholes ≡ old.progress.wholes → GivesSplit locations start old before column → GivesSplit locations start new before column
-gave_same locations start old new before column same gave =
-    gave_on locations start old new before column (subst (KeepsWholes old.nodes old.job old.progress.wholes) (sym same) (wholes_same old.nodes old.job old.progress.wholes)) gave
+pub gave_same : (locations : List SegmentLocation) (start old new : ScanData) (before : SourceState) (column : ColumnData) → new.progress.wholes ≡ old.progress.wholes → new.progress.leaves ≡ old.progress.leaves → GivesSplit locations start old before column → GivesSplit locations start new before column
+gave_same locations start old new before column same leaves gave =
+    gave_on locations start old new before column (subst (KeepsWholes old.nodes old.job old.progress.wholes) (sym same) (wholes_same old.nodes old.job old.progress.wholes))
+    (λ n found at. subst (λ (ks : List Kept). kept_at ks n ≡ Some found) (sym leaves) at) gave

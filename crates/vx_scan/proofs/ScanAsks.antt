@@ -1,23 +1,37 @@
--- What the chunks of a scan ask for is what the scan reaches.
-use Rattle.std.proofs.Common.{◌≡◌, ℕ, zero, suc, ◌<◌, inl, inr, List, [], ◌∷◌, ◌++◌, Some, length, map, refl, sym, ap, ◌∙◌, subst, arith}
+-- What the chunks of a scan ask for is what the scan reaches, each time for another reason.
+use Rattle.std.proofs.Common.{◌≡◌, ℕ, zero, suc, ◌+◌, ◌<◌, inl, inr, List, [], ◌∷◌, ◌++◌, Some, length, map, refl, sym, ap, ◌∙◌, subst, arith}
 use Rattle.std.specs.Prelude.{option_map}
 use Rattle.std.specs.List.{slice_get, flat_map, AllByRecursion}
 use Rattle.std.proofs.lemmas.List.Elements.{All-head, All-tail}
 use Rattle.vx_base.specs.Sources.{SourceState, range_of}
+use Rattle.vx_base.specs.declared.locations.AskedRange.{AskedRange}
 use Rattle.vx_base.specs.declared.locations.SegmentLocation.{SegmentLocation}
-use Rattle.vx_rows.specs.Reads.{AnyOf}
+use Rattle.vx_lower.specs.Projected.{scan_reads}
+use Rattle.vx_plan.specs.Refs.{number_of}
+use Rattle.vx_rows.specs.Reads.{AnyOf, Finds, IsIn}
 use Rattle.vx_splits.specs.declared.selected_rows.SelectedRows.{SelectedRows}
 use Rattle.vx_splits.specs.Trimmed.{chosen_rows}
+use Rattle.vx_steps.specs.declared.leaf_reads.LeafRead.{LeafRead}
+use Rattle.vx_steps.specs.Visits.{IsLeafRead}
 use Rattle.vx_scan.specs.declared.plans.ScanPlans.{ScanPlans}
-use Rattle.vx_scan.specs.Answer.{FileScan, row_count, scan_rows, size_of}
+use Rattle.vx_scan.specs.Answer.{FileScan, row_count, scan_pieces, scan_rows, size_of}
 use Rattle.vx_scan.specs.Batches.{AsksReached}
 use Rattle.vx_scan.specs.Causes.{ScanReaches}
-use Rattle.vx_scan.specs.ChunkRows.{ChunkReaches}
+use Rattle.vx_scan.specs.ChunkRows.{given_to, ChunkVisits}
 use Rattle.vx_scan.specs.Fetched.{AllLocated, location_of}
+use Rattle.vx_scan.specs.LeafRows.{LeavesLieTogether, ReadsAt, ScanReadsLeaf}
+use Rattle.vx_scan.specs.Plans.{projection_plan}
+use Rattle.vx_scan.specs.PlanTexts.{held_tree}
 use Rattle.vx_scan.specs.Preparing.{ArePlansOf, LiesInside, AreChunksOf}
-use Rattle.vx_scan.specs.Scanned.{ReachesRange, Gains}
+use Rattle.vx_scan.specs.Reasons.{Reason, read_for, segment_of, IsReasonAmong}
+use Rattle.vx_scan.specs.Scanned.{AreReasonsFor, Gains, IsReasonFor, ReachesRange}
 use Rattle.vx_scan.proofs.Answered.{pieces_join}
+use Rattle.vx_scan.proofs.Batching.{each_got}
+use Rattle.vx_scan.proofs.LeafPlaces.{reads_between, tree_reads}
+use Rattle.vx_scan.proofs.LeafShapes.{one_segment}
 use Rattle.vx_scan.proofs.ScanCauses.{reaches_of}
+use Rattle.vx_scan.proofs.ScanReads.{some_chosen}
+use Rattle.vx_scan.proofs.WeakerVisits.{same_read, weaker_visit}
 
 any_left : (P : ℕ → Type 0) (ones twos : List ℕ) → AnyOf P ones → AnyOf P (ones ++ twos)
 any_left P [] twos any = absurd any
@@ -28,39 +42,86 @@ any_right : (P : ℕ → Type 0) (ones twos : List ℕ) → AnyOf P twos → Any
 any_right P [] twos any = any
 any_right P (one ∷ ones) twos any = inr (any_right P ones twos any)
 
--- what some chunk's rows reach, some row of all chunks reaches
-chunks_reach : (scan : FileScan) (limit : ℕ) (plans : ScanPlans) → ArePlansOf scan limit plans → (segment : ℕ) (chunks : List SelectedRows) → AllByRecursion (LiesInside (row_count scan)) chunks → AnyOf (λ chunk. ChunkReaches plans chunk segment) chunks → ScanReaches scan.projection (flat_map (λ piece. piece) (map chosen_rows chunks)) segment
-chunks_reach scan limit plans are segment [] inside any = absurd any
-chunks_reach scan limit plans are segment (chunk ∷ chunks) inside (inl here) =
-    any_left _ (chosen_rows chunk) (flat_map (λ piece. piece) (map chosen_rows chunks)) (reaches_of scan limit plans are chunk inside.0 segment here)
-chunks_reach scan limit plans are segment (chunk ∷ chunks) inside (inr later) =
-    any_right _ (chosen_rows chunk) (flat_map (λ piece. piece) (map chosen_rows chunks)) (chunks_reach scan limit plans are segment chunks inside.1 later)
-
-scan_reaches : (scan : FileScan) (limit : ℕ) (plans : ScanPlans) → ArePlansOf scan limit plans → (chunks : List SelectedRows) → AreChunksOf scan chunks → (segment : ℕ) → AnyOf (λ chunk. ChunkReaches plans chunk segment) chunks → ScanReaches scan.projection (scan_rows scan) segment
-scan_reaches scan limit plans are chunks of_scan segment any =
-    subst (λ (rows : List ℕ). ScanReaches scan.projection rows segment) (ap (flat_map (λ piece. piece)) of_scan.pieces ∙ pieces_join (size_of scan) (scan_rows scan))
-    (chunks_reach scan limit plans are segment chunks of_scan.inside any)
+-- a row of one piece is a row of all of them
+any_piece : (P : ℕ → Type 0) (pieces : List (List ℕ)) (place : ℕ) (rows : List ℕ) → slice_get pieces place ≡ Some rows → AnyOf P rows → AnyOf P (flat_map (λ piece. piece) pieces)
+any_piece P [] place rows at any = absurd cc
+any_piece P (piece ∷ pieces) zero rows at any = let same : piece ≡ rows = cc in any_left P piece (flat_map (λ one. one) pieces) (subst (AnyOf P) (sym same) any)
+any_piece P (piece ∷ pieces) (suc place) rows at any = any_right P piece (flat_map (λ one. one) pieces) (any_piece P pieces place rows at any)
 
 place_there : (locations : List SegmentLocation) (segment : ℕ) → segment < length locations → slice_get locations segment ≡ Some (location_of locations segment)
 place_there [] segment below = absurd (omega (arith, below))
 place_there (at ∷ locations) zero below = refl
 place_there (at ∷ locations) (suc segment) below = place_there locations segment (omega (arith, below))
 
-each_range : (scan : FileScan) (limit : ℕ) (plans : ScanPlans) → ArePlansOf scan limit plans → (chunks : List SelectedRows) → AreChunksOf scan chunks → (segments : List ℕ) → AllLocated plans.locations.items segments → AllByRecursion (λ segment. AnyOf (λ chunk. ChunkReaches plans chunk segment) chunks) segments → AllByRecursion (ReachesRange scan) (map range_of (map (location_of plans.locations.items) segments))
-each_range scan limit plans are chunks of_scan [] located reached = tt
-each_range scan limit plans are chunks of_scan (segment ∷ segments) located reached =
-    let there : segment < length plans.locations.items = All-head (λ segment. segment < length plans.locations.items) segment segments located in (
-      record {
-        segment = segment;
-        reaches = scan_reaches scan limit plans are chunks of_scan segment reached.0;
-        location = ap (λ (locations : List SegmentLocation). option_map range_of (slice_get locations segment)) (sym are.locations) ∙ ap (option_map range_of) (place_there plans.locations.items segment there);
-      },
-      each_range scan limit plans are chunks of_scan segments (All-tail (λ segment. segment < length plans.locations.items) segment segments located) reached.1,
+-- ---- reasons
+
+piece_at : (chunks : List SelectedRows) (place : ℕ) (chunk : SelectedRows) → slice_get chunks place ≡ Some chunk → slice_get (map chosen_rows chunks) place ≡ Some (chosen_rows chunk)
+piece_at [] place chunk at = absurd cc
+piece_at (one ∷ chunks) zero chunk at = let same : one ≡ chunk = cc in ap (λ (c : SelectedRows). Some (chosen_rows c)) same
+piece_at (one ∷ chunks) (suc place) chunk at = piece_at chunks place chunk at
+
+-- a selected row of the chunk that reads a leaf is a row of its piece that does
+chunk_reads : (scan : FileScan) (limit : ℕ) (plans : ScanPlans) → ArePlansOf scan limit plans → (chunk : SelectedRows) → LiesInside (row_count scan) chunk → (read : LeafRead) → ChunkVisits (IsLeafRead read) plans [] chunk → ScanReadsLeaf scan.projection (chosen_rows chunk) read
+chunk_reads scan limit plans are chunk inside read visits =
+    some_chosen (ReadsAt read (held_tree scan.projection)) (row_count scan) chunk inside (
+      visits.0,
+      visits.1,
+      tree_reads read scan.projection (projection_plan plans) (chunk.scope.rows.start + visits.0) are.plan_is
+          (weaker_visit (IsLeafRead read) (IsLeafRead read) (same_read read) (given_to plans []) (projection_plan plans) (chunk.scope.rows.start + visits.0) visits.2),
     )
 
-pub gains_of : (scan : FileScan) (limit : ℕ) (plans : ScanPlans) → ArePlansOf scan limit plans → (chunks : List SelectedRows) → AreChunksOf scan chunks → (before after : SourceState) → AsksReached plans chunks before after → Gains scan before after
-gains_of scan limit plans are chunks of_scan before after asks = record {
-  ranges = map range_of (map (location_of plans.locations.items) asks.segments);
-  gained = asks.asked;
-  reached = each_range scan limit plans are chunks of_scan asks.segments asks.located asks.reached;
+reason_for : (scan : FileScan) (limit : ℕ) (plans : ScanPlans) → ArePlansOf scan limit plans → (chunks : List SelectedRows) → AreChunksOf scan chunks → (reason : Reason) → reason.segment < length plans.locations.items → IsReasonAmong plans chunks reason → IsReasonFor scan reason (range_of (location_of plans.locations.items reason.segment))
+reason_for scan limit plans are chunks of_scan reason there is =
+    let inside : LiesInside (row_count scan) is.chunk = each_got (LiesInside (row_count scan)) chunks reason.chunk is.chunk is.here of_scan.inside in
+    record {
+      rows = chosen_rows is.chunk;
+      here = ap (λ (pieces : List (List ℕ)). slice_get pieces reason.chunk) (sym of_scan.pieces) ∙ piece_at chunks reason.chunk is.chunk is.here;
+      reads = chunk_reads scan limit plans are is.chunk inside (read_for reason) is.reads;
+      reaches = reaches_of scan limit plans are is.chunk inside reason.segment is.reaches;
+      location = ap (λ (locations : List SegmentLocation). option_map range_of (slice_get locations reason.segment)) (sym are.locations) ∙ ap (option_map range_of) (place_there plans.locations.items reason.segment there);
+    }
+
+-- what is reached for a reason, the scan reaches
+reason_reaches : (scan : FileScan) (reason : Reason) (range : AskedRange) → IsReasonFor scan reason range → ReachesRange scan range
+reason_reaches scan reason range is = record {
+  segment = reason.segment;
+  reaches = subst (λ (rows : List ℕ). ScanReaches scan.projection rows reason.segment) (pieces_join (size_of scan) (scan_rows scan))
+      (any_piece (λ row. Finds (IsIn reason.segment) (scan_reads scan.projection row)) (scan_pieces scan) reason.chunk is.rows is.here is.reaches);
+  location = is.location;
 }
+
+abbrev ranges_for : ScanPlans → List Reason → List AskedRange
+ranges_for plans reasons = map range_of (map (location_of plans.locations.items) (map segment_of reasons))
+
+each_reason : (scan : FileScan) (limit : ℕ) (plans : ScanPlans) → ArePlansOf scan limit plans → (chunks : List SelectedRows) → AreChunksOf scan chunks → (reasons : List Reason) → AllLocated plans.locations.items (map segment_of reasons) → AllByRecursion (IsReasonAmong plans chunks) reasons → AreReasonsFor scan reasons (ranges_for plans reasons)
+each_reason scan limit plans are chunks of_scan [] located each = tt
+each_reason scan limit plans are chunks of_scan (reason ∷ reasons) located each = (
+  reason_for scan limit plans are chunks of_scan reason (All-head (λ segment. segment < length plans.locations.items) reason.segment (map segment_of reasons) located) each.0,
+  each_reason scan limit plans are chunks of_scan reasons (All-tail (λ segment. segment < length plans.locations.items) reason.segment (map segment_of reasons) located) each.1,
+)
+
+each_range : (scan : FileScan) (reasons : List Reason) (ranges : List AskedRange) → AreReasonsFor scan reasons ranges → AllByRecursion (ReachesRange scan) ranges
+each_range scan [] [] are = tt
+each_range scan [] (range ∷ ranges) are = absurd are
+each_range scan (reason ∷ reasons) [] are = absurd are
+each_range scan (reason ∷ reasons) (range ∷ ranges) are = (reason_reaches scan reason range are.0, each_range scan reasons ranges are.1)
+
+-- each leaf of the scan's plan stands at one place
+lie_together : (scan : FileScan) (limit : ℕ) (plans : ScanPlans) → ArePlansOf scan limit plans → LeavesLieTogether (projection_plan plans)
+lie_together scan limit plans are = record {
+  segment = one_segment plans.table are.good (number_of plans.projection) are.known;
+  between = reads_between scan.projection (projection_plan plans) are.plan_is;
+}
+
+pub gains_of : (scan : FileScan) (limit : ℕ) (plans : ScanPlans) → ArePlansOf scan limit plans → (chunks : List SelectedRows) → AreChunksOf scan chunks → (before after : SourceState) → AsksReached plans chunks before after → Gains scan before after
+gains_of scan limit plans are chunks of_scan before after asks =
+    let reasons : AreReasonsFor scan asks.reasons (ranges_for plans asks.reasons) = each_reason scan limit plans are chunks of_scan asks.reasons asks.located asks.are in
+    record {
+      ranges = ranges_for plans asks.reasons;
+      gained = asks.asked;
+      reached = each_range scan asks.reasons (ranges_for plans asks.reasons) reasons;
+      reasons = asks.reasons;
+      are_reasons = reasons;
+      once_a_chunk = asks.once_a_chunk;
+      once_a_leaf = asks.once_a_leaf of_scan.ordered (lie_together scan limit plans are);
+    }

@@ -14,6 +14,7 @@ use Rattle.vx_rows.specs.Given.{with_given}
 use Rattle.vx_rows.specs.Reads.{directly, Found, reads_of, AnyOf, Finds, IsIn}
 use Rattle.vx_rows.specs.Renumbered.{found_renumbered}
 use Rattle.vx_rows.specs.SegmentLeaves.{Bytes, leaves_of}
+use Rattle.vx_rows.specs.Whole.{GiveFitting}
 use Rattle.vx_rows.proofs.ByteLeaves.{give_fitting}
 use Rattle.vx_splits.specs.declared.selected_rows.SelectedRows.{SelectedRows}
 use Rattle.vx_splits.specs.Trimmed.{chosen_rows}
@@ -123,9 +124,9 @@ rows_at [] k chunk at = absurd cc
 rows_at (one ∷ chunks) zero chunk at = let e : one ≡ chunk = cc in ap (λ (c : SelectedRows). Some (chosen_rows c)) e
 rows_at (one ∷ chunks) (suc k) chunk at = rows_at chunks k chunk at
 
-fault_row : (scan : FileScan) (limit : ℕ) (plans : ScanPlans) → ArePlansOf scan limit plans → (leaves : Leaves) (at row : ℕ) → Visits (HasEvalFault leaves plans.row_offset at) (given_to plans []) (projection_plan plans) row → (row ≡ at) × IsFaultAt leaves scan.projection row
-fault_row scan limit plans are leaves at row visit =
-    are.plan.faults leaves (given_to plans []) row at (none_given plans)
+fault_row : (scan : FileScan) (limit : ℕ) (plans : ScanPlans) → ArePlansOf scan limit plans → (leaves : Leaves) → GiveFitting leaves → (at row : ℕ) → Visits (HasEvalFault leaves plans.row_offset at) (given_to plans []) (projection_plan plans) row → (row ≡ at) × IsFaultAt leaves scan.projection row
+fault_row scan limit plans are leaves fitting at row visit =
+    are.plan.faults leaves fitting (given_to plans []) row at (none_given plans)
     (subst (λ (offset : ℕ). Visits (HasEvalFault leaves offset at) (given_to plans []) (projection_plan plans) row) are.offset visit)
 
 faults_among : (leaves : Leaves) (p : Projection) (at : ℕ) (rows : List ℕ) → AnyOf (λ row. (row ≡ at) × IsFaultAt leaves p row) rows → FaultsAt leaves p rows at
@@ -154,7 +155,7 @@ cause_of scan limit plans are chunk inside (EvalFault at) before after cause = �
     let leaves : Leaves = leaves_of (bytes_of plans file) in
     let some : AnyOf (λ row. (row ≡ at) × IsFaultAt leaves scan.projection row) (chosen_rows chunk) =
     some_chosen (λ row. (row ≡ at) × IsFaultAt leaves scan.projection row) (row_count scan) chunk inside
-    (some_mapped (Visits (HasEvalFault leaves plans.row_offset at) (given_to plans []) (projection_plan plans)) (λ row. (row ≡ at) × IsFaultAt leaves scan.projection row) (fault_row scan limit plans are leaves at) chunk.scope.rows.start chunk.mask (cause file told)) in
+    (some_mapped (Visits (HasEvalFault leaves plans.row_offset at) (given_to plans []) (projection_plan plans)) (λ row. (row ≡ at) × IsFaultAt leaves scan.projection row) (fault_row scan limit plans are leaves (give_fitting (bytes_of plans file)) at) chunk.scope.rows.start chunk.mask (cause file told)) in
     subst (λ (bytes : Bytes). FaultsAt (leaves_of bytes) scan.projection (chosen_rows chunk) at) (same_bytes scan limit plans are file)
     (faults_among leaves scan.projection at (chosen_rows chunk) some)
 cause_of scan limit plans are chunk inside Memory before after cause = tt

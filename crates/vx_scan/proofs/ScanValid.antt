@@ -19,6 +19,7 @@ use Rattle.vx_steps.specs.ScanLaws.{IsTornIn}
 use Rattle.vx_scan.specs.declared.errors.ScanError.{ScanError}
 use Rattle.vx_scan.specs.declared.errors.ScanError.TheVariants.{BadProjection, OffsetOverflow, OutOfRange, Unsupported, NoLocation, ReadFault, Stalled, BadSegment, BadCode, EvalFault, Memory}
 use Rattle.vx_scan.specs.Answer.{FileScan, scan_rows, scan_pieces, size_of}
+use Rattle.vx_scan.specs.Beginning.{Refuses}
 use Rattle.vx_scan.specs.Causes.{ScanFinds, IsFaultAt}
 use Rattle.vx_scan.specs.Plans.{IsQuiet}
 use Rattle.vx_scan.specs.Preparing.{node_of}
@@ -143,3 +144,18 @@ valid_memory scan limit error before after lowest file told valid quiet =
     (of_piece (λ row. FindsOnly (IsFine (file_leaves file scan.locations)) (scan_reads scan.projection row)) scan lowest.place lowest.rows lowest.here valid.fine)
     (of_piece (λ row. IsSome (projected_at (file_leaves file scan.locations) scan.projection row)) scan lowest.place lowest.rows lowest.here valid.answered)
     error lowest.cause
+
+-- ---- it is not refused
+
+pub valid_begins : (leaves : Leaves) (scan : FileScan) (error : ScanError) → IsValidScan leaves scan → Refuses scan error → ⊥
+valid_begins leaves scan BadProjection valid refuses = refuses valid.bound
+valid_begins leaves scan OffsetOverflow valid refuses = let below = valid.numbered refuses.1.0 refuses.0.some in let past = refuses.1.1 in omega (arith, below, past)
+valid_begins leaves scan OutOfRange valid refuses = refuses.2 valid.inside
+valid_begins leaves scan (Unsupported list) valid refuses = refuses
+valid_begins leaves scan (NoLocation segment) valid refuses = refuses
+valid_begins leaves scan ReadFault valid refuses = refuses
+valid_begins leaves scan Stalled valid refuses = refuses
+valid_begins leaves scan (BadSegment segment) valid refuses = refuses
+valid_begins leaves scan (BadCode node row) valid refuses = refuses
+valid_begins leaves scan (EvalFault row) valid refuses = refuses
+valid_begins leaves scan Memory valid refuses = refuses

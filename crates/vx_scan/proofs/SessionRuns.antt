@@ -95,7 +95,7 @@ output_batch locations start before batch adaptor next output fresh scan batched
 output_batch locations start before batch adaptor next output fresh scan batched (inl (left, none, empty)) (inr (number, column, held, out)) =
     inr (left_behind start adaptor.scan next.scan number column fresh left out, column, inr (none, number, held), gave_now locations start adaptor.scan next.scan before number column fresh scan.kept out)
 output_batch locations start before batch adaptor next output fresh scan batched (inr (left, column, one, gave)) (inl (held, same)) =
-    inr (same ∙ left, column, moved one, gave_on locations start adaptor.scan next.scan before column batched.scan.keeps.wholes gave)
+    inr (same ∙ left, column, moved one, gave_on locations start adaptor.scan next.scan before column batched.scan.keeps.wholes batched.scan.keeps.leaves gave)
   where
     moved : OneOf output adaptor.held column → OneOf output next.held column
     moved (inl (is, empty)) = inl (is, held)
@@ -160,7 +160,7 @@ output_piece locations start before number column adaptor next output fresh scan
     absurd (let both : None ≡ Some (number, column) = sym empty ∙ full in cc)
 output_piece locations start before number column adaptor next output fresh scan none (inl (full, same)) (inr (left, other, inr (is, place, there), gave)) =
     let column_is : other ≡ column = ap (column_or column) (sym there ∙ full) in
-    inr (ap splits_left same ∙ left, column, inl (refl, none), subst (GivesSplit locations start next.scan before) column_is (gave_same locations start adaptor.scan next.scan before other (ap (λ (s : ScanData). s.progress.wholes) same) gave))
+    inr (ap splits_left same ∙ left, column, inl (refl, none), subst (GivesSplit locations start next.scan before) column_is (gave_same locations start adaptor.scan next.scan before other (ap (λ (s : ScanData). s.progress.wholes) same) (ap (λ (s : ScanData). s.progress.leaves) same) gave))
 output_piece locations start before number column adaptor next output fresh scan none (inr (empty, out)) (inl (left, is, same)) =
     inr (left_behind start adaptor.scan next.scan number column fresh left out, column, inl (refl, none), gave_now locations start adaptor.scan next.scan before number column fresh scan.kept out)
 output_piece locations start before number column adaptor next output fresh scan none (inr (empty, out)) (inr (left, other, one, gave)) =
@@ -175,7 +175,7 @@ run_piece locations start before column adaptor next output state run hands read
 pub output_waits : (locations : List SegmentLocation) (start : ScanData) (before : SourceState) (adaptor next : AdaptorData) (output : Option ColumnData) → Yields adaptor next → OutputSoFar locations start before adaptor output → OutputSoFar locations start before next output
 output_waits locations start before adaptor next output yields (inl (left, is, empty)) = inl (yields.left ∙ left, is, yields.none)
 output_waits locations start before adaptor next output yields (inr (left, column, inl (is, empty), gave)) =
-    inr (yields.left ∙ left, column, inl (is, yields.none), gave_on locations start adaptor.scan next.scan before column yields.scan.keeps.wholes gave)
+    inr (yields.left ∙ left, column, inl (is, yields.none), gave_on locations start adaptor.scan next.scan before column yields.scan.keeps.wholes yields.scan.keeps.leaves gave)
 output_waits locations start before adaptor next output yields (inr (left, column, inr (is, number, full), gave)) =
     absurd (let both : None ≡ Some (number, column) = sym yields.held ∙ full in cc)
 
@@ -223,7 +223,7 @@ live_after Done live done = live done
 output_result : (locations : List SegmentLocation) (start : ScanData) (before : SourceState) (number : ℕ) (bytes : List ℕ) (adaptor next : AdaptorData) (output : Option ColumnData) → TakesResult number bytes adaptor next → OutputSoFar locations start before adaptor output → OutputSoFar locations start before next output
 output_result locations start before number bytes adaptor next output takes (inl (left, is, empty)) = inl (takes.takes.left ∙ left, is, takes.held ∙ empty)
 output_result locations start before number bytes adaptor next output takes (inr (left, column, one, gave)) =
-    inr (takes.takes.left ∙ left, column, subst (λ (h : Option (ℕ × ColumnData)). OneOf output h column) (sym takes.held) one, gave_same locations start adaptor.scan next.scan before column takes.takes.wholes gave)
+    inr (takes.takes.left ∙ left, column, subst (λ (h : Option (ℕ × ColumnData)). OneOf output h column) (sym takes.held) one, gave_same locations start adaptor.scan next.scan before column takes.takes.wholes takes.takes.leaves gave)
 
 -- the bytes change nothing but that they came
 segments_kept : (reads : List Wanted) (number segment : ℕ) (bytes : List ℕ) → slice_get reads number ≡ Some (unread segment) → segments_in (slice_set reads number (delivered segment bytes)) ≡ segments_in reads

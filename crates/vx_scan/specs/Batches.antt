@@ -6,17 +6,18 @@ use Rattle.vx_base.specs.Columns.{ColumnData}
 use Rattle.vx_base.specs.Sources.{SourceState}
 use Rattle.vx_io.specs.Fetches.{asked_for}
 use Rattle.vx_rows.specs.Derivations.{Leaves}
-use Rattle.vx_rows.specs.Reads.{AnyOf}
 use Rattle.vx_rows.specs.SegmentLeaves.{leaves_of}
 use Rattle.vx_splits.specs.declared.selected_rows.SelectedRows.{SelectedRows}
 use Rattle.vx_scan.specs.declared.errors.ScanError.{ScanError}
 use Rattle.vx_scan.specs.declared.errors.ScanError.TheVariants.{Memory}
 use Rattle.vx_scan.specs.declared.plans.ScanPlans.{ScanPlans}
 use Rattle.vx_scan.specs.Asks.{Lasts}
-use Rattle.vx_scan.specs.ChunkRows.{ChunkReaches, IsPiece}
-use Rattle.vx_scan.specs.Fetched.{AllLocated, location_of}
+use Rattle.vx_scan.specs.ChunkRows.{IsPiece}
+use Rattle.vx_scan.specs.Fetched.{AllLocated, AreDistinct, location_of}
+use Rattle.vx_scan.specs.LeafRows.{LeavesLieTogether}
 use Rattle.vx_scan.specs.Outcomes.{Causes, told_by}
-use Rattle.vx_scan.specs.Plans.{projection_node}
+use Rattle.vx_scan.specs.Plans.{projection_node, projection_plan, AreInOrder}
+use Rattle.vx_scan.specs.Reasons.{Reason, leaf_of, segment_of, chunk_and_segment, IsReasonAmong}
 
 -- each batch is the piece of its chunk
 abbrev pub AreBatches : Leaves → ScanPlans → List SelectedRows → List ColumnData → Type 0
@@ -28,13 +29,16 @@ AreBatches leaves plans chunks batches = ⊥
 abbrev pub HasPiece : Leaves → ScanPlans → SelectedRows → Type 0
 HasPiece leaves plans chunk = (column : ColumnData) × IsPiece leaves plans [] chunk column
 
--- The source was asked for the ranges of these segments, in this order, and for nothing else. Rows of some chunk reach
--- each of them.
+-- The source was asked for the ranges of these reasons' segments, in this order, and for nothing else. No chunk has
+-- two reasons to ask for one segment; and where the chunks are in order and the leaves of the plan lie together, no two
+-- reasons are of one leaf.
 pub record AsksReached (plans : ScanPlans) (chunks : List SelectedRows) (before after : SourceState) : Type 0 where
-  pub segments : List ℕ
-  pub located : AllLocated plans.locations.items segments
-  pub asked : after.asked ≡ asked_for (map (location_of plans.locations.items) segments) before.asked
-  pub reached : AllByRecursion (λ segment. AnyOf (λ chunk. ChunkReaches plans chunk segment) chunks) segments
+  pub reasons : List Reason
+  pub are : AllByRecursion (IsReasonAmong plans chunks) reasons
+  pub located : AllLocated plans.locations.items (map segment_of reasons)
+  pub asked : after.asked ≡ asked_for (map (location_of plans.locations.items) (map segment_of reasons)) before.asked
+  pub once_a_chunk : AreDistinct (map chunk_and_segment reasons)
+  pub once_a_leaf : AreInOrder chunks → LeavesLieTogether (projection_plan plans) → AreDistinct (map leaf_of reasons)
 
 -- The lowest chunk that failed, and why; those before it have pieces.
 pub record LowestFailure (plans : ScanPlans) (chunks : List SelectedRows) (error : ScanError) (before after : SourceState) : Type 0 where

@@ -36,20 +36,20 @@ ChunkReaches plans chosen segment = IsReadBy plans.row_offset segment (projectio
 -- ---- why they have no piece
 
 -- some selected row reads a row of the list of that number
-abbrev pub ReadsList : ScanPlans → List Kept → SelectedRows → ℕ → Type 0
-ReadsList plans given chosen list = ChunkFinds (IsRowOf list) plans given chosen
+abbrev pub ChunkReadsList : ScanPlans → List Kept → SelectedRows → ℕ → Type 0
+ChunkReadsList plans given chosen list = ChunkFinds (IsRowOf list) plans given chosen
 
 -- some selected row reads a leaf of the segment, whose bytes spell no values for it
-abbrev pub ReadsTorn : Bytes → ScanPlans → List Kept → SelectedRows → ℕ → Type 0
-ReadsTorn bytes plans given chosen segment = ChunkFinds (IsTornIn bytes segment) plans given chosen
+abbrev pub ChunkReadsTorn : Bytes → ScanPlans → List Kept → SelectedRows → ℕ → Type 0
+ChunkReadsTorn bytes plans given chosen segment = ChunkFinds (IsTornIn bytes segment) plans given chosen
 
 -- some selected row reads the code at that row of the take of that number, which is neither null nor the place of a value
-abbrev pub ReadsBadCode : Leaves → ScanPlans → List Kept → SelectedRows → ℕ → ℕ → Type 0
-ReadsBadCode leaves plans given chosen take row = ChunkFinds (IsBadCodeAt leaves take row) plans given chosen
+abbrev pub ChunkReadsBadCode : Leaves → ScanPlans → List Kept → SelectedRows → ℕ → ℕ → Type 0
+ChunkReadsBadCode leaves plans given chosen take row = ChunkFinds (IsBadCodeAt leaves take row) plans given chosen
 
 -- Some selected row rests on that row of an expression, which is a fault over a value that is none.
-abbrev pub FaultsAt : Leaves → ScanPlans → List Kept → SelectedRows → ℕ → Type 0
-FaultsAt leaves plans given chosen row = ChunkVisits (HasEvalFault leaves plans.row_offset row) plans given chosen
+abbrev pub ChunkFaultsAt : Leaves → ScanPlans → List Kept → SelectedRows → ℕ → Type 0
+ChunkFaultsAt leaves plans given chosen row = ChunkVisits (HasEvalFault leaves plans.row_offset row) plans given chosen
 
 -- ---- the piece
 

@@ -3,17 +3,13 @@ use Rattle.std.specs.Prelude.{◌≡◌, List}
 use Rattle.vx_plan.specs.Refs.{number_of}
 use Rattle.vx_rows.specs.SegmentLeaves.{Bytes}
 use Rattle.vx_splits.specs.declared.selected_rows.SelectedRows.{SelectedRows}
-use Rattle.vx_steps.specs.declared.splits.Split.{Split}
 use Rattle.vx_steps.specs.Jobs.{IsUnstarted}
 use Rattle.vx_steps.specs.KeptData.{Kept}
 use Rattle.vx_steps.specs.ScanData.{ScanData, IsScanOf}
 use Rattle.vx_scan.specs.declared.plans.ScanPlans.{ScanPlans}
+use Rattle.vx_scan.specs.LeafRows.{split_in}
 use Rattle.vx_scan.specs.Outcomes.{AreHandedBy}
 use Rattle.vx_scan.specs.Starts.{IsUnread, split_of}
-
--- the chunk as a split of the projection's rows
-abbrev pub split_in : SelectedRows → Split
-split_in chosen = record { rows = chosen.scope.rows; mask = chosen.mask }
 
 -- It is of the projection and of the chunk alone, with these given values, leaves and made values; and it is of all
 -- bytes by which the leaves and the made values are so.

@@ -6,6 +6,7 @@ use Rattle.vx_steps.specs.declared.splits.Split.{Split}
 use Rattle.vx_steps.specs.Jobs.{left_of, IsReadFor, KeepsColumns, KeepsWholes}
 use Rattle.vx_steps.specs.ScanData.{ScanData, StaysTold}
 use Rattle.vx_steps.specs.Steps.{IsSplitOutput}
+use Rattle.vx_steps.specs.Turns.{AreLeavesKept}
 use Rattle.vx_steps.specs.Wants.{Grows, IsAsked}
 
 -- The table and the job stay; what the scan held to be so outside still is so there; and what was wanted, kept, made or
@@ -37,7 +38,7 @@ abbrev pub splits_left : ScanData → List ℕ
 splits_left scan = left_of scan.job scan.progress
 
 -- The scan's next output is the column of a split that was left, by whatever lies outside of which the scan was; and
--- the split is left no more.
+-- the split is left no more. The leaves that it reads are kept.
 pub record ComesOut (number : ℕ) (column : ColumnData) (old new : ScanData) : Type 0 where
   pub place : ℕ
   pub at : slice_get (splits_left old) place ≡ Some number
@@ -45,3 +46,4 @@ pub record ComesOut (number : ℕ) (column : ColumnData) (old new : ScanData) : 
   pub split : Split
   pub split_at : slice_get old.job.splits.items number ≡ Some split
   pub output : IsSplitOutput old.nodes old.job old.progress new.progress.wholes split column
+  pub leaves : AreLeavesKept old.nodes old.job split new.progress.leaves

@@ -24,9 +24,13 @@ fetches_from locations number (segment ∷ segments) = fetch_at number (location
 abbrev pub AllLocated : List SegmentLocation → List ℕ → Type 0
 AllLocated locations segments = All (λ segment. segment < length locations) segments
 
+-- nothing stands twice
+abbrev pub AreDistinct : {X : Type 0} → List X → Type 0
+AreDistinct {X} xs = AllPairs (λ (one two : X). one ≢ two) xs
+
 -- no number stands twice
 abbrev pub AreApart : List ℕ → Type 0
-AreApart numbers = AllPairs (λ (one two : ℕ). one ≢ two) numbers
+AreApart numbers = AreDistinct numbers
 
 -- a read whose bytes did not come, and one whose bytes came
 abbrev pub unread : ℕ → Wanted

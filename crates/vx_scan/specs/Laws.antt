@@ -5,8 +5,11 @@ use Rattle.vx_base.specs.Data.{Datum}
 use Rattle.vx_lower.specs.Projected.{Projection}
 use Rattle.vx_rows.specs.Derivations.{Leaves}
 use Rattle.vx_rows.specs.Reads.{IsFaulty}
+use Rattle.vx_scan.specs.declared.errors.ScanError.{ScanError}
 use Rattle.vx_scan.specs.Answer.{FileScan, scan_rows, IsAnswer, pieces_of, ArePieces}
+use Rattle.vx_scan.specs.Beginning.{Refuses}
 use Rattle.vx_scan.specs.Causes.{ScanFinds, FaultsAt}
+use Rattle.vx_scan.specs.PlanTexts.{IsPlanText}
 use Rattle.vx_scan.specs.Valid.{IsValidScan}
 
 -- rows have one answer at most
@@ -18,6 +21,10 @@ AnswerIsOne = (leaves : Leaves) (p : Projection) (rows : List ℕ) (ones others 
 abbrev pub ValidScanIsAnswered : Type 0
 ValidScanIsAnswered = (leaves : Leaves) (scan : FileScan) → IsValidScan leaves scan
     → (values : List Datum) × IsAnswer leaves scan.projection (scan_rows scan) values
+
+-- and is not refused before it begins
+abbrev pub ValidScanBegins : Type 0
+ValidScanBegins = (leaves : Leaves) (scan : FileScan) (error : ScanError) → IsValidScan leaves scan → ¬ (Refuses scan error)
 
 -- there is none where some row has a faulty read, or its meaning is a fault
 abbrev pub FaultyReadIsNoAnswer : Type 0
@@ -36,3 +43,7 @@ PiecesJoin = (size : ℕ) (rows : List ℕ) → flat_map (λ piece. piece) (piec
 abbrev pub PiecesAnswer : Type 0
 PiecesAnswer = (leaves : Leaves) (p : Projection) (size : ℕ) (rows : List ℕ) (batches : List (List Datum))
     → ArePieces leaves p (pieces_of size rows) batches → IsAnswer leaves p rows (flat_map (λ batch. batch) batches)
+
+-- the plan of a projection has one text at most
+abbrev pub PlanTextIsOne : Type 0
+PlanTextIsOne = (p : Projection) (text other : List ℕ) → IsPlanText p text → IsPlanText p other → text ≡ other

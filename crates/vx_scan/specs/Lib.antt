@@ -3,6 +3,7 @@ pub mod Adaptors
 pub mod Answer
 pub mod Asks
 pub mod Batches
+pub mod Beginning
 pub mod Builders
 pub mod Causes
 pub mod ChunkRows
@@ -13,10 +14,13 @@ pub mod Fetched
 pub mod Finished
 pub mod Gathered
 pub mod Laws
+pub mod LeafRows
 pub mod Outcomes
 pub mod Pieces
+pub mod PlanTexts
 pub mod Plans
 pub mod Preparing
+pub mod Reasons
 pub mod Refusals
 pub mod Runs
 pub mod Scanned

@@ -10,7 +10,8 @@ use Rattle.vx_steps.specs.Held.{AreMade, AreTyped, HaveLeaves}
 use Rattle.vx_steps.specs.Kept.{kept_at, kept_data, AreApart, IsKept}
 use Rattle.vx_steps.specs.KeptData.{Kept}
 use Rattle.vx_steps.specs.declared.kept.KeptValue.{KeptValue}
-use Rattle.vx_steps.specs.Offers.{IsForLeaf, IsForPlan, Keeps}
+use Rattle.vx_steps.specs.declared.leaf_reads.LeafRead.{LeafRead}
+use Rattle.vx_steps.specs.Offers.{IsForPlan, Keeps}
 use Rattle.vx_steps.specs.Visits.{IsLeafRead, IsWholeRead}
 use Rattle.vx_scan.specs.declared.errors.ScanError.{ScanError}
 use Rattle.vx_scan.specs.declared.errors.ScanError.TheVariants.{Unsupported, NoLocation, ReadFault, Stalled, BadSegment, BadCode, EvalFault, Memory}
@@ -19,7 +20,8 @@ use Rattle.vx_scan.specs.declared.outcomes.HandedOn.{HandedOn}
 use Rattle.vx_scan.specs.declared.outcomes.Ran.{Ran}
 use Rattle.vx_scan.specs.declared.plans.ScanPlans.{ScanPlans}
 use Rattle.vx_scan.specs.Asks.{AsksOnly, Lasts}
-use Rattle.vx_scan.specs.ChunkRows.{ChunkReaches, ChunkVisits, FaultsAt, IsPiece, ReadsBadCode, ReadsList, ReadsTorn}
+use Rattle.vx_scan.specs.ChunkRows.{ChunkReaches, ChunkVisits, ChunkFaultsAt, IsPiece, ChunkReadsBadCode, ChunkReadsList, ChunkReadsTorn}
+use Rattle.vx_scan.specs.LeafRows.{IsReadAt, row_behind}
 use Rattle.vx_scan.specs.Plans.{bytes_of, projection_node}
 
 -- ---- what is claimed of bytes
@@ -47,13 +49,13 @@ pub record GivesPiece (Told : Claims) (plans : ScanPlans) (given : List Kept) (c
 
 -- why a chunk has no piece
 abbrev pub Causes : Claims → ScanPlans → List Kept → SelectedRows → ScanError → SourceState → SourceState → Type 0
-Causes Told plans given chosen (Unsupported list) before after = Told (λ bytes. ReadsList plans given chosen (number_of list))
+Causes Told plans given chosen (Unsupported list) before after = Told (λ bytes. ChunkReadsList plans given chosen (number_of list))
 Causes Told plans given chosen (NoLocation segment) before after = ChunkReaches plans chosen segment × (length plans.locations.items ≤ segment)
 Causes Told plans given chosen ReadFault before after = Rose before.faults after.faults
 Causes Told plans given chosen Stalled before after = RoseBy plans.idle_limit before.idle after.idle
-Causes Told plans given chosen (BadSegment segment) before after = Told (λ bytes. ReadsTorn bytes plans given chosen segment)
-Causes Told plans given chosen (BadCode take row) before after = Told (λ bytes. ReadsBadCode (leaves_of bytes) plans given chosen (number_of take) row)
-Causes Told plans given chosen (EvalFault row) before after = Told (λ bytes. FaultsAt (leaves_of bytes) plans given chosen row)
+Causes Told plans given chosen (BadSegment segment) before after = Told (λ bytes. ChunkReadsTorn bytes plans given chosen segment)
+Causes Told plans given chosen (BadCode take row) before after = Told (λ bytes. ChunkReadsBadCode (leaves_of bytes) plans given chosen (number_of take) row)
+Causes Told plans given chosen (EvalFault row) before after = Told (λ bytes. ChunkFaultsAt (leaves_of bytes) plans given chosen row)
 Causes Told plans given chosen Memory before after = Unit {0}
 Causes Told plans given chosen error before after = ⊥
 
@@ -117,23 +119,23 @@ abbrev pub told_on : ScanPlans → HandedOn → SourceState → Claims
 told_on plans handed source P = (file : List ℕ) → source.file ≡ Some file → IsHandedBy plans handed (bytes_of plans file) → P (bytes_of plans file)
 
 -- What is handed on is so by the file, if what was handed in is. The values that were made before stay, and those that
--- the selected rows of a piece ask for are among them.
+-- the selected rows of a piece ask for are among them. Of the leaves that were handed in, and of those that the selected
+-- rows of a piece read, each is handed on that the row behind the chunk reads.
 pub record HandsOnMore (plans : ScanPlans) (chosen : SelectedRows) (handed : HandedOn) (ran : Ran) (before : SourceState) : Type 0 where
   pub can : CanHandOn plans ran.handed
   pub by_file : told_on plans handed before (IsHandedBy plans ran.handed)
   pub stays : (n : ℕ) (column : ColumnData) → n < length plans.table → kept_at (data_of handed.made.items) n ≡ Some column → kept_at (data_of ran.handed.made.items) n ≡ Some column
   pub there : IfOk ran.piece (λ column. (n : ℕ) → ChunkAsks plans [] chosen n → IsKept (data_of ran.handed.made.items) n)
+  pub leaves_stay : (leaf : ℕ) → IsReadAt plans (row_behind chosen) leaf → IsKept (data_of handed.leaves.items) leaf → IsKept (data_of ran.handed.leaves.items) leaf
+  pub leaves_there : IfOk ran.piece (λ column. (read : LeafRead) → IsReadAt plans (row_behind chosen) read.leaf → ChunkVisits (IsLeafRead read) plans [] chosen → IsKept (data_of ran.handed.leaves.items) read.leaf)
 
 pub record RunsOn (plans : ScanPlans) (chosen : SelectedRows) (handed : HandedOn) (ran : Ran) (before after : SourceState) : Type 0 where
-  -- the leaves that fit their plans; where memory lacked, none may count
-  pub leaves : List Kept
-  pub fits : Keeps (IsForLeaf plans.table) (data_of handed.leaves.items) leaves ⊎ (ran.piece ≡ Err Memory)
   -- Ok is the chunk's piece by the file, if what was handed in is so by it
   pub content : IfOk ran.piece (GivesPiece (told_on plans handed before) plans [] chosen)
   -- each error has its cause
   pub cause : IfErr ran.piece (λ error. Causes (told_on plans handed before) plans [] chosen error before after)
   -- segments that the chunk's rows read by leaves that were not handed in were asked for, each once
-  pub asks : AsksOnly (IsWanted plans [] leaves chosen) plans.locations.items before after
+  pub asks : AsksOnly (IsWanted plans [] (data_of handed.leaves.items) chosen) plans.locations.items before after
   pub more : HandsOnMore plans chosen handed ran before
   pub lasts : Lasts before after
   pub in_flight : after.in_flight ≡ []

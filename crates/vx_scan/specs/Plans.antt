@@ -1,5 +1,5 @@
 -- What the plans of a scan and its chunks have to be, and when a source is quiet.
-use Rattle.std.specs.Prelude.{◌≡◌, ℕ, ◌-◌, ◌^◌, ◌<◌, ◌≤◌, List, length, Some}
+use Rattle.std.specs.Prelude.{◌≡◌, ℕ, ◌-◌, ◌^◌, ◌<◌, ◌≤◌, List, [], ◌∷◌, length, Some}
 use Rattle.vx_base.specs.Sources.{SourceState, Rose, RoseBy}
 use Rattle.vx_io.specs.Ranges.{IsTableOf}
 use Rattle.vx_layout.specs.Rows.{segment_bytes}
@@ -32,6 +32,14 @@ pub record IsChunkOf (plans : ScanPlans) (chosen : SelectedRows) : Type 0 where
   pub forwards : chosen.scope.rows.start ≤ chosen.scope.rows.end
   pub inside : chosen.scope.rows.end ≤ (projection_node plans).rows
   pub mask : length chosen.mask ≡ chosen.scope.rows.end - chosen.scope.rows.start
+
+-- each of the chunks has rows, the first from that row on, and each other behind the rows of the one before
+abbrev pub FollowFrom : ℕ → List SelectedRows → Type 0
+FollowFrom row [] = Unit {0}
+FollowFrom row (chunk ∷ chunks) = (row ≤ chunk.scope.rows.start) × (chunk.scope.rows.start < chunk.scope.rows.end) × FollowFrom chunk.scope.rows.end chunks
+
+abbrev pub AreInOrder : List SelectedRows → Type 0
+AreInOrder chunks = FollowFrom 0 chunks
 
 -- the bytes that a file has at each segment
 abbrev pub bytes_of : ScanPlans → List ℕ → Bytes

@@ -1,14 +1,21 @@
 -- What a scan is prepared to: a plan of its projection, and its chunks.
-use Rattle.std.specs.Prelude.{◌≡◌, ℕ, ◌-◌, ◌<◌, ◌≤◌, List, length, map}
+use Rattle.std.specs.Prelude.{◌≡◌, ℕ, ◌+◌, ◌-◌, ◌<◌, ◌≤◌, Bool, true, false, List, length, map}
 use Rattle.std.specs.List.{AllByRecursion}
+use Rattle.vx_base.specs.Data.{DataType}
+use Rattle.vx_expr.specs.Bound.{Bound}
+use Rattle.vx_expr.specs.Mentions.{is_root}
 use Rattle.vx_io.specs.Ranges.{IsTableOf}
 use Rattle.vx_layout.specs.Trees.{head_of}
 use Rattle.vx_lower.specs.Lowered.{lowered}
 use Rattle.vx_lower.specs.OldNumbers.{old_number}
+use Rattle.vx_lower.specs.PlannedOver.{IsPlannedOver}
 use Rattle.vx_lower.specs.Projected.{Projection, kept_of, projected_at, scan_reads}
+use Rattle.vx_plan.specs.Kinds.{HasKind, IsRowIdx}
+use Rattle.vx_plan.specs.Nodes.{Node}
 use Rattle.vx_plan.specs.Plans.{Plan, plan_head, plan_at}
 use Rattle.vx_plan.specs.PlanRows.{plan_value, plan_reads}
 use Rattle.vx_plan.specs.Refs.{number_of}
+use Rattle.vx_plan.specs.Rules.{node_at}
 use Rattle.vx_plan.specs.Tables.{IsGoodTable}
 use Rattle.vx_rows.specs.Derivations.{Leaves}
 use Rattle.vx_rows.specs.Renumbered.{read_renumbered}
@@ -21,6 +28,8 @@ use Rattle.vx_steps.specs.Visits.{Visits, HasEvalFault}
 use Rattle.vx_scan.specs.declared.plans.ScanPlans.{ScanPlans}
 use Rattle.vx_scan.specs.Answer.{FileScan, row_count, scan_pieces}
 use Rattle.vx_scan.specs.Causes.{IsFaultAt}
+use Rattle.vx_scan.specs.Plans.{AreInOrder}
+use Rattle.vx_scan.specs.PlanTexts.{IsProjectionPlan}
 
 -- ---- the plan
 
@@ -36,17 +45,38 @@ pub record IsPlanOf (p : Projection) (q : Plan) : Type 0 where
   pub rows : (plan_head q).rows ≡ (head_of p.root).rows
   pub values : (leaves : Leaves) → GiveFitting leaves → (row : ℕ) → plan_value leaves p.offset q row ≡ projected_at leaves p row
   pub reads : (row : ℕ) → map (read_renumbered (node_of p)) (plan_reads p.offset q row) ≡ scan_reads p row
-  pub faults : (leaves : Leaves) (handed : Handed) (row at : ℕ) → HandsNone handed
+  pub faults : (leaves : Leaves) → GiveFitting leaves → (handed : Handed) (row at : ℕ) → HandsNone handed
       → Visits (HasEvalFault leaves p.offset at) handed q row → (row ≡ at) × IsFaultAt leaves p row
+
+-- A table that held a plan holds besides, at that number, the plan of an expression over it: the plan itself, where the
+-- expression is the root alone.
+abbrev pub IsProjectedBy : Bool → List Node → List Node → Bound → ℕ → ℕ → Type 0
+IsProjectedBy true old new a child number = (new ≡ old) × (number ≡ child)
+IsProjectedBy false old new a child number = (t : DataType) × IsPlannedOver old new (record a { root = t }) child number
+
+abbrev pub IsProjectedIn : List Node → List Node → Bound → ℕ → ℕ → Type 0
+IsProjectedIn old new a child number = IsProjectedBy (is_root a.term) old new a child number
+
+-- A good table with the plan of the projection as its last one. It is worth and reads what the projection does; what
+-- numbers rows numbers all rows of the tree.
+pub record IsPlannedFor (p : Projection) (table : List Node) (number : ℕ) : Type 0 where
+  pub good : IsGoodTable table
+  pub last : number + 1 ≡ length table
+  pub plan_is : IsProjectionPlan p (plan_at table number)
+  pub plan : (offset : ℕ) → IsPlanOf (record p { offset = offset }) (plan_at table number)
+  pub numbers : (n : ℕ) → HasKind IsRowIdx table n → (node_at table n).rows ≡ (head_of p.root).rows
 
 -- What the chunks of the scan share: a good table with the plan of the projection, and where the segments lie.
 pub record ArePlansOf (scan : FileScan) (limit : ℕ) (plans : ScanPlans) : Type 0 where
   pub good : IsGoodTable plans.table
   pub known : number_of plans.projection < length plans.table
+  pub plan_is : IsProjectionPlan scan.projection (plan_at plans.table (number_of plans.projection))
   pub plan : IsPlanOf scan.projection (plan_at plans.table (number_of plans.projection))
   pub locations : plans.locations.items ≡ scan.locations
   pub ranges : IsTableOf plans.ranges scan.locations
   pub offset : plans.row_offset ≡ scan.projection.offset
+  -- what numbers rows numbers those of the file
+  pub numbers : (n : ℕ) → HasKind IsRowIdx plans.table n → (node_at plans.table n).rows ≡ row_count scan
   pub limit_is : plans.idle_limit ≡ limit
 
 -- ---- the chunks
@@ -61,3 +91,4 @@ pub record LiesInside (count : ℕ) (chunk : SelectedRows) : Type 0 where
 pub record AreChunksOf (scan : FileScan) (chunks : List SelectedRows) : Type 0 where
   pub pieces : map chosen_rows chunks ≡ scan_pieces scan
   pub inside : AllByRecursion (LiesInside (row_count scan)) chunks
+  pub ordered : AreInOrder chunks

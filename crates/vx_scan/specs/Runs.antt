@@ -15,7 +15,7 @@ use Rattle.vx_steps.specs.Jobs.{IsReadFor, KeepsColumns, KeepsWholes}
 use Rattle.vx_steps.specs.Rows.{AreOf, rows_of}
 use Rattle.vx_steps.specs.ScanData.{ScanData, IsScanOf}
 use Rattle.vx_steps.specs.ScanLaws.{IsSplitCause}
-use Rattle.vx_steps.specs.Turns.{HasRowCause}
+use Rattle.vx_steps.specs.Turns.{AreLeavesKept, HasRowCause}
 use Rattle.vx_steps.specs.Wholes.{AreThere}
 use Rattle.vx_scan.specs.declared.adaptor_errors.AdaptorError.{AdaptorError}
 use Rattle.vx_scan.specs.declared.adaptor_errors.AdaptorError.TheVariants as errors
@@ -41,13 +41,14 @@ WhereScanned locations start before P =
     (file : List ℕ) → before.file ≡ Some file → IsScanOf start (segment_bytes file locations) → P (segment_bytes file locations)
 
 -- The column has the plan's dtype and its values at the selected rows of the split, in order. The whole values that
--- these rows ask for were made or used.
+-- these rows ask for were made or used, and the leaves that they read are kept.
 pub record GivesSplit (locations : List SegmentLocation) (start scan : ScanData) (before : SourceState) (column : ColumnData) : Type 0 where
   pub dtype : column.dtype ≡ (node_at start.nodes start.job.plan).dtype
   pub count : length column.values ≡ true_count (split_of start).mask
   pub right : WhereScanned locations start before (λ bytes.
       AreOf (row_value (leaves_of bytes) (handed_by start.nodes (Some start.job.given)) start.job.offset (plan_at start.nodes start.job.plan)) (rows_of (split_of start).rows.start (split_of start).mask) column.values)
   pub there : AreThere start.nodes start.job.given scan.progress.wholes start.job.plan (split_of start).rows.start (split_of start).mask
+  pub leaves : AreLeavesKept start.nodes start.job (split_of start) scan.progress.leaves
 
 -- the column of the split, where one of its rows is selected
 abbrev pub GivesOutput : List SegmentLocation → ScanData → ScanData → SourceState → Option ColumnData → Type 0

@@ -14,9 +14,13 @@ use Rattle.vx_scan.specs.declared.errors.ScanError.{ScanError}
 use Rattle.vx_scan.specs.declared.errors.ScanError.TheVariants.{Unsupported, NoLocation, ReadFault, Stalled, BadSegment, BadCode, EvalFault, Memory}
 use Rattle.vx_scan.specs.Answer.{FileScan, scan_rows, scan_pieces, IsAnswer, ArePieces}
 use Rattle.vx_scan.specs.Asks.{Lasts}
+use Rattle.vx_scan.specs.Beginning.{Refuses}
 use Rattle.vx_scan.specs.Causes.{ScanReaches, ReadsList, LacksLocation, ReadsTorn, ReadsBadCode, FaultsAt}
+use Rattle.vx_scan.specs.Fetched.{AreDistinct}
+use Rattle.vx_scan.specs.LeafRows.{ScanReadsLeaf}
 use Rattle.vx_scan.specs.Plans.{WhereTold, IsQuiet}
 use Rattle.vx_scan.specs.Preparing.{node_of}
+use Rattle.vx_scan.specs.Reasons.{Reason, read_for, leaf_of, chunk_and_segment}
 use Rattle.vx_scan.specs.Valid.{IsValidScan}
 
 -- ---- what is asked
@@ -27,11 +31,32 @@ pub record ReachesRange (scan : FileScan) (range : AskedRange) : Type 0 where
   pub reaches : ScanReaches scan.projection (scan_rows scan) segment
   pub location : option_map range_of (slice_get scan.locations segment) ≡ Some range
 
--- The source gained exactly these ranges, and the scan reaches each of them.
+-- Why the range was asked for: a row of the chunk's piece reads the leaf and reaches the segment, whose location has the
+-- range.
+pub record IsReasonFor (scan : FileScan) (reason : Reason) (range : AskedRange) : Type 0 where
+  pub rows : List ℕ
+  pub here : slice_get (scan_pieces scan) reason.chunk ≡ Some rows
+  pub reads : ScanReadsLeaf scan.projection rows (read_for reason)
+  pub reaches : ScanReaches scan.projection rows reason.segment
+  pub location : option_map range_of (slice_get scan.locations reason.segment) ≡ Some range
+
+-- there are as many reasons as ranges, each the reason for the range at its place
+abbrev pub AreReasonsFor : FileScan → List Reason → List AskedRange → Type 0
+AreReasonsFor scan [] [] = Unit {0}
+AreReasonsFor scan (reason ∷ reasons) (range ∷ ranges) = IsReasonFor scan reason range × AreReasonsFor scan reasons ranges
+AreReasonsFor scan reasons ranges = ⊥
+
+-- The source gained exactly these ranges, and the scan reaches each of them. Each was asked for a reason of its own: a
+-- chunk asks for each of its segments at most once, and on account of each leaf its segment is asked for at most once
+-- in the whole scan.
 pub record Gains (scan : FileScan) (before after : SourceState) : Type 0 where
   pub ranges : List AskedRange
   pub gained : after.asked ≡ option_map (λ asked. asked ++ ranges) before.asked
   pub reached : AllByRecursion (ReachesRange scan) ranges
+  pub reasons : List Reason
+  pub are_reasons : AreReasonsFor scan reasons ranges
+  pub once_a_chunk : AreDistinct (map chunk_and_segment reasons)
+  pub once_a_leaf : AreDistinct (map leaf_of reasons)
 
 -- ---- why there are no batches
 
@@ -71,10 +96,10 @@ pub record AnswersScan (scan : FileScan) (limit : ℕ) (result : Result (Vec Col
   -- there is one for each chunk with a row of the scan, each of the projection's dtype
   pub count : IfOk result (λ batches. length batches.items ≡ length (scan_pieces scan))
   pub dtype : IfOk result (λ batches. AllByRecursion (λ (batch : ColumnData). batch.dtype ≡ scan.projection.expression.dtype) batches.items)
-  -- only what the scan reaches was asked for, whatever the result
+  -- only what the scan reaches was asked for, each time for another reason, whatever the result
   pub asks : Gains scan before after
-  -- each error has its cause, and is that of the lowest chunk that failed
-  pub cause : IfErr result (λ error. (error ≡ Memory) ⊎ LowestCause scan limit error before after)
+  -- each error has its cause: it was refused before it began, or is that of the lowest chunk that failed
+  pub cause : IfErr result (λ error. (error ≡ Memory) ⊎ (Refuses scan error ⊎ LowestCause scan limit error before after))
   -- a valid scan without fault or stall has its batches, or memory ran out
   pub complete : IfErr result (λ error. WhereTold before (λ file.
       IsValidScan (file_leaves file scan.locations) scan → IsQuiet limit before after → error ≡ Memory))

@@ -1,25 +1,31 @@
 //! The builder of a scan.
 
-ghost use Rattle.std.specs.Prelude.{◌≡◌, ◌<◌, ◌≤◌, ◌-◌, ◌^◌, [], length, map, IfOk, IsOk};
+ghost use Rattle.std.specs.Prelude.{◌≡◌, ◌<◌, ◌≤◌, ◌-◌, ◌^◌, [], Some, length, map, Err, IfOk, IsOk};
 ghost use Rattle.vx_base.specs.Views.{data_type};
+ghost use Rattle.vx_splits.specs.declared.selections.Selection.TheVariants.{IncludeByIndex};
 ghost use Rattle.vx_scan.specs.Answer.{row_count};
-ghost use Rattle.vx_scan.specs.Builders.{default_idle_limit, scan_of, ProjectsRoot};
+ghost use Rattle.vx_scan.specs.Beginning.{Refuses};
+ghost use Rattle.vx_scan.specs.Builders.{new_building, scan_of};
 ghost use Rattle.vx_scan.specs.Scanned.{AnswersScan, FirstOf};
+ghost use Rattle.vx_scan.specs.Settings.{scan_by};
+ghost use Rattle.vx_scan.specs.declared.errors.ScanError.{ScanError as Refusal};
+ghost use Rattle.vx_scan.specs.Valid.{HasRows, IsBound};
 
 use crate::batches::run_chunks;
+use crate::beginning::begin;
 use crate::errors::ScanError;
 use crate::files::ScanFile;
 use crate::preparing::{cut_file, plan_file};
 use crate::settings::Settings;
 use std::alloc::{AllocError, Global};
 use std::marker::Model;
+use std::ops::Range;
 use vx_base::{Column, DType, SegmentSource};
 use vx_expr::BoundExpression;
+use vx_splits::{Selection, StrictSorted};
 
-/// How often a source may answer that a read goes on, from one completion to the next, where nothing else is said.
-const DEFAULT_IDLE_LIMIT: u64 = 1_000_000;
-
-/// A scan of a file, before it runs: the file, and the settings.
+/// A scan of a file, before it runs: the file, and the settings. Each `with_` call sets one setting and takes no memory;
+/// of two calls for one setting the later stands.
 #[derive(Drop)]
 pub struct ScanBuilder {
     file: ScanFile,
@@ -33,30 +39,25 @@ impl Model for ScanBuilder {
 
     ghost coded = { coded_building };
 
-    ghost use Rattle.std.specs.Prelude.{◌<◌};
-    ghost use Rattle.vx_scan.specs.Builders.{ProjectsRoot};
+    ghost use Rattle.std.specs.Prelude.{◌≡◌, ◌<◌, Some};
+    ghost use Rattle.vx_expr.specs.Types.{type_of};
     ghost use Rattle.vx_scan.specs.Settings.{building_of};
 
     ghost view = { λ a. building_of a.file a.settings };
 
-    ghost invariant = { λ a. ProjectsRoot (building_of a.file a.settings) × (0 < a.settings.idle_limit) };
+    ghost invariant = { λ a. 0 < a.settings.idle_limit };
 }
 
 impl ScanBuilder {
-    /// A scan of all rows of the file, whole: the projection is the root, and a source may answer 1000000 times that
-    /// a read goes on, from one completion to the next.
+    /// A scan of all rows of the file, whole, in order: the projection is the root, rows are counted from 0, and a
+    /// source may answer 1000000 times that a read goes on, from one completion to the next.
     pub fn new(alloc: Global, file: ScanFile) -> Result<ScanBuilder, AllocError>
-        ensures layout { IfOk result (λ builder. builder.nodes ≡ file.layout) }
-        ensures locations { IfOk result (λ builder. builder.locations ≡ file.locations.items) }
-        ensures projection { IfOk result ProjectsRoot }
-        ensures limit { IfOk result (λ builder. builder.idle_limit ≡ default_idle_limit) }
+        ensures { IfOk result (λ builder. builder ≡ new_building file.layout file.locations.items) }
     {
+        // The contract of `len` says that the tree keeps its rules.
+        let _count = file.layout.len();
         let dtype = file.layout.dtype().copy(alloc)?;
-        let projection = BoundExpression::new_root(alloc, dtype)?;
-        let settings = Settings {
-            projection,
-            idle_limit: DEFAULT_IDLE_LIMIT,
-        };
+        let settings = Settings::new(alloc, dtype)?;
         Ok(ScanBuilder { file, settings })
     }
 
@@ -67,8 +68,64 @@ impl ScanBuilder {
         self.settings.projection.dtype()
     }
 
+    /// The scan, with another projection: what is computed of each row.
+    pub fn with_projection(mut self, projection: BoundExpression) -> ScanBuilder
+        ensures { result ≡ record self { projection = projection } }
+    {
+        self.settings.projection = projection;
+        self
+    }
+
+    /// The scan, with batches in the order of the file, or in any.
+    pub fn with_ordered(mut self, ordered: bool) -> ScanBuilder
+        ensures { result ≡ record self { ordered = ordered } }
+    {
+        self.settings.ordered = ordered;
+        self
+    }
+
+    /// The scan of a range of rows, numbered from 0. A selected row of it that isn't one of the file's refuses the scan.
+    pub fn with_row_range(mut self, rows: Range<u64>) -> ScanBuilder
+        ensures { result ≡ record self { range = Some rows } }
+    {
+        self.settings.range = Some(rows);
+        self
+    }
+
+    /// The scan of the rows that are selected.
+    pub fn with_selection(mut self, selection: Selection) -> ScanBuilder
+        ensures { result ≡ record self { selection = selection } }
+    {
+        self.settings.selection = selection;
+        self
+    }
+
+    /// The scan of the rows with these numbers.
+    pub fn with_row_indices(self, rows: StrictSorted) -> ScanBuilder
+        ensures { result ≡ record self { selection = IncludeByIndex rows } }
+    {
+        self.with_selection(Selection::IncludeByIndex(rows))
+    }
+
+    /// The scan, with numbers of rows that are counted from the offset on.
+    pub fn with_row_offset(mut self, offset: u64) -> ScanBuilder
+        ensures { result ≡ record self { row_offset = offset } }
+    {
+        self.settings.row_offset = offset;
+        self
+    }
+
+    /// The scan, with so many pieces of work in hand at most. It has no effect on the answer.
+    pub fn with_concurrency(mut self, count: usize) -> ScanBuilder
+        requires { 0 < count }
+        ensures { result ≡ record self { concurrency = count } }
+    {
+        self.settings.concurrency = count;
+        self
+    }
+
     /// The scan, with another idle limit: how often a source may answer that a read goes on, from one completion to
-    /// the next. It takes no memory.
+    /// the next.
     pub fn with_idle_limit(mut self, polls: u64) -> ScanBuilder
         requires { 0 < polls }
         ensures { result ≡ record self { idle_limit = polls } }
@@ -77,8 +134,8 @@ impl ScanBuilder {
         self
     }
 
-    /// Runs the scan over the source: the columns of the file's rows, one for each chunk, in file order. It stops at
-    /// the first chunk that fails.
+    /// Runs the scan over the source: the projection at the scan's rows, a column for each chunk with a row of the scan,
+    /// in file order. It stops at the first chunk that fails.
     pub fn into_batches<S: SegmentSource + Send>(
         self,
         alloc: Global,
@@ -87,16 +144,34 @@ impl ScanBuilder {
         requires one { length sources.old ≡ 1 }
         requires few { length self.locations ≤ 2 ^ 32 - 1 }
         ensures answers { FirstOf (AnswersScan (scan_of self) self.idle_limit result) (map S.state sources.old) (map S.state sources.new) }
-        // A file without rows has no batch. Nothing is asked, and no memory is taken.
-        ensures empty { row_count (scan_of self) ≡ 0 → IfOk result (λ batches. batches.items ≡ []) × IsOk result × (map S.state sources.new ≡ map S.state sources.old) }
+        // An empty range has no batch, and a scan that is refused before it begins is refused: nothing is asked, and no
+        // memory is taken.
+        ensures empty { IsBound (scan_of self) → (HasRows self.range (row_count (scan_of self)) → ⊥) → IfOk result (λ batches. batches.items ≡ []) × IsOk result × (map S.state sources.new ≡ map S.state sources.old) }
+        ensures refused { (error : Refusal) → Refuses (scan_of self) error → (result ≡ Err error) × (map S.state sources.new ≡ map S.state sources.old) }
     {
         let ScanBuilder { file, settings } = self;
-        let idle_limit = settings.into_idle_limit();
-        if file.layout.row_count() == 0 {
-            return Ok(Vec::new(alloc));
-        }
-        let chunks = cut_file(alloc, &file)?;
-        let plans = plan_file(alloc, file, idle_limit)?;
-        run_chunks(alloc, &plans, &chunks, &mut sources[0])
+        scan_file(alloc, file, &settings, &mut sources[0])
     }
+}
+
+/// Runs the scan of the file by the settings over the source.
+fn scan_file<S: SegmentSource>(
+    alloc: Global,
+    file: ScanFile,
+    settings: &Settings,
+    source: &mut S,
+) -> Result<Vec<Column>, ScanError>
+    requires few { length file.locations.items ≤ 2 ^ 32 - 1 }
+    ensures answers { AnswersScan (scan_by file settings.now) settings.now.idle_limit result (S.state source.old) (S.state source.new) }
+    ensures empty { IsBound (scan_by file settings.now) → (HasRows settings.now.range (row_count (scan_by file settings.now)) → ⊥) → IfOk result (λ batches. batches.items ≡ []) × IsOk result × (S.state source.new ≡ S.state source.old) }
+    ensures refused { (error : Refusal) → Refuses (scan_by file settings.now) error → (result ≡ Err error) × (S.state source.new ≡ S.state source.old) }
+{
+    let rows = match begin(&file, settings) {
+        Ok(Some(rows)) => rows,
+        Ok(None) => return Ok(Vec::new(alloc)),
+        Err(error) => return Err(error),
+    };
+    let chunks = cut_file(alloc, &file, settings, rows)?;
+    let plans = plan_file(alloc, file, settings)?;
+    run_chunks(alloc, &plans, &chunks, source)
 }

@@ -1,11 +1,12 @@
 //! The laws of what scans answer. Each is the contract of a function that does nothing.
 
-ghost use Rattle.vx_scan.specs.Laws.{AnswerIsOne, ValidScanIsAnswered, FaultyReadIsNoAnswer, FaultIsNoAnswer, PiecesJoin, PiecesAnswer};
+ghost use Rattle.vx_scan.specs.Laws.{AnswerIsOne, ValidScanIsAnswered, ValidScanBegins, FaultyReadIsNoAnswer, FaultIsNoAnswer, PiecesJoin, PiecesAnswer, PlanTextIsOne};
 
-/// A valid scan has an answer, and no scan has two. There is none where a row has a faulty read, or where its meaning is
-/// a fault.
+/// A valid scan is not refused before it begins, and has an answer; no scan has two. There is none where a row has a
+/// faulty read, or where its meaning is a fault.
 pub fn scans_have_answers()
     ensures valid { ValidScanIsAnswered }
+    ensures begins { ValidScanBegins }
     ensures one { AnswerIsOne }
     ensures faulty { FaultyReadIsNoAnswer }
     ensures fault { FaultIsNoAnswer }
@@ -15,4 +16,9 @@ pub fn scans_have_answers()
 pub fn pieces_are_the_answer()
     ensures rows { PiecesJoin }
     ensures answer { PiecesAnswer }
+{}
+
+/// The plan of a projection has one text, whatever table it stands in.
+pub fn plans_have_one_text()
+    ensures { PlanTextIsOne }
 {}

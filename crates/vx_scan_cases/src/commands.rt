@@ -2,7 +2,7 @@
 
 use crate::adaptors::write_adaptor;
 use crate::chunks::write_chunk;
-use crate::scans::{write_dtype, write_scan};
+use crate::scans::{write_dtype, write_scan, write_selected};
 use crate::trees::write_tree;
 use std::alloc::{AllocError, Global};
 
@@ -36,6 +36,7 @@ fn write_answer<'a>(
         }
         "dtype" => write_dtype(alloc, *desk, out)?,
         "scan" => write_scan(alloc, *desk, out)?,
+        "select" => write_selected(alloc, *desk, words, out)?,
         "chunk" => write_chunk(alloc, *desk, words, out)?,
         "adaptor" => write_adaptor(alloc, *desk, words, out)?,
         _ => out.push_str(" no command")?,

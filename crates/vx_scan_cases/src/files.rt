@@ -49,7 +49,7 @@ pub(crate) fn places_of(alloc: Global, words: &str) -> Result<Vec<SegmentLocatio
 }
 
 /// The numbers between commas; `-` is none.
-fn numbers_of(alloc: Global, text: &str) -> Result<Vec<u64>, AllocError> {
+pub(crate) fn numbers_of(alloc: Global, text: &str) -> Result<Vec<u64>, AllocError> {
     let mut numbers = Vec::new(alloc);
     for word in text.split(',') {
         if word != "-" {

@@ -1,13 +1,17 @@
 //! Scans of the whole file.
 
+ghost use Rattle.std.specs.Prelude.{◌≡◌, IfOk, IfSome};
+
 use crate::answers::{write_column, write_error, write_source};
 use crate::commands::Desk;
-use crate::files::{places_of, source_of};
+use crate::files::{numbers_of, places_of, source_of};
 use crate::trees::tree_of;
 use std::alloc::{AllocError, Global};
 use vx_base::Column;
+use vx_expr::{BindError, Expr, bind};
 use vx_notation::dtype_text;
 use vx_scan::{ScanBuilder, ScanError, ScanFile};
+use vx_splits::StrictSorted;
 
 /// Appends the batches, or why there are none.
 fn write_batches(
@@ -41,6 +45,64 @@ pub(crate) fn write_scan(
     let batches = ScanBuilder::new(alloc, ScanFile { layout, locations })?
         .with_idle_limit(desk.limit.max(1))
         .into_batches(alloc, &mut sources);
+    write_batches(alloc, &batches, out)?;
+    write_source(&sources[0], out)
+}
+
+/// The scan with settings that are written so: `1..4 0,3 7 row` is of the rows 0 and 3 in a range, counted from 7, and
+/// projects their numbers; any other last word projects the root.
+fn set(alloc: Global, builder: ScanBuilder, words: &str) -> Result<Option<ScanBuilder>, AllocError>
+    ensures { IfOk result (λ made. IfSome made (λ set. set.locations ≡ builder.locations)) }
+{
+    let mut parts = words.split_whitespace();
+    let (start, end) = parts
+        .next()
+        .unwrap_or("")
+        .split_once("..")
+        .unwrap_or(("", ""));
+    let rows = start.parse::<u64>().unwrap_or(0)..end.parse::<u64>().unwrap_or(0);
+    let indices = numbers_of(alloc, parts.next().unwrap_or("-"))?;
+    let offset = parts.next().unwrap_or("").parse::<u64>().unwrap_or(0);
+    let expr = if parts.next() == Some("row") {
+        Expr::RowIdx
+    } else {
+        Expr::Root
+    };
+    let projection = match bind(alloc, &expr, builder.dtype()) {
+        Ok(projection) => projection,
+        Err(BindError::Memory) => return Err(AllocError),
+        Err(_) => return Ok(None),
+    };
+    let Ok(indices) = StrictSorted::try_new(indices) else {
+        return Ok(None);
+    };
+    let builder = builder
+        .with_projection(projection)
+        .with_ordered(false)
+        .with_concurrency(2)
+        .with_row_range(rows)
+        .with_row_indices(indices)
+        .with_row_offset(offset);
+    Ok(Some(builder))
+}
+
+/// Appends the batches of a scan of the file with these settings, and what its source was asked.
+pub(crate) fn write_selected(
+    alloc: Global,
+    desk: Desk<'_>,
+    words: &str,
+    out: &mut String,
+) -> Result<(), AllocError> {
+    let Some(layout) = tree_of(alloc, desk.nodes)? else {
+        return out.push_str(" no tree;");
+    };
+    let locations = places_of(alloc, desk.places)?;
+    let mut sources = [source_of(alloc, desk.bytes, desk.script)?];
+    let builder = ScanBuilder::new(alloc, ScanFile { layout, locations })?;
+    let Some(builder) = set(alloc, builder, words)? else {
+        return out.push_str(" not set;");
+    };
+    let batches = builder.into_batches(alloc, &mut sources);
     write_batches(alloc, &batches, out)?;
     write_source(&sources[0], out)
 }

@@ -5,5 +5,5 @@ use Rattle.vx_scan.proofs.preparing.cut_chunks.Given as goal
 
 abbrev pub invariant-loop-rows : goal.invariant-loop-rows
 invariant-loop-rows l =
-    Cutting l.selection l.fn.rows.end l.yielded l.chunks.items
+    Cutting l.selection l.fn.rows.start l.fn.rows.end l.yielded l.chunks.items
     × (l.yielded ++ l.rows-iterator.rest.items ≡ row_chunks l.fn.size l.fn.rows.start l.fn.rows.end)

@@ -1,0 +1,16 @@
+pub mod StoredValues
+pub mod Written
+pub mod Places
+pub mod ChunkRows
+pub mod Segments
+pub mod DemoTrees
+pub mod DemoTree
+pub mod StructItems
+pub mod RowTotals
+pub mod DemoSummary
+pub mod DemoScan
+pub mod NodePlaces
+pub mod DemoChildren
+pub mod DemoDepths
+pub mod DemoGood
+pub mod SegmentSizes

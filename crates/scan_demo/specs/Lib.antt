@@ -1,0 +1,9 @@
+pub mod DemoRows
+pub mod Flats
+pub mod DemoNodes
+pub mod DemoBytes
+pub mod Writing
+pub mod Totals
+pub mod Summary
+pub mod DemoScans
+pub mod TenRows

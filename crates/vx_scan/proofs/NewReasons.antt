@@ -1,0 +1,271 @@
+-- The reasons for which a chunk asks, behind those of the chunks before it.
+use Rattle.std.proofs.Common.{◌≡◌, ◌≢◌, ℕ, zero, suc, ◌+◌, ◌<◌, ◌≤◌, inl, inr, Bool, true, List, [], ◌∷◌, ◌++◌, Option, Some, None, length, map, refl, sym, ap, ◌∙◌, subst, arith}
+use Rattle.std.specs.Prelude.{if◌then◌else◌, max, nat_lt}
+use Rattle.std.specs.List.{slice_get, All, AllByRecursion}
+use Rattle.std.proofs.lemmas.Bool.{lt-ltb}
+use Rattle.std.proofs.lemmas.List.{map-append}
+use Rattle.std.proofs.lemmas.List.Elements.{All-append, All-head, All-tail}
+use Rattle.vx_base.specs.Columns.{ColumnData}
+use Rattle.vx_base.specs.Sources.{SourceState}
+use Rattle.vx_base.specs.declared.locations.SegmentLocation.{SegmentLocation}
+use Rattle.vx_io.specs.Fetches.{asked_for}
+use Rattle.vx_plan.specs.Refs.{number_of}
+use Rattle.vx_splits.specs.declared.selected_rows.SelectedRows.{SelectedRows}
+use Rattle.vx_steps.specs.Kept.{kept_at, IsKept}
+use Rattle.vx_steps.specs.KeptData.{Kept}
+use Rattle.vx_steps.specs.Leavings.{IsLeafOf, RowReads}
+use Rattle.vx_steps.specs.Visits.{IsLeafRead}
+use Rattle.vx_scan.specs.declared.plans.ScanPlans.{ScanPlans}
+use Rattle.vx_scan.specs.Asks.{AsksOnly}
+use Rattle.vx_scan.specs.Batches.{AsksReached}
+use Rattle.vx_scan.specs.ChunkRows.{given_to, ChunkReaches, ChunkVisits}
+use Rattle.vx_scan.specs.Fetched.{AreDistinct, location_of}
+use Rattle.vx_scan.specs.LeafRows.{IsReadAt, LeavesLieTogether, row_behind}
+use Rattle.vx_scan.specs.Outcomes.{IsWanted}
+use Rattle.vx_scan.specs.Plans.{projection_plan, AreInOrder, FollowFrom, IsChunkOf}
+use Rattle.vx_scan.specs.Reasons.{Reason, leaf_of, read_for, segment_of, chunk_and_segment, IsReasonAmong}
+use Rattle.vx_scan.proofs.Distinct.{apart_from, distinct_by, distinct_then}
+use Rattle.vx_scan.proofs.Sessions.{asked_then}
+use Rattle.vx_scan.proofs.WeakerVisits.{leaf_read, same_read, weaker_visit}
+
+-- ---- chunks in order
+
+-- the row behind the last of the chunks, and this one where there is none
+abbrev pub end_of : ℕ → List SelectedRows → ℕ
+end_of row [] = row
+end_of row (chunk ∷ chunks) = end_of chunk.scope.rows.end chunks
+
+-- the chunk comes behind those, and has rows
+pub record ComesNext (row : ℕ) (done : List SelectedRows) (chunk : SelectedRows) : Type 0 where
+  pub before : FollowFrom row done
+  pub behind : end_of row done ≤ chunk.scope.rows.start
+  pub some : chunk.scope.rows.start < chunk.scope.rows.end
+
+pub comes_next : (row : ℕ) (done : List SelectedRows) (chunk : SelectedRows) → FollowFrom row (done ++ chunk ∷ []) → ComesNext row done chunk
+comes_next row [] chunk follow = record { before = tt; behind = follow.0; some = follow.1 }
+comes_next row (one ∷ done) chunk follow =
+    let rest = comes_next one.scope.rows.end done chunk follow.2 in
+    record { before = (follow.0, follow.1, rest.before); behind = rest.behind; some = rest.some }
+
+pub follow_more : (row : ℕ) (done : List SelectedRows) (chunk : SelectedRows) → ComesNext row done chunk → FollowFrom row (done ++ chunk ∷ [])
+follow_more row [] chunk next = (next.behind, next.some, tt)
+follow_more row (one ∷ done) chunk next =
+    (next.before.0, next.before.1, follow_more one.scope.rows.end done chunk (record { before = next.before.2; behind = next.behind; some = next.some }))
+
+pub end_next : (row : ℕ) (done : List SelectedRows) (chunk : SelectedRows) → end_of row (done ++ chunk ∷ []) ≡ chunk.scope.rows.end
+end_next row [] chunk = refl
+end_next row (one ∷ done) chunk = end_next one.scope.rows.end done chunk
+
+pub follow_front : (row : ℕ) (ones twos : List SelectedRows) → FollowFrom row (ones ++ twos) → FollowFrom row ones
+follow_front row [] twos follow = tt
+follow_front row (one ∷ ones) twos follow = (follow.0, follow.1, follow_front one.scope.rows.end ones twos follow.2)
+
+behind_it : (chunk : SelectedRows) → chunk.scope.rows.start < chunk.scope.rows.end → row_behind chunk ≡ chunk.scope.rows.end
+behind_it chunk some =
+    ap (λ (b : Bool). max (if b then chunk.scope.rows.end else 0) 0) (lt-ltb chunk.scope.rows.start chunk.scope.rows.end some) ∙ omega arith
+
+-- ---- the chunk at a place
+
+got_front : (ones twos : List SelectedRows) (i : ℕ) (x : SelectedRows) → slice_get ones i ≡ Some x → slice_get (ones ++ twos) i ≡ Some x
+got_front [] twos i x at = absurd cc
+got_front (one ∷ ones) twos zero x at = at
+got_front (one ∷ ones) twos (suc i) x at = got_front ones twos i x at
+
+got_inside : (ones : List SelectedRows) (i : ℕ) (x : SelectedRows) → slice_get ones i ≡ Some x → i < length ones
+got_inside [] i x at = absurd cc
+got_inside (one ∷ ones) zero x at = omega arith
+got_inside (one ∷ ones) (suc i) x at = let less = got_inside ones i x at in omega (arith, less)
+
+got_last : (ones : List SelectedRows) (x : SelectedRows) → slice_get (ones ++ x ∷ []) (length ones) ≡ Some x
+got_last [] x = refl
+got_last (one ∷ ones) x = got_last ones x
+
+bit_inside : (bits : List Bool) (i : ℕ) → slice_get bits i ≡ Some true → i < length bits
+bit_inside [] i at = absurd cc
+bit_inside (bit ∷ bits) zero at = omega arith
+bit_inside (bit ∷ bits) (suc i) at = let less = bit_inside bits i at in omega (arith, less)
+
+-- ---- reasons among more chunks
+
+reason_front : (plans : ScanPlans) (ones twos : List SelectedRows) (reason : Reason) → IsReasonAmong plans ones reason → IsReasonAmong plans (ones ++ twos) reason
+reason_front plans ones twos reason is = record { chunk = is.chunk; here = got_front ones twos reason.chunk is.chunk is.here; reads = is.reads; reaches = is.reaches }
+
+pub reasons_front : (plans : ScanPlans) (ones twos : List SelectedRows) (reasons : List Reason) → AllByRecursion (IsReasonAmong plans ones) reasons → AllByRecursion (IsReasonAmong plans (ones ++ twos)) reasons
+reasons_front plans ones twos [] each = tt
+reasons_front plans ones twos (reason ∷ reasons) each = (reason_front plans ones twos reason each.0, reasons_front plans ones twos reasons each.1)
+
+each_then : {X : Type 0} (P : X → Type 0) (ones twos : List X) → AllByRecursion P ones → AllByRecursion P twos → AllByRecursion P (ones ++ twos)
+each_then P [] twos first second = second
+each_then P (one ∷ ones) twos first second = (first.0, each_then P ones twos first.1 second)
+
+each_weaker : {X : Type 0} (P Q : X → Type 0) → ((x : X) → P x → Q x) → (xs : List X) → AllByRecursion P xs → AllByRecursion Q xs
+each_weaker P Q f [] each = tt
+each_weaker P Q f (x ∷ xs) each = (f x each.0, each_weaker P Q f xs each.1)
+
+-- ---- the reasons of a chunk
+
+-- a selected row of the chunk reads the leaf, of which no column was handed in, and reaches the segment
+pub record IsNewReason (plans : ScanPlans) (place : ℕ) (handed : List Kept) (chunk : SelectedRows) (reason : Reason) : Type 0 where
+  pub at : reason.chunk ≡ place
+  pub reads : ChunkVisits (IsLeafRead (read_for reason)) plans [] chunk
+  pub fresh : kept_at handed reason.leaf ≡ None
+  pub reaches : ChunkReaches plans chunk reason.segment
+
+pub record NewReasons (plans : ScanPlans) (place : ℕ) (handed : List Kept) (chunk : SelectedRows) (segments : List ℕ) : Type 0 where
+  pub reasons : List Reason
+  pub segments_are : map segment_of reasons ≡ segments
+  pub each : AllByRecursion (IsNewReason plans place handed chunk) reasons
+
+pub new_reasons : (plans : ScanPlans) (place : ℕ) (handed : List Kept) (chunk : SelectedRows) (segments : List ℕ) → All (IsWanted plans [] handed chunk) segments → NewReasons plans place handed chunk segments
+new_reasons plans place handed chunk [] wanted = record { reasons = []; segments_are = refl; each = tt }
+new_reasons plans place handed chunk (segment ∷ segments) wanted =
+    let one : IsWanted plans [] handed chunk segment = All-head (IsWanted plans [] handed chunk) segment segments wanted in
+    let rest : NewReasons plans place handed chunk segments = new_reasons plans place handed chunk segments (All-tail (IsWanted plans [] handed chunk) segment segments wanted) in
+    record {
+      reasons = record { chunk = place; leaf = one.leaf; segment = segment } ∷ rest.reasons;
+      segments_are = ap (λ (ss : List ℕ). segment ∷ ss) rest.segments_are;
+      each = (record { at = refl; reads = one.visited; fresh = one.not_handed; reaches = one.reached }, rest.each);
+    }
+
+new_among : (plans : ScanPlans) (done : List SelectedRows) (handed : List Kept) (chunk : SelectedRows) (reason : Reason) → IsNewReason plans (length done) handed chunk reason → IsReasonAmong plans (done ++ chunk ∷ []) reason
+new_among plans done handed chunk reason is = record {
+  chunk = chunk;
+  here = ap (slice_get (done ++ chunk ∷ [])) is.at ∙ got_last done chunk;
+  reads = is.reads;
+  reaches = is.reaches;
+}
+
+-- a row of the chunk that reads the leaf, with nothing handed in
+record ReadsInside (plans : ScanPlans) (chunk : SelectedRows) (reason : Reason) : Type 0 where
+  row : ℕ
+  behind : chunk.scope.rows.start ≤ row
+  before : row < chunk.scope.rows.end
+  reads : RowReads plans.table (number_of plans.projection) row reason.leaf
+
+reads_inside : (plans : ScanPlans) (chunk : SelectedRows) (reason : Reason) → IsChunkOf plans chunk → ChunkVisits (IsLeafRead (read_for reason)) plans [] chunk → ReadsInside plans chunk reason
+reads_inside plans chunk reason is visits =
+    let less : visits.0 < length chunk.mask = bit_inside chunk.mask visits.0 visits.1 in
+    let size = is.mask in
+    record {
+      row = chunk.scope.rows.start + visits.0;
+      behind = omega arith;
+      before = omega (arith, less, size);
+      reads = weaker_visit (IsLeafRead (read_for reason)) (IsLeafOf reason.leaf) (leaf_read (read_for reason)) (given_to plans []) (projection_plan plans) (chunk.scope.rows.start + visits.0) visits.2;
+    }
+
+-- ---- what came of the leaves that were asked for
+
+-- A row before this one reads the leaf; and if this row reads it, its column is handed on.
+pub record IsPast (plans : ScanPlans) (row : ℕ) (handed : List Kept) (reason : Reason) : Type 0 where
+  pub at : ℕ
+  pub before : at < row
+  pub reads : RowReads plans.table (number_of plans.projection) at reason.leaf
+  pub stays : IsReadAt plans row reason.leaf → IsKept handed reason.leaf
+
+abbrev pub ArePast : ScanPlans → ℕ → List Kept → List Reason → Type 0
+ArePast plans row handed reasons = AllByRecursion (IsPast plans row handed) reasons
+
+none_kept : (columns : Option ColumnData) (column : ColumnData) → columns ≡ Some column → columns ≡ None → ⊥
+none_kept columns column at none = let both : Some column ≡ None = sym at ∙ none in cc
+
+-- a leaf that was asked for is not asked for by a later chunk
+not_again : (plans : ScanPlans) (row place : ℕ) (handed : List Kept) (chunk : SelectedRows) → IsChunkOf plans chunk → row ≤ chunk.scope.rows.start → LeavesLieTogether (projection_plan plans) → (old new : Reason) → IsPast plans row handed old → IsNewReason plans place handed chunk new → old.leaf ≢ new.leaf
+not_again plans row place handed chunk is behind together old new past fresh same =
+    let inside : ReadsInside plans chunk new = reads_inside plans chunk new is fresh.reads in
+    let from = inside.behind in
+    let to = inside.before in
+    let end = is.inside in
+    let low = past.before in
+    let last : RowReads plans.table (number_of plans.projection) inside.row old.leaf = subst (λ (leaf : ℕ). RowReads plans.table (number_of plans.projection) inside.row leaf) (sym same) inside.reads in
+    let here : RowReads plans.table (number_of plans.projection) row old.leaf = together.between old.leaf past.at row inside.row (omega (arith, low)) (omega (arith, behind, from)) past.reads last in
+    let kept : IsKept handed old.leaf = past.stays (omega (arith, behind, from, to, end), here) in
+    none_kept (kept_at handed new.leaf) kept.0 (ap (kept_at handed) (sym same) ∙ kept.1) fresh.fresh
+
+-- ---- the asks with those of one chunk more
+
+same_segment : (plans : ScanPlans) (place : ℕ) (handed : List Kept) (chunk : SelectedRows) → LeavesLieTogether (projection_plan plans) → (one other : Reason) → IsNewReason plans place handed chunk one → IsNewReason plans place handed chunk other → one.leaf ≡ other.leaf → one.segment ≡ other.segment
+same_segment plans place handed chunk together one other first second same =
+    together.segment (read_for one) (read_for other) (chunk.scope.rows.start + first.reads.0) (chunk.scope.rows.start + second.reads.0)
+    (weaker_visit (IsLeafRead (read_for one)) (IsLeafRead (read_for one)) (same_read (read_for one)) (given_to plans []) (projection_plan plans) (chunk.scope.rows.start + first.reads.0) first.reads.2)
+    (weaker_visit (IsLeafRead (read_for other)) (IsLeafRead (read_for other)) (same_read (read_for other)) (given_to plans []) (projection_plan plans) (chunk.scope.rows.start + second.reads.0) second.reads.2) same
+
+earlier : (plans : ScanPlans) (done : List SelectedRows) (handed : List Kept) (chunk : SelectedRows) (old new : Reason) → IsReasonAmong plans done old → IsNewReason plans (length done) handed chunk new → chunk_and_segment old ≢ chunk_and_segment new
+earlier plans done handed chunk old new is fresh same =
+    let less = got_inside done old.chunk is.chunk is.here in
+    let place : old.chunk ≡ new.chunk = ap (λ (pair : ℕ × ℕ). pair.0) same in
+    let at = fresh.at in
+    omega (arith, less, place, at)
+
+-- the new asks of a chunk, behind those of the chunks before
+pub asks_more : (plans : ScanPlans) (done : List SelectedRows) (chunk : SelectedRows) (handed : List Kept) (before now after : SourceState) → IsChunkOf plans chunk → (asks : AsksReached plans done before now) →
+    (AreInOrder done → LeavesLieTogether (projection_plan plans) → ArePast plans (end_of 0 done) handed asks.reasons) → AsksOnly (IsWanted plans [] handed chunk) plans.locations.items now after → AsksReached plans (done ++ chunk ∷ []) before after
+asks_more plans done chunk handed before now after is asks past more =
+    let fresh : NewReasons plans (length done) handed chunk more.segments = new_reasons plans (length done) handed chunk more.segments more.wanted in
+    let segments : map segment_of (asks.reasons ++ fresh.reasons) ≡ map segment_of asks.reasons ++ more.segments =
+    map-append segment_of asks.reasons fresh.reasons ∙ ap (λ (ss : List ℕ). map segment_of asks.reasons ++ ss) fresh.segments_are in
+    record {
+      reasons = asks.reasons ++ fresh.reasons;
+      are = each_then (IsReasonAmong plans (done ++ chunk ∷ [])) asks.reasons fresh.reasons (reasons_front plans done (chunk ∷ []) asks.reasons asks.are)
+          (each_weaker (IsNewReason plans (length done) handed chunk) (IsReasonAmong plans (done ++ chunk ∷ [])) (new_among plans done handed chunk) fresh.reasons fresh.each);
+      located = subst (All (λ segment. segment < length plans.locations.items)) (sym segments)
+          (All-append (λ segment. segment < length plans.locations.items) (map segment_of asks.reasons) more.segments asks.located more.asks.located);
+      asked = more.asks.asked
+          ∙ (ap (asked_for (map (location_of plans.locations.items) more.segments)) asks.asked
+          ∙ (asked_then (map (location_of plans.locations.items) (map segment_of asks.reasons)) (map (location_of plans.locations.items) more.segments) before.asked
+          ∙ ap (λ (places : List SegmentLocation). asked_for places before.asked)
+          (sym (map-append (location_of plans.locations.items) (map segment_of asks.reasons) more.segments) ∙ ap (map (location_of plans.locations.items)) (sym segments))));
+      once_a_chunk = subst AreDistinct (sym (map-append chunk_and_segment asks.reasons fresh.reasons))
+          (distinct_then (map chunk_and_segment asks.reasons) (map chunk_and_segment fresh.reasons) asks.once_a_chunk
+          (distinct_by (IsNewReason plans (length done) handed chunk) chunk_and_segment segment_of (λ one two first second same. ap (λ (pair : ℕ × ℕ). pair.1) same) fresh.reasons fresh.each (subst AreDistinct (sym fresh.segments_are) more.asks.apart))
+          (apart_from (IsReasonAmong plans done) (IsNewReason plans (length done) handed chunk) chunk_and_segment (earlier plans done handed chunk) asks.reasons fresh.reasons asks.are fresh.each));
+      once_a_leaf = λ order together.
+          let next : ComesNext 0 done chunk = comes_next 0 done chunk order in
+          subst AreDistinct (sym (map-append leaf_of asks.reasons fresh.reasons))
+          (distinct_then (map leaf_of asks.reasons) (map leaf_of fresh.reasons) (asks.once_a_leaf next.before together)
+          (distinct_by (IsNewReason plans (length done) handed chunk) leaf_of segment_of (same_segment plans (length done) handed chunk together) fresh.reasons fresh.each (subst AreDistinct (sym fresh.segments_are) more.asks.apart))
+          (apart_from (IsPast plans (end_of 0 done) handed) (IsNewReason plans (length done) handed chunk) leaf_of
+          (not_again plans (end_of 0 done) (length done) handed chunk is next.behind together) asks.reasons fresh.reasons (past next.before together) fresh.each));
+    }
+
+-- ---- what comes of the leaves behind one chunk more
+
+-- of the leaves that a chunk was handed and of those that it reads, each is handed on that the row behind it reads
+pub record HandsLeaves (plans : ScanPlans) (chunk : SelectedRows) (handed more : List Kept) : Type 0 where
+  pub stay : (leaf : ℕ) → IsReadAt plans (row_behind chunk) leaf → IsKept handed leaf → IsKept more leaf
+  pub there : (reason : Reason) → IsReadAt plans (row_behind chunk) reason.leaf → ChunkVisits (IsLeafRead (read_for reason)) plans [] chunk → IsKept more reason.leaf
+
+old_past : (plans : ScanPlans) (row : ℕ) (handed more : List Kept) (chunk : SelectedRows) → IsChunkOf plans chunk → row ≤ chunk.scope.rows.start → chunk.scope.rows.start < chunk.scope.rows.end → LeavesLieTogether (projection_plan plans) → HandsLeaves plans chunk handed more →
+    (reason : Reason) → IsPast plans row handed reason → IsPast plans chunk.scope.rows.end more reason
+old_past plans row handed more chunk is behind some together hands reason past =
+    let low = past.before in
+    record {
+      at = past.at;
+      before = omega (arith, low, behind, some);
+      reads = past.reads;
+      stays = λ read.
+          let end = read.0 in
+          let here : RowReads plans.table (number_of plans.projection) row reason.leaf = together.between reason.leaf past.at row chunk.scope.rows.end (omega (arith, low)) (omega (arith, behind, some)) past.reads read.1 in
+          hands.stay reason.leaf (subst (λ (r : ℕ). IsReadAt plans r reason.leaf) (sym (behind_it chunk some)) read) (past.stays (omega (arith, end, behind, some), here));
+    }
+
+new_past : (plans : ScanPlans) (place : ℕ) (handed more : List Kept) (chunk : SelectedRows) → IsChunkOf plans chunk → chunk.scope.rows.start < chunk.scope.rows.end → HandsLeaves plans chunk handed more → (reason : Reason) → IsNewReason plans place handed chunk reason → IsPast plans chunk.scope.rows.end more reason
+new_past plans place handed more chunk is some hands reason fresh =
+    let inside : ReadsInside plans chunk reason = reads_inside plans chunk reason is fresh.reads in
+    record {
+      at = inside.row;
+      before = inside.before;
+      reads = inside.reads;
+      stays = λ read. hands.there reason (subst (λ (r : ℕ). IsReadAt plans r reason.leaf) (sym (behind_it chunk some)) read) fresh.reads;
+    }
+
+pub past_more : (plans : ScanPlans) (done : List SelectedRows) (chunk : SelectedRows) (handed more : List Kept) (before now after : SourceState) → (is : IsChunkOf plans chunk) (asks : AsksReached plans done before now) →
+    (past : AreInOrder done → LeavesLieTogether (projection_plan plans) → ArePast plans (end_of 0 done) handed asks.reasons) (asked : AsksOnly (IsWanted plans [] handed chunk) plans.locations.items now after) → HandsLeaves plans chunk handed more → AreInOrder (done ++ chunk ∷ []) → LeavesLieTogether (projection_plan plans) →
+    ArePast plans (end_of 0 (done ++ chunk ∷ [])) more (asks_more plans done chunk handed before now after is asks past asked).reasons
+unfolding asks_more
+past_more plans done chunk handed more before now after is asks past asked hands order together =
+    let next : ComesNext 0 done chunk = comes_next 0 done chunk order in
+    let fresh : NewReasons plans (length done) handed chunk asked.segments = new_reasons plans (length done) handed chunk asked.segments asked.wanted in
+    subst (λ (row : ℕ). ArePast plans row more (asks.reasons ++ fresh.reasons)) (sym (end_next 0 done chunk))
+    (each_then (IsPast plans chunk.scope.rows.end more) asks.reasons fresh.reasons
+    (each_weaker (IsPast plans (end_of 0 done) handed) (IsPast plans chunk.scope.rows.end more) (old_past plans (end_of 0 done) handed more chunk is next.behind next.some together hands) asks.reasons (past next.before together))
+    (each_weaker (IsNewReason plans (length done) handed chunk) (IsPast plans chunk.scope.rows.end more) (new_past plans (length done) handed more chunk is next.some hands) fresh.reasons fresh.each))

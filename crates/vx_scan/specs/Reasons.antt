@@ -1,0 +1,34 @@
+-- Why a source was asked for a segment.
+use Rattle.std.specs.Prelude.{◌≡◌, ℕ, List, [], Some}
+use Rattle.std.specs.List.{slice_get}
+use Rattle.vx_splits.specs.declared.selected_rows.SelectedRows.{SelectedRows}
+use Rattle.vx_steps.specs.declared.leaf_reads.LeafRead.{LeafRead}
+use Rattle.vx_steps.specs.Visits.{IsLeafRead}
+use Rattle.vx_scan.specs.declared.plans.ScanPlans.{ScanPlans}
+use Rattle.vx_scan.specs.ChunkRows.{ChunkReaches, ChunkVisits}
+
+-- A row of the chunk with that number reads the leaf of that number, whose values lie in the segment.
+pub record Reason : Type 0 where
+  pub chunk : ℕ
+  pub leaf : ℕ
+  pub segment : ℕ
+
+abbrev pub read_for : Reason → LeafRead
+read_for reason = record { leaf = reason.leaf; segment = reason.segment }
+
+abbrev pub leaf_of : Reason → ℕ
+leaf_of reason = reason.leaf
+
+abbrev pub segment_of : Reason → ℕ
+segment_of reason = reason.segment
+
+-- which segment is asked for, and for which chunk
+abbrev pub chunk_and_segment : Reason → ℕ × ℕ
+chunk_and_segment reason = (reason.chunk, reason.segment)
+
+-- so it is: a selected row of that chunk reads the leaf, and reaches the segment
+pub record IsReasonAmong (plans : ScanPlans) (chunks : List SelectedRows) (reason : Reason) : Type 0 where
+  pub chunk : SelectedRows
+  pub here : slice_get chunks reason.chunk ≡ Some chunk
+  pub reads : ChunkVisits (IsLeafRead (read_for reason)) plans [] chunk
+  pub reaches : ChunkReaches plans chunk reason.segment
