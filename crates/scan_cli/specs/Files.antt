@@ -1,11 +1,34 @@
--- What a run over files and standard output may answer. They tell no bytes and no ranges, and each begins
--- with nothing read, asked or written and no fault.
-use Rattle.std.specs.Prelude.{◌≡◌, ℕ, List, [], None, IsTrue, false}
+-- Which files a command names, and what a run over files and standard output may answer. They tell no bytes and no
+-- ranges, and each begins with nothing read, asked or written and no fault.
+use Rattle.std.specs.Prelude.{ℕ, zero, suc, List, [], ◌∷◌, Option, Some, None}
+use Rattle.vx_base.specs.FileSources.{IsOpen}
 use Rattle.vx_base.specs.Sources.{SourceState}
 use Rattle.vx_base.specs.Streams.{ReadState, WriteState}
-use Rattle.scan_commands.specs.Runs.{Serves}
-use Rattle.scan_commands.specs.Statuses.{not_yet_status}
-use Rattle.scan_commands.specs.Words.{at_fault}
+use Rattle.vx_base.specs.declared.file_sources.FileSource.{FileSource}
+use Rattle.scan_commands.specs.Commanded.{Outside, Runs}
+use Rattle.scan_words.specs.declared.commands.Command.{Command}
+use Rattle.scan_words.specs.declared.commands.Command.TheVariants.{Scan, Read, Tree, Demo}
+use Rattle.scan_words.specs.Words.{command_of}
+
+-- ---- names
+
+-- the file of the segments that a command names; words that ask nothing name none
+abbrev pub segments_named : Option Command → Option (List ℕ)
+segments_named (Some (Scan segments request workers unordered idle)) = Some segments
+segments_named (Some (Read segments request split idle)) = Some segments
+segments_named (Some (Tree request)) = None
+segments_named (Some (Demo number)) = None
+segments_named None = None
+
+-- the file of the request that it names
+abbrev pub request_named : Option Command → Option (List ℕ)
+request_named (Some (Scan segments request workers unordered idle)) = Some request
+request_named (Some (Read segments request split idle)) = Some request
+request_named (Some (Tree request)) = Some request
+request_named (Some (Demo number)) = None
+request_named None = None
+
+-- ---- files
 
 -- a request of which nothing was read
 abbrev pub unread : ReadState
@@ -15,18 +38,24 @@ unread = record { rest = None; pieces = []; faults = 0 }
 abbrev pub unasked : SourceState
 unasked = record { file = None; asked = None; in_flight = []; faults = 0; idle = 0 }
 
+-- so many of them
+abbrev pub are_unasked : ℕ → List SourceState
+are_unasked zero = []
+are_unasked (suc count) = unasked ∷ are_unasked count
+
+-- the source has no file, so that each read of it fails
+abbrev pub HasNoFile : FileSource → Type 0
+HasNoFile source = ¬ IsOpen source
+
 -- a sink to which nothing was written
 abbrev pub unwritten : WriteState
 unwritten = record { written = None; faults = 0 }
 
--- serving the request of a file ends with the status, whatever is left behind
-pub record ServesFiles (status : ℕ) : Type 0 where
-  pub request : ReadState
-  pub source : SourceState
-  pub sink : WriteState
-  pub serves : Serves status (record { request = unread; source = unasked; sink = unwritten }) (record { request = request; source = source; sink = sink })
+-- what a run over files begins with
+abbrev pub untouched : Outside
+untouched = record { request = unread; sources = are_unasked 8; sink = unwritten }
 
--- the status is the answer to these words
+-- the status is the answer to these words, whatever is left behind
 pub record IsStatusOf (words : List (List ℕ)) (status : ℕ) : Type 0 where
-  pub faulty : IsTrue (at_fault words) → status ≡ not_yet_status
-  pub served : at_fault words ≡ false → ServesFiles status
+  pub after : Outside
+  pub runs : Runs (command_of words) status untouched after

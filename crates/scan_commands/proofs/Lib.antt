@@ -3,8 +3,10 @@ pub mod Writes
 pub mod JsonForms
 pub mod LocationForms
 pub mod DtypeForms
-pub mod LaterMembers
+pub mod ExpressionForms
+pub mod RowForms
 pub mod RequestForms
+pub mod OneRequest
 pub mod Ranges
 pub mod Strings
 pub mod RowTexts
@@ -14,3 +16,6 @@ pub mod ColumnLines
 pub mod Buffering
 pub mod Scanning
 pub mod Serving
+pub mod Drawing
+pub mod Demonstrating
+pub mod Running

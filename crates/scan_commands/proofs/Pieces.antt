@@ -1,10 +1,11 @@
 -- Reading a request piece by piece.
-use Rattle.std.proofs.Common.{◌≡◌, ℕ, ◌+◌, ◌<◌, ◌≤◌, List, [], ◌∷◌, ◌++◌, length, take, drop, All, Option, Some, None, option_map, refl, sym, ap, ◌∙◌, inl, append_assoc, length-append, arith}
+use Rattle.std.proofs.Common.{◌≡◌, ℕ, ◌+◌, ◌<◌, ◌≤◌, List, [], ◌∷◌, ◌++◌, length, sum, take, drop, All, Option, Some, None, option_map, refl, sym, ap, ◌∙◌, inl, append_assoc, length-append, arith}
 use Rattle.std.specs.Prelude.{IfSome}
 use Rattle.std.proofs.lemmas.List.{take-append-drop, append-nil}
 use Rattle.std.proofs.lemmas.List.Elements.{All-push}
+use Rattle.std.proofs.lemmas.List.Sums.{sum_by_push}
 use Rattle.vx_base.specs.Streams.{ReadState, Gave}
-use Rattle.scan_commands.specs.Reading.{most_bytes, most_piece, IsFull, ReadsPieces}
+use Rattle.scan_commands.specs.Reading.{most_bytes, most_piece, IsFull, ReadsPieces, ReadsTooMany}
 
 -- the source told all of its bytes as what was read so far and a rest
 abbrev pub TellsRest : List ℕ → Option (List ℕ) → Option (List ℕ) → Type 0
@@ -18,6 +19,7 @@ pub record ReadsSoFar (turn : ℕ) (bytes : List ℕ) (old new : ReadState) : Ty
   pub each : All IsFull full
   pub count : length full ≡ turn
   pub size : length bytes ≤ most_bytes
+  pub total : sum full ≡ length bytes
   pub turns : turn ≤ length bytes
   pub rest : TellsRest bytes old.rest new.rest
   pub faults : new.faults ≡ old.faults
@@ -30,6 +32,13 @@ tells_more bytes piece (Some whole) mid new tells next is =
     let split : rest ≡ piece ++ drop (length piece) rest = sym (take-append-drop (length piece) rest) ∙ ap (λ (front : List ℕ). front ++ drop (length piece) rest) (sym first) in
     (drop (length piece) rest, tells.1 ∙ ap (λ (x : List ℕ). bytes ++ x) split ∙ sym (append_assoc bytes piece (drop (length piece) rest)), is ∙ ap (option_map (drop (length piece))) tells.2)
 
+-- with another piece, the source tells enough for both
+tells_enough : (bytes piece : List ℕ) (whole mid : Option (List ℕ)) → TellsRest bytes whole mid → IfSome mid (λ rest. piece ≡ take (length piece) rest) → most_bytes < length piece + length bytes → IfSome whole (λ all. most_bytes < length all)
+tells_enough bytes piece None mid tells next more = tt
+tells_enough bytes piece (Some whole) mid tells next more =
+    let further = tells_more bytes piece (Some whole) mid (option_map (drop (length piece)) mid) tells next refl in
+    omega (arith, ap length further.1, length-append (bytes ++ piece) further.0, length-append bytes piece, more)
+
 -- one more piece, which isn't empty
 pub reads_more : (turn : ℕ) (bytes piece : List ℕ) (old mid new : ReadState) → ReadsSoFar turn bytes old mid → Gave most_piece piece mid new → 0 < length piece → length piece + length bytes ≤ most_bytes → ReadsSoFar (turn + 1) (bytes ++ piece) old new
 reads_more turn bytes piece old mid new so_far gave some fits = record {
@@ -38,6 +47,7 @@ reads_more turn bytes piece old mid new so_far gave some fits = record {
   each = All-push IsFull so_far.full (length piece) so_far.each (some, gave.size);
   count = omega (arith, so_far.count, length-append so_far.full (length piece ∷ []));
   size = omega (arith, fits, length-append bytes piece);
+  total = omega (arith, so_far.total, sum_by_push (λ (n : ℕ). n) so_far.full (length piece), length-append bytes piece);
   turns = omega (arith, so_far.turns, some, length-append bytes piece);
   rest = tells_more bytes piece old.rest mid.rest new.rest so_far.rest gave.next gave.rest;
   faults = gave.faults ∙ so_far.faults;
@@ -52,4 +62,15 @@ pieces_of turn bytes piece old mid new so_far gave some = record {
   each = All-push IsFull so_far.full (length piece) so_far.each (some, gave.size);
   end = inl refl;
   count = omega (arith, so_far.count, so_far.turns, so_far.size, length-append so_far.full (length piece ∷ []));
+}
+
+-- the pieces where they have too many bytes together
+pub too_many : (turn : ℕ) (bytes piece : List ℕ) (old mid new : ReadState) → ReadsSoFar turn bytes old mid → Gave most_piece piece mid new → 0 < length piece → most_bytes < length piece + length bytes → ReadsTooMany old new
+too_many turn bytes piece old mid new so_far gave some more = record {
+  full = so_far.full ++ length piece ∷ [];
+  pieces = gave.pieces ∙ ap (λ (x : List ℕ). x ++ length piece ∷ []) so_far.pieces ∙ append_assoc old.pieces so_far.full (length piece ∷ []);
+  each = All-push IsFull so_far.full (length piece) so_far.each (some, gave.size);
+  more = omega (arith, more, so_far.total, sum_by_push (λ (n : ℕ). n) so_far.full (length piece));
+  told = tells_enough bytes piece old.rest mid.rest so_far.rest gave.next more;
+  faults = gave.faults ∙ so_far.faults;
 }

@@ -1,92 +1,85 @@
 -- What each way through a run ends in.
-use Rattle.std.proofs.Common.{◌≡◌, ℕ, ◌<◌, ◌⊎◌, List, [], ◌∷◌, ◌++◌, length, map, take, drop, Option, Some, None, option_map, Result, Ok, Err, refl, sym, ap, ◌∙◌, subst, inl, inr, ⊎_elim, arith}
+use Rattle.std.proofs.Common.{◌≡◌, ℕ, ◌<◌, ◌⊎◌, List, [], ◌∷◌, ◌++◌, length, map, take, drop, Option, Some, None, option_map, Result, Ok, Err, refl, sym, ap, ◌∙◌, subst, inl, inr, arith}
 use Rattle.std.specs.Prelude.{IfSome}
 use Rattle.std.specs.Global.{Vec}
 use Rattle.vx_base.specs.Columns.{ColumnData}
 use Rattle.vx_base.specs.Sources.{SourceState, Rose}
 use Rattle.vx_base.specs.Streams.{ReadState, WriteState}
 use Rattle.vx_base.specs.declared.outside.StreamError.TheVariants as stream
-use Rattle.vx_layout.specs.Faults.{IsFirstFault}
 use Rattle.vx_layout.specs.Rows.{file_leaves}
-use Rattle.vx_layout.specs.Shape.{IsGoodTree}
-use Rattle.vx_layout.proofs.FaultLaws.{good_has_none}
 use Rattle.vx_scan.specs.declared.errors.ScanError.{ScanError}
 use Rattle.vx_scan.specs.declared.errors.ScanError.TheVariants as scan
+use Rattle.vx_rows.specs.Derivations.{Leaves}
+use Rattle.vx_scan.specs.Answer.{FileScan}
+use Rattle.vx_scan.specs.Beginning.{Refuses}
 use Rattle.vx_scan.specs.Plans.{WhereTold, IsQuiet}
 use Rattle.vx_scan.specs.Scanned.{FirstOf, LowestCause}
 use Rattle.vx_scan.specs.Valid.{IsValidScan}
 use Rattle.scan_commands.specs.declared.endings.Ending.{Ending}
-use Rattle.scan_commands.specs.declared.endings.Ending.TheVariants.{Done, NotYet, BadRequest, BadLayout, NoRows, WriteFault, RequestFault, OutOfMemory}
-use Rattle.scan_commands.specs.declared.request_errors.RequestError.{RequestError}
-use Rattle.scan_commands.specs.declared.request_errors.RequestError.TheVariants as refusals
-use Rattle.scan_commands.specs.declared.requests.ReadingError.TheVariants as reading
-use Rattle.scan_commands.specs.Endings.{refused_ending, scan_ending, status_of}
-use Rattle.scan_commands.specs.Reading.{most_bytes, ReadsAll, ReadsPieces, ReadingGives}
-use Rattle.scan_commands.specs.RequestForms.{Asked, requested, AsksMore, IsRequest, RefusedBy}
+use Rattle.scan_commands.specs.declared.endings.Ending.TheVariants.{Done, RequestTooLarge, BadRequest, BadLayout, BadProjection, ScanFailed, WriteFault, RequestFault, OutOfMemory}
+use Rattle.scan_commands.specs.Desks.{ReadsBytes, ReadsRequest}
+use Rattle.scan_commands.specs.Endings.{scan_ending, status_of}
+use Rattle.scan_commands.specs.Reading.{most_bytes, ReadsAll, ReadsPieces}
+use Rattle.scan_commands.specs.RequestForms.{Asked, requested, IsRequest, HasBadLayout, HasBadProjection}
 use Rattle.scan_commands.specs.RowWriting.{batch_lines}
-use Rattle.scan_commands.specs.Runs.{World, ReadsBytes, ReadsRequest, IsIdle, Asks, WritesFront, Ends, Serves, GivesNoRows, IsValid, IsComplete}
-use Rattle.scan_commands.specs.Scans.{idle_limit, scan_of, ScanGives}
+use Rattle.scan_commands.specs.Runs.{World, Asks, WritesFront, Ends, Serves, RefusesScan, FailsToScan, ScanFails, IsValid, IsComplete}
+use Rattle.scan_commands.specs.Scans.{scan_of, ScanGives}
 use Rattle.scan_commands.specs.Writing.{WritingGives}
+use Rattle.scan_commands.proofs.Scanning.{first_also}
+use Rattle.scan_commands.proofs.OneRequest.{same_request, projection_is_bound, has_good_layout, has_good_projection}
 
-abbrev world : ReadState → SourceState → WriteState → World
+abbrev pub world : ReadState → SourceState → WriteState → World
 world request source sink = record { request = request; source = source; sink = sink }
-
-idle : (old new : ReadState) (source : SourceState) (sink : WriteState) → IsIdle (world old source sink) (world new source sink)
-idle old new source sink = record { source = refl; sink = refl }
-
--- ---- before the scan
-
-pub too_large : (old new : ReadState) (source : SourceState) (sink : WriteState) → ReadingGives (Err reading.TooLarge) old new → Ends NotYet (world old source sink) (world new source sink)
-too_large old new source sink gives = record { why = inl (record { large = gives.0; faults = gives.1 }); idle = idle old new source sink }
-
-pub not_read : (old new : ReadState) (source : SourceState) (sink : WriteState) → ReadingGives (Err reading.Failed) old new → Ends RequestFault (world old source sink) (world new source sink)
-not_read old new source sink gives = record { rose = gives; idle = idle old new source sink }
-
-pub lacks_reading : (old new : ReadState) (source : SourceState) (sink : WriteState) → ReadingGives (Err reading.Memory) old new → Ends OutOfMemory (world old source sink) (world new source sink)
-lacks_reading old new source sink gives = inl (idle old new source sink, gives)
-
-pub refused : (error : RequestError) (bytes : List ℕ) (old new : ReadState) (source : SourceState) (sink : WriteState) → ReadsAll bytes old new → RefusedBy bytes error → Ends (refused_ending error) (world old source sink) (world new source sink)
-refused refusals.NotYet bytes old new source sink reads by = record { why = inr (record { bytes = bytes; reads = reads; are = by }); idle = idle old new source sink }
-refused refusals.BadRequest bytes old new source sink reads by = record { reads = record { bytes = bytes; reads = reads; are = by }; idle = idle old new source sink }
-refused (refusals.BadLayout node rule) bytes old new source sink reads by = record { reads = record { bytes = bytes; reads = reads; are = by }; idle = idle old new source sink }
-refused refusals.Memory bytes old new source sink reads by = inl (idle old new source sink, reads.faults)
 
 -- ---- the scan
 
-asks_of : (asked : Asked) (result : Result (Vec ColumnData) ScanError) (old new : ReadState) (before after : SourceState) (sink sink_after : WriteState) → ScanGives (scan_of asked) result before after → Asks asked (world old before sink) (world new after sink_after)
-asks_of asked result old new before after sink sink_after gives = record { gains = gives.answers.asks; lasts = gives.answers.lasts; in_flight = gives.answers.in_flight }
+asks_of : (limit : ℕ) → (asked : Asked) (result : Result (Vec ColumnData) ScanError) (old new : ReadState) (before after : SourceState) (sink sink_after : WriteState) → ScanGives limit (scan_of asked) result before after → Asks asked (world old before sink) (world new after sink_after)
+asks_of limit asked result old new before after sink sink_after gives = record { gains = gives.answers.asks; lasts = gives.answers.lasts; in_flight = gives.answers.in_flight }
 
-lowest : (asked : Asked) (error : ScanError) (before after : SourceState) → (error ≡ scan.Memory → ⊥) → (error ≡ scan.Memory) ⊎ LowestCause (scan_of asked) idle_limit error before after → LowestCause (scan_of asked) idle_limit error before after
-lowest asked error before after other (inl memory) = absurd (other memory)
-lowest asked error before after other (inr cause) = cause
+-- why the scan failed, but for want of memory
+abbrev WhyScanFailed : (limit : ℕ) → Asked → ScanError → SourceState → SourceState → Type 0
+WhyScanFailed limit asked error before after = Refuses (scan_of asked) error ⊎ LowestCause (scan_of asked) limit error before after
 
-fails : (error : ScanError) (asked : Asked) (old new : ReadState) (before after : SourceState) (sink : WriteState) → (error ≡ scan.Memory → ⊥) → ReadsRequest asked (world old before sink) (world new after sink) → ScanGives (scan_of asked) (Err error) before after → GivesNoRows error (world old before sink) (world new after sink)
-fails error asked old new before after sink other reads gives = record {
+cause_of : (limit : ℕ) → (asked : Asked) (error : ScanError) (before after : SourceState) → (error ≡ scan.Memory → ⊥) → (error ≡ scan.Memory) ⊎ WhyScanFailed limit asked error before after → WhyScanFailed limit asked error before after
+cause_of limit asked error before after other (inl memory) = absurd (other memory)
+cause_of limit asked error before after other (inr cause) = cause
+
+-- it was refused before it began
+begins_not : (limit : ℕ) → (error : ScanError) (asked : Asked) (old new : ReadState) (before after : SourceState) (sink : WriteState) → (LowestCause (scan_of asked) limit error before after → ⊥) → ReadsRequest asked old new → ScanGives limit (scan_of asked) (Err error) before after → WhyScanFailed limit asked error before after → RefusesScan error (world old before sink) (world new after sink)
+begins_not limit error asked old new before after sink never reads gives (inl refused) = record { asked = asked; reads = reads; cause = refused; source = gives.untouched refused; sink = refl }
+begins_not limit error asked old new before after sink never reads gives (inr lowest) = absurd (never lowest)
+
+lowest : (limit : ℕ) → (asked : Asked) (error : ScanError) (before after : SourceState) → (Refuses (scan_of asked) error → ⊥) → WhyScanFailed limit asked error before after → LowestCause (scan_of asked) limit error before after
+lowest limit asked error before after never (inl refused) = absurd (never refused)
+lowest limit asked error before after never (inr cause) = cause
+
+fails : (limit : ℕ) → (error : ScanError) (asked : Asked) (old new : ReadState) (before after : SourceState) (sink : WriteState) → (error ≡ scan.Memory → ⊥) → (Refuses (scan_of asked) error → ⊥) → ReadsRequest asked old new → ScanGives limit (scan_of asked) (Err error) before after → FailsToScan limit error (world old before sink) (world new after sink)
+fails limit error asked old new before after sink other never reads gives = record {
   not_memory = other;
   asked = asked;
   reads = reads;
-  asks = asks_of asked (Err error) old new before after sink sink gives;
-  cause = lowest asked error before after other gives.answers.cause;
+  asks = asks_of limit asked (Err error) old new before after sink sink gives;
+  cause = lowest limit asked error before after never (cause_of limit asked error before after other gives.answers.cause);
   invalid = λ file told valid quiet. other (gives.answers.complete file told valid quiet);
   sink = refl;
 }
 
-pub no_rows : (error : ScanError) (asked : Asked) (old new : ReadState) (before after : SourceState) (sink : WriteState) → ReadsRequest asked (world old before sink) (world new after sink) → ScanGives (scan_of asked) (Err error) before after → Ends (scan_ending error) (world old before sink) (world new after sink)
-no_rows scan.BadProjection asked old new before after sink reads gives = fails scan.BadProjection asked old new before after sink (λ e. absurd cc) reads gives
-no_rows scan.OffsetOverflow asked old new before after sink reads gives = fails scan.OffsetOverflow asked old new before after sink (λ e. absurd cc) reads gives
-no_rows scan.OutOfRange asked old new before after sink reads gives = fails scan.OutOfRange asked old new before after sink (λ e. absurd cc) reads gives
-no_rows (scan.Unsupported list) asked old new before after sink reads gives = fails (scan.Unsupported list) asked old new before after sink (λ e. absurd cc) reads gives
-no_rows (scan.NoLocation segment) asked old new before after sink reads gives = fails (scan.NoLocation segment) asked old new before after sink (λ e. absurd cc) reads gives
-no_rows scan.ReadFault asked old new before after sink reads gives = fails scan.ReadFault asked old new before after sink (λ e. absurd cc) reads gives
-no_rows scan.Stalled asked old new before after sink reads gives = fails scan.Stalled asked old new before after sink (λ e. absurd cc) reads gives
-no_rows (scan.BadSegment segment) asked old new before after sink reads gives = fails (scan.BadSegment segment) asked old new before after sink (λ e. absurd cc) reads gives
-no_rows (scan.BadCode take row) asked old new before after sink reads gives = fails (scan.BadCode take row) asked old new before after sink (λ e. absurd cc) reads gives
-no_rows (scan.EvalFault row) asked old new before after sink reads gives = fails (scan.EvalFault row) asked old new before after sink (λ e. absurd cc) reads gives
-no_rows scan.Memory asked old new before after sink reads gives = inr (
+pub scan_failed : (limit : ℕ) → (error : ScanError) (asked : Asked) (old new : ReadState) (before after : SourceState) (sink : WriteState) → ReadsRequest asked old new → ScanGives limit (scan_of asked) (Err error) before after → Ends limit (scan_ending error) (world old before sink) (world new after sink)
+scan_failed limit scan.OutOfRange asked old new before after sink reads gives = begins_not limit scan.OutOfRange asked old new before after sink (λ lowest. lowest.cause) reads gives (cause_of limit asked scan.OutOfRange before after (λ e. absurd cc) gives.answers.cause)
+scan_failed limit scan.OffsetOverflow asked old new before after sink reads gives = begins_not limit scan.OffsetOverflow asked old new before after sink (λ lowest. lowest.cause) reads gives (cause_of limit asked scan.OffsetOverflow before after (λ e. absurd cc) gives.answers.cause)
+scan_failed limit scan.BadProjection asked old new before after sink reads gives = fails limit scan.BadProjection asked old new before after sink (λ e. absurd cc) (λ unbound. unbound (projection_is_bound reads.bytes asked reads.are)) reads gives
+scan_failed limit (scan.Unsupported list) asked old new before after sink reads gives = fails limit (scan.Unsupported list) asked old new before after sink (λ e. absurd cc) (λ never. never) reads gives
+scan_failed limit (scan.NoLocation segment) asked old new before after sink reads gives = fails limit (scan.NoLocation segment) asked old new before after sink (λ e. absurd cc) (λ never. never) reads gives
+scan_failed limit scan.ReadFault asked old new before after sink reads gives = fails limit scan.ReadFault asked old new before after sink (λ e. absurd cc) (λ never. never) reads gives
+scan_failed limit scan.Stalled asked old new before after sink reads gives = fails limit scan.Stalled asked old new before after sink (λ e. absurd cc) (λ never. never) reads gives
+scan_failed limit (scan.BadSegment segment) asked old new before after sink reads gives = fails limit (scan.BadSegment segment) asked old new before after sink (λ e. absurd cc) (λ never. never) reads gives
+scan_failed limit (scan.BadCode take row) asked old new before after sink reads gives = fails limit (scan.BadCode take row) asked old new before after sink (λ e. absurd cc) (λ never. never) reads gives
+scan_failed limit (scan.EvalFault row) asked old new before after sink reads gives = fails limit (scan.EvalFault row) asked old new before after sink (λ e. absurd cc) (λ never. never) reads gives
+scan_failed limit scan.Memory asked old new before after sink reads gives = inr (
   asked,
   record {
     reads = reads;
-    asks = asks_of asked (Err scan.Memory) old new before after sink sink gives;
+    asks = asks_of limit asked (Err scan.Memory) old new before after sink sink gives;
     written = inl refl;
     faults = refl;
   },
@@ -94,97 +87,142 @@ no_rows scan.Memory asked old new before after sink reads gives = inr (
 
 -- ---- the lines
 
-pub reads_request : (asked : Asked) (bytes : List ℕ) (old new : ReadState) (before after : SourceState) (sink sink_after : WriteState) → ReadsAll bytes old new → IsRequest bytes asked → ReadsRequest asked (world old before sink) (world new after sink_after)
-reads_request asked bytes old new before after sink sink_after reads is = record { bytes = bytes; reads = reads; are = is }
+pub reads_request : (asked : Asked) (bytes : List ℕ) (old new : ReadState) → ReadsAll bytes old new → IsRequest bytes asked → ReadsRequest asked old new
+reads_request asked bytes old new reads is = record { bytes = bytes; reads = reads; are = is }
 
-front_of : (asked : Asked) (batches : Vec ColumnData) (old new : ReadState) (before after : SourceState) (sink sink_after : WriteState) → ScanGives (scan_of asked) (Ok batches) before after → (count : ℕ) → sink_after.written ≡ option_map (λ (w : List ℕ). w ++ take count (batch_lines batches.items)) sink.written → WritesFront asked (world old before sink) (world new after sink_after)
-front_of asked batches old new before after sink sink_after gives count is = λ file told. (batch_lines batches.items, gives.text file told, (count, is))
+front_of : (limit : ℕ) → (asked : Asked) (batches : Vec ColumnData) (old new : ReadState) (before after : SourceState) (sink sink_after : WriteState) → ScanGives limit (scan_of asked) (Ok batches) before after → (count : ℕ) → sink_after.written ≡ option_map (λ (w : List ℕ). w ++ take count (batch_lines batches.items)) sink.written → WritesFront asked (world old before sink) (world new after sink_after)
+front_of limit asked batches old new before after sink sink_after gives count is = λ file told. (batch_lines batches.items, gives.text file told, (count, is))
 
-pub all_written : (asked : Asked) (batches : Vec ColumnData) (old new : ReadState) (before after : SourceState) (sink sink_after : WriteState) → ReadsRequest asked (world old before sink) (world new after sink_after) → ScanGives (scan_of asked) (Ok batches) before after → WritingGives (Ok tt) (batch_lines batches.items) sink sink_after → Ends Done (world old before sink) (world new after sink_after)
-all_written asked batches old new before after sink sink_after reads gives written = record {
+pub all_written : (limit : ℕ) → (asked : Asked) (batches : Vec ColumnData) (old new : ReadState) (before after : SourceState) (sink sink_after : WriteState) → ReadsRequest asked old new → ScanGives limit (scan_of asked) (Ok batches) before after → WritingGives (Ok tt) (batch_lines batches.items) sink sink_after → Ends limit Done (world old before sink) (world new after sink_after)
+all_written limit asked batches old new before after sink sink_after reads gives written = record {
   asked = asked;
   reads = reads;
-  asks = asks_of asked (Ok batches) old new before after sink sink_after gives;
+  asks = asks_of limit asked (Ok batches) old new before after sink sink_after gives;
   writes = record { text = λ file told. (batch_lines batches.items, gives.text file told, written.0); faults = written.1 };
 }
 
-pub not_written : (asked : Asked) (batches : Vec ColumnData) (old new : ReadState) (before after : SourceState) (sink sink_after : WriteState) → ReadsRequest asked (world old before sink) (world new after sink_after) → ScanGives (scan_of asked) (Ok batches) before after → WritingGives (Err stream.Failed) (batch_lines batches.items) sink sink_after → Ends WriteFault (world old before sink) (world new after sink_after)
-not_written asked batches old new before after sink sink_after reads gives ((count, is), rose) = record {
+pub not_written : (limit : ℕ) → (asked : Asked) (batches : Vec ColumnData) (old new : ReadState) (before after : SourceState) (sink sink_after : WriteState) → ReadsRequest asked old new → ScanGives limit (scan_of asked) (Ok batches) before after → WritingGives (Err stream.Failed) (batch_lines batches.items) sink sink_after → Ends limit WriteFault (world old before sink) (world new after sink_after)
+not_written limit asked batches old new before after sink sink_after reads gives ((count, is), rose) = record {
   asked = asked;
   reads = reads;
-  asks = asks_of asked (Ok batches) old new before after sink sink_after gives;
-  front = front_of asked batches old new before after sink sink_after gives count is;
+  asks = asks_of limit asked (Ok batches) old new before after sink sink_after gives;
+  front = front_of limit asked batches old new before after sink sink_after gives count is;
   rose = rose;
 }
 
-pub lacks_writing : (asked : Asked) (batches : Vec ColumnData) (old new : ReadState) (before after : SourceState) (sink sink_after : WriteState) → ReadsRequest asked (world old before sink) (world new after sink_after) → ScanGives (scan_of asked) (Ok batches) before after → WritingGives (Err stream.Memory) (batch_lines batches.items) sink sink_after → Ends OutOfMemory (world old before sink) (world new after sink_after)
-lacks_writing asked batches old new before after sink sink_after reads gives ((count, is), same) = inr (
+pub lacks_writing : (limit : ℕ) → (asked : Asked) (batches : Vec ColumnData) (old new : ReadState) (before after : SourceState) (sink sink_after : WriteState) → ReadsRequest asked old new → ScanGives limit (scan_of asked) (Ok batches) before after → WritingGives (Err stream.Memory) (batch_lines batches.items) sink sink_after → Ends limit OutOfMemory (world old before sink) (world new after sink_after)
+lacks_writing limit asked batches old new before after sink sink_after reads gives ((count, is), same) = inr (
   asked,
   record {
     reads = reads;
-    asks = asks_of asked (Ok batches) old new before after sink sink_after gives;
-    written = inr (front_of asked batches old new before after sink sink_after gives count is);
+    asks = asks_of limit asked (Ok batches) old new before after sink sink_after gives;
+    written = inr (front_of limit asked batches old new before after sink sink_after gives count is);
     faults = same;
   },
 )
 
+-- ---- over the first source
+
+pub first_scan_failed : (limit : ℕ) → (ending : Ending) (error : ScanError) (asked : Asked) (bytes : List ℕ) (old new : ReadState) (sink : WriteState) (olds news : List SourceState) → ending ≡ scan_ending error → ReadsAll bytes old new → IsRequest bytes asked → FirstOf (ScanGives limit (scan_of asked) (Err error)) olds news
+    → FirstOf (λ before after. Ends limit ending (world old before sink) (world new after sink)) olds news
+first_scan_failed limit ending error asked bytes old new sink olds news ends reads is gives =
+    first_also (ScanGives limit (scan_of asked) (Err error)) (λ before after. Ends limit ending (world old before sink) (world new after sink))
+    (λ before after gives. subst (λ (e : Ending). Ends limit e (world old before sink) (world new after sink)) (sym ends) (scan_failed limit error asked old new before after sink (reads_request asked bytes old new reads is) gives)) olds news gives
+
+pub first_written : (limit : ℕ) → (asked : Asked) (batches : Vec ColumnData) (lines bytes : List ℕ) (old new : ReadState) (sink sink_after : WriteState) (olds news : List SourceState) → lines ≡ batch_lines batches.items → ReadsAll bytes old new → IsRequest bytes asked → FirstOf (ScanGives limit (scan_of asked) (Ok batches)) olds news
+    → WritingGives (Ok tt) lines sink sink_after → FirstOf (λ before after. Ends limit Done (world old before sink) (world new after sink_after)) olds news
+first_written limit asked batches lines bytes old new sink sink_after olds news same reads is gives written =
+    first_also (ScanGives limit (scan_of asked) (Ok batches)) (λ before after. Ends limit Done (world old before sink) (world new after sink_after))
+    (λ before after gives. all_written limit asked batches old new before after sink sink_after (reads_request asked bytes old new reads is) gives (subst (λ (text : List ℕ). WritingGives (Ok tt) text sink sink_after) same written)) olds news gives
+
+pub first_not_written : (limit : ℕ) → (asked : Asked) (batches : Vec ColumnData) (lines bytes : List ℕ) (old new : ReadState) (sink sink_after : WriteState) (olds news : List SourceState) → lines ≡ batch_lines batches.items → ReadsAll bytes old new → IsRequest bytes asked → FirstOf (ScanGives limit (scan_of asked) (Ok batches)) olds news
+    → WritingGives (Err stream.Failed) lines sink sink_after → FirstOf (λ before after. Ends limit WriteFault (world old before sink) (world new after sink_after)) olds news
+first_not_written limit asked batches lines bytes old new sink sink_after olds news same reads is gives written =
+    first_also (ScanGives limit (scan_of asked) (Ok batches)) (λ before after. Ends limit WriteFault (world old before sink) (world new after sink_after))
+    (λ before after gives. not_written limit asked batches old new before after sink sink_after (reads_request asked bytes old new reads is) gives (subst (λ (text : List ℕ). WritingGives (Err stream.Failed) text sink sink_after) same written)) olds news gives
+
+pub first_lacks_writing : (limit : ℕ) → (asked : Asked) (batches : Vec ColumnData) (lines bytes : List ℕ) (old new : ReadState) (sink sink_after : WriteState) (olds news : List SourceState) → lines ≡ batch_lines batches.items → ReadsAll bytes old new → IsRequest bytes asked → FirstOf (ScanGives limit (scan_of asked) (Ok batches)) olds news
+    → WritingGives (Err stream.Memory) lines sink sink_after → FirstOf (λ before after. Ends limit OutOfMemory (world old before sink) (world new after sink_after)) olds news
+first_lacks_writing limit asked batches lines bytes old new sink sink_after olds news same reads is gives written =
+    first_also (ScanGives limit (scan_of asked) (Ok batches)) (λ before after. Ends limit OutOfMemory (world old before sink) (world new after sink_after))
+    (λ before after gives. lacks_writing limit asked batches old new before after sink sink_after (reads_request asked bytes old new reads is) gives (subst (λ (text : List ℕ). WritingGives (Err stream.Memory) text sink sink_after) same written)) olds news gives
+
 -- ---- completeness
 
-same_request : (bytes : List ℕ) (a b : Asked) → requested bytes ≡ Some a → requested bytes ≡ Some b → a ≡ b
-same_request bytes a b p q = cc
-
 -- the bytes that were read are those that are told
-told_bytes : (P : List ℕ → Type 0) (bytes : List ℕ) (before after : World) → before.request.rest ≡ Some bytes → ReadsBytes P before after → P bytes
-told_bytes P bytes before after told reads = by before.request.rest told reads.reads.whole
+pub told_bytes : (P : List ℕ → Type 0) (bytes : List ℕ) (old new : ReadState) → old.rest ≡ Some bytes → ReadsBytes P old new → P bytes
+told_bytes P bytes old new told reads = by old.rest told reads.reads.whole
   where
-    by : (rest : Option (List ℕ)) → rest ≡ Some bytes → IfSome rest (λ all. (all ≡ reads.bytes) × (after.request.rest ≡ Some [])) → P bytes
+    by : (rest : Option (List ℕ)) → rest ≡ Some bytes → IfSome rest (λ all. (all ≡ reads.bytes) × (new.rest ≡ Some [])) → P bytes
     by None e whole = absurd cc
     by (Some all) e whole = let same : reads.bytes ≡ bytes = sym whole.0 ∙ the_same all bytes e in subst P same reads.are
       where
         the_same : (x y : List ℕ) → Some x ≡ Some y → x ≡ y
         the_same x y is = cc
 
-not_both : (bytes : List ℕ) (asked : Asked) → requested bytes ≡ Some asked → requested bytes ≡ None → ⊥
-not_both bytes asked some none = cc
+pub not_both : (bytes : List ℕ) (asked : Asked) → IsRequest bytes asked → requested bytes ≡ None → ⊥
+not_both bytes asked is none = let form = is.form in cc
 
-large_told : (bytes : List ℕ) (rest : Option (List ℕ)) → rest ≡ Some bytes → IfSome rest (λ all. most_bytes < length all) → most_bytes < length bytes
+pub large_told : (bytes : List ℕ) (rest : Option (List ℕ)) → rest ≡ Some bytes → IfSome rest (λ all. most_bytes < length all) → most_bytes < length bytes
 large_told bytes None e large = absurd cc
 large_told bytes (Some all) e large = let same : all ≡ bytes = cc in subst (λ (xs : List ℕ). most_bytes < length xs) same large
 
--- a run over a valid request and file, without fault or stall, is done or out of memory
-ends_well : (ending : Ending) (bytes file : List ℕ) (before after : World) → before.request.rest ≡ Some bytes → before.source.file ≡ Some file → Ends ending before after → IsValid bytes file
-    → (Rose before.request.faults after.request.faults → ⊥) → IsQuiet idle_limit before.source after.source → (Rose before.sink.faults after.sink.faults → ⊥) → (ending ≡ Done) ⊎ (ending ≡ OutOfMemory)
-ends_well Done bytes file before after told file_told ends valid request quiet sink = inl refl
-ends_well OutOfMemory bytes file before after told file_told ends valid request quiet sink = inr refl
-ends_well NotYet bytes file before after told file_told ends valid request quiet sink = absurd (⊎_elim
-    (λ large. let more : most_bytes < length bytes = large_told bytes before.request.rest told large.large in omega (arith, more, valid.0))
-    (λ more. let is : AsksMore bytes × (requested bytes ≡ None) = told_bytes (λ b. AsksMore b × (requested b ≡ None)) bytes before after told more in not_both bytes valid.1.0 valid.1.1.form is.1)
-    ends.why)
-ends_well BadRequest bytes file before after told file_told ends valid request quiet sink =
-    let is : (AsksMore bytes → ⊥) × (requested bytes ≡ None) = told_bytes (λ b. (AsksMore b → ⊥) × (requested b ≡ None)) bytes before after told ends.reads in
-    absurd (not_both bytes valid.1.0 valid.1.1.form is.1)
-ends_well (BadLayout node rule) bytes file before after told file_told ends valid request quiet sink =
-    let bad : (asked : Asked) × (requested bytes ≡ Some asked) × IsFirstFault asked.nodes node rule = told_bytes (λ b. (asked : Asked) × (requested b ≡ Some asked) × IsFirstFault asked.nodes node rule) bytes before after told ends.reads in
-    let same : bad.0 ≡ valid.1.0 = same_request bytes bad.0 valid.1.0 bad.1 valid.1.1.form in
-    absurd (good_has_none bad.0.nodes node rule (subst (λ (a : Asked). IsGoodTree a.nodes) (sym same) valid.1.1.good) bad.2)
-ends_well (NoRows error) bytes file before after told file_told ends valid request quiet sink =
-    let is : IsRequest bytes ends.asked = told_bytes (λ b. IsRequest b ends.asked) bytes before after told ends.reads in
-    let same : valid.1.0 ≡ ends.asked = same_request bytes valid.1.0 ends.asked valid.1.1.form is.form in
-    absurd (ends.invalid file file_told (subst (λ (a : Asked). IsValidScan (file_leaves file a.locations) (scan_of a)) same valid.1.2) quiet)
-ends_well WriteFault bytes file before after told file_told ends valid request quiet sink = absurd (sink ends.rose)
-ends_well RequestFault bytes file before after told file_told ends valid request quiet sink = absurd (request ends.rose)
+-- a scan that is refused is not valid
+refused_invalid : (leaves : Leaves) (file_scan : FileScan) (error : ScanError) → IsValidScan leaves file_scan → Refuses file_scan error → ⊥
+refused_invalid leaves file_scan scan.BadProjection valid refused = refused valid.bound
+refused_invalid leaves file_scan scan.OffsetOverflow valid refused =
+    let fits = valid.numbered refused.1.0 refused.0.some in
+    omega (arith, fits, refused.1.1)
+refused_invalid leaves file_scan scan.OutOfRange valid refused = refused.2 valid.inside
+refused_invalid leaves file_scan error valid refused = refused
 
-well_known : (status : ℕ) (ending : Ending) → status ≡ status_of ending → (ending ≡ Done) ⊎ (ending ≡ OutOfMemory) → (status ≡ 0) ⊎ (status ≡ 70)
+-- of a scan that failed
+refusal_invalid : (error : ScanError) (bytes file : List ℕ) (before after : World) → before.request.rest ≡ Some bytes → RefusesScan error before after → IsValid bytes file → ⊥
+refusal_invalid error bytes file before after told refuses valid =
+    let is : IsRequest bytes refuses.asked = told_bytes (λ b. IsRequest b refuses.asked) bytes before.request after.request told refuses.reads in
+    let same : valid.1.0 ≡ refuses.asked = same_request bytes valid.1.0 refuses.asked valid.1.1 is in
+    refused_invalid (file_leaves file refuses.asked.locations) (scan_of refuses.asked) error (subst (λ (a : Asked). IsValidScan (file_leaves file a.locations) (scan_of a)) same valid.1.2) refuses.cause
+
+gives_invalid : (limit : ℕ) → (error : ScanError) (bytes file : List ℕ) (before after : World) → before.request.rest ≡ Some bytes → before.source.file ≡ Some file → FailsToScan limit error before after → IsValid bytes file → IsQuiet limit before.source after.source → ⊥
+gives_invalid limit error bytes file before after told file_told gives valid quiet =
+    let is : IsRequest bytes gives.asked = told_bytes (λ b. IsRequest b gives.asked) bytes before.request after.request told gives.reads in
+    let same : valid.1.0 ≡ gives.asked = same_request bytes valid.1.0 gives.asked valid.1.1 is in
+    gives.invalid file file_told (subst (λ (a : Asked). IsValidScan (file_leaves file a.locations) (scan_of a)) same valid.1.2) quiet
+
+lacking_invalid : (limit : ℕ) → (error : ScanError) (bytes file : List ℕ) (before after : World) → before.request.rest ≡ Some bytes → before.source.file ≡ Some file → ScanFails limit error before after → IsValid bytes file → IsQuiet limit before.source after.source → ⊥
+lacking_invalid limit scan.OutOfRange bytes file before after told file_told lacks valid quiet = refusal_invalid scan.OutOfRange bytes file before after told lacks valid
+lacking_invalid limit scan.OffsetOverflow bytes file before after told file_told lacks valid quiet = refusal_invalid scan.OffsetOverflow bytes file before after told lacks valid
+lacking_invalid limit error bytes file before after told file_told lacks valid quiet = gives_invalid limit error bytes file before after told file_told lacks valid quiet
+
+-- a run over a valid request and file, without fault or stall, is done or out of memory
+ends_well : (limit : ℕ) → (ending : Ending) (bytes file : List ℕ) (before after : World) → before.request.rest ≡ Some bytes → before.source.file ≡ Some file → Ends limit ending before after → IsValid bytes file
+    → (Rose before.request.faults after.request.faults → ⊥) → IsQuiet limit before.source after.source → (Rose before.sink.faults after.sink.faults → ⊥) → (ending ≡ Done) ⊎ (ending ≡ OutOfMemory)
+ends_well limit Done bytes file before after told file_told ends valid request quiet sink = inl refl
+ends_well limit OutOfMemory bytes file before after told file_told ends valid request quiet sink = inr refl
+ends_well limit RequestTooLarge bytes file before after told file_told ends valid request quiet sink =
+    let more : most_bytes < length bytes = large_told bytes before.request.rest told ends.0.large.told in
+    absurd (omega (arith, more, valid.0))
+ends_well limit BadRequest bytes file before after told file_told ends valid request quiet sink =
+    absurd (not_both bytes valid.1.0 valid.1.1 (told_bytes (λ b. requested b ≡ None) bytes before.request after.request told ends.0.reads))
+ends_well limit (BadLayout node rule) bytes file before after told file_told ends valid request quiet sink =
+    absurd (has_good_layout bytes valid.1.0 node rule valid.1.1 (told_bytes (λ b. HasBadLayout b node rule) bytes before.request after.request told ends.0.reads))
+ends_well limit BadProjection bytes file before after told file_told ends valid request quiet sink =
+    absurd (has_good_projection bytes valid.1.0 ends.0.error valid.1.1 (told_bytes (λ b. HasBadProjection b ends.0.error) bytes before.request after.request told ends.0.reads))
+ends_well limit (ScanFailed error) bytes file before after told file_told ends valid request quiet sink = absurd (lacking_invalid limit error bytes file before after told file_told ends valid quiet)
+ends_well limit WriteFault bytes file before after told file_told ends valid request quiet sink = absurd (sink ends.rose)
+ends_well limit RequestFault bytes file before after told file_told ends valid request quiet sink = absurd (request ends.0.rose)
+
+pub well_known : (status : ℕ) (ending : Ending) → status ≡ status_of ending → (ending ≡ Done) ⊎ (ending ≡ OutOfMemory) → (status ≡ 0) ⊎ (status ≡ 70)
 well_known status ending is (inl done) = inl (is ∙ ap status_of done)
 well_known status ending is (inr out) = inr (is ∙ ap status_of out)
 
-pub serves_complete : (status : ℕ) (before after : World) → Serves status before after → IsComplete status before after
-serves_complete status before after serves = by before.request.rest refl
+pub serves_complete : (limit : ℕ) → (status : ℕ) (before after : World) → Serves limit status before after → IsComplete limit status before after
+serves_complete limit status before after serves = by before.request.rest refl
   where
     by : (rest : Option (List ℕ)) → before.request.rest ≡ rest → IfSome rest (λ bytes. WhereTold before.source (λ file. IsValid bytes file
-        → (Rose before.request.faults after.request.faults → ⊥) → IsQuiet idle_limit before.source after.source → (Rose before.sink.faults after.sink.faults → ⊥) → (status ≡ 0) ⊎ (status ≡ 70)))
+        → (Rose before.request.faults after.request.faults → ⊥) → IsQuiet limit before.source after.source → (Rose before.sink.faults after.sink.faults → ⊥) → (status ≡ 0) ⊎ (status ≡ 70)))
     by None told = tt
-    by (Some bytes) told = λ file file_told valid request quiet sink. well_known status serves.ending serves.is (ends_well serves.ending bytes file before after told file_told serves.ends valid request quiet sink)
+    by (Some bytes) told = λ file file_told valid request quiet sink. well_known status serves.ending serves.is (ends_well limit serves.ending bytes file before after told file_told serves.ends valid request quiet sink)
 
 -- ---- the first of the sources
 
@@ -208,5 +246,9 @@ rest_same {S} f xs ys rest one is = by ys one ∙ ap (λ (zs : List S). map f zs
     dropped [] = refl
     dropped (x ∷ xs) = refl
 
-pub first_complete : (status : ℕ) (ending : Ending) (old new : ReadState) (sink sink_after : WriteState) → status ≡ status_of ending → ReadsPieces old new → (before after : SourceState) → Ends ending (world old before sink) (world new after sink_after) → IsComplete status (world old before sink) (world new after sink_after)
-first_complete status ending old new sink sink_after is pieces before after ends = serves_complete status (world old before sink) (world new after sink_after) (record { ending = ending; is = is; ends = ends; pieces = pieces })
+-- a run that ends so serves with the status of its ending
+pub serves_so : (limit : ℕ) → (status : ℕ) (ending : Ending) (old new : ReadState) (sink sink_after : WriteState) → status ≡ status_of ending → ReadsPieces old new → (before after : SourceState) → Ends limit ending (world old before sink) (world new after sink_after) → Serves limit status (world old before sink) (world new after sink_after)
+serves_so limit status ending old new sink sink_after is pieces before after ends = record { ending = ending; is = is; ends = ends; pieces = pieces }
+
+pub first_complete : (limit : ℕ) → (status : ℕ) (ending : Ending) (old new : ReadState) (sink sink_after : WriteState) → status ≡ status_of ending → ReadsPieces old new → (before after : SourceState) → Ends limit ending (world old before sink) (world new after sink_after) → IsComplete limit status (world old before sink) (world new after sink_after)
+first_complete limit status ending old new sink sink_after is pieces before after ends = serves_complete limit status (world old before sink) (world new after sink_after) (serves_so limit status ending old new sink sink_after is pieces before after ends)

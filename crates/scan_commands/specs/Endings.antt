@@ -3,12 +3,12 @@ use Rattle.std.specs.Prelude.{ℕ}
 use Rattle.vx_scan.specs.declared.errors.ScanError.{ScanError}
 use Rattle.vx_scan.specs.declared.errors.ScanError.TheVariants as scan
 use Rattle.scan_commands.specs.declared.endings.Ending.{Ending}
-use Rattle.scan_commands.specs.declared.endings.Ending.TheVariants.{Done, NotYet, BadRequest, BadLayout, NoRows, WriteFault, RequestFault, OutOfMemory}
+use Rattle.scan_commands.specs.declared.endings.Ending.TheVariants.{Done, RequestTooLarge, BadRequest, BadLayout, BadProjection, ScanFailed, WriteFault, RequestFault, OutOfMemory}
 use Rattle.scan_commands.specs.declared.request_errors.RequestError.{RequestError}
 use Rattle.scan_commands.specs.declared.request_errors.RequestError.TheVariants as request
-use Rattle.scan_commands.specs.Statuses.{done_status, not_yet_status, bad_request_status, bad_layout_status, bad_projection_status, row_out_of_range_status, row_offset_overflow_status, lists_unsupported_status, no_location_status, bad_segment_status, bad_code_status, expression_fault_status, read_fault_status, stalled_status, write_fault_status, request_fault_status, memory_status}
+use Rattle.scan_commands.specs.Statuses.{done_status, bad_request_status, bad_layout_status, bad_projection_status, row_out_of_range_status, row_offset_overflow_status, lists_unsupported_status, no_location_status, bad_segment_status, bad_code_status, expression_fault_status, read_fault_status, stalled_status, write_fault_status, request_fault_status, request_too_large_status, memory_status}
 
--- the status of a scan that gave no rows
+-- the status of a scan that failed
 abbrev pub scan_status : ScanError → ℕ
 scan_status scan.BadProjection = bad_projection_status
 scan_status scan.OffsetOverflow = row_offset_overflow_status
@@ -24,22 +24,23 @@ scan_status scan.Memory = memory_status
 
 abbrev pub status_of : Ending → ℕ
 status_of Done = done_status
-status_of NotYet = not_yet_status
+status_of RequestTooLarge = request_too_large_status
 status_of BadRequest = bad_request_status
 status_of (BadLayout node rule) = bad_layout_status
-status_of (NoRows error) = scan_status error
+status_of BadProjection = bad_projection_status
+status_of (ScanFailed error) = scan_status error
 status_of WriteFault = write_fault_status
 status_of RequestFault = request_fault_status
 status_of OutOfMemory = memory_status
 
 -- how a run ends whose request is refused
 abbrev pub refused_ending : RequestError → Ending
-refused_ending request.NotYet = NotYet
 refused_ending request.BadRequest = BadRequest
 refused_ending (request.BadLayout node rule) = BadLayout node rule
+refused_ending (request.BadProjection error) = BadProjection
 refused_ending request.Memory = OutOfMemory
 
--- how a run ends whose scan gave no rows
+-- how a run ends whose scan failed
 abbrev pub scan_ending : ScanError → Ending
 scan_ending scan.Memory = OutOfMemory
-scan_ending error = NoRows error
+scan_ending error = ScanFailed error

@@ -34,3 +34,8 @@ few_items d = as_array d >>= λ items. if nat_le (items_len items) most_items th
 -- a list of at most 4194304 items that each have the form
 abbrev pub list_form : {X : Type 0} → (Data → Option X) → Data → Option (List X)
 list_form form d = few_items d >>= each_form form
+
+-- a member that may be absent, and what stands for it then
+abbrev pub optional_form : {X : Type 0} → X → (Data → Option X) → Option Data → Option X
+optional_form absent form None = Some absent
+optional_form absent form (Some d) = form d

@@ -1,5 +1,5 @@
 -- Reading a request to its end.
-use Rattle.std.specs.Prelude.{◌≡◌, ℕ, ◌+◌, ◌<◌, ◌≤◌, ◌⊎◌, List, [], ◌∷◌, ◌++◌, length, All, Some, IfSome, Result, Ok, Err}
+use Rattle.std.specs.Prelude.{◌≡◌, ℕ, ◌+◌, ◌<◌, ◌≤◌, ◌⊎◌, List, [], ◌∷◌, ◌++◌, length, sum, All, Some, IfSome, Result, Ok, Err}
 use Rattle.std.specs.Global.{Vec}
 use Rattle.vx_base.specs.Sources.{Rose}
 use Rattle.vx_base.specs.Streams.{ReadState}
@@ -28,19 +28,29 @@ pub record ReadsPieces (old new : ReadState) : Type 0 where
   pub end : (last ≡ []) ⊎ (last ≡ 0 ∷ [])
   pub count : length full + length last ≤ most_bytes + 1
 
--- the last piece that was read is the empty one, which is the end
-abbrev pub EndsInEmptyPiece : ReadState → ReadState → Type 0
-EndsInEmptyPiece old new = (full : List ℕ) × All IsFull full × (new.pieces ≡ (old.pieces ++ full) ++ 0 ∷ [])
+-- the pieces have so many bytes together, and the last one that was read is the empty one, which is the end
+abbrev pub EndsInEmptyPiece : ℕ → ReadState → ReadState → Type 0
+EndsInEmptyPiece size old new = (full : List ℕ) × All IsFull full × (sum full ≡ size) × (new.pieces ≡ (old.pieces ++ full) ++ 0 ∷ [])
 
 -- These are all bytes of the source, which was read to its end.
 pub record ReadsAll (bytes : List ℕ) (old new : ReadState) : Type 0 where
   pub size : length bytes ≤ most_bytes
   pub whole : IfSome old.rest (λ rest. (rest ≡ bytes) × (new.rest ≡ Some []))
-  pub last_piece : EndsInEmptyPiece old new
+  pub last_piece : EndsInEmptyPiece (length bytes) old new
+  pub faults : new.faults ≡ old.faults
+
+-- The pieces that were read, none of them the empty one, have more bytes together than a request may have. So does the
+-- source, where it tells them.
+pub record ReadsTooMany (old new : ReadState) : Type 0 where
+  pub full : List ℕ
+  pub pieces : new.pieces ≡ old.pieces ++ full
+  pub each : All IsFull full
+  pub more : most_bytes < sum full
+  pub told : IfSome old.rest (λ rest. most_bytes < length rest)
   pub faults : new.faults ≡ old.faults
 
 abbrev pub ReadingGives : Result (Vec ℕ) ReadingError → ReadState → ReadState → Type 0
 ReadingGives (Ok bytes) old new = ReadsAll bytes.items old new
-ReadingGives (Err TooLarge) old new = IfSome old.rest (λ rest. most_bytes < length rest) × (new.faults ≡ old.faults)
+ReadingGives (Err TooLarge) old new = ReadsTooMany old new
 ReadingGives (Err Failed) old new = Rose old.faults new.faults
 ReadingGives (Err Memory) old new = new.faults ≡ old.faults

@@ -1,22 +1,23 @@
 -- What a run of the program promises, by its ending. Promises on content speak of what is told: the request's bytes,
 -- the file, the ranges asked and the bytes written.
-use Rattle.std.specs.Prelude.{◌≡◌, ◌≢◌, ℕ, ◌<◌, ◌≤◌, ◌⊎◌, ◌++◌, List, [], length, take, Some, None, IfSome, option_map}
+use Rattle.std.specs.Prelude.{◌≡◌, ◌≢◌, ℕ, ◌≤◌, ◌⊎◌, ◌++◌, List, [], length, take, IfSome, option_map}
 use Rattle.vx_base.specs.Sources.{SourceState, Rose}
 use Rattle.vx_base.specs.Streams.{ReadState, WriteState}
-use Rattle.vx_layout.specs.Faults.{IsFirstFault}
 use Rattle.vx_layout.specs.Rows.{file_leaves}
 use Rattle.vx_scan.specs.Asks.{Lasts}
+use Rattle.vx_scan.specs.Beginning.{Refuses}
 use Rattle.vx_scan.specs.Plans.{WhereTold, IsQuiet}
 use Rattle.vx_scan.specs.Scanned.{Gains, LowestCause}
 use Rattle.vx_scan.specs.Valid.{IsValidScan}
 use Rattle.vx_scan.specs.declared.errors.ScanError.{ScanError}
-use Rattle.vx_scan.specs.declared.errors.ScanError.TheVariants.{Memory}
+use Rattle.vx_scan.specs.declared.errors.ScanError.TheVariants.{OutOfRange, OffsetOverflow, Memory}
 use Rattle.scan_commands.specs.declared.endings.Ending.{Ending}
-use Rattle.scan_commands.specs.declared.endings.Ending.TheVariants.{Done, NotYet, BadRequest, BadLayout, NoRows, WriteFault, RequestFault, OutOfMemory}
+use Rattle.scan_commands.specs.declared.endings.Ending.TheVariants.{Done, RequestTooLarge, BadRequest, BadLayout, BadProjection, ScanFailed, WriteFault, RequestFault, OutOfMemory}
+use Rattle.scan_commands.specs.Desks.{Desk, ReadsRequest, IsTooLarge, IsBadRequest, IsBadLayout, IsBadProjection, FailsToRead, RunsOutAtOnce}
 use Rattle.scan_commands.specs.Endings.{status_of}
-use Rattle.scan_commands.specs.Reading.{most_bytes, ReadsAll, ReadsPieces}
-use Rattle.scan_commands.specs.RequestForms.{Asked, requested, AsksMore, IsRequest}
-use Rattle.scan_commands.specs.Scans.{idle_limit, scan_of, IsText}
+use Rattle.scan_commands.specs.Reading.{most_bytes, ReadsPieces}
+use Rattle.scan_commands.specs.RequestForms.{Asked, IsRequest}
+use Rattle.scan_commands.specs.Scans.{scan_of, IsText}
 use Rattle.scan_commands.specs.Statuses.{done_status, memory_status}
 
 -- What a run reads its request from, the source that it asks, and what it writes to.
@@ -25,29 +26,15 @@ pub record World : Type 0 where
   pub source : SourceState
   pub sink : WriteState
 
--- ---- what was read
-
--- The request was read to its end, at most 16777216 bytes, and its bytes are so.
-pub record ReadsBytes (P : List ℕ → Type 0) (before after : World) : Type 0 where
-  pub bytes : List ℕ
-  pub reads : ReadsAll bytes before.request after.request
-  pub are : P bytes
-
--- its bytes are this request
-abbrev pub ReadsRequest : Asked → World → World → Type 0
-ReadsRequest asked before after = ReadsBytes (λ bytes. IsRequest bytes asked) before after
-
--- it has more bytes, where they are told
-pub record ReadsTooMany (before after : World) : Type 0 where
-  pub large : IfSome before.request.rest (λ rest. most_bytes < length rest)
-  pub faults : after.request.faults ≡ before.request.faults
+-- the same without the source
+abbrev pub without_source : World → Desk
+without_source world = record { request = world.request; sink = world.sink }
 
 -- ---- what was asked and written
 
--- Nothing was asked, and nothing was written.
-pub record IsIdle (before after : World) : Type 0 where
-  pub source : after.source ≡ before.source
-  pub sink : after.sink ≡ before.sink
+-- the run ended so, and the source was not asked
+abbrev pub EndsUnasked : (Desk → Desk → Type 0) → World → World → Type 0
+EndsUnasked Ended before after = Ended (without_source before) (without_source after) × (after.source ≡ before.source)
 
 -- The source was asked for nothing but locations of segments that the request's rows reach. Nothing is in flight, if it
 -- was asked at all.
@@ -72,83 +59,71 @@ WritesFront asked before after = WhereTold before.source (λ file. (text : List 
 -- all rows were printed
 pub record IsDone (before after : World) : Type 0 where
   pub asked : Asked
-  pub reads : ReadsRequest asked before after
+  pub reads : ReadsRequest asked before.request after.request
   pub asks : Asks asked before after
   pub writes : Writes asked before after
 
--- the request is too large, or has a member that is not read yet
-pub record IsNotYet (before after : World) : Type 0 where
-  pub why : ReadsTooMany before after ⊎ ReadsBytes (λ bytes. AsksMore bytes × (requested bytes ≡ None)) before after
-  pub idle : IsIdle before after
+-- the scan was refused before it began, for that cause; nothing was asked or written
+pub record RefusesScan (error : ScanError) (before after : World) : Type 0 where
+  pub asked : Asked
+  pub reads : ReadsRequest asked before.request after.request
+  pub cause : Refuses (scan_of asked) error
+  pub source : after.source ≡ before.source
+  pub sink : after.sink ≡ before.sink
 
--- its bytes are no JSON in the form
-pub record IsBadRequest (before after : World) : Type 0 where
-  pub reads : ReadsBytes (λ bytes. (AsksMore bytes → ⊥) × (requested bytes ≡ None)) before after
-  pub idle : IsIdle before after
-
--- they have the form, and the first fault of the nodes is that of the rule at the node
-pub record IsBadLayout (node rule : ℕ) (before after : World) : Type 0 where
-  pub reads : ReadsBytes (λ bytes. (asked : Asked) × (requested bytes ≡ Some asked) × IsFirstFault asked.nodes node rule) before after
-  pub idle : IsIdle before after
-
--- the scan gave no rows, for its cause, which no valid scan has without a fault or a stall of the source; nothing was
--- written
-pub record GivesNoRows (error : ScanError) (before after : World) : Type 0 where
+-- the scan failed, for its cause, which no valid scan has without a fault or a stall of the source; nothing was written
+pub record FailsToScan (limit : ℕ) (error : ScanError) (before after : World) : Type 0 where
   pub not_memory : error ≢ Memory
   pub asked : Asked
-  pub reads : ReadsRequest asked before after
+  pub reads : ReadsRequest asked before.request after.request
   pub asks : Asks asked before after
-  pub cause : LowestCause (scan_of asked) idle_limit error before.source after.source
-  pub invalid : WhereTold before.source (λ file. IsValidScan (file_leaves file asked.locations) (scan_of asked) → IsQuiet idle_limit before.source after.source → ⊥)
+  pub cause : LowestCause (scan_of asked) limit error before.source after.source
+  pub invalid : WhereTold before.source (λ file. IsValidScan (file_leaves file asked.locations) (scan_of asked) → IsQuiet limit before.source after.source → ⊥)
   pub sink : after.sink ≡ before.sink
 
 -- the sink failed behind a front of the text
 pub record FailsToWrite (before after : World) : Type 0 where
   pub asked : Asked
-  pub reads : ReadsRequest asked before after
+  pub reads : ReadsRequest asked before.request after.request
   pub asks : Asks asked before after
   pub front : WritesFront asked before after
   pub rose : Rose before.sink.faults after.sink.faults
 
--- a read of the request failed
-pub record FailsToRead (before after : World) : Type 0 where
-  pub rose : Rose before.request.faults after.request.faults
-  pub idle : IsIdle before after
-
--- memory ran out before the request was known, or behind it, when at most a front of the text was written
+-- memory ran out behind the request, when at most a front of the text was written
 pub record LacksMemory (asked : Asked) (before after : World) : Type 0 where
-  pub reads : ReadsRequest asked before after
+  pub reads : ReadsRequest asked before.request after.request
   pub asks : Asks asked before after
   pub written : (after.sink ≡ before.sink) ⊎ WritesFront asked before after
   pub faults : after.sink.faults ≡ before.sink.faults
 
+-- it ran out before the request was known, or behind it
 abbrev pub RunsOut : World → World → Type 0
-RunsOut before after = (IsIdle before after × (after.request.faults ≡ before.request.faults)) ⊎ ((asked : Asked) × LacksMemory asked before after)
+RunsOut before after = EndsUnasked RunsOutAtOnce before after ⊎ ((asked : Asked) × LacksMemory asked before after)
 
-abbrev pub Ends : Ending → World → World → Type 0
-Ends Done before after = IsDone before after
-Ends NotYet before after = IsNotYet before after
-Ends BadRequest before after = IsBadRequest before after
-Ends (BadLayout node rule) before after = IsBadLayout node rule before after
-Ends (NoRows error) before after = GivesNoRows error before after
-Ends WriteFault before after = FailsToWrite before after
-Ends RequestFault before after = FailsToRead before after
-Ends OutOfMemory before after = RunsOut before after
+-- A row past the last one and too great a number of a row refuse a scan, and all else keeps one from its rows. No scan is
+-- refused for its projection, since a request's is bound to the root: no piece is without rows for that cause.
+abbrev pub ScanFails : ℕ → ScanError → World → World → Type 0
+ScanFails limit OutOfRange before after = RefusesScan OutOfRange before after
+ScanFails limit OffsetOverflow before after = RefusesScan OffsetOverflow before after
+ScanFails limit error before after = FailsToScan limit error before after
+
+abbrev pub Ends : ℕ → Ending → World → World → Type 0
+Ends limit Done before after = IsDone before after
+Ends limit RequestTooLarge before after = EndsUnasked IsTooLarge before after
+Ends limit BadRequest before after = EndsUnasked IsBadRequest before after
+Ends limit (BadLayout node rule) before after = EndsUnasked (IsBadLayout node rule) before after
+Ends limit BadProjection before after = EndsUnasked IsBadProjection before after
+Ends limit (ScanFailed error) before after = ScanFails limit error before after
+Ends limit WriteFault before after = FailsToWrite before after
+Ends limit RequestFault before after = EndsUnasked FailsToRead before after
+Ends limit OutOfMemory before after = RunsOut before after
 
 -- The status is that of an ending, and the run ended so. At most 16777217 pieces of the request were read.
-pub record Serves (status : ℕ) (before after : World) : Type 0 where
+pub record Serves (limit status : ℕ) (before after : World) : Type 0 where
   pub ending : Ending
   pub is : status ≡ status_of ending
-  pub ends : Ends ending before after
+  pub ends : Ends limit ending before after
   pub pieces : ReadsPieces before.request after.request
-
--- ---- words at fault
-
--- nothing was read, asked or written
-pub record IsUntouched (request_old request_new : ReadState) (sources_old sources_new : List SourceState) (sink_old sink_new : WriteState) : Type 0 where
-  pub request : request_new ≡ request_old
-  pub sources : sources_new ≡ sources_old
-  pub sink : sink_new ≡ sink_old
 
 -- ---- completeness
 
@@ -157,7 +132,7 @@ abbrev pub IsValid : List ℕ → List ℕ → Type 0
 IsValid bytes file = (length bytes ≤ most_bytes) × ((asked : Asked) × IsRequest bytes asked × IsValidScan (file_leaves file asked.locations) (scan_of asked))
 
 -- Valid input without fault or stall is answered, or memory runs out.
-abbrev pub IsComplete : ℕ → World → World → Type 0
-IsComplete status before after = IfSome before.request.rest (λ bytes. WhereTold before.source (λ file. IsValid bytes file
-    → (Rose before.request.faults after.request.faults → ⊥) → IsQuiet idle_limit before.source after.source → (Rose before.sink.faults after.sink.faults → ⊥)
+abbrev pub IsComplete : ℕ → ℕ → World → World → Type 0
+IsComplete limit status before after = IfSome before.request.rest (λ bytes. WhereTold before.source (λ file. IsValid bytes file
+    → (Rose before.request.faults after.request.faults → ⊥) → IsQuiet limit before.source after.source → (Rose before.sink.faults after.sink.faults → ⊥)
     → (status ≡ done_status) ⊎ (status ≡ memory_status)))

@@ -9,7 +9,7 @@ done_status = 0
 abbrev pub usage_status : ℕ
 usage_status = 2
 
--- the words or the request ask for what the program doesn't do
+-- the words ask for what the program doesn't do
 abbrev pub not_yet_status : ℕ
 not_yet_status = 3
 

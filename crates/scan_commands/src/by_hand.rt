@@ -1,22 +1,14 @@
-//! Words, statuses and lines that were written by hand, on which the definitions are checked.
+//! Statuses and lines that were written by hand, on which the definitions are checked.
 
-ghost use Rattle.std.specs.Prelude.{◌≡◌, ◌∷◌, [], true, false, pos, negsuc, codes};
+ghost use Rattle.std.specs.Prelude.{◌≡◌, ◌∷◌, [], pos, negsuc, codes};
 ghost use Rattle.vx_base.specs.Data.{int_type, number};
 ghost use Rattle.vx_base.specs.declared.dtypes.IntKind.TheVariants.{I64};
 ghost use Rattle.vx_base.specs.declared.dtypes.Nullability.TheVariants.{NonNullable};
 ghost use Rattle.scan_commands.specs.RowText.{lines};
 ghost use Rattle.scan_commands.specs.Statuses.{text_of_status};
-ghost use Rattle.scan_commands.specs.Words.{at_fault};
 
-/// Words are three, the first of them `scan`, and no name begins with `-`. A status has its text, and each
-/// number its line.
+/// A status has its text, and each number its line.
 pub fn commands_by_hand()
-    ensures right { at_fault (codes "scan" ∷ codes "s" ∷ codes "r" ∷ []) ≡ false }
-    ensures no_names { at_fault (codes "scan" ∷ [] ∷ [] ∷ []) ≡ false }
-    ensures too_few { at_fault (codes "scan" ∷ codes "s" ∷ []) ≡ true }
-    ensures too_many { at_fault (codes "scan" ∷ codes "s" ∷ codes "r" ∷ codes "t" ∷ []) ≡ true }
-    ensures another_word { at_fault (codes "scans" ∷ codes "s" ∷ codes "r" ∷ []) ≡ true }
-    ensures option { at_fault (codes "scan" ∷ codes "s" ∷ codes "-r" ∷ []) ≡ true }
     ensures text { text_of_status 17 ≡ codes "bad segment" }
     ensures no_text { text_of_status 99 ≡ codes "unknown status" }
     ensures two_lines { lines (int_type I64 NonNullable) (number (pos 300) ∷ number (negsuc 0) ∷ []) ≡ 51 ∷ 48 ∷ 48 ∷ 10 ∷ 45 ∷ 49 ∷ 10 ∷ [] }

@@ -6,7 +6,7 @@ ghost use Rattle.scan_commands.specs.Endings.{refused_ending, scan_ending, scan_
 use crate::request_errors::RequestError;
 use crate::statuses::{
     BAD_CODE, BAD_LAYOUT, BAD_PROJECTION, BAD_REQUEST, BAD_SEGMENT, DONE, EXPRESSION_FAULT,
-    LISTS_UNSUPPORTED, NO_LOCATION, NOT_YET, OUT_OF_MEMORY, READ_FAULT, REQUEST_FAULT,
+    LISTS_UNSUPPORTED, NO_LOCATION, OUT_OF_MEMORY, READ_FAULT, REQUEST_FAULT, REQUEST_TOO_LARGE,
     ROW_OFFSET_OVERFLOW, ROW_OUT_OF_RANGE, STALLED, WRITE_FAULT,
 };
 use vx_scan::ScanError;
@@ -16,14 +16,16 @@ use vx_scan::ScanError;
 pub(crate) enum Ending {
     /// The rows were written.
     Done,
-    /// The request asks for what the program doesn't do, or is too large.
-    NotYet,
+    /// The request has too many bytes.
+    RequestTooLarge,
     /// The request's bytes are no JSON in the form.
     BadRequest,
     /// The request's nodes break the rule at the node, the first such rule and its first node.
     BadLayout { node: u32, rule: u8 },
-    /// The scan gave no rows.
-    NoRows(ScanError),
+    /// The request's projection can't be bound to the dtype of the layout's root.
+    BadProjection,
+    /// The scan failed.
+    ScanFailed(ScanError),
     /// A write failed.
     WriteFault,
     /// A read of the request failed.
@@ -32,7 +34,7 @@ pub(crate) enum Ending {
     OutOfMemory,
 }
 
-/// The status of a scan that gave no rows.
+/// The status of a scan that failed.
 fn scan_status(error: ScanError) -> u8
     ensures { result ≡ status_of_scan error }
 {
@@ -58,10 +60,11 @@ impl Ending {
     {
         match self {
             Ending::Done => DONE,
-            Ending::NotYet => NOT_YET,
+            Ending::RequestTooLarge => REQUEST_TOO_LARGE,
             Ending::BadRequest => BAD_REQUEST,
             Ending::BadLayout { .. } => BAD_LAYOUT,
-            Ending::NoRows(error) => scan_status(error),
+            Ending::BadProjection => BAD_PROJECTION,
+            Ending::ScanFailed(error) => scan_status(error),
             Ending::WriteFault => WRITE_FAULT,
             Ending::RequestFault => REQUEST_FAULT,
             Ending::OutOfMemory => OUT_OF_MEMORY,
@@ -70,23 +73,26 @@ impl Ending {
 }
 
 /// How a run ends whose request is refused.
-pub(crate) fn of_request(error: RequestError) -> Ending
-    ensures { result ≡ refused_ending error }
+pub(crate) fn of_request(error: &RequestError) -> Ending
+    ensures { result ≡ refused_ending error.now }
 {
     match error {
-        RequestError::NotYet => Ending::NotYet,
         RequestError::BadRequest => Ending::BadRequest,
-        RequestError::BadLayout { node, rule } => Ending::BadLayout { node, rule },
+        RequestError::BadLayout { node, rule } => Ending::BadLayout {
+            node: *node,
+            rule: *rule,
+        },
+        RequestError::BadProjection(_) => Ending::BadProjection,
         RequestError::Memory => Ending::OutOfMemory,
     }
 }
 
-/// How a run ends whose scan gave no rows.
+/// How a run ends whose scan failed.
 pub(crate) fn of_scan(error: ScanError) -> Ending
     ensures { result ≡ scan_ending error }
 {
     match error {
         ScanError::Memory => Ending::OutOfMemory,
-        error => Ending::NoRows(error),
+        error => Ending::ScanFailed(error),
     }
 }

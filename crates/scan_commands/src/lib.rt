@@ -1,21 +1,22 @@
 //! The commands of the program: words, a request, sources of segments and a sink go in, a status comes out.
 //!
-//! - [`run`] runs the words of a command line. It carries the scan theorem.
+//! - [`run`] runs the words of a command line: it scans, draws a plan or runs the demo. It carries the theorem of each.
 //! - [`row_text`] writes a value as JSON, [`append_column_lines`] and [`append_row_lines`] a line for each row of a
 //!   column or of a range of its rows.
 //! - The statuses from [`DONE`] to [`OUT_OF_MEMORY`], and the text of each, [`status_text`].
 //! - [`request_of`] reads the bytes of a [`Request`], or tells by a [`RequestError`] why they are none.
-//! - [`are_at_fault`] tells words that no command has.
 //! - [`numbers_are_promised`] holds the constants of the code to the numbers of the promises; [`commands_by_hand`],
-//!   [`strings_by_hand`], [`rows_by_hand`], [`dtype_forms_by_hand`] and [`node_forms_by_hand`] check the definitions on
-//!   literals.
+//!   [`strings_by_hand`], [`rows_by_hand`], [`dtype_forms_by_hand`], [`node_forms_by_hand`], [`expression_forms_by_hand`],
+//!   [`row_forms_by_hand`] and [`request_forms_by_hand`] check the definitions on literals.
 #![tactic(auto)]
 
 mod by_hand;
 mod cell_texts;
 mod column_lines;
+mod demo_runs;
 mod dtype_forms;
 mod endings;
+mod expression_forms;
 mod field_leads;
 mod forms_by_hand;
 mod json_forms;
@@ -23,22 +24,27 @@ mod json_strings;
 mod location_forms;
 mod node_forms;
 mod numbers;
+mod plan_runs;
 mod printed_numbers;
 mod request_errors;
 mod request_forms;
 mod requests;
+mod row_forms;
 mod row_texts;
 mod row_writing;
 mod runs;
+mod scan_runs;
 mod scans;
 mod statuses;
 mod texts_by_hand;
-mod words;
 mod writing;
 
 pub use by_hand::commands_by_hand;
 pub use column_lines::{append_column_lines, append_row_lines};
-pub use forms_by_hand::{dtype_forms_by_hand, node_forms_by_hand};
+pub use forms_by_hand::{
+    dtype_forms_by_hand, expression_forms_by_hand, node_forms_by_hand, request_forms_by_hand,
+    row_forms_by_hand,
+};
 pub use numbers::numbers_are_promised;
 pub use request_errors::RequestError;
 pub use request_forms::{Request, request_of};
@@ -52,4 +58,3 @@ pub use statuses::{
     WRITE_FAULT, status_text,
 };
 pub use texts_by_hand::{rows_by_hand, strings_by_hand};
-pub use words::are_at_fault;

@@ -3,12 +3,10 @@
 ghost use Rattle.std.specs.Prelude.{◌≡◌};
 ghost use Rattle.scan_commands.specs.JsonForms.{most_items};
 ghost use Rattle.scan_commands.specs.Reading.{most_bytes, most_piece};
-ghost use Rattle.scan_commands.specs.Scans.{idle_limit};
 ghost use Rattle.scan_commands.specs.Statuses.{done_status, usage_status, not_yet_status, bad_request_status, bad_layout_status, bad_projection_status, row_out_of_range_status, row_offset_overflow_status, lists_unsupported_status, no_location_status, bad_segment_status, bad_code_status, expression_fault_status, read_fault_status, stalled_status, write_fault_status, request_fault_status, request_too_large_status, not_readable_status, memory_status};
 
 use crate::json_forms::MOST_ITEMS;
 use crate::requests::{MOST_BYTES, PIECE_BYTES};
-use crate::scans::IDLE_LIMIT;
 use crate::statuses::{
     BAD_CODE, BAD_LAYOUT, BAD_PROJECTION, BAD_REQUEST, BAD_SEGMENT, DONE, EXPRESSION_FAULT,
     LISTS_UNSUPPORTED, NO_LOCATION, NOT_READABLE, NOT_YET, OUT_OF_MEMORY, READ_FAULT,
@@ -41,5 +39,4 @@ pub fn numbers_are_promised()
     ensures items { MOST_ITEMS ≡ most_items }
     ensures bytes { MOST_BYTES ≡ most_bytes }
     ensures piece { PIECE_BYTES ≡ most_piece }
-    ensures idle { IDLE_LIMIT ≡ idle_limit }
 {}

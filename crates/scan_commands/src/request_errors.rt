@@ -2,18 +2,17 @@
 
 ghost use Rattle.std.specs.Prelude.{◌≡◌};
 ghost use Rattle.scan_commands.specs.declared.request_errors.RequestError.TheVariants.{Memory};
+ghost use Rattle.scan_commands.specs.BindRefusals.{of_bind};
 ghost use Rattle.scan_commands.specs.LayoutRefusals.{of_layout};
 
 use std::alloc::AllocError;
 use thiserror::Error;
+use vx_expr::BindError;
 use vx_layout::LayoutError;
 
 /// Why bytes are no request.
-#[derive(Clone, Copy, Debug, PartialEq, Eq, Error)]
+#[derive(Debug, Drop, Error)]
 pub enum RequestError {
-    /// An object with a member that is not read yet.
-    #[error("not yet")]
-    NotYet,
     /// No JSON, or not in the form of docs/FORMATS.md.
     #[error("bad request")]
     BadRequest,
@@ -21,6 +20,10 @@ pub enum RequestError {
     /// the first node that breaks it.
     #[error("node {node} breaks rule {rule}")]
     BadLayout { node: u32, rule: u8 },
+    /// The nodes are a layout tree, but the projection can't be bound to the dtype of its root.
+    #[error("the projection can't be bound: {0}")]
+    BadProjection(BindError),
+    /// Memory ran out.
     #[error("out of memory")]
     Memory,
 }
@@ -40,6 +43,17 @@ impl From<LayoutError> for RequestError {
         match refusal {
             LayoutError::BadLayout { node, rule } => RequestError::BadLayout { node, rule },
             LayoutError::Memory => RequestError::Memory,
+        }
+    }
+}
+
+impl From<BindError> for RequestError {
+    ghost from_gives = { λ refusal e. e ≡ of_bind refusal };
+
+    fn from(refusal: BindError) -> RequestError {
+        match refusal {
+            BindError::Memory => RequestError::Memory,
+            refusal => RequestError::BadProjection(refusal),
         }
     }
 }

@@ -1,36 +1,51 @@
 //! The scan that a request asks for.
 
-ghost use Rattle.std.specs.Prelude.{◌≡◌, ◌≤◌, length, map};
+ghost use Rattle.std.specs.Prelude.{◌≡◌, ◌<◌, ◌≤◌, IfOk, length, map};
+ghost use Rattle.vx_scan.specs.Builders.{scan_of as built_scan};
 ghost use Rattle.vx_scan.specs.Scanned.{FirstOf};
 ghost use Rattle.scan_commands.specs.JsonForms.{most_items};
 ghost use Rattle.scan_commands.specs.RequestViews.{asked_of};
 ghost use Rattle.scan_commands.specs.Scans.{scan_of, ScanGives};
 
 use crate::request_forms::Request;
-use std::alloc::Global;
+use std::alloc::{AllocError, Global};
 use vx_base::{Column, SegmentSource};
-use vx_scan::{ScanBuilder, ScanError, ScanFile, pieces_are_the_answer};
+use vx_scan::{ScanBuilder, ScanError, pieces_are_the_answer};
 
-/// A source may answer so often that a read goes on, from one completion to the next.
-pub(crate) const IDLE_LIMIT: u64 = 1000000;
-
-/// The rows of a request, read from the source: a column for each chunk, in the order of the rows.
+/// The rows of a request, read from the source: a column for each chunk, in the order of the rows. The source may answer
+/// as often as the idle limit that a read goes on, from one completion to the next.
 pub(crate) fn batches_of<S: SegmentSource + Send>(
     alloc: Global,
     request: Request,
+    idle_limit: u64,
     sources: &mut [S],
 ) -> Result<Vec<Column>, ScanError>
+    requires limit { 0 < idle_limit }
     requires one { length sources.old ≡ 1 }
-    requires few { length request.locations.items ≤ most_items }
-    ensures { FirstOf (ScanGives (scan_of (asked_of request)) result) (map S.state sources.old) (map S.state sources.new) }
+    requires few { length request.file.locations.items ≤ most_items }
+    ensures { FirstOf (ScanGives idle_limit (scan_of (asked_of request)) result) (map S.state sources.old) (map S.state sources.new) }
 {
     pieces_are_the_answer();
-    let Request { layout, locations } = request;
-    let file = ScanFile { layout, locations };
-    match ScanBuilder::new(alloc, file) {
-        Ok(builder) => builder
-            .with_idle_limit(IDLE_LIMIT)
-            .into_batches(alloc, sources),
+    match builder_of(alloc, request, idle_limit) {
+        Ok(builder) => builder.into_batches(alloc, sources),
         Err(_) => Err(ScanError::Memory),
+    }
+}
+
+/// The scan that the request asks for, before it runs.
+fn builder_of(alloc: Global, request: Request, idle_limit: u64) -> Result<ScanBuilder, AllocError>
+    requires { 0 < idle_limit }
+    ensures scan { IfOk result (λ builder. built_scan builder ≡ scan_of (asked_of request)) }
+    ensures locations { IfOk result (λ builder. builder.locations ≡ request.file.locations.items) }
+    ensures limit { IfOk result (λ builder. builder.idle_limit ≡ idle_limit) }
+{
+    let builder = ScanBuilder::new(alloc, request.file)?
+        .with_projection(request.projection)
+        .with_selection(request.selection)
+        .with_row_offset(request.row_offset)
+        .with_idle_limit(idle_limit);
+    match request.range {
+        Some(range) => Ok(builder.with_row_range(range)),
+        None => Ok(builder),
     }
 }

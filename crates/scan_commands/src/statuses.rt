@@ -7,7 +7,7 @@ ghost use Rattle.scan_commands.specs.Statuses.{text_of_status};
 pub const DONE: u8 = 0;
 /// The words are not those of a command.
 pub const USAGE: u8 = 2;
-/// The words or the request ask for what the program doesn't do.
+/// The words ask for what the program doesn't do.
 pub const NOT_YET: u8 = 3;
 /// The request's bytes are no request.
 pub const BAD_REQUEST: u8 = 10;

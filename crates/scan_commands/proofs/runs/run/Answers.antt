@@ -1,14 +1,13 @@
-use Rattle.std.proofs.Common.{◌≡◌, ◌∙◌, length}
-use Rattle.scan_commands.proofs.Scanning.{first_also}
-use Rattle.scan_commands.proofs.Serving.{first_complete, first_whole, rest_same}
+use Rattle.std.proofs.Common.{map, string_bytes, arith}
+use Rattle.std.proofs.lemmas.List.{length-map}
+use Rattle.scan_words.specs.Words.{command_of}
+use Rattle.scan_commands.proofs.Running.{lacks_memory}
 use Rattle.scan_commands.proofs.runs.run.Goals as goal
 
-pub returns-clause-others : goal.returns-clause-others
-returns-clause-others g c =
-    let one : length c.serve.new.sources ≡ 1 = c.serve.auto.sources ∙ c.split_at_mut-first.ensures.front_len in
-    rest_same g.S.SegmentSource.state c.args.sources.now c.serve.new.sources c.split_at_mut-first.result.1.now one c.split_at_mut-first.ensures.back
-
-pub returns-clause-complete : goal.returns-clause-complete
-returns-clause-complete g c = λ words.
-    first_whole g.S.SegmentSource.state _ c.args.sources.now c.split_at_mut-first.result.0.now c.serve.new.sources c.split_at_mut-first.result.1.now c.split_at_mut-first.ensures.front
-    (first_also _ _ (λ old new ends. first_complete c.status.result c.serve.result _ _ _ _ c.status.ensures c.serve.ensures.pieces old new ends) _ _ c.serve.ensures.ends)
+pub returns-in-Err-Memory : goal.returns-in-Err-Memory
+returns-in-Err-Memory g c =
+    let count = length-map c.args.sources.now g.S.SegmentSource.state in
+    let some = c.requires.some in
+    lacks_memory (command_of (map string_bytes c.args.words.now))
+    (record { request = g.Q.Source.state c.args.request.now; sources = map g.S.SegmentSource.state c.args.sources.now; sink = g.K.Sink.state c.args.out.now })
+    (omega (arith, count, some))

@@ -1,0 +1,37 @@
+-- What a scan of the demo file gives.
+use Rattle.std.proofs.Common.{◌≡◌, ℕ, ◌≤◌, List, [], ◌∷◌, map, Some, Result, Ok, Err, refl, sym, ap, subst}
+use Rattle.std.specs.Prelude.{IfOk}
+use Rattle.std.specs.Global.{Vec}
+use Rattle.vx_base.specs.Columns.{ColumnData}
+use Rattle.vx_base.specs.Sources.{SourceState}
+use Rattle.vx_base.specs.declared.locations.SegmentLocation.{SegmentLocation}
+use Rattle.vx_layout.specs.Nodes.{Node}
+use Rattle.vx_layout.specs.Trees.{subtree}
+use Rattle.vx_scan.specs.Answer.{FileScan}
+use Rattle.vx_scan.specs.Builders.{Building, new_building, scan_of}
+use Rattle.vx_scan.specs.Scanned.{AnswersScan, FirstOf}
+use Rattle.scan_demo.specs.DemoBytes.{demo_bytes, demo_locations}
+use Rattle.scan_demo.specs.DemoNodes.{demo_nodes}
+use Rattle.scan_demo.specs.DemoRows.{demo_row}
+use Rattle.scan_demo.specs.DemoScans.{AnswersAreDemo, IsDemoScan}
+use Rattle.scan_demo.specs.Summary.{demo_pieces}
+
+-- the scan of a builder over the demo file's nodes and segments
+pub demo_scan : (number : ℕ) (nodes : List Node) (locations : List SegmentLocation) (builder : Building) → builder ≡ new_building nodes locations → nodes ≡ demo_nodes number → locations ≡ demo_locations number
+    → IsDemoScan number (scan_of builder)
+demo_scan number nodes locations builder is layout segments =
+    subst (λ (b : Building). IsDemoScan number (scan_of b)) (sym is)
+    (record { layout = ap (λ (ns : List Node). subtree ns 0) layout; bare = refl; selection = refl; range = refl; locations = segments })
+
+-- where the source tells the bytes of the demo file, the batches hold its rows
+pub demo_batches : AnswersAreDemo → (number : ℕ) (scan : FileScan) (limit : ℕ) (batches : Vec ColumnData) (old : SourceState) (news : List SourceState) → number ≤ 1000000 → IsDemoScan number scan
+    → old.file ≡ Some (demo_bytes number) → FirstOf (AnswersScan scan limit (Ok batches)) (old ∷ []) news
+    → map (λ (batch : ColumnData). batch.values) batches.items ≡ map (map (demo_row number)) (demo_pieces number)
+demo_batches law number scan limit batches old [] few demo told answers = absurd answers
+demo_batches law number scan limit batches old (new ∷ news) few demo told answers =
+    law number scan (map (λ (batch : ColumnData). batch.values) batches.items) few demo (answers.content (demo_bytes number) told)
+
+-- what a text is where something holds that does hold
+pub summed : {E : Type 0} (result : Result (Vec ℕ) E) (text : List ℕ) (Q : Type 0) → Q → IfOk result (λ made. Q → made.items ≡ text) → IfOk result (λ made. made.items ≡ text)
+summed (Ok made) text Q q is = is q
+summed (Err error) text Q q is = tt
