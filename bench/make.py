@@ -1,0 +1,363 @@
+#!/usr/bin/env python3
+"""Turns a CSV file into a segment file and a request, or makes the example of the README.
+
+    python3 bench/make.py csv FILE.csv OUT [--dtype NAME=DTYPE ..] [--empty-text]
+    python3 bench/make.py example OUT [--rows N] [--seed N]
+
+`csv` writes OUT.seg and OUT.json, which `scan_cli scan OUT.seg OUT.json` prints. The first line of the CSV file names
+the columns. A column's dtype is told by --dtype (`bool`, `u8` to `u64`, `i8` to `i64`, `utf8`, with `?` where it takes
+nulls), or guessed: `bool` where each cell is `true` or `false`, `i64` where each is a whole number that fits, else
+`utf8`. An empty cell is a null, in a text too unless --empty-text is set. Columns are cut into chunks of 65536 rows; a
+chunk of texts is stored by a dictionary where that takes fewer bytes.
+
+`example` makes a few thousand readings: the level, the station (a text that may be null) and whether the reading is
+valid.
+
+Both files are written under other names first, read again and compared with the cells; only then they get their names.
+Input that can't be turned ends the script with one line on standard error: status 2 for words at fault, else 1. Then
+nothing is left behind, and files of these names are as they were.
+"""
+import argparse
+import csv
+import json
+import os
+import random
+import re
+import sys
+
+CHUNK_ROWS = 65536
+WIDTHS = {"u8": 1, "u16": 2, "u32": 4, "u64": 8, "i8": 1, "i16": 2, "i32": 4, "i64": 8}
+# What the program reads of a request at the most, and how long a segment may be.
+MOST_REQUEST, MOST_SEGMENT = 16777216, 2**32 - 1
+
+
+class Fault(Exception):
+    """What is wrong with the input, in one line."""
+
+
+def bounds(kind):
+    bits = 8 * WIDTHS[kind]
+    return (0, 2**bits - 1) if kind[0] == "u" else (-(2 ** (bits - 1)), 2 ** (bits - 1) - 1)
+
+
+# ---- segments
+
+
+def bits_of(truths):
+    made = bytearray((len(truths) + 7) // 8)
+    for row, truth in enumerate(truths):
+        made[row // 8] |= bool(truth) << row % 8
+    return bytes(made)
+
+
+def encode(dtype, values):
+    """The bytes of a leaf of that dtype; None is a null."""
+    nullable, kind = dtype.endswith("?"), dtype.rstrip("?")
+    validity = bits_of([value is not None for value in values]) if nullable else b""
+    if kind == "bool":
+        return validity + bits_of(values)
+    if kind == "utf8":
+        texts = [(value or "").encode() for value in values]
+        if max(map(len, texts), default=0) > MOST_SEGMENT:
+            raise Fault("a text is longer than a segment may be")
+        return validity + b"".join(len(text).to_bytes(4, "little") for text in texts) + b"".join(texts)
+    width = WIDTHS[kind]
+    return validity + b"".join((value or 0).to_bytes(width, "little", signed=kind[0] == "i") for value in values)
+
+
+def decode(dtype, rows, data):
+    """The values that the bytes of a leaf of so many rows spell, read on its own from `encode`."""
+    nullable, kind = dtype.endswith("?"), dtype.rstrip("?")
+    count = (rows + 7) // 8
+
+    def truths(part):
+        return [part[row // 8] >> row % 8 & 1 == 1 for row in range(rows)]
+
+    valid, at = [True] * rows, 0
+    if nullable:
+        valid, at = truths(data[:count]), count
+    if kind == "bool":
+        values = truths(data[at:])
+        at += count
+    elif kind == "utf8":
+        lengths = [int.from_bytes(data[at + 4 * row : at + 4 * row + 4], "little") for row in range(rows)]
+        values, at = [], at + 4 * rows
+        for length in lengths:
+            values.append(data[at : at + length].decode())
+            at += length
+    else:
+        width = WIDTHS[kind]
+        starts = range(at, at + width * rows, width)
+        values = [int.from_bytes(data[start : start + width], "little", signed=kind[0] == "i") for start in starts]
+        at += width * rows
+    if at != len(data):
+        raise ValueError("bytes behind the last value, or too few")
+    return [value if there else None for value, there in zip(values, valid)]
+
+
+# ---- layouts
+
+
+class Layout:
+    """Nodes, and segments one after another in the file."""
+
+    def __init__(self):
+        self.nodes, self.segments = [], []
+
+    def add(self, **node):
+        self.nodes.append(node)
+        return len(self.nodes) - 1
+
+    def flat(self, dtype, values):
+        self.segments.append(encode(dtype, values))
+        if len(self.segments[-1]) > MOST_SEGMENT:
+            raise Fault("a chunk of %d rows has more bytes than a segment may have" % len(values))
+        return self.add(kind="flat", dtype=dtype, rows=len(values), segment=len(self.segments) - 1)
+
+    def texts(self, dtype, values):
+        """A chunk of texts, flat or by a dictionary, whichever takes fewer bytes."""
+        known = sorted({value for value in values if value is not None})
+        codes = "u8" if len(known) <= 2**8 else "u16" if len(known) <= 2**16 else "u32"
+        mark = "?" if dtype.endswith("?") else ""
+        shorter = len(encode("utf8", known)) + WIDTHS[codes] * len(values) < 4 * len(values) + sum(
+            len((value or "").encode()) for value in values)
+        if not shorter:
+            return self.flat(dtype, values)
+        place = {value: at for at, value in enumerate(known)}
+        node = self.add(kind="dict", dtype=dtype, rows=len(values), children=[])
+        children = [self.flat("utf8", known), self.flat(codes + mark, [place.get(value) for value in values])]
+        self.nodes[node]["children"] = children
+        return node
+
+    def column(self, dtype, values):
+        """A column in chunks; one chunk stands alone."""
+        chunk = self.texts if dtype.rstrip("?") == "utf8" else self.flat
+        starts = range(0, len(values), CHUNK_ROWS)
+        if len(starts) == 1:
+            return chunk(dtype, values)
+        node = self.add(kind="chunked", dtype=dtype, rows=len(values), children=[])
+        self.nodes[node]["children"] = [chunk(dtype, values[start : start + CHUNK_ROWS]) for start in starts]
+        return node
+
+    def table(self, names, dtypes, columns, rows):
+        node = self.add(kind="struct", dtype={"struct": [list(one) for one in zip(names, dtypes)]}, rows=rows, children=[])
+        self.nodes[node]["children"] = [self.column(*one) for one in zip(dtypes, columns)]
+
+    def locations(self):
+        places, offset = [], 0
+        for segment in self.segments:
+            places.append([offset, len(segment), 1])
+            offset += len(segment)
+        return places
+
+    def request(self):
+        whole = {"locations": self.locations(), "nodes": self.nodes}
+        text = json.dumps(whole, separators=(",", ":")).encode() + b"\n"
+        if len(text) > MOST_REQUEST:
+            raise Fault("the request would have %d bytes, more than %d" % (len(text), MOST_REQUEST))
+        return text
+
+
+def read_again(file, request, number=0):
+    """All rows of a node by the file and the request, a struct's as lists."""
+    node = request["nodes"][number]
+    if node["kind"] == "flat":
+        offset, length, _ = request["locations"][node["segment"]]
+        file.seek(offset)
+        values = decode(node["dtype"], node["rows"], file.read(length))
+    else:
+        children = [read_again(file, request, child) for child in node["children"]]
+        if node["kind"] == "chunked":
+            values = [value for child in children for value in child]
+        elif node["kind"] == "dict":
+            values = [None if code is None else children[0][code] for code in children[1]]
+        else:
+            values = [list(row) for row in zip(*children)]
+    if len(values) != node["rows"]:
+        raise ValueError("node %d has other rows than it says" % number)
+    return values
+
+
+def write(out, layout, columns):
+    """Writes the two files, reads them again and compares them with the columns, and then gives them their names."""
+    made = [(out + end + ".part-%d" % os.getpid(), out + end) for end in (".seg", ".json")]
+    try:
+        request = layout.request()
+        for (part, _), pieces in zip(made, (layout.segments, [request])):
+            with open(part, "xb") as file:
+                file.writelines(pieces)
+        with open(made[0][0], "rb") as file, open(made[1][0], "rb") as text:
+            if read_again(file, json.load(text)) != [list(row) for row in zip(*columns)]:
+                raise Fault("what was made reads as something else: a fault of this script")
+        for part, whole in made:
+            os.replace(part, whole)
+    finally:
+        for part, _ in made:
+            if os.path.exists(part):
+                os.remove(part)
+
+
+# ---- a CSV file
+
+
+def number_in(cell):
+    """The whole number that a cell is, in digits behind a minus sign or none."""
+    return int(cell) if re.fullmatch(r"-?[0-9]{1,40}", cell) else None
+
+
+def is_whole(cell):
+    number = number_in(cell)
+    return number is not None and str(number) == cell and bounds("i64")[0] <= number <= bounds("i64")[1]
+
+
+def guessed(cells, empty_text):
+    there = [cell for cell in cells if cell]
+    if there and all(cell in ("true", "false") for cell in there):
+        kind = "bool"
+    elif there and all(map(is_whole, there)):
+        kind = "i64"
+    else:
+        kind = "utf8"
+    return kind + ("?" if len(there) < len(cells) and not (kind == "utf8" and empty_text) else "")
+
+
+def value_of(dtype, cell, empty_text):
+    """The value of a cell of a column of that dtype."""
+    kind = dtype.rstrip("?")
+    if cell == "" and not (kind == "utf8" and empty_text):
+        if not dtype.endswith("?"):
+            raise Fault("an empty cell, but %s takes no nulls" % dtype)
+        return None
+    if kind == "utf8":
+        return cell
+    if kind == "bool":
+        if cell not in ("true", "false"):
+            raise Fault("%r is no truth value" % cell[:40])
+        return cell == "true"
+    number = number_in(cell)
+    if number is None:
+        raise Fault("%r is no whole number" % cell[:40])
+    if not bounds(kind)[0] <= number <= bounds(kind)[1]:
+        raise Fault("%d doesn't fit %s" % (number, kind))
+    return number
+
+
+def column_of(name, dtype, cells, empty_text):
+    values = []
+    for row, cell in enumerate(cells):
+        try:
+            values.append(value_of(dtype, cell, empty_text))
+        except Fault as fault:
+            raise Fault("row %d, column %r: %s" % (row, name, fault)) from None
+    return values
+
+
+def table_of(path):
+    """The names of the columns and the rows of cells."""
+    try:
+        with open(path, newline="", encoding="utf-8-sig") as file:
+            reader = csv.reader(file, strict=True)
+            names, rows = next(reader, []), []
+            for row in reader:
+                if len(row) != len(names):
+                    raise Fault("%s, line %d: %d cells, not %d" % (path, reader.line_num, len(row), len(names)))
+                rows.append(row)
+    except OSError as error:
+        raise Fault("%s: %s" % (path, error.strerror)) from None
+    except (UnicodeDecodeError, csv.Error) as error:
+        raise Fault("%s: %s" % (path, error)) from None
+    if not names:
+        raise Fault("%s: no line that names the columns" % path)
+    if "" in names:
+        raise Fault("%s: column %d has no name" % (path, names.index("") + 1))
+    for place, name in enumerate(names):
+        if name in names[:place]:
+            raise Fault("%s: two columns have the name %r" % (path, name))
+    return names, rows
+
+
+def dtypes_told(words, names):
+    """The dtypes of --dtype by the names of their columns."""
+    told = {}
+    for word in words:
+        name, equals, dtype = word.rpartition("=")
+        if not equals or dtype.removesuffix("?") not in [*WIDTHS, "bool", "utf8"]:
+            raise Fault("--dtype %s: no dtype" % word)
+        if name not in names:
+            raise Fault("--dtype %s: no column has that name" % word)
+        if name in told:
+            raise Fault("--dtype %s: the column has a dtype already" % word)
+        told[name] = dtype
+    return told
+
+
+def from_csv(options):
+    names, rows = table_of(options.file)
+    told = dtypes_told(options.dtype, names)
+    cells = [list(column) for column in zip(*rows)] or [[] for _ in names]
+    dtypes = [told.get(name) or guessed(column, options.empty_text) for name, column in zip(names, cells)]
+    columns = [column_of(*one, options.empty_text) for one in zip(names, dtypes, cells)]
+    layout = Layout()
+    layout.table(names, dtypes, columns, len(rows))
+    write(options.out, layout, columns)
+    for name, dtype in zip(names, dtypes):
+        print("%s: %s" % (name, dtype))
+
+
+# ---- the example
+
+STATIONS = ["Aran", "Bidasoa", "Deba", "Ibaizabal", "Nerbioi", "Oria", "Urola", "Urumea"]
+
+
+def make_example(options):
+    rng = random.Random(options.seed)
+    level = [rng.randrange(20, 900) for _ in range(options.rows)]
+    station = [None if rng.random() < 0.05 else rng.choice(STATIONS) for _ in range(options.rows)]
+    valid = [rng.random() < 0.9 for _ in range(options.rows)]
+    columns = [level, station, valid]
+    layout = Layout()
+    layout.table(["level", "station", "valid"], ["i64", "utf8?", "bool"], columns, options.rows)
+    write(options.out, layout, columns)
+
+
+# ---- words
+
+
+class Words(argparse.ArgumentParser):
+    def error(self, message):
+        self.exit(2, "%s: %s\n" % (self.prog, message))
+
+
+def row_count(word):
+    if not re.fullmatch(r"[0-9]{1,8}", word):
+        raise argparse.ArgumentTypeError("%r is no number of rows" % word)
+    return int(word)
+
+
+def options_of():
+    parser = Words(description=__doc__, formatter_class=argparse.RawDescriptionHelpFormatter)
+    modes = parser.add_subparsers(dest="mode", required=True)
+    of_csv = modes.add_parser("csv", help="a CSV file")
+    of_csv.add_argument("file")
+    of_csv.add_argument("out")
+    of_csv.add_argument("--dtype", action="append", default=[], metavar="NAME=DTYPE")
+    of_csv.add_argument("--empty-text", action="store_true", help="an empty cell of a text is an empty text")
+    example = modes.add_parser("example", help="the example of the README")
+    example.add_argument("out")
+    example.add_argument("--rows", type=row_count, default=5000)
+    example.add_argument("--seed", type=int, default=1)
+    return parser.parse_args()
+
+
+def main():
+    options = options_of()
+    try:
+        from_csv(options) if options.mode == "csv" else make_example(options)
+    except Fault as fault:
+        sys.exit("make.py: %s" % fault)
+    except OSError as error:
+        sys.exit("make.py: %s: %s" % (error.filename, error.strerror))
+
+
+if __name__ == "__main__":
+    main()
