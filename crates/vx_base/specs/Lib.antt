@@ -1,6 +1,7 @@
 pub mod Adapters
 pub mod Faults
 pub mod FileSources
+pub mod GateSources
 pub mod InFlight
 pub mod MemorySources
 pub mod MemoryStreams

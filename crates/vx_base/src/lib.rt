@@ -9,7 +9,7 @@
 //!   [`decoded_is_spelled`], [`decoding_undoes_encoding`] and [`segments_by_hand`].
 //! - Where a segment lies: [`SegmentLocation`], and the range that it asks for, [`AskedRange`].
 //! - Sources of segments: the trait [`SegmentSource`] with [`SourceError`]; [`MemorySource`],
-//!   [`FileSource`], and [`ScriptSource`], which keeps to a [`Script`].
+//!   [`FileSource`]; [`ScriptSource`], which keeps to a [`Script`]; [`GateSource`], whose reads wait at a [`Gate`].
 //! - Streams that are read: the trait [`Source`] with [`StreamError`]; [`BytesSource`], [`ReadSource`].
 //! - Streams that are written: the trait [`Sink`]; [`BytesSink`], [`WriteSink`].
 #![tactic(auto)]
@@ -21,6 +21,7 @@ mod columns;
 mod decoding;
 mod encoding;
 mod file_sources;
+mod gate_sources;
 mod in_flight;
 mod locations;
 mod memory_sources;
@@ -36,6 +37,7 @@ pub use columns::{Column, ColumnError};
 pub use decoding::decode;
 pub use encoding::encode;
 pub use file_sources::FileSource;
+pub use gate_sources::{Gate, GateSource};
 pub use locations::{AskedRange, SegmentLocation};
 pub use memory_sources::MemorySource;
 pub use memory_streams::{BytesSink, BytesSource};
