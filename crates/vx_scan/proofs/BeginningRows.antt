@@ -9,7 +9,7 @@ use Rattle.std.specs.List.{Any, AllByRecursion, filter, range_with_len}
 use Rattle.std.specs.declared.ops.Range.{Range}
 use Rattle.vx_splits.specs.declared.selections.Selection.{Selection}
 use Rattle.vx_splits.specs.Taken.{selected_rows, selects, taken_rows}
-use Rattle.vx_scan.specs.Answer.{FileScan, row_count, scan_rows}
+use Rattle.vx_scan.specs.Answer.{FileScan, row_count, scan_rows, scan_pieces, size_of, pieces_of}
 use Rattle.vx_scan.specs.Beginning.{BeginsOver, HasWork, Overflows, Refuses, range_or}
 use Rattle.vx_scan.specs.Settings.{scan_by}
 use Rattle.vx_scan.specs.Valid.{HasRows, IsBound, IsValidScan, SelectsInside}
@@ -58,6 +58,10 @@ at_most start end none = elim (cases_lt start end) [ inl less ↦ absurd (none l
 pub no_rows : (selection : Selection) (range : Option (Range ℕ)) (count : ℕ) → (HasRows range count → ⊥) → taken_rows selection range count ≡ []
 no_rows selection None count none = none_between selection 0 count (at_most 0 count none)
 no_rows selection (Some range) count none = none_between selection range.start (min range.end count) (let under : range.end ≤ range.start = at_most range.start range.end none in omega (arith, under))
+
+-- without rows there are no pieces
+pub no_pieces : (scan : FileScan) → scan_rows scan ≡ [] → scan_pieces scan ≡ []
+no_pieces scan none = ap (pieces_of (size_of scan)) none
 
 -- ---- rows past the last one
 

@@ -1,5 +1,5 @@
 mod Answered
-mod Batching
+mod Ascending
 mod BeginningRows
 mod ChunkOutcomes
 mod ChunkPieces
@@ -8,31 +8,43 @@ mod ChunkViews
 mod ClearedRuns
 mod Computing
 mod Continuing
+mod Crossing
 mod Cutting
 mod Distinct
+mod Executing
 mod FewApart
+mod FilePreparing
+mod Finishing
 mod Fitting
+mod GivenBatches
 mod Got
 mod Growing
 mod HandingOut
+mod Joining
+mod LaneCrossing
+mod Lasting
 mod LeafPlaces
 mod LeafShapes
+pub mod LentSources
 mod NewReasons
 mod OneText
 mod Pieces
 mod PlainPlans
-mod Prepared
 mod ProjectedPlans
 mod Resulting
 mod RunEnds
+mod Runnable
 mod Running
 mod ScanAsks
 mod ScanCauses
 mod ScanReads
 pub mod ScanValid
-mod Scanning
+pub mod Scanning
 mod SessionRuns
 mod Sessions
+mod Sorting
 mod SoundParts
+mod Spreading
 mod Stepping
 mod WeakerVisits
+mod Working

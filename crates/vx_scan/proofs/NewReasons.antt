@@ -1,6 +1,6 @@
--- The reasons for which a chunk asks, behind those of the chunks before it.
+-- The reasons for which a chunk asks, behind those of the chunks that ran before it.
 use Rattle.std.proofs.Common.{◌≡◌, ◌≢◌, ℕ, zero, suc, ◌+◌, ◌<◌, ◌≤◌, inl, inr, Bool, true, List, [], ◌∷◌, ◌++◌, Option, Some, None, length, map, refl, sym, ap, ◌∙◌, subst, arith}
-use Rattle.std.specs.Prelude.{if◌then◌else◌, max, nat_lt}
+use Rattle.std.specs.Prelude.{if◌then◌else◌, max}
 use Rattle.std.specs.List.{slice_get, All, AllByRecursion}
 use Rattle.std.proofs.lemmas.Bool.{lt-ltb}
 use Rattle.std.proofs.lemmas.List.{map-append}
@@ -8,8 +8,10 @@ use Rattle.std.proofs.lemmas.List.Elements.{All-append, All-head, All-tail}
 use Rattle.vx_base.specs.Columns.{ColumnData}
 use Rattle.vx_base.specs.Sources.{SourceState}
 use Rattle.vx_base.specs.declared.locations.SegmentLocation.{SegmentLocation}
+use Rattle.vx_claims.specs.Views.{above}
 use Rattle.vx_io.specs.Fetches.{asked_for}
 use Rattle.vx_plan.specs.Refs.{number_of}
+use Rattle.vx_rows.specs.Reads.{IsAmong}
 use Rattle.vx_splits.specs.declared.selected_rows.SelectedRows.{SelectedRows}
 use Rattle.vx_steps.specs.Kept.{kept_at, IsKept}
 use Rattle.vx_steps.specs.KeptData.{Kept}
@@ -17,13 +19,13 @@ use Rattle.vx_steps.specs.Leavings.{IsLeafOf, RowReads}
 use Rattle.vx_steps.specs.Visits.{IsLeafRead}
 use Rattle.vx_scan.specs.declared.plans.ScanPlans.{ScanPlans}
 use Rattle.vx_scan.specs.Asks.{AsksOnly}
-use Rattle.vx_scan.specs.Batches.{AsksReached}
 use Rattle.vx_scan.specs.ChunkRows.{given_to, ChunkReaches, ChunkVisits}
 use Rattle.vx_scan.specs.Fetched.{AreDistinct, location_of}
 use Rattle.vx_scan.specs.LeafRows.{IsReadAt, LeavesLieTogether, row_behind}
 use Rattle.vx_scan.specs.Outcomes.{IsWanted}
 use Rattle.vx_scan.specs.Plans.{projection_plan, AreInOrder, FollowFrom, IsChunkOf}
 use Rattle.vx_scan.specs.Reasons.{Reason, leaf_of, read_for, segment_of, chunk_and_segment, IsReasonAmong}
+use Rattle.vx_scan.specs.Workers.{AsksReached}
 use Rattle.vx_scan.proofs.Distinct.{apart_from, distinct_by, distinct_then}
 use Rattle.vx_scan.proofs.Sessions.{asked_then}
 use Rattle.vx_scan.proofs.WeakerVisits.{leaf_read, same_read, weaker_visit}
@@ -41,12 +43,6 @@ pub record ComesNext (row : ℕ) (done : List SelectedRows) (chunk : SelectedRow
   pub behind : end_of row done ≤ chunk.scope.rows.start
   pub some : chunk.scope.rows.start < chunk.scope.rows.end
 
-pub comes_next : (row : ℕ) (done : List SelectedRows) (chunk : SelectedRows) → FollowFrom row (done ++ chunk ∷ []) → ComesNext row done chunk
-comes_next row [] chunk follow = record { before = tt; behind = follow.0; some = follow.1 }
-comes_next row (one ∷ done) chunk follow =
-    let rest = comes_next one.scope.rows.end done chunk follow.2 in
-    record { before = (follow.0, follow.1, rest.before); behind = rest.behind; some = rest.some }
-
 pub follow_more : (row : ℕ) (done : List SelectedRows) (chunk : SelectedRows) → ComesNext row done chunk → FollowFrom row (done ++ chunk ∷ [])
 follow_more row [] chunk next = (next.behind, next.some, tt)
 follow_more row (one ∷ done) chunk next =
@@ -56,43 +52,36 @@ pub end_next : (row : ℕ) (done : List SelectedRows) (chunk : SelectedRows) →
 end_next row [] chunk = refl
 end_next row (one ∷ done) chunk = end_next one.scope.rows.end done chunk
 
-pub follow_front : (row : ℕ) (ones twos : List SelectedRows) → FollowFrom row (ones ++ twos) → FollowFrom row ones
-follow_front row [] twos follow = tt
-follow_front row (one ∷ ones) twos follow = (follow.0, follow.1, follow_front one.scope.rows.end ones twos follow.2)
+starts_behind : (row : ℕ) (chunks : List SelectedRows) (n : ℕ) (chunk : SelectedRows) → FollowFrom row chunks → slice_get chunks n ≡ Some chunk → row ≤ chunk.scope.rows.start
+starts_behind row [] n chunk follow at = absurd cc
+starts_behind row (one ∷ chunks) zero chunk follow at = let same : one ≡ chunk = cc in subst (λ (c : SelectedRows). row ≤ c.scope.rows.start) same follow.0
+starts_behind row (one ∷ chunks) (suc n) chunk follow at =
+    let rest = starts_behind one.scope.rows.end chunks n chunk follow.2 at in
+    let from = follow.0 in
+    let some = follow.1 in
+    omega (arith, rest, from, some)
+
+pub has_rows : (row : ℕ) (chunks : List SelectedRows) (n : ℕ) (chunk : SelectedRows) → FollowFrom row chunks → slice_get chunks n ≡ Some chunk → chunk.scope.rows.start < chunk.scope.rows.end
+has_rows row [] n chunk follow at = absurd cc
+has_rows row (one ∷ chunks) zero chunk follow at = let same : one ≡ chunk = cc in subst (λ (c : SelectedRows). c.scope.rows.start < c.scope.rows.end) same follow.1
+has_rows row (one ∷ chunks) (suc n) chunk follow at = has_rows one.scope.rows.end chunks n chunk follow.2 at
+
+-- a chunk of a greater number lies behind
+pub lies_behind : (row : ℕ) (chunks : List SelectedRows) (n m : ℕ) (one other : SelectedRows) → FollowFrom row chunks → slice_get chunks n ≡ Some one → slice_get chunks m ≡ Some other → n < m → one.scope.rows.end ≤ other.scope.rows.start
+lies_behind row [] n m one other follow here there less = absurd cc
+lies_behind row (first ∷ chunks) n zero one other follow here there less = absurd (omega (arith, less))
+lies_behind row (first ∷ chunks) zero (suc m) one other follow here there less =
+    let same : first ≡ one = cc in subst (λ (c : SelectedRows). c.scope.rows.end ≤ other.scope.rows.start) same (starts_behind first.scope.rows.end chunks m other follow.2 there)
+lies_behind row (first ∷ chunks) (suc n) (suc m) one other follow here there less = lies_behind first.scope.rows.end chunks n m one other follow.2 here there (omega (arith, less))
 
 behind_it : (chunk : SelectedRows) → chunk.scope.rows.start < chunk.scope.rows.end → row_behind chunk ≡ chunk.scope.rows.end
 behind_it chunk some =
     ap (λ (b : Bool). max (if b then chunk.scope.rows.end else 0) 0) (lt-ltb chunk.scope.rows.start chunk.scope.rows.end some) ∙ omega arith
 
--- ---- the chunk at a place
-
-got_front : (ones twos : List SelectedRows) (i : ℕ) (x : SelectedRows) → slice_get ones i ≡ Some x → slice_get (ones ++ twos) i ≡ Some x
-got_front [] twos i x at = absurd cc
-got_front (one ∷ ones) twos zero x at = at
-got_front (one ∷ ones) twos (suc i) x at = got_front ones twos i x at
-
-got_inside : (ones : List SelectedRows) (i : ℕ) (x : SelectedRows) → slice_get ones i ≡ Some x → i < length ones
-got_inside [] i x at = absurd cc
-got_inside (one ∷ ones) zero x at = omega arith
-got_inside (one ∷ ones) (suc i) x at = let less = got_inside ones i x at in omega (arith, less)
-
-got_last : (ones : List SelectedRows) (x : SelectedRows) → slice_get (ones ++ x ∷ []) (length ones) ≡ Some x
-got_last [] x = refl
-got_last (one ∷ ones) x = got_last ones x
-
 bit_inside : (bits : List Bool) (i : ℕ) → slice_get bits i ≡ Some true → i < length bits
 bit_inside [] i at = absurd cc
 bit_inside (bit ∷ bits) zero at = omega arith
 bit_inside (bit ∷ bits) (suc i) at = let less = bit_inside bits i at in omega (arith, less)
-
--- ---- reasons among more chunks
-
-reason_front : (plans : ScanPlans) (ones twos : List SelectedRows) (reason : Reason) → IsReasonAmong plans ones reason → IsReasonAmong plans (ones ++ twos) reason
-reason_front plans ones twos reason is = record { chunk = is.chunk; here = got_front ones twos reason.chunk is.chunk is.here; reads = is.reads; reaches = is.reaches }
-
-pub reasons_front : (plans : ScanPlans) (ones twos : List SelectedRows) (reasons : List Reason) → AllByRecursion (IsReasonAmong plans ones) reasons → AllByRecursion (IsReasonAmong plans (ones ++ twos)) reasons
-reasons_front plans ones twos [] each = tt
-reasons_front plans ones twos (reason ∷ reasons) each = (reason_front plans ones twos reason each.0, reasons_front plans ones twos reasons each.1)
 
 each_then : {X : Type 0} (P : X → Type 0) (ones twos : List X) → AllByRecursion P ones → AllByRecursion P twos → AllByRecursion P (ones ++ twos)
 each_then P [] twos first second = second
@@ -101,6 +90,29 @@ each_then P (one ∷ ones) twos first second = (first.0, each_then P ones twos f
 each_weaker : {X : Type 0} (P Q : X → Type 0) → ((x : X) → P x → Q x) → (xs : List X) → AllByRecursion P xs → AllByRecursion Q xs
 each_weaker P Q f [] each = tt
 each_weaker P Q f (x ∷ xs) each = (f x each.0, each_weaker P Q f xs each.1)
+
+-- ---- numbers of chunks
+
+among_front : (x : ℕ) (numbers more : List ℕ) → IsAmong x numbers → IsAmong x (numbers ++ more)
+among_front x [] more among = absurd among
+among_front x (n ∷ numbers) more (inl here) = inl here
+among_front x (n ∷ numbers) more (inr later) = inr (among_front x numbers more later)
+
+among_last : (x : ℕ) (numbers : List ℕ) (number : ℕ) → x ≡ number → IsAmong x (numbers ++ number ∷ [])
+among_last x [] number same = inl (sym same)
+among_last x (n ∷ numbers) number same = inr (among_last x numbers number same)
+
+among_below : (x : ℕ) (numbers : List ℕ) → IsAmong x numbers → x < above numbers
+among_below x [] among = absurd among
+among_below x (n ∷ numbers) (inl here) = omega (arith, here)
+among_below x (n ∷ numbers) (inr later) = let less = among_below x numbers later in omega (arith, less)
+
+-- The chunk of that number, which is behind these numbers; and where the chunks are in order, it lies behind that row.
+pub record RunsNext (plans : ScanPlans) (chunks : List SelectedRows) (numbers : List ℕ) (row number : ℕ) (chunk : SelectedRows) : Type 0 where
+  pub is : IsChunkOf plans chunk
+  pub here : slice_get chunks number ≡ Some chunk
+  pub later : above numbers ≤ number
+  pub behind : AreInOrder chunks → row ≤ chunk.scope.rows.start
 
 -- ---- the reasons of a chunk
 
@@ -127,10 +139,10 @@ new_reasons plans place handed chunk (segment ∷ segments) wanted =
       each = (record { at = refl; reads = one.visited; fresh = one.not_handed; reaches = one.reached }, rest.each);
     }
 
-new_among : (plans : ScanPlans) (done : List SelectedRows) (handed : List Kept) (chunk : SelectedRows) (reason : Reason) → IsNewReason plans (length done) handed chunk reason → IsReasonAmong plans (done ++ chunk ∷ []) reason
-new_among plans done handed chunk reason is = record {
+new_among : (plans : ScanPlans) (chunks : List SelectedRows) (number : ℕ) (handed : List Kept) (chunk : SelectedRows) → slice_get chunks number ≡ Some chunk → (reason : Reason) → IsNewReason plans number handed chunk reason → IsReasonAmong plans chunks reason
+new_among plans chunks number handed chunk here reason is = record {
   chunk = chunk;
-  here = ap (slice_get (done ++ chunk ∷ [])) is.at ∙ got_last done chunk;
+  here = ap (slice_get chunks) is.at ∙ here;
   reads = is.reads;
   reaches = is.reaches;
 }
@@ -189,42 +201,43 @@ same_segment plans place handed chunk together one other first second same =
     (weaker_visit (IsLeafRead (read_for one)) (IsLeafRead (read_for one)) (same_read (read_for one)) (given_to plans []) (projection_plan plans) (chunk.scope.rows.start + first.reads.0) first.reads.2)
     (weaker_visit (IsLeafRead (read_for other)) (IsLeafRead (read_for other)) (same_read (read_for other)) (given_to plans []) (projection_plan plans) (chunk.scope.rows.start + second.reads.0) second.reads.2) same
 
-earlier : (plans : ScanPlans) (done : List SelectedRows) (handed : List Kept) (chunk : SelectedRows) (old new : Reason) → IsReasonAmong plans done old → IsNewReason plans (length done) handed chunk new → chunk_and_segment old ≢ chunk_and_segment new
-earlier plans done handed chunk old new is fresh same =
-    let less = got_inside done old.chunk is.chunk is.here in
+earlier : (plans : ScanPlans) (numbers : List ℕ) (number : ℕ) (handed : List Kept) (chunk : SelectedRows) → above numbers ≤ number → (old new : Reason) → IsAmong old.chunk numbers → IsNewReason plans number handed chunk new → chunk_and_segment old ≢ chunk_and_segment new
+earlier plans numbers number handed chunk later old new among fresh same =
+    let less = among_below old.chunk numbers among in
     let place : old.chunk ≡ new.chunk = ap (λ (pair : ℕ × ℕ). pair.0) same in
     let at = fresh.at in
-    omega (arith, less, place, at)
+    omega (arith, less, place, at, later)
 
 -- the new asks of a chunk, behind those of the chunks before
-pub asks_more : (plans : ScanPlans) (done : List SelectedRows) (chunk : SelectedRows) (handed : List Kept) (before now after : SourceState) → IsChunkOf plans chunk → (asks : AsksReached plans done before now) →
-    (AreInOrder done → LeavesLieTogether (projection_plan plans) → ArePast plans (end_of 0 done) handed asks.reasons) → AsksOnly (IsWanted plans [] handed chunk) plans.locations.items now after → AsksReached plans (done ++ chunk ∷ []) before after
-asks_more plans done chunk handed before now after is asks past more =
-    let fresh : NewReasons plans (length done) handed chunk more.segments = new_reasons plans (length done) handed chunk more.segments more.wanted in
-    let segments : map segment_of (asks.reasons ++ fresh.reasons) ≡ map segment_of asks.reasons ++ more.segments =
-    map-append segment_of asks.reasons fresh.reasons ∙ ap (λ (ss : List ℕ). map segment_of asks.reasons ++ ss) fresh.segments_are in
+pub asks_more : (plans : ScanPlans) (chunks : List SelectedRows) (numbers : List ℕ) (row number : ℕ) (chunk : SelectedRows) (handed : List Kept) (reasons : List Reason) (before now after : SourceState) → RunsNext plans chunks numbers row number chunk
+    → AsksReached plans chunks numbers reasons before now → (AreInOrder chunks → LeavesLieTogether (projection_plan plans) → ArePast plans row handed reasons)
+    → (more : AsksOnly (IsWanted plans [] handed chunk) plans.locations.items now after) (fresh : NewReasons plans number handed chunk more.segments) → AsksReached plans chunks (numbers ++ number ∷ []) (reasons ++ fresh.reasons) before after
+asks_more plans chunks numbers row number chunk handed reasons before now after next asks past more fresh =
+    let segments : map segment_of (reasons ++ fresh.reasons) ≡ map segment_of reasons ++ more.segments =
+    map-append segment_of reasons fresh.reasons ∙ ap (λ (ss : List ℕ). map segment_of reasons ++ ss) fresh.segments_are in
     record {
-      reasons = asks.reasons ++ fresh.reasons;
-      are = each_then (IsReasonAmong plans (done ++ chunk ∷ [])) asks.reasons fresh.reasons (reasons_front plans done (chunk ∷ []) asks.reasons asks.are)
-          (each_weaker (IsNewReason plans (length done) handed chunk) (IsReasonAmong plans (done ++ chunk ∷ [])) (new_among plans done handed chunk) fresh.reasons fresh.each);
+      are = each_then (IsReasonAmong plans chunks) reasons fresh.reasons asks.are
+          (each_weaker (IsNewReason plans number handed chunk) (IsReasonAmong plans chunks) (new_among plans chunks number handed chunk next.here) fresh.reasons fresh.each);
+      own = each_then (λ (reason : Reason). IsAmong reason.chunk (numbers ++ number ∷ [])) reasons fresh.reasons
+          (each_weaker (λ (reason : Reason). IsAmong reason.chunk numbers) (λ (reason : Reason). IsAmong reason.chunk (numbers ++ number ∷ [])) (λ reason among. among_front reason.chunk numbers (number ∷ []) among) reasons asks.own)
+          (each_weaker (IsNewReason plans number handed chunk) (λ (reason : Reason). IsAmong reason.chunk (numbers ++ number ∷ [])) (λ reason is. among_last reason.chunk numbers number is.at) fresh.reasons fresh.each);
       located = subst (All (λ segment. segment < length plans.locations.items)) (sym segments)
-          (All-append (λ segment. segment < length plans.locations.items) (map segment_of asks.reasons) more.segments asks.located more.asks.located);
+          (All-append (λ segment. segment < length plans.locations.items) (map segment_of reasons) more.segments asks.located more.asks.located);
       asked = more.asks.asked
           ∙ (ap (asked_for (map (location_of plans.locations.items) more.segments)) asks.asked
-          ∙ (asked_then (map (location_of plans.locations.items) (map segment_of asks.reasons)) (map (location_of plans.locations.items) more.segments) before.asked
+          ∙ (asked_then (map (location_of plans.locations.items) (map segment_of reasons)) (map (location_of plans.locations.items) more.segments) before.asked
           ∙ ap (λ (places : List SegmentLocation). asked_for places before.asked)
-          (sym (map-append (location_of plans.locations.items) (map segment_of asks.reasons) more.segments) ∙ ap (map (location_of plans.locations.items)) (sym segments))));
-      once_a_chunk = subst AreDistinct (sym (map-append chunk_and_segment asks.reasons fresh.reasons))
-          (distinct_then (map chunk_and_segment asks.reasons) (map chunk_and_segment fresh.reasons) asks.once_a_chunk
-          (distinct_by (IsNewReason plans (length done) handed chunk) chunk_and_segment segment_of (λ one two first second same. ap (λ (pair : ℕ × ℕ). pair.1) same) fresh.reasons fresh.each (subst AreDistinct (sym fresh.segments_are) more.asks.apart))
-          (apart_from (IsReasonAmong plans done) (IsNewReason plans (length done) handed chunk) chunk_and_segment (earlier plans done handed chunk) asks.reasons fresh.reasons asks.are fresh.each));
+          (sym (map-append (location_of plans.locations.items) (map segment_of reasons) more.segments) ∙ ap (map (location_of plans.locations.items)) (sym segments))));
+      once_a_chunk = subst AreDistinct (sym (map-append chunk_and_segment reasons fresh.reasons))
+          (distinct_then (map chunk_and_segment reasons) (map chunk_and_segment fresh.reasons) asks.once_a_chunk
+          (distinct_by (IsNewReason plans number handed chunk) chunk_and_segment segment_of (λ one two first second same. ap (λ (pair : ℕ × ℕ). pair.1) same) fresh.reasons fresh.each (subst AreDistinct (sym fresh.segments_are) more.asks.apart))
+          (apart_from (λ (reason : Reason). IsAmong reason.chunk numbers) (IsNewReason plans number handed chunk) chunk_and_segment (earlier plans numbers number handed chunk next.later) reasons fresh.reasons asks.own fresh.each));
       once_a_leaf = λ order together.
-          let next : ComesNext 0 done chunk = comes_next 0 done chunk order in
-          subst AreDistinct (sym (map-append leaf_of asks.reasons fresh.reasons))
-          (distinct_then (map leaf_of asks.reasons) (map leaf_of fresh.reasons) (asks.once_a_leaf next.before together)
-          (distinct_by (IsNewReason plans (length done) handed chunk) leaf_of segment_of (same_segment plans (length done) handed chunk together) fresh.reasons fresh.each (subst AreDistinct (sym fresh.segments_are) more.asks.apart))
-          (apart_from (IsPast plans (end_of 0 done) handed) (IsNewReason plans (length done) handed chunk) leaf_of
-          (not_again plans (end_of 0 done) (length done) handed chunk is next.behind together) asks.reasons fresh.reasons (past next.before together) fresh.each));
+          subst AreDistinct (sym (map-append leaf_of reasons fresh.reasons))
+          (distinct_then (map leaf_of reasons) (map leaf_of fresh.reasons) (asks.once_a_leaf order together)
+          (distinct_by (IsNewReason plans number handed chunk) leaf_of segment_of (same_segment plans number handed chunk together) fresh.reasons fresh.each (subst AreDistinct (sym fresh.segments_are) more.asks.apart))
+          (apart_from (IsPast plans row handed) (IsNewReason plans number handed chunk) leaf_of
+          (not_again plans row number handed chunk next.is (next.behind order) together) reasons fresh.reasons (past order together) fresh.each));
     }
 
 -- ---- what comes of the leaves behind one chunk more
@@ -258,14 +271,10 @@ new_past plans place handed more chunk is some hands reason fresh =
       stays = λ read. hands.there reason (subst (λ (r : ℕ). IsReadAt plans r reason.leaf) (sym (behind_it chunk some)) read) fresh.reads;
     }
 
-pub past_more : (plans : ScanPlans) (done : List SelectedRows) (chunk : SelectedRows) (handed more : List Kept) (before now after : SourceState) → (is : IsChunkOf plans chunk) (asks : AsksReached plans done before now) →
-    (past : AreInOrder done → LeavesLieTogether (projection_plan plans) → ArePast plans (end_of 0 done) handed asks.reasons) (asked : AsksOnly (IsWanted plans [] handed chunk) plans.locations.items now after) → HandsLeaves plans chunk handed more → AreInOrder (done ++ chunk ∷ []) → LeavesLieTogether (projection_plan plans) →
-    ArePast plans (end_of 0 (done ++ chunk ∷ [])) more (asks_more plans done chunk handed before now after is asks past asked).reasons
-unfolding asks_more
-past_more plans done chunk handed more before now after is asks past asked hands order together =
-    let next : ComesNext 0 done chunk = comes_next 0 done chunk order in
-    let fresh : NewReasons plans (length done) handed chunk asked.segments = new_reasons plans (length done) handed chunk asked.segments asked.wanted in
-    subst (λ (row : ℕ). ArePast plans row more (asks.reasons ++ fresh.reasons)) (sym (end_next 0 done chunk))
-    (each_then (IsPast plans chunk.scope.rows.end more) asks.reasons fresh.reasons
-    (each_weaker (IsPast plans (end_of 0 done) handed) (IsPast plans chunk.scope.rows.end more) (old_past plans (end_of 0 done) handed more chunk is next.behind next.some together hands) asks.reasons (past next.before together))
-    (each_weaker (IsNewReason plans (length done) handed chunk) (IsPast plans chunk.scope.rows.end more) (new_past plans (length done) handed more chunk is next.some hands) fresh.reasons fresh.each))
+pub past_more : (plans : ScanPlans) (chunks : List SelectedRows) (numbers : List ℕ) (row number : ℕ) (chunk : SelectedRows) (handed more : List Kept) (segments : List ℕ) (reasons : List Reason) → RunsNext plans chunks numbers row number chunk
+    → HandsLeaves plans chunk handed more → (fresh : NewReasons plans number handed chunk segments) → AreInOrder chunks → LeavesLieTogether (projection_plan plans) → ArePast plans row handed reasons → ArePast plans chunk.scope.rows.end more (reasons ++ fresh.reasons)
+past_more plans chunks numbers row number chunk handed more segments reasons next hands fresh order together past =
+    let some = has_rows 0 chunks number chunk order next.here in
+    each_then (IsPast plans chunk.scope.rows.end more) reasons fresh.reasons
+    (each_weaker (IsPast plans row handed) (IsPast plans chunk.scope.rows.end more) (old_past plans row handed more chunk next.is (next.behind order) some together hands) reasons past)
+    (each_weaker (IsNewReason plans number handed chunk) (IsPast plans chunk.scope.rows.end more) (new_past plans number handed more chunk next.is some hands) fresh.reasons fresh.each)

@@ -15,21 +15,22 @@ use Rattle.vx_steps.specs.declared.leaf_reads.LeafRead.{LeafRead}
 use Rattle.vx_steps.specs.Visits.{IsLeafRead}
 use Rattle.vx_scan.specs.declared.plans.ScanPlans.{ScanPlans}
 use Rattle.vx_scan.specs.Answer.{FileScan, row_count, scan_pieces, scan_rows, size_of}
-use Rattle.vx_scan.specs.Batches.{AsksReached}
+use Rattle.vx_scan.specs.Batches.{AsksOver, Share, reasons_in}
 use Rattle.vx_scan.specs.Causes.{ScanReaches}
 use Rattle.vx_scan.specs.ChunkRows.{given_to, ChunkVisits}
-use Rattle.vx_scan.specs.Fetched.{AllLocated, location_of}
+use Rattle.vx_scan.specs.Fetched.{AllLocated, AreDistinct, location_of}
 use Rattle.vx_scan.specs.LeafRows.{LeavesLieTogether, ReadsAt, ScanReadsLeaf}
 use Rattle.vx_scan.specs.Plans.{projection_plan}
 use Rattle.vx_scan.specs.PlanTexts.{held_tree}
 use Rattle.vx_scan.specs.Preparing.{ArePlansOf, LiesInside, AreChunksOf}
-use Rattle.vx_scan.specs.Reasons.{Reason, read_for, segment_of, IsReasonAmong}
-use Rattle.vx_scan.specs.Scanned.{AreReasonsFor, Gains, IsReasonFor, ReachesRange}
+use Rattle.vx_scan.specs.Reasons.{Reason, read_for, segment_of, chunk_and_segment, IsReasonAmong}
+use Rattle.vx_scan.specs.Scanned.{AreReasonsFor, Gains, GainsOver, IsReasonFor, ReachesRange}
+use Rattle.vx_scan.specs.Workers.{AsksReached}
 use Rattle.vx_scan.proofs.Answered.{pieces_join}
-use Rattle.vx_scan.proofs.Batching.{each_got}
 use Rattle.vx_scan.proofs.LeafPlaces.{reads_between, tree_reads}
 use Rattle.vx_scan.proofs.LeafShapes.{one_segment}
-use Rattle.vx_scan.proofs.ScanCauses.{reaches_of}
+use Rattle.vx_scan.proofs.LentSources.{each_source_by, joined_map}
+use Rattle.vx_scan.proofs.ScanCauses.{inside_at, reaches_of}
 use Rattle.vx_scan.proofs.ScanReads.{some_chosen}
 use Rattle.vx_scan.proofs.WeakerVisits.{same_read, weaker_visit}
 
@@ -72,7 +73,7 @@ chunk_reads scan limit plans are chunk inside read visits =
 
 reason_for : (scan : FileScan) (limit : ℕ) (plans : ScanPlans) → ArePlansOf scan limit plans → (chunks : List SelectedRows) → AreChunksOf scan chunks → (reason : Reason) → reason.segment < length plans.locations.items → IsReasonAmong plans chunks reason → IsReasonFor scan reason (range_of (location_of plans.locations.items reason.segment))
 reason_for scan limit plans are chunks of_scan reason there is =
-    let inside : LiesInside (row_count scan) is.chunk = each_got (LiesInside (row_count scan)) chunks reason.chunk is.chunk is.here of_scan.inside in
+    let inside : LiesInside (row_count scan) is.chunk = inside_at (row_count scan) chunks reason.chunk is.chunk of_scan.inside is.here in
     record {
       rows = chosen_rows is.chunk;
       here = ap (λ (pieces : List (List ℕ)). slice_get pieces reason.chunk) (sym of_scan.pieces) ∙ piece_at chunks reason.chunk is.chunk is.here;
@@ -113,15 +114,21 @@ lie_together scan limit plans are = record {
   between = reads_between scan.projection (projection_plan plans) are.plan_is;
 }
 
-pub gains_of : (scan : FileScan) (limit : ℕ) (plans : ScanPlans) → ArePlansOf scan limit plans → (chunks : List SelectedRows) → AreChunksOf scan chunks → (before after : SourceState) → AsksReached plans chunks before after → Gains scan before after
-gains_of scan limit plans are chunks of_scan before after asks =
-    let reasons : AreReasonsFor scan asks.reasons (ranges_for plans asks.reasons) = each_reason scan limit plans are chunks of_scan asks.reasons asks.located asks.are in
+pub gains_of : (scan : FileScan) (limit : ℕ) (plans : ScanPlans) → ArePlansOf scan limit plans → (chunks : List SelectedRows) → AreChunksOf scan chunks → (numbers : List ℕ) (reasons : List Reason) (before after : SourceState) → AsksReached plans chunks numbers reasons before after → Gains scan reasons before after
+gains_of scan limit plans are chunks of_scan numbers reasons before after asks =
+    let for_ranges : AreReasonsFor scan reasons (ranges_for plans reasons) = each_reason scan limit plans are chunks of_scan reasons asks.located asks.are in
     record {
-      ranges = ranges_for plans asks.reasons;
+      ranges = ranges_for plans reasons;
       gained = asks.asked;
-      reached = each_range scan asks.reasons (ranges_for plans asks.reasons) reasons;
-      reasons = asks.reasons;
-      are_reasons = reasons;
-      once_a_chunk = asks.once_a_chunk;
+      reached = each_range scan reasons (ranges_for plans reasons) for_ranges;
+      are_reasons = for_ranges;
       once_a_leaf = asks.once_a_leaf of_scan.ordered (lie_together scan limit plans are);
     }
+
+pub gains_over : (scan : FileScan) (limit : ℕ) (plans : ScanPlans) → ArePlansOf scan limit plans → (chunks : List SelectedRows) → AreChunksOf scan chunks → (befores afters : List SourceState) → AsksOver plans chunks befores afters → GainsOver scan befores afters
+gains_over scan limit plans are chunks of_scan befores afters asks = record {
+  reasons = map reasons_in asks.shares;
+  each = each_source_by reasons_in (λ (share : Share). AsksReached plans chunks share.numbers share.reasons) (Gains scan)
+      (λ share before after reached. gains_of scan limit plans are chunks of_scan share.numbers share.reasons before after reached) asks.shares befores afters asks.each;
+  once_a_chunk = subst (λ (reasons : List Reason). AreDistinct (map chunk_and_segment reasons)) (sym (joined_map reasons_in asks.shares)) asks.once_a_chunk;
+}

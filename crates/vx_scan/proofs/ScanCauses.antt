@@ -36,6 +36,7 @@ use Rattle.vx_scan.specs.Outcomes.{told_by, Causes}
 use Rattle.vx_scan.specs.Plans.{bytes_of, projection_plan}
 use Rattle.vx_scan.specs.Preparing.{node_of, ArePlansOf, LiesInside, AreChunksOf}
 use Rattle.vx_scan.specs.Scanned.{CausedBy, HasAnswer, LowestCause}
+use Rattle.vx_scan.proofs.LentSources.{some_source}
 use Rattle.vx_scan.proofs.ScanReads.{chunk_rows, some_chosen, chunk_finds, in_moved, torn_moved, row_moved, code_moved}
 
 -- ---- nothing is given
@@ -114,7 +115,7 @@ have_answers scan limit plans are bytes (chunk ∷ chunks) inside (suc k) have =
 
 -- ---- causes
 
-inside_at : (count : ℕ) (chunks : List SelectedRows) (k : ℕ) (chunk : SelectedRows) → AllByRecursion (LiesInside count) chunks → slice_get chunks k ≡ Some chunk → LiesInside count chunk
+pub inside_at : (count : ℕ) (chunks : List SelectedRows) (k : ℕ) (chunk : SelectedRows) → AllByRecursion (LiesInside count) chunks → slice_get chunks k ≡ Some chunk → LiesInside count chunk
 inside_at count [] k chunk inside at = absurd cc
 inside_at count (one ∷ chunks) zero chunk inside at = let e : one ≡ chunk = cc in subst (LiesInside count) e inside.0
 inside_at count (one ∷ chunks) (suc k) chunk inside at = inside_at count chunks k chunk inside.1 at
@@ -160,12 +161,13 @@ cause_of scan limit plans are chunk inside (EvalFault at) before after cause = �
     (faults_among leaves scan.projection at (chosen_rows chunk) some)
 cause_of scan limit plans are chunk inside Memory before after cause = tt
 
-pub lowest_of : (scan : FileScan) (limit : ℕ) (plans : ScanPlans) → ArePlansOf scan limit plans → (chunks : List SelectedRows) → AreChunksOf scan chunks → (error : ScanError) (before after : SourceState) → LowestFailure plans chunks error before after → LowestCause scan limit error before after
-lowest_of scan limit plans are chunks of_scan error before after lowest = record {
+pub lowest_of : (scan : FileScan) (limit : ℕ) (plans : ScanPlans) → ArePlansOf scan limit plans → (chunks : List SelectedRows) → AreChunksOf scan chunks → (error : ScanError) (befores afters : List SourceState) → LowestFailure plans chunks error befores afters → LowestCause scan limit error befores afters
+lowest_of scan limit plans are chunks of_scan error befores afters lowest = record {
   place = lowest.place;
   rows = chosen_rows lowest.chunk;
   here = ap (λ (pieces : List (List ℕ)). slice_get pieces lowest.place) (sym of_scan.pieces) ∙ rows_at chunks lowest.place lowest.chunk lowest.here;
-  cause = cause_of scan limit plans are lowest.chunk (inside_at (row_count scan) chunks lowest.place lowest.chunk of_scan.inside lowest.here) error before after lowest.cause;
+  cause = some_source (λ before after. Causes (told_by plans before) plans [] lowest.chunk error before after) (CausedBy scan limit (chosen_rows lowest.chunk) error)
+      (cause_of scan limit plans are lowest.chunk (inside_at (row_count scan) chunks lowest.place lowest.chunk of_scan.inside lowest.here) error) befores afters lowest.cause;
   lower = λ file told.
       subst (λ (bytes : Bytes). AllByRecursion (HasAnswer (leaves_of bytes) scan.projection) (take lowest.place (scan_pieces scan))) (same_bytes scan limit plans are file)
       (subst (λ (pieces : List (List ℕ)). AllByRecursion (HasAnswer (leaves_of (bytes_of plans file)) scan.projection) (take lowest.place pieces)) of_scan.pieces

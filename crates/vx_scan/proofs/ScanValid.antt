@@ -21,11 +21,13 @@ use Rattle.vx_scan.specs.declared.errors.ScanError.TheVariants.{BadProjection, O
 use Rattle.vx_scan.specs.Answer.{FileScan, scan_rows, scan_pieces, size_of}
 use Rattle.vx_scan.specs.Beginning.{Refuses}
 use Rattle.vx_scan.specs.Causes.{ScanFinds, IsFaultAt}
+use Rattle.vx_scan.specs.Lent.{EachSource, AllTell}
 use Rattle.vx_scan.specs.Plans.{IsQuiet}
 use Rattle.vx_scan.specs.Preparing.{node_of}
 use Rattle.vx_scan.specs.Scanned.{CausedBy, LowestCause}
 use Rattle.vx_scan.specs.Valid.{IsValidScan}
 use Rattle.vx_scan.proofs.Answered.{pieces_join}
+use Rattle.vx_scan.proofs.LentSources.{by_one_source}
 
 -- ---- no read of it is amiss
 
@@ -138,12 +140,15 @@ only_memory scan limit file before after told quiet rows fine answered (EvalFaul
     absurd (answered_at (file_leaves file scan.locations) scan.projection at rows answered fault.0 fault.1)
 only_memory scan limit file before after told quiet rows fine answered Memory cause = refl
 
-pub valid_memory : (scan : FileScan) (limit : ℕ) (error : ScanError) (before after : SourceState) → LowestCause scan limit error before after → (file : List ℕ) → before.file ≡ Some file → IsValidScan (file_leaves file scan.locations) scan → IsQuiet limit before after → error ≡ Memory
-valid_memory scan limit error before after lowest file told valid quiet =
-    only_memory scan limit file before after told quiet lowest.rows
+pub valid_memory : (scan : FileScan) (limit : ℕ) (error : ScanError) (befores afters : List SourceState) → LowestCause scan limit error befores afters → (file : List ℕ) → AllTell file befores → IsValidScan (file_leaves file scan.locations) scan → EachSource (IsQuiet limit) befores afters → error ≡ Memory
+valid_memory scan limit error befores afters lowest file told valid quiet =
+    by_one_source (CausedBy scan limit lowest.rows error) (IsQuiet limit) (error ≡ Memory) file
+    (λ before after cause tells is_quiet.
+    only_memory scan limit file before after tells is_quiet lowest.rows
     (of_piece (λ row. FindsOnly (IsFine (file_leaves file scan.locations)) (scan_reads scan.projection row)) scan lowest.place lowest.rows lowest.here valid.fine)
     (of_piece (λ row. IsSome (projected_at (file_leaves file scan.locations) scan.projection row)) scan lowest.place lowest.rows lowest.here valid.answered)
-    error lowest.cause
+    error cause)
+    befores afters lowest.cause told quiet
 
 -- ---- it is not refused
 

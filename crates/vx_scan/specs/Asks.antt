@@ -1,5 +1,5 @@
 -- What a run asks its source for, and what lasts of the source's state.
-use Rattle.std.specs.Prelude.{◌≡◌, ℕ, ◌≤◌, List, map}
+use Rattle.std.specs.Prelude.{◌≡◌, ℕ, ◌≤◌, ◌⊎◌, List, [], map}
 use Rattle.std.specs.List.{All}
 use Rattle.vx_base.specs.Sources.{SourceState}
 use Rattle.vx_base.specs.declared.locations.SegmentLocation.{SegmentLocation}
@@ -23,3 +23,7 @@ pub record Lasts (before after : SourceState) : Type 0 where
   pub file : after.file ≡ before.file
   pub faults : before.faults ≤ after.faults
   pub idle : before.idle ≤ after.idle
+
+-- Nothing is in flight at the source, if it was asked at all.
+abbrev pub IsLeftClear : SourceState → SourceState → Type 0
+IsLeftClear before after = (after.in_flight ≡ []) ⊎ (after ≡ before)

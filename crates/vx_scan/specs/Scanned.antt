@@ -1,6 +1,6 @@
--- What a scan of a file over one source gives.
+-- What a scan of a file over the sources that are lent to it gives.
 use Rattle.std.specs.Prelude.{◌≡◌, ℕ, ◌⊎◌, List, [], ◌∷◌, ◌++◌, length, map, take, Some, option_map, Result, IfOk, IfErr}
-use Rattle.std.specs.List.{slice_get, AllByRecursion}
+use Rattle.std.specs.List.{slice_get, flat_map, AllByRecursion}
 use Rattle.std.specs.Global.{Vec}
 use Rattle.vx_base.specs.Columns.{ColumnData}
 use Rattle.vx_base.specs.Data.{Datum}
@@ -13,11 +13,12 @@ use Rattle.vx_rows.specs.Derivations.{Leaves}
 use Rattle.vx_scan.specs.declared.errors.ScanError.{ScanError}
 use Rattle.vx_scan.specs.declared.errors.ScanError.TheVariants.{Unsupported, NoLocation, ReadFault, Stalled, BadSegment, BadCode, EvalFault, Memory}
 use Rattle.vx_scan.specs.Answer.{FileScan, scan_rows, scan_pieces, IsAnswer, ArePieces}
-use Rattle.vx_scan.specs.Asks.{Lasts}
+use Rattle.vx_scan.specs.Asks.{IsLeftClear, Lasts}
 use Rattle.vx_scan.specs.Beginning.{Refuses}
 use Rattle.vx_scan.specs.Causes.{ScanReaches, ReadsList, LacksLocation, ReadsTorn, ReadsBadCode, FaultsAt}
 use Rattle.vx_scan.specs.Fetched.{AreDistinct}
 use Rattle.vx_scan.specs.LeafRows.{ScanReadsLeaf}
+use Rattle.vx_scan.specs.Lent.{EachSource, SomeSource, EachSourceBy, WhereAllTell}
 use Rattle.vx_scan.specs.Plans.{WhereTold, IsQuiet}
 use Rattle.vx_scan.specs.Preparing.{node_of}
 use Rattle.vx_scan.specs.Reasons.{Reason, read_for, leaf_of, chunk_and_segment}
@@ -46,17 +47,21 @@ AreReasonsFor scan [] [] = Unit {0}
 AreReasonsFor scan (reason ∷ reasons) (range ∷ ranges) = IsReasonFor scan reason range × AreReasonsFor scan reasons ranges
 AreReasonsFor scan reasons ranges = ⊥
 
--- The source gained exactly these ranges, and the scan reaches each of them. Each was asked for a reason of its own: a
--- chunk asks for each of its segments at most once, and on account of each leaf its segment is asked for at most once
--- in the whole scan.
-pub record Gains (scan : FileScan) (before after : SourceState) : Type 0 where
+-- The source gained exactly these ranges, and the scan reaches each of them. Each was asked for a reason of its own, and
+-- on account of each leaf its segment is asked for at most once in the whole scan.
+pub record Gains (scan : FileScan) (reasons : List Reason) (before after : SourceState) : Type 0 where
   pub ranges : List AskedRange
   pub gained : after.asked ≡ option_map (λ asked. asked ++ ranges) before.asked
   pub reached : AllByRecursion (ReachesRange scan) ranges
-  pub reasons : List Reason
   pub are_reasons : AreReasonsFor scan reasons ranges
-  pub once_a_chunk : AreDistinct (map chunk_and_segment reasons)
   pub once_a_leaf : AreDistinct (map leaf_of reasons)
+
+-- Each source gained such ranges, for reasons of its own worker; over all sources together a chunk asks for each of its
+-- segments at most once.
+pub record GainsOver (scan : FileScan) (befores afters : List SourceState) : Type 0 where
+  pub reasons : List (List Reason)
+  pub each : EachSourceBy (Gains scan) reasons befores afters
+  pub once_a_chunk : AreDistinct (map chunk_and_segment (flat_map (λ own. own) reasons))
 
 -- ---- why there are no batches
 
@@ -79,36 +84,30 @@ CausedBy scan limit rows error before after = ⊥
 abbrev pub HasAnswer : Leaves → Projection → List ℕ → Type 0
 HasAnswer leaves p rows = (values : List Datum) × IsAnswer leaves p rows values
 
--- The lowest of the scan's pieces that has no batch, and why; those before it have answers.
-pub record LowestCause (scan : FileScan) (limit : ℕ) (error : ScanError) (before after : SourceState) : Type 0 where
+-- The lowest of the scan's pieces that has no batch, and why, on one of the sources; those before it have answers.
+pub record LowestCause (scan : FileScan) (limit : ℕ) (error : ScanError) (befores afters : List SourceState) : Type 0 where
   pub place : ℕ
   pub rows : List ℕ
   pub here : slice_get (scan_pieces scan) place ≡ Some rows
-  pub cause : CausedBy scan limit rows error before after
-  pub lower : WhereTold before (λ file. AllByRecursion (HasAnswer (file_leaves file scan.locations) scan.projection) (take place (scan_pieces scan)))
+  pub cause : SomeSource (CausedBy scan limit rows error) befores afters
+  pub lower : WhereAllTell befores (λ file. AllByRecursion (HasAnswer (file_leaves file scan.locations) scan.projection) (take place (scan_pieces scan)))
 
 -- ---- the scan
 
-pub record AnswersScan (scan : FileScan) (limit : ℕ) (result : Result (Vec ColumnData) ScanError) (before after : SourceState) : Type 0 where
-  -- the batches are the pieces of the answer by the file, in order
-  pub content : IfOk result (λ batches. WhereTold before (λ file.
+pub record AnswersScan (scan : FileScan) (limit : ℕ) (result : Result (Vec ColumnData) ScanError) (befores afters : List SourceState) : Type 0 where
+  -- the batches are the pieces of the answer by the file that all sources tell, in order
+  pub content : IfOk result (λ batches. WhereAllTell befores (λ file.
       ArePieces (file_leaves file scan.locations) scan.projection (scan_pieces scan) (map (λ (batch : ColumnData). batch.values) batches.items)))
   -- there is one for each chunk with a row of the scan, each of the projection's dtype
   pub count : IfOk result (λ batches. length batches.items ≡ length (scan_pieces scan))
   pub dtype : IfOk result (λ batches. AllByRecursion (λ (batch : ColumnData). batch.dtype ≡ scan.projection.expression.dtype) batches.items)
   -- only what the scan reaches was asked for, each time for another reason, whatever the result
-  pub asks : Gains scan before after
+  pub asks : GainsOver scan befores afters
   -- each error has its cause: it was refused before it began, or is that of the lowest chunk that failed
-  pub cause : IfErr result (λ error. (error ≡ Memory) ⊎ (Refuses scan error ⊎ LowestCause scan limit error before after))
+  pub cause : IfErr result (λ error. (error ≡ Memory) ⊎ (Refuses scan error ⊎ LowestCause scan limit error befores afters))
   -- a valid scan without fault or stall has its batches, or memory ran out
-  pub complete : IfErr result (λ error. WhereTold before (λ file.
-      IsValidScan (file_leaves file scan.locations) scan → IsQuiet limit before after → error ≡ Memory))
-  pub lasts : Lasts before after
-  -- nothing is in flight, if the source was asked at all
-  pub in_flight : (after.in_flight ≡ []) ⊎ (after ≡ before)
-
--- P of the first source before and after
-abbrev pub FirstOf : (SourceState → SourceState → Type 0) → List SourceState → List SourceState → Type 0
-FirstOf P [] news = ⊥
-FirstOf P (old ∷ olds) [] = ⊥
-FirstOf P (old ∷ olds) (new ∷ news) = P old new
+  pub complete : IfErr result (λ error. WhereAllTell befores (λ file.
+      IsValidScan (file_leaves file scan.locations) scan → EachSource (IsQuiet limit) befores afters → error ≡ Memory))
+  pub lasts : EachSource Lasts befores afters
+  -- nothing is in flight at a source, if it was asked at all
+  pub in_flight : EachSource IsLeftClear befores afters

@@ -1,44 +1,22 @@
-//! The loop over the chunks of one source.
+//! The batches of a scan: the columns of all pieces, in order.
 
-ghost use Rattle.std.specs.List.{AllByRecursion};
-ghost use Rattle.vx_scan.specs.Batches.{GivesBatches};
-ghost use Rattle.vx_scan.specs.Plans.{ArePlans, IsChunkOf};
+ghost use Rattle.vx_scan.specs.BatchColumns.{TakesBatches};
 
-use crate::chunks::run_on;
 use crate::errors::ScanError;
-use crate::outcomes::{HandedOn, Ran};
-use crate::plans::ScanPlans;
+use crate::outcomes::Outcome;
 use std::alloc::Global;
-use vx_base::{Column, SegmentSource};
-use vx_splits::SelectedRows;
+use vx_base::Column;
 
-/// Runs the chunks in order on the source, and gives the column of each. What a chunk decoded and made is handed on to
-/// the next one, so that no leaf and no whole values are read twice. It stops at the first chunk that fails.
-pub(crate) fn run_chunks<S: SegmentSource>(
-    alloc: Global,
-    plans: &ScanPlans,
-    chunks: &[SelectedRows],
-    source: &mut S,
-) -> Result<Vec<Column>, ScanError>
-    requires plans { ArePlans plans.now }
-    requires chunks { AllByRecursion (IsChunkOf plans.now) chunks.now }
-    ensures { GivesBatches plans.now chunks.now result (S.state source.old) (S.state source.new) }
+/// The columns of all pieces in their order, or the error of the lowest chunk that failed.
+pub(crate) fn batches_of(alloc: Global, outcome: Outcome) -> Result<Vec<Column>, ScanError>
+    ensures { TakesBatches outcome result }
 {
-    let mut batches = Vec::with_capacity(alloc, chunks.len())?;
-    let mut handed = HandedOn {
-        leaves: Vec::new(alloc),
-        made: Vec::new(alloc),
-    };
-    for chunk in chunks {
-        let Ran {
-            piece,
-            handed: more,
-        } = run_on(alloc, plans, chunk, source, handed);
-        match piece {
-            Ok(column) => batches.push(column)?,
-            Err(error) => return Err(error),
-        }
-        handed = more;
+    if let Some(failed) = outcome.error {
+        return Err(failed.error);
+    }
+    let mut batches = Vec::with_capacity(alloc, outcome.pieces.len())?;
+    for piece in outcome.pieces {
+        batches.push(piece.column)?;
     }
     Ok(batches)
 }

@@ -1,25 +1,30 @@
 //! The builder of a scan.
 
-ghost use Rattle.std.specs.Prelude.{◌≡◌, ◌<◌, ◌≤◌, ◌-◌, ◌^◌, [], Some, length, map, Err, IfOk, IsOk};
+ghost use Rattle.std.specs.Prelude.{◌≡◌, ◌<◌, ◌≤◌, ◌-◌, ◌^◌, ◌⊎◌, [], Some, length, map, Err, IfOk, IfErr, IsOk};
 ghost use Rattle.vx_base.specs.Views.{data_type};
 ghost use Rattle.vx_splits.specs.declared.selections.Selection.TheVariants.{IncludeByIndex};
 ghost use Rattle.vx_scan.specs.Answer.{row_count};
 ghost use Rattle.vx_scan.specs.Beginning.{Refuses};
 ghost use Rattle.vx_scan.specs.Builders.{new_building, scan_of};
-ghost use Rattle.vx_scan.specs.Scanned.{AnswersScan, FirstOf};
+ghost use Rattle.vx_scan.specs.Prepared.{IsPreparedFor};
+ghost use Rattle.vx_scan.specs.Scanned.{AnswersScan};
 ghost use Rattle.vx_scan.specs.Settings.{scan_by};
 ghost use Rattle.vx_scan.specs.declared.errors.ScanError.{ScanError as Refusal};
+ghost use Rattle.vx_scan.specs.declared.errors.ScanError.TheVariants.{Memory as lacking};
 ghost use Rattle.vx_scan.specs.Valid.{HasRows, IsBound};
 
-use crate::batches::run_chunks;
+use crate::batches::batches_of;
 use crate::beginning::begin;
+use crate::books::ValueCache;
 use crate::errors::ScanError;
+use crate::executes::execute;
 use crate::files::ScanFile;
-use crate::preparing::{cut_file, plan_file};
+use crate::prepares::{Prepared, prepare_nothing, prepare_rows};
 use crate::settings::Settings;
 use std::alloc::{AllocError, Global};
 use std::marker::Model;
 use std::ops::Range;
+use std::thread::Threads;
 use vx_base::{Column, DType, SegmentSource};
 use vx_expr::BoundExpression;
 use vx_splits::{Selection, StrictSorted};
@@ -134,44 +139,79 @@ impl ScanBuilder {
         self
     }
 
-    /// Runs the scan over the source: the projection at the scan's rows, a column for each chunk with a row of the scan,
-    /// in file order. It stops at the first chunk that fails.
-    pub fn into_batches<S: SegmentSource + Send>(
+    /// The plans and the chunks of the scan, and whether its batches are to come in order: what [`execute`] runs. Nothing
+    /// is asked. Refused is, in this order: a projection that isn't bound to the file's dtype; where the range isn't empty,
+    /// numbers of rows that could overflow; and a selected row of the given range that isn't one of the file's.
+    pub fn prepare(self, alloc: Global) -> Result<Prepared, ScanError>
+        requires { length self.locations ≤ 2 ^ 32 - 1 }
+        ensures prepared { IfOk result (IsPreparedFor (scan_of self) self.idle_limit self.ordered) }
+        ensures cause { IfErr result (λ error. (error ≡ lacking) ⊎ Refuses (scan_of self) error) }
+        ensures refused { (error : Refusal) → Refuses (scan_of self) error → result ≡ Err error }
+    {
+        let ScanBuilder { file, settings } = self;
+        prepare_file(alloc, file, settings)
+    }
+
+    /// Runs the scan over the sources, with a worker for each: the projection at the scan's rows, a column for each chunk
+    /// with a row of the scan, in the order of the file. Each worker claims chunks and runs them on its own source; a
+    /// further one stops after a chunk that fails, and the lowest chunk that failed tells the error. It returns once all
+    /// workers are done.
+    pub fn into_batches<R: Threads + Sync, S: SegmentSource + Send>(
         self,
+        rt: &R,
         alloc: Global,
         sources: &mut [S],
     ) -> Result<Vec<Column>, ScanError>
-        requires one { length sources.old ≡ 1 }
+        requires some { 0 < length sources.old }
+        requires workers { length sources.old ≤ 64 }
         requires few { length self.locations ≤ 2 ^ 32 - 1 }
-        ensures answers { FirstOf (AnswersScan (scan_of self) self.idle_limit result) (map S.state sources.old) (map S.state sources.new) }
+        ensures answers { AnswersScan (scan_of self) self.idle_limit result (map S.state sources.old) (map S.state sources.new) }
         // An empty range has no batch, and a scan that is refused before it begins is refused: nothing is asked, and no
         // memory is taken.
         ensures empty { IsBound (scan_of self) → (HasRows self.range (row_count (scan_of self)) → ⊥) → IfOk result (λ batches. batches.items ≡ []) × IsOk result × (map S.state sources.new ≡ map S.state sources.old) }
         ensures refused { (error : Refusal) → Refuses (scan_of self) error → (result ≡ Err error) × (map S.state sources.new ≡ map S.state sources.old) }
     {
         let ScanBuilder { file, settings } = self;
-        scan_file(alloc, file, &settings, &mut sources[0])
+        scan_file(rt, alloc, file, &settings, sources)
     }
 }
 
-/// Runs the scan of the file by the settings over the source.
-fn scan_file<S: SegmentSource>(
+/// The plans and the chunks of the scan of the file by the settings.
+fn prepare_file(alloc: Global, file: ScanFile, settings: Settings) -> Result<Prepared, ScanError>
+    requires { length file.locations.items ≤ 2 ^ 32 - 1 }
+    ensures prepared { IfOk result (IsPreparedFor (scan_by file settings) settings.idle_limit settings.ordered) }
+    ensures cause { IfErr result (λ error. (error ≡ lacking) ⊎ Refuses (scan_by file settings) error) }
+    ensures refused { (error : Refusal) → Refuses (scan_by file settings) error → result ≡ Err error }
+{
+    let rows = match begin(&file, &settings) {
+        Ok(Some(rows)) => rows,
+        Ok(None) => return Ok(prepare_nothing(alloc, file, settings)?),
+        Err(error) => return Err(error),
+    };
+    Ok(prepare_rows(alloc, file, &settings, rows)?)
+}
+
+/// Runs the scan of the file by the settings over the sources.
+fn scan_file<R: Threads + Sync, S: SegmentSource + Send>(
+    rt: &R,
     alloc: Global,
     file: ScanFile,
     settings: &Settings,
-    source: &mut S,
+    sources: &mut [S],
 ) -> Result<Vec<Column>, ScanError>
+    requires some { 0 < length sources.old }
+    requires workers { length sources.old ≤ 64 }
     requires few { length file.locations.items ≤ 2 ^ 32 - 1 }
-    ensures answers { AnswersScan (scan_by file settings.now) settings.now.idle_limit result (S.state source.old) (S.state source.new) }
-    ensures empty { IsBound (scan_by file settings.now) → (HasRows settings.now.range (row_count (scan_by file settings.now)) → ⊥) → IfOk result (λ batches. batches.items ≡ []) × IsOk result × (S.state source.new ≡ S.state source.old) }
-    ensures refused { (error : Refusal) → Refuses (scan_by file settings.now) error → (result ≡ Err error) × (S.state source.new ≡ S.state source.old) }
+    ensures answers { AnswersScan (scan_by file settings.now) settings.now.idle_limit result (map S.state sources.old) (map S.state sources.new) }
+    ensures empty { IsBound (scan_by file settings.now) → (HasRows settings.now.range (row_count (scan_by file settings.now)) → ⊥) → IfOk result (λ batches. batches.items ≡ []) × IsOk result × (map S.state sources.new ≡ map S.state sources.old) }
+    ensures refused { (error : Refusal) → Refuses (scan_by file settings.now) error → (result ≡ Err error) × (map S.state sources.new ≡ map S.state sources.old) }
 {
     let rows = match begin(&file, settings) {
         Ok(Some(rows)) => rows,
         Ok(None) => return Ok(Vec::new(alloc)),
         Err(error) => return Err(error),
     };
-    let chunks = cut_file(alloc, &file, settings, rows)?;
-    let plans = plan_file(alloc, file, settings)?;
-    run_chunks(alloc, &plans, &chunks, source)
+    let Prepared { plans, chunks, .. } = prepare_rows(alloc, file, settings, rows)?;
+    let cache = ValueCache::new(alloc);
+    batches_of(alloc, execute(rt, alloc, &plans, &chunks, sources, &cache))
 }

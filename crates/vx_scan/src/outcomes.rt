@@ -1,7 +1,10 @@
-//! What the run of a chunk gives.
+//! What the run of a chunk gives, and what the run of all chunks gives.
 
+use crate::claim_lists::ClaimList;
 use crate::errors::ScanError;
+use crate::lanes::{ChunkError, Piece};
 use vx_base::Column;
+use vx_plan::PlanRef;
 use vx_steps::KeptValue;
 
 /// The piece of a chunk, or why it has none; which of the given values were used, and the whole values that were made.
@@ -12,7 +15,7 @@ pub struct ChunkOutcome {
     pub made: Vec<KeptValue>,
 }
 
-/// What a chunk hands on to the next one of its source: whole columns of leaves, and whole values that were made.
+/// What a chunk hands on to the next one of its worker: whole columns of leaves, and whole values that were made.
 #[derive(Drop)]
 pub(crate) struct HandedOn {
     pub(crate) leaves: Vec<KeptValue>,
@@ -24,4 +27,24 @@ pub(crate) struct HandedOn {
 pub(crate) struct Ran {
     pub(crate) piece: Result<Column, ScanError>,
     pub(crate) handed: HandedOn,
+}
+
+/// A chunk that ran again: the plan of values that it had borrowed, the column that was borrowed for it, and the one that
+/// was made.
+#[derive(Drop)]
+pub struct Rerun {
+    pub chunk: u64,
+    pub node: PlanRef,
+    pub borrowed: Column,
+    pub made: Column,
+}
+
+/// What the workers gave: the pieces in the order of their chunks; for each source the chunks that its worker claimed, in
+/// the order in which it claimed them; which chunks ran again; and the error of the lowest chunk that failed.
+#[derive(Drop)]
+pub struct Outcome {
+    pub pieces: Vec<Piece>,
+    pub claimed: Vec<ClaimList>,
+    pub reruns: Vec<Rerun>,
+    pub error: Option<ChunkError>,
 }

@@ -6,7 +6,7 @@ use Rattle.vx_scan.specs.Beginning.{HasWork}
 use Rattle.vx_scan.specs.Settings.{scan_by}
 use Rattle.vx_scan.specs.Valid.{IsBound}
 use Rattle.vx_scan.proofs.BeginningRows.{begins_told, bound_told, fits_told, none_told, outside_told, unbound_told, work_told}
-use Rattle.vx_scan.proofs.Prepared.{file_dtype, file_rows}
+use Rattle.vx_scan.proofs.FilePreparing.{file_dtype, file_rows}
 use Rattle.vx_scan.proofs.beginning.begin.Goals as goal
 
 pub returns-then-not-is_root_bound_to : goal.returns-then-not-is_root_bound_to

@@ -1,6 +1,6 @@
 use Rattle.std.proofs.Common.{sym, ◌∙◌, rules}
 use Rattle.vx_scan.proofs.BeginningRows.{overflow_told}
-use Rattle.vx_scan.proofs.Prepared.{file_rows}
+use Rattle.vx_scan.proofs.FilePreparing.{file_rows}
 use Rattle.vx_scan.proofs.beginning.overflows.Goals as goal
 
 pub returns-then-uses_row_idx : goal.returns-then-uses_row_idx

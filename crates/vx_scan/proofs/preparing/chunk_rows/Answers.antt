@@ -1,6 +1,6 @@
 use Rattle.std.proofs.Common.{true, sym, ap, ◌∙◌}
 use Rattle.vx_splits.specs.Chunks.{chunk_size}
-use Rattle.vx_scan.proofs.Prepared.{size_told}
+use Rattle.vx_scan.proofs.FilePreparing.{size_told}
 use Rattle.vx_scan.proofs.preparing.chunk_rows.Goals as goal
 
 pub returns-then-is_root-clause-size : goal.returns-then-is_root-clause-size

@@ -1,4 +1,4 @@
-use Rattle.vx_scan.proofs.Prepared.{chunks_or}
+use Rattle.vx_scan.proofs.FilePreparing.{chunks_or}
 use Rattle.vx_scan.proofs.preparing.cut_file.Goals as goal
 
 pub returns : goal.returns

@@ -1,6 +1,6 @@
 use Rattle.std.proofs.Common.{refl, subst}
 use Rattle.vx_io.specs.Ranges.{IsTableOf}
-use Rattle.vx_scan.proofs.Prepared.{prepared_plans}
+use Rattle.vx_scan.proofs.FilePreparing.{prepared_plans}
 use Rattle.vx_scan.proofs.preparing.plan_file.Goals as goal
 
 pub returns : goal.returns

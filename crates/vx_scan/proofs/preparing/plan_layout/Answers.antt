@@ -4,7 +4,7 @@ use Rattle.vx_layout.specs.Kept.{kept_data}
 use Rattle.vx_layout.specs.Trees.{head_of, subtree}
 use Rattle.vx_plan.specs.Refs.{number_of}
 use Rattle.vx_scan.specs.PlanTexts.{projection_of}
-use Rattle.vx_scan.proofs.Prepared.{bound_typed, child_typed, holds_tree, planned_for, HoldsTree}
+use Rattle.vx_scan.proofs.FilePreparing.{bound_typed, child_typed, holds_tree, planned_for, HoldsTree}
 use Rattle.vx_scan.proofs.preparing.plan_layout.Goals as goal
 
 pub plan_projection-requires-clause-typed : goal.plan_projection-requires-clause-typed

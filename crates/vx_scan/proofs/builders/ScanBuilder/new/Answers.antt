@@ -1,7 +1,7 @@
 use Rattle.std.proofs.Common.{◌∙◌, ap}
 use Rattle.vx_base.specs.Views.{data_type}
 use Rattle.vx_scan.specs.Settings.{new_settings}
-use Rattle.vx_scan.proofs.Prepared.{file_dtype, new_told}
+use Rattle.vx_scan.proofs.FilePreparing.{file_dtype, new_told}
 use Rattle.vx_scan.proofs.builders.ScanBuilder.new.Goals as goal
 
 pub returns : goal.returns

@@ -1,0 +1,295 @@
+-- The columns of the pieces that all workers gave are the batches of the chunks.
+use Rattle.std.proofs.Common.{◌≡◌, ◌≢◌, ℕ, zero, suc, ◌+◌, ◌<◌, ◌≤◌, ◌⊎◌, inl, inr, List, [], ◌∷◌, ◌++◌, Some, None, Result, Ok, Err, Vec, Global, length, map, take, refl, sym, ap, ◌∙◌, subst, arith}
+use native.Mathlib.Decide.{ℕ_discrete}
+use mathlib.Core.Logic.{dite}
+use Rattle.std.specs.Prelude.{Option, IfSome, IsSomeAnd}
+use Rattle.std.specs.List.{slice_get, All, AllByRecursion, flat_map}
+use Rattle.std.proofs.lemmas.List.{length-map, map-append}
+use Rattle.std.proofs.lemmas.List.Elements.{All-nil, All-head, All-tail}
+use Rattle.std.proofs.lemmas.List.Sums.{sum_by-cons}
+use Rattle.vx_base.specs.Columns.{ColumnData}
+use Rattle.vx_base.specs.Sources.{SourceState}
+use Rattle.vx_claims.specs.Apart.{times, times_over}
+use Rattle.vx_claims.proofs.Numbers.{times_append, times_itself, times_other}
+use Rattle.vx_rows.specs.Derivations.{Leaves}
+use Rattle.vx_rows.specs.Reads.{IsAmong}
+use Rattle.vx_rows.specs.SegmentLeaves.{leaves_of}
+use Rattle.vx_splits.specs.declared.selected_rows.SelectedRows.{SelectedRows}
+use Rattle.vx_scan.specs.declared.errors.ScanError.{ScanError}
+use Rattle.vx_scan.specs.declared.errors.ScanError.TheVariants.{Memory}
+use Rattle.vx_scan.specs.declared.lanes.ChunkError.{ChunkError}
+use Rattle.vx_scan.specs.declared.lanes.Piece.{Piece}
+use Rattle.vx_scan.specs.declared.outcomes.Outcome.{Outcome}
+use Rattle.vx_scan.specs.declared.plans.ScanPlans.{ScanPlans}
+use Rattle.vx_scan.specs.Asks.{IsLeftClear, Lasts}
+use Rattle.vx_scan.specs.BatchColumns.{Told, TakesBatches}
+use Rattle.vx_scan.specs.Batches.{AreBatches, HasPiece, Share, reasons_in, AsksOver, LowestFailure, GivesBatches}
+use Rattle.vx_scan.specs.ChunkRows.{IsPiece}
+use Rattle.vx_scan.specs.Fetched.{AreDistinct}
+use Rattle.vx_scan.specs.Executes.{stretch, FailsLowest, Executed, Executes}
+use Rattle.vx_scan.specs.Gathers.{no_memory}
+use Rattle.vx_scan.specs.Lent.{EachSource, SomeSource, EachSourceBy}
+use Rattle.vx_scan.specs.Outcomes.{Causes, told_by}
+use Rattle.vx_scan.specs.Plans.{bytes_of, projection_node}
+use Rattle.vx_scan.specs.Reasons.{Reason, chunk_and_segment}
+use Rattle.vx_scan.specs.Workers.{HasDtype, IsPieceOf, numbers_of, AsksReached, RunsSource, Fails}
+use Rattle.vx_scan.proofs.Distinct.{distinct_none, distinct_then, apart_from}
+use Rattle.vx_scan.proofs.Sessions.{asked_nothing}
+
+-- ---- the batches
+
+module _ (leaves : Leaves) (plans : ScanPlans) (all : List SelectedRows) where
+  -- these chunks are those from that place on
+  abbrev StandFrom : ℕ → List SelectedRows → Type 0
+  StandFrom first chunks = (i : ℕ) (chunk : SelectedRows) → slice_get chunks i ≡ Some chunk → slice_get all (first + i) ≡ Some chunk
+
+  piece_at : (number : ℕ) (chunk : SelectedRows) (piece : Piece) → piece.chunk ≡ number → slice_get all number ≡ Some chunk → IsPieceOf leaves plans all piece → IsPiece leaves plans [] chunk piece.column
+  piece_at number chunk piece same here is =
+      subst (λ (one : Option SelectedRows). IsSomeAnd one (λ other. IsPiece leaves plans [] other piece.column)) (ap (slice_get all) same ∙ here) is
+
+  batches_from : (first : ℕ) (chunks : List SelectedRows) (pieces : List Piece) → StandFrom first chunks → numbers_of pieces ≡ stretch first (length chunks) → All (IsPieceOf leaves plans all) pieces
+      → AreBatches leaves plans chunks (map (λ (piece : Piece). piece.column) pieces)
+  batches_from first [] [] stand numbers are = tt
+  batches_from first [] (piece ∷ pieces) stand numbers are = absurd cc
+  batches_from first (chunk ∷ chunks) [] stand numbers are = absurd cc
+  batches_from first (chunk ∷ chunks) (piece ∷ pieces) stand numbers are =
+      let same : piece.chunk ≡ first = cc in
+      let rest : numbers_of pieces ≡ stretch (suc first) (length chunks) = cc in
+      let start : first + 0 ≡ first = omega arith in
+      let here : slice_get all first ≡ Some chunk = ap (slice_get all) (sym start) ∙ stand 0 chunk refl in (
+        piece_at first chunk piece same here (All-head (IsPieceOf leaves plans all) piece pieces are),
+        batches_from (suc first) chunks pieces (λ i other got. let next : suc first + i ≡ first + suc i = omega arith in ap (slice_get all) next ∙ stand (suc i) other got) rest
+            (All-tail (IsPieceOf leaves plans all) piece pieces are),
+      )
+
+  -- a chunk whose number stands among those of the pieces
+  has_piece : (number : ℕ) (chunk : SelectedRows) (pieces : List Piece) → slice_get all number ≡ Some chunk → 1 ≤ times number (numbers_of pieces) → All (IsPieceOf leaves plans all) pieces → HasPiece leaves plans chunk
+  has_piece number chunk [] here some are = absurd (omega (arith, some))
+  has_piece number chunk (piece ∷ pieces) here some are = dite (ℕ_discrete piece.chunk number)
+      (λ same. (piece.column, piece_at number chunk piece same here (All-head (IsPieceOf leaves plans all) piece pieces are)))
+      (λ differs.
+      let other = times_other number piece.chunk (numbers_of pieces) differs in
+      has_piece number chunk pieces here (omega (arith, other, some)) (All-tail (IsPieceOf leaves plans all) piece pieces are))
+
+-- what holds of each of the first so many
+all_taken : (P : SelectedRows → Type 0) (k : ℕ) (xs : List SelectedRows) → ((i : ℕ) (x : SelectedRows) → i < k → slice_get xs i ≡ Some x → P x) → AllByRecursion P (take k xs)
+all_taken P zero xs each = tt
+all_taken P (suc k) [] each = tt
+all_taken P (suc k) (x ∷ xs) each = (each 0 x (omega arith) refl, all_taken P k xs (λ i y less here. each (suc i) y (omega (arith, less)) here))
+
+length_stretch : (first count : ℕ) → length (stretch first count) ≡ count
+length_stretch first zero = refl
+length_stretch first (suc count) = let rest = length_stretch (suc first) count in omega (arith, rest)
+
+all_dtypes : (plans : ScanPlans) (pieces : List Piece) → All (HasDtype plans) pieces → AllByRecursion (λ (batch : ColumnData). batch.dtype ≡ (projection_node plans).dtype) (map (λ (piece : Piece). piece.column) pieces)
+all_dtypes plans [] are = tt
+all_dtypes plans (piece ∷ pieces) are = (All-head (HasDtype plans) piece pieces are, all_dtypes plans pieces (All-tail (HasDtype plans) piece pieces are))
+
+-- ---- what all sources were asked for
+
+among_stands : (x : ℕ) (numbers : List ℕ) → IsAmong x numbers → 1 ≤ times x numbers
+among_stands x [] among = absurd among
+among_stands x (n ∷ ns) (inl same) =
+    let here : times x (n ∷ ns) ≡ 1 + times x ns = ap (λ (m : ℕ). times x (m ∷ ns)) same ∙ times_itself x ns in
+    omega (arith, here)
+among_stands x (n ∷ ns) (inr among) =
+    let rest = among_stands x ns among in
+    let more : times x (n ∷ ns) ≡ times x (n ∷ []) + times x ns = times_append x (n ∷ []) ns in
+    omega (arith, rest, more)
+
+each_weaker : {X : Type 0} (P Q : X → Type 0) → ((x : X) → P x → Q x) → (xs : List X) → AllByRecursion P xs → AllByRecursion Q xs
+each_weaker P Q from [] each = tt
+each_weaker P Q from (x ∷ xs) each = (from x each.0, each_weaker P Q from xs each.1)
+
+each_then : {X : Type 0} (P : X → Type 0) (xs ys : List X) → AllByRecursion P xs → AllByRecursion P ys → AllByRecursion P (xs ++ ys)
+each_then P [] ys each others = others
+each_then P (x ∷ xs) ys each others = (each.0, each_then P xs ys each.1 others)
+
+module _ (plans : ScanPlans) (chunks : List SelectedRows) where
+  abbrev Ran : List (List ℕ) → List SourceState → List SourceState → Type 0
+  Ran lists befores afters = EachSourceBy (RunsSource plans chunks) lists befores afters
+
+  abbrev AsksShares : List Share → List SourceState → List SourceState → Type 0
+  AsksShares shares befores afters = EachSourceBy (λ (share : Share). AsksReached plans chunks share.numbers share.reasons) shares befores afters
+
+  -- the chunk of the reason stands in the lists
+  abbrev IsClaimed : List (List ℕ) → Reason → Type 0
+  IsClaimed lists reason = 1 ≤ times_over reason.chunk lists
+
+  -- The shares of the sources whose workers claimed these lists.
+  record Shared (lists : List (List ℕ)) (befores afters : List SourceState) : Type 0 where
+    shares : List Share
+    each : AsksShares shares befores afters
+    claimed : AllByRecursion (IsClaimed lists) (flat_map reasons_in shares)
+    distinct : AreDistinct (map chunk_and_segment (flat_map reasons_in shares))
+
+  over_cons : (x : ℕ) (list : List ℕ) (lists : List (List ℕ)) → times_over x (list ∷ lists) ≡ times x list + times_over x lists
+  over_cons x list lists = sum_by-cons (times x) list lists
+
+  claimed_here : (list : List ℕ) (lists : List (List ℕ)) (reason : Reason) → IsAmong reason.chunk list → IsClaimed (list ∷ lists) reason
+  claimed_here list lists reason among = let stands = among_stands reason.chunk list among in let cons = over_cons reason.chunk list lists in omega (arith, stands, cons)
+
+  claimed_behind : (list : List ℕ) (lists : List (List ℕ)) (reason : Reason) → IsClaimed lists reason → IsClaimed (list ∷ lists) reason
+  claimed_behind list lists reason claimed = let cons = over_cons reason.chunk list lists in omega (arith, claimed, cons)
+
+  -- a reason of this list's chunks is none of the other lists' chunks
+  differ : (list : List ℕ) (lists : List (List ℕ)) → ((x : ℕ) → times_over x (list ∷ lists) ≤ 1) → (one two : Reason) → IsAmong one.chunk list → IsClaimed lists two → chunk_and_segment one ≢ chunk_and_segment two
+  differ list lists once one two among claimed same =
+      let chunk : one.chunk ≡ two.chunk = ap (λ (pair : ℕ × ℕ). pair.0) same in
+      let stands : 1 ≤ times two.chunk list = subst (λ (x : ℕ). 1 ≤ times x list) chunk (among_stands one.chunk list among) in
+      let most = once two.chunk in
+      let cons = over_cons two.chunk list lists in
+      absurd (omega (arith, stands, claimed, most, cons))
+
+  shared : (lists : List (List ℕ)) (befores afters : List SourceState) → ((x : ℕ) → times_over x lists ≤ 1) → Ran lists befores afters → Shared lists befores afters
+  shared [] [] [] once ran = record { shares = []; each = tt; claimed = tt; distinct = distinct_none }
+  shared [] [] (after ∷ afters) once ran = absurd ran
+  shared [] (before ∷ befores) afters once ran = absurd ran
+  shared (list ∷ lists) [] afters once ran = absurd ran
+  shared (list ∷ lists) (before ∷ befores) [] once ran = absurd ran
+  shared (list ∷ lists) (before ∷ befores) (after ∷ afters) once ran =
+      let rest = shared lists befores afters (λ x. let most = once x in let cons = over_cons x list lists in omega (arith, most, cons)) ran.1 in
+      let mine : List Reason = ran.0.reasons in
+      let others : List Reason = flat_map reasons_in rest.shares in
+      record {
+        shares = record { numbers = list; reasons = mine } ∷ rest.shares;
+        each = (ran.0.asks, rest.each);
+        claimed = each_then (IsClaimed (list ∷ lists)) mine others
+            (each_weaker (λ (reason : Reason). IsAmong reason.chunk list) (IsClaimed (list ∷ lists)) (claimed_here list lists) mine ran.0.asks.own)
+            (each_weaker (IsClaimed lists) (IsClaimed (list ∷ lists)) (claimed_behind list lists) others rest.claimed);
+        distinct = subst (λ (pairs : List (ℕ × ℕ)). AreDistinct pairs) (sym (map-append chunk_and_segment mine others))
+            (distinct_then (map chunk_and_segment mine) (map chunk_and_segment others) ran.0.asks.once_a_chunk rest.distinct
+            (apart_from (λ (reason : Reason). IsAmong reason.chunk list) (IsClaimed lists) chunk_and_segment (differ list lists once) mine others ran.0.asks.own rest.claimed));
+      }
+
+  -- what follows of each source
+  each_from : (P : SourceState → SourceState → Type 0) → ((list : List ℕ) (before after : SourceState) → RunsSource plans chunks list before after → P before after)
+      → (lists : List (List ℕ)) (befores afters : List SourceState) → Ran lists befores afters → EachSource P befores afters
+  each_from P from [] [] [] ran = tt
+  each_from P from [] [] (after ∷ afters) ran = absurd ran
+  each_from P from [] (before ∷ befores) afters ran = absurd ran
+  each_from P from (list ∷ lists) [] afters ran = absurd ran
+  each_from P from (list ∷ lists) (before ∷ befores) [] ran = absurd ran
+  each_from P from (list ∷ lists) (before ∷ befores) (after ∷ afters) ran = (from list before after ran.0, each_from P from lists befores afters ran.1)
+
+  -- ---- why there are none
+
+  -- on which chunk and for which cause it failed
+  abbrev FailsThere : ChunkError → List SourceState → List SourceState → Type 0
+  FailsThere error befores afters =
+      (chunk : SelectedRows) × (slice_get chunks error.chunk ≡ Some chunk) × SomeSource (λ before after. Causes (told_by plans before) plans [] chunk error.error before after) befores afters
+
+  fails_there : (error : ChunkError) (befores afters : List SourceState) → SomeSource (λ before after. Fails plans chunks error before after) befores afters → FailsThere error befores afters
+  fails_there error [] afters fails = absurd fails
+  fails_there error (before ∷ befores) [] fails = absurd fails
+  fails_there error (before ∷ befores) (after ∷ afters) (inl fails) = (fails.chunk, fails.here, inl fails.cause)
+  fails_there error (before ∷ befores) (after ∷ afters) (inr fails) = let rest = fails_there error befores afters fails in (rest.0, rest.1, inr rest.2)
+
+  module _ (outcome : Outcome) (befores afters : List SourceState) where
+    lowest_of : (error : ScanError) → Executed plans chunks outcome befores afters → (told : Told outcome error) → (told.failed ≡ no_memory) ⊎ FailsLowest plans chunks told.failed outcome.pieces.items befores afters
+        → (error ≡ Memory) ⊎ LowestFailure plans chunks error befores afters
+    lowest_of error executed told (inl memory) = inl (sym told.why ∙ ap (λ (failed : ChunkError). failed.error) memory)
+    lowest_of error executed told (inr fails) =
+        let there = fails_there told.failed befores afters fails.fails in
+        inr record {
+          place = told.failed.chunk;
+          chunk = there.0;
+          here = there.1;
+          cause = subst (λ (one : ScanError). SomeSource (λ before after. Causes (told_by plans before) plans [] there.0 one before after) befores afters) told.why there.2;
+          lower = λ file tell.
+              all_taken (HasPiece (leaves_of (bytes_of plans file)) plans) told.failed.chunk chunks (λ i chunk less here.
+              let one = fails.lower i less in
+              has_piece (leaves_of (bytes_of plans file)) plans chunks i chunk outcome.pieces.items here (omega (arith, one)) (executed.content file tell));
+        }
+
+    cause_of : (error : ScanError) → Executed plans chunks outcome befores afters → TakesBatches outcome (Err error) → (error ≡ Memory) ⊎ LowestFailure plans chunks error befores afters
+    cause_of error executed (inl memory) = inl memory
+    cause_of error executed (inr told) =
+        lowest_of error executed told (subst (λ (one : Option ChunkError). IfSome one (λ failed. (failed ≡ no_memory) ⊎ FailsLowest plans chunks failed outcome.pieces.items befores afters)) told.is executed.cause)
+
+    asks_of : Executed plans chunks outcome befores afters → AsksOver plans chunks befores afters
+    asks_of executed =
+        let all = shared outcome.claimed.items befores afters executed.apart.once executed.sources in
+        record { shares = all.shares; each = all.each; once_a_chunk = all.distinct }
+
+    -- ---- all sources together
+
+    from_executed : (result : Result (Vec ColumnData Global) ScanError) → Executed plans chunks outcome befores afters → TakesBatches outcome result → GivesBatches plans chunks result befores afters
+    from_executed (Ok batches) executed takes =
+        let numbers = executed.complete takes.0 in
+        record {
+          content = λ file tell. subst (AreBatches (leaves_of (bytes_of plans file)) plans chunks) (sym takes.1)
+              (batches_from (leaves_of (bytes_of plans file)) plans chunks 0 chunks outcome.pieces.items (λ i chunk here. let at : 0 + i ≡ i = omega arith in ap (slice_get chunks) at ∙ here) numbers (executed.content file tell));
+          count = ap length takes.1 ∙ length-map outcome.pieces.items (λ (piece : Piece). piece.column) ∙ sym (length-map outcome.pieces.items (λ (piece : Piece). piece.chunk)) ∙ ap length numbers ∙ length_stretch 0 (length chunks);
+          dtype = subst (AllByRecursion (λ (batch : ColumnData). batch.dtype ≡ (projection_node plans).dtype)) (sym takes.1) (all_dtypes plans outcome.pieces.items executed.dtype);
+          asks = asks_of executed;
+          cause = tt;
+          lasts = each_from Lasts (λ list before after runs. runs.lasts) outcome.claimed.items befores afters executed.sources;
+          in_flight = each_from IsLeftClear (λ list before after runs. runs.in_flight) outcome.claimed.items befores afters executed.sources;
+        }
+    from_executed (Err error) executed takes = record {
+      content = tt;
+      count = tt;
+      dtype = tt;
+      asks = asks_of executed;
+      cause = cause_of error executed takes;
+      lasts = each_from Lasts (λ list before after runs. runs.lasts) outcome.claimed.items befores afters executed.sources;
+      in_flight = each_from IsLeftClear (λ list before after runs. runs.in_flight) outcome.claimed.items befores afters executed.sources;
+    }
+
+  -- ---- where no worker started
+
+  abbrev idle_share : Share
+  idle_share = record { numbers = []; reasons = [] }
+
+  abbrev idle_shares : List SourceState → List Share
+  idle_shares [] = []
+  idle_shares (source ∷ sources) = idle_share ∷ idle_shares sources
+
+  idle_asks : (source : SourceState) → AsksReached plans chunks [] [] source source
+  idle_asks source = record {
+    are = tt;
+    own = tt;
+    located = All-nil (λ segment. segment < length plans.locations.items);
+    asked = sym (asked_nothing source.asked);
+    once_a_chunk = distinct_none;
+    once_a_leaf = λ order together. distinct_none;
+  }
+
+  all_idle : (sources : List SourceState) → AsksShares (idle_shares sources) sources sources
+  all_idle [] = tt
+  all_idle (source ∷ sources) = (idle_asks source, all_idle sources)
+
+  idle_distinct : (sources : List SourceState) → AreDistinct (map chunk_and_segment (flat_map reasons_in (idle_shares sources)))
+  idle_distinct [] = distinct_none
+  idle_distinct (source ∷ sources) = idle_distinct sources
+
+  each_idle : (P : SourceState → SourceState → Type 0) → ((source : SourceState) → P source source) → (sources : List SourceState) → EachSource P sources sources
+  each_idle P same [] = tt
+  each_idle P same (source ∷ sources) = (same source, each_idle P same sources)
+
+  idle_cause : (outcome : Outcome) (error : ScanError) → outcome.error ≡ Some no_memory → TakesBatches outcome (Err error) → error ≡ Memory
+  idle_cause outcome error none (inl memory) = memory
+  idle_cause outcome error none (inr told) =
+      let same : told.failed ≡ no_memory = some_same (sym told.is ∙ none) in
+      sym told.why ∙ ap (λ (failed : ChunkError). failed.error) same
+    where
+      some_same : {one two : ChunkError} → Some one ≡ Some two → one ≡ two
+      some_same is = cc
+
+  from_nothing : (outcome : Outcome) (sources : List SourceState) (result : Result (Vec ColumnData Global) ScanError) → outcome.error ≡ Some no_memory → TakesBatches outcome result → GivesBatches plans chunks result sources sources
+  from_nothing outcome sources (Ok batches) none takes = let is : Some no_memory ≡ None = sym none ∙ takes.0 in absurd cc
+  from_nothing outcome sources (Err error) none takes = record {
+    content = tt;
+    count = tt;
+    dtype = tt;
+    asks = record { shares = idle_shares sources; each = all_idle sources; once_a_chunk = idle_distinct sources };
+    cause = inl (idle_cause outcome error none takes);
+    lasts = each_idle Lasts (λ source. record { file = refl; faults = omega arith; idle = omega arith }) sources;
+    in_flight = each_idle IsLeftClear (λ source. inr refl) sources;
+  }
+
+pub gives_batches : (plans : ScanPlans) (chunks : List SelectedRows) (outcome : Outcome) (result : Result (Vec ColumnData Global) ScanError) (befores afters : List SourceState) → Executes plans chunks outcome befores afters → TakesBatches outcome result → GivesBatches plans chunks result befores afters
+gives_batches plans chunks outcome result befores afters (inl executed) takes = from_executed plans chunks outcome befores afters result executed takes
+gives_batches plans chunks outcome result befores afters (inr idle) takes =
+    subst (GivesBatches plans chunks result befores) (sym idle.sources) (from_nothing plans chunks outcome befores result idle.error takes)

@@ -1,0 +1,7 @@
+use Rattle.std.proofs.Common.{◌≡◌, ◌++◌, map}
+use Rattle.vx_scan.specs.declared.lanes.Piece.{Piece}
+use Rattle.vx_scan.proofs.batches.batches_of.Given as goal
+
+-- the columns of the pieces so far
+abbrev pub invariant-loop-piece : goal.invariant-loop-piece
+invariant-loop-piece l = (l.batches.items ≡ map (λ (piece : Piece). piece.column) l.yielded) × (l.yielded ++ l.piece-iterator.rest.items ≡ l.fn.outcome.pieces.items)

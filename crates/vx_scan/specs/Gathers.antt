@@ -1,0 +1,75 @@
+-- The lanes before the fork, and what is gathered from them after the joins.
+use Rattle.std.specs.Prelude.{◌≡◌, ℕ, ◌+◌, ◌-◌, ◌<◌, ◌≤◌, false, nat_lt, if◌then◌else◌, ◌⊎◌, List, length, map, Option, Some, None}
+use Rattle.std.specs.List.{All, Any, Contains, sum_by}
+use Rattle.vx_claims.specs.declared.claims.Claims.{Claims}
+use Rattle.vx_claims.specs.declared.claims.ClaimSeat.{ClaimSeat}
+use Rattle.vx_claims.specs.Apart.{times}
+use Rattle.vx_claims.specs.Claims.{IsSeatOf, IsFresh, claimed, parts, was_told}
+use Rattle.vx_claims.specs.Limits.{all_parts}
+use Rattle.vx_scan.specs.declared.errors.ScanError.TheVariants.{Memory}
+use Rattle.vx_scan.specs.declared.lanes.ChunkError.{ChunkError}
+use Rattle.vx_scan.specs.declared.lanes.Lane.{Lane}
+use Rattle.vx_scan.specs.declared.lanes.Piece.{Piece}
+use Rattle.vx_scan.specs.Workers.{IsFreshLane, numbers_of}
+
+-- As many lanes as workers, and the seat from which theirs were split.
+pub record OpensLanes (claims : Claims) (count : ℕ) (lanes : List Lane) (seat : ClaimSeat) : Type 0 where
+  pub length : length lanes ≡ count
+  pub fresh : All (IsFreshLane claims) lanes
+  pub left : IsFresh claims (all_parts - count) seat
+
+-- ---- errors
+
+-- the error of the lower chunk, the first where it is the same
+abbrev pub lower_of : Option ChunkError → Option ChunkError → Option ChunkError
+lower_of None other = other
+lower_of (Some one) None = Some one
+lower_of (Some one) (Some two) = if nat_lt two.chunk one.chunk then Some two else Some one
+
+-- an error of no higher chunk than another
+abbrev pub IsAtMost : Option ChunkError → Option ChunkError → Type 0
+IsAtMost error None = Unit {0}
+IsAtMost None (Some one) = ⊥
+IsAtMost (Some error) (Some one) = error.chunk ≤ one.chunk
+
+-- the number is below the chunk that failed
+abbrev pub IsBelow : Option ChunkError → ℕ → Type 0
+IsBelow None x = Unit {0}
+IsBelow (Some error) x = x < error.chunk
+
+-- want of memory outside of a chunk's run
+abbrev pub no_memory : ChunkError
+no_memory = record { chunk = 0; error = Memory }
+
+-- an error is want of memory outside of a run, or that of a lane
+abbrev pub IsFrom : List Lane → Option ChunkError → Type 0
+IsFrom lanes None = Unit {0}
+IsFrom lanes (Some error) = (error ≡ no_memory) ⊎ Any (λ (lane : Lane). lane.error ≡ Some error) lanes
+
+-- ---- all lanes
+
+-- how often a lane claimed the chunk of a number, and how often it has its piece
+abbrev pub claimed_times : ℕ → Lane → ℕ
+claimed_times x lane = times x (claimed lane.seat)
+
+abbrev pub done_times : ℕ → Lane → ℕ
+done_times x lane = times x (numbers_of lane.pieces.items)
+
+-- a piece that one of the lanes has
+abbrev pub IsOfLane : List Lane → Piece → Type 0
+IsOfLane lanes piece = Any (λ (lane : Lane). Contains lane.pieces.items piece) lanes
+
+-- The seat has all that the lanes' seats had; the lists are theirs, the pieces are theirs, and so is the error, which is
+-- that of the lowest chunk.
+pub record Gathers (claims : Claims) (left : ℕ) (lanes : List Lane) (seat : ClaimSeat) (lists : List (List ℕ)) (pieces : List Piece) (error : Option ChunkError) : Type 0 where
+  pub own : IsSeatOf claims seat
+  pub parts : parts seat ≡ left + sum_by (λ (lane : Lane). parts lane.seat) lanes
+  pub claimed : (x : ℕ) → times x (claimed seat) ≡ sum_by (claimed_times x) lanes
+  pub untold : was_told seat ≡ false → All (λ (lane : Lane). was_told lane.seat ≡ false) lanes
+  pub all_lists : lists ≡ map (λ (lane : Lane). lane.claimed.items) lanes
+  -- all pieces of chunks below the one that failed, and no others than the lanes'
+  pub all_pieces : (x : ℕ) → IsBelow error x → times x (numbers_of pieces) ≡ sum_by (done_times x) lanes
+  pub some_pieces : (x : ℕ) → times x (numbers_of pieces) ≤ sum_by (done_times x) lanes
+  pub given : All (IsOfLane lanes) pieces
+  pub lowest : All (λ (lane : Lane). IsAtMost error lane.error) lanes
+  pub from : IsFrom lanes error

@@ -1,0 +1,105 @@
+//! Whole values that workers share: a book of columns by plan, and a cache that keeps one under a lock.
+
+ghost use Rattle.std.specs.Prelude.{◌≡◌, [], map, IfOk, OnErr, option_copied};
+ghost use Rattle.vx_plan.specs.Refs.{number_of};
+ghost use Rattle.vx_steps.specs.Kept.{kept_at, kept_data};
+ghost use Rattle.vx_scan.specs.Books.{Inserts};
+
+use std::alloc::{AllocError, Global};
+use std::marker::Model;
+use std::sync::Mutex;
+use vx_base::Column;
+use vx_plan::PlanRef;
+use vx_steps::KeptValue;
+
+/// Columns by plan, in the order in which they were accepted. The first column of a plan stays.
+#[derive(Drop)]
+pub struct Book {
+    alloc: Global,
+    entries: Vec<KeptValue>,
+}
+
+impl Model for Book {
+    ghost use Rattle.std.specs.Prelude.{List};
+    ghost use Rattle.vx_steps.specs.KeptData.{Kept, coded_kept_list};
+
+    ghost Value = { List Kept };
+
+    ghost coded = { coded_kept_list };
+
+    ghost use Rattle.std.specs.Prelude.{map};
+    ghost use Rattle.vx_steps.specs.Kept.{kept_data};
+
+    ghost view = { λ a. map kept_data a.entries.items };
+}
+
+/// The first column of a plan among these.
+fn first_for(entries: &[KeptValue], node: PlanRef) -> Option<&Column>
+    ensures { option_copied result ≡ kept_at (map kept_data entries.now) (number_of node) }
+{
+    for value in entries {
+        if value.node.0 == node.0 {
+            return Some(&value.column);
+        }
+    }
+    None
+}
+
+impl Book {
+    /// An empty book. It takes no memory.
+    pub fn new(alloc: Global) -> Book
+        ensures { result ≡ [] }
+    {
+        Book {
+            alloc,
+            entries: Vec::new(alloc),
+        }
+    }
+
+    /// A copy of the column of a plan, or none where the plan has no entry.
+    pub fn get(&mut self, node: PlanRef) -> Result<Option<Column>, AllocError>
+        ensures found { IfOk result (λ column. column ≡ kept_at self.old (number_of node)) }
+        ensures stays { self.new ≡ self.old }
+    {
+        match first_for(&self.entries, node) {
+            Some(column) => Ok(Some(column.copy(self.alloc)?)),
+            None => Ok(None),
+        }
+    }
+
+    /// Keeps the column of a plan, unless it has one already, and gives a copy of the kept one. After want of memory the
+    /// book is as it was.
+    pub fn insert(&mut self, node: PlanRef, column: Column) -> Result<Column, AllocError>
+        ensures gives { IfOk result (λ kept. Inserts (number_of node) column kept self.old self.new) }
+        ensures as_before { OnErr result (self.new ≡ self.old) }
+    {
+        if let Some(kept) = self.get(node)? {
+            return Ok(kept);
+        }
+        let given = column.copy(self.alloc)?;
+        self.entries.push(KeptValue { node, column })?;
+        Ok(given)
+    }
+
+    /// The entries, in the order in which they were accepted. It takes no memory.
+    pub fn entries(&self) -> &[KeptValue]
+        ensures { map kept_data result.now ≡ self.now }
+    {
+        self.entries.as_slice()
+    }
+}
+
+/// A book under a lock, which workers share by reference. What it has is known to no contract.
+#[derive(Drop)]
+pub struct ValueCache {
+    _book: Mutex<Book>,
+}
+
+impl ValueCache {
+    /// A cache with an empty book. It takes no memory.
+    pub fn new(alloc: Global) -> ValueCache {
+        ValueCache {
+            _book: Mutex::new(Book::new(alloc)),
+        }
+    }
+}
