@@ -5,7 +5,8 @@ use Rattle.vx_base.specs.FileSources.{IsOpen}
 use Rattle.vx_base.specs.Sources.{SourceState}
 use Rattle.vx_base.specs.Streams.{ReadState, WriteState}
 use Rattle.vx_base.specs.declared.file_sources.FileSource.{FileSource}
-use Rattle.scan_commands.specs.Commanded.{Outside, Runs}
+use Rattle.scan_commands.specs.Commanded.{Runs}
+use Rattle.scan_commands.specs.Runs.{World}
 use Rattle.scan_words.specs.declared.commands.Command.{Command}
 use Rattle.scan_words.specs.declared.commands.Command.TheVariants.{Scan, Read, Tree, Demo}
 use Rattle.scan_words.specs.Words.{command_of}
@@ -52,10 +53,10 @@ abbrev pub unwritten : WriteState
 unwritten = record { written = None; faults = 0 }
 
 -- what a run over files begins with
-abbrev pub untouched : Outside
+abbrev pub untouched : World
 untouched = record { request = unread; sources = are_unasked 8; sink = unwritten }
 
 -- the status is the answer to these words, whatever is left behind
 pub record IsStatusOf (words : List (List ℕ)) (status : ℕ) : Type 0 where
-  pub after : Outside
+  pub after : World
   pub runs : Runs (command_of words) status untouched after

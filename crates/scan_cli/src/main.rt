@@ -20,6 +20,7 @@ use std::env;
 use std::fs::File;
 use std::io::{self, ErrorKind};
 use std::process::ExitCode;
+use std::thread::Threads;
 use vx_base::{FileSource, ReadSource, SegmentSource, Sink, Source, Text, WriteSink};
 
 /// How many sources a run is lent, each of them on the same segment file.
@@ -27,7 +28,7 @@ const SOURCES: usize = 8;
 
 fn main(rt: HostRuntime) -> ExitCode {
     match words_said(&rt) {
-        Ok(words) => run_files(&rt, &words).unwrap_or_else(|_| ended(&rt, OUT_OF_MEMORY)),
+        Ok(words) => run_files(&rt, &rt, &words).unwrap_or_else(|_| ended(&rt, OUT_OF_MEMORY)),
         Err(status) => ended(&rt, status),
     }
 }
@@ -83,15 +84,20 @@ fn files_named(alloc: Global, words: &[String]) -> Result<FileNames, AllocError>
     Ok(FileNames { segments, request })
 }
 
-/// Runs the words on the files that they name and on standard output. The error is for want of memory before the run.
-fn run_files(rt: &HostRuntime, words: &[String]) -> Result<ExitCode, AllocError>
+/// Runs the words on the files that they name and on standard output; `threads` starts the threads of the workers. The error
+/// is for want of memory before the run.
+fn run_files<R: AllocGlobal + Threads + Sync>(
+    rt: &HostRuntime,
+    threads: &R,
+    words: &[String],
+) -> Result<ExitCode, AllocError>
     ensures { IfOk result (λ code. IsStatusOf (map string_bytes words.now) (exit_status code)) }
 {
     let FileNames { segments, request } = files_named(rt.alloc(), words)?;
     let mut sources = file_sources(rt, segments.as_ref().map(Text::as_str))?;
     let mut request = ReadSource::new(rt.alloc(), opened(rt, request.as_ref().map(Text::as_str))?);
     let mut out = WriteSink::new(io::writer(rt));
-    Ok(answered(rt, words, &mut request, &mut sources, &mut out))
+    Ok(answered(rt, threads, words, &mut request, &mut sources, &mut out))
 }
 
 /// The sources that a run is lent, of the segment file of that name. The error is for want of memory alone.
@@ -131,8 +137,9 @@ fn if_opened(file: io::Result<File>) -> Result<Option<File>, AllocError>
 }
 
 /// Runs the words, and ends with the status that the run answers.
-fn answered<Q: Source, S: SegmentSource + Send, K: Sink>(
+fn answered<R: AllocGlobal + Threads + Sync, Q: Source, S: SegmentSource + Send, K: Sink>(
     rt: &HostRuntime,
+    threads: &R,
     words: &[String],
     request: &mut Q,
     sources: &mut [S],
@@ -144,7 +151,7 @@ fn answered<Q: Source, S: SegmentSource + Send, K: Sink>(
         (record { request = Q.state request.old; sources = map S.state sources.old; sink = K.state out.old })
         (record { request = Q.state request.new; sources = map S.state sources.new; sink = K.state out.new }) }
 {
-    ended(rt, run(rt, words, request, sources, out))
+    ended(rt, run(threads, words, request, sources, out))
 }
 
 /// Ends with a status. Where it isn't 0, its text is said on standard error.

@@ -16,6 +16,7 @@ pub mod ColumnLines
 pub mod Buffering
 pub mod Scanning
 pub mod Serving
+pub mod SideBySides
 pub mod Drawing
 pub mod Demonstrating
 pub mod Running

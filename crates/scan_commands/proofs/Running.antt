@@ -1,20 +1,21 @@
 -- What a run does that finds no memory before it begins.
-use Rattle.std.proofs.Common.{◌≡◌, ℕ, ◌<◌, Bool, true, false, List, [], ◌∷◌, ◌++◌, length, Option, Some, None, refl, sym, ◌∙◌, subst, inl, inr, arith}
+use Rattle.std.proofs.Common.{◌≡◌, ℕ, Bool, true, false, List, [], ◌∷◌, ◌++◌, length, map, take, drop, Option, Some, None, refl, sym, ◌∙◌, subst, inl, inr, arith}
 use Rattle.std.specs.Bool.{MatchBool}
 use Rattle.std.proofs.lemmas.List.{append-nil}
 use Rattle.vx_base.specs.Sources.{SourceState}
-use Rattle.vx_base.specs.Streams.{ReadState}
-use Rattle.vx_scan.specs.Scanned.{FirstOf}
+use Rattle.vx_base.specs.Streams.{ReadState, WriteState}
 use Rattle.scan_words.specs.declared.commands.Command.{Command}
 use Rattle.scan_words.specs.declared.commands.Command.TheVariants.{Scan, Read, Tree, Demo}
+use Rattle.scan_commands.specs.declared.endings.Ending.{Ending}
 use Rattle.scan_commands.specs.declared.endings.Ending.TheVariants.{OutOfMemory}
-use Rattle.scan_commands.specs.Commanded.{have_sources, Obeys, Outside, Runs, ScansFirst, IsRefusedWith, DrawsPlan, with_source, without_sources}
+use Rattle.scan_commands.specs.Commanded.{have_sources, workers_of, with_first, Obeys, Runs, ScansBy, IsRefusedWith, DrawsPlan}
 use Rattle.scan_commands.specs.Desks.{Desk}
+use Rattle.scan_commands.specs.Endings.{status_of}
 use Rattle.scan_commands.specs.PlanRuns.{ServesPlan}
 use Rattle.scan_commands.specs.Reading.{ReadsPieces}
-use Rattle.scan_commands.specs.Runs.{IsComplete, Serves, World}
+use Rattle.scan_commands.specs.Runs.{Ends, Serves, World, without_sources}
 use Rattle.scan_commands.proofs.Drawing.{draws_complete}
-use Rattle.scan_commands.proofs.Serving.{serves_complete}
+use Rattle.scan_commands.proofs.Serving.{ends_alike, first_back, first_whole, rest_same, serves_complete, serves_so, world}
 
 no_pieces : (old : ReadState) → ReadsPieces old old
 no_pieces old = record { full = []; last = []; pieces = sym (append-nil (old.pieces ++ []) ∙ append-nil old.pieces); each = λ k d lt. absurd (omega (arith, lt)); end = inl refl; count = omega arith }
@@ -26,33 +27,39 @@ serves_nothing limit before = record { ending = OutOfMemory; is = refl; ends = i
 pub draws_nothing : (before : Desk) → ServesPlan 70 before before
 draws_nothing before = record { ending = OutOfMemory; is = refl; draws = inl (record { faults = refl; sink = refl }); pieces = no_pieces before.request }
 
-first_alike : (P : SourceState → SourceState → Type 0) → ((old : SourceState) → P old old) → (olds : List SourceState) → 0 < length olds → FirstOf P olds olds
-first_alike P same [] some = absurd (omega (arith, some))
-first_alike P same (old ∷ olds) some = same old
-
-scans_nothing : (limit : ℕ) (before : Outside) → 0 < length before.sources → ScansFirst limit 70 before before
-scans_nothing limit before some = record {
-  serves = first_alike (λ old new. Serves limit 70 (with_source before old) (with_source before new)) (λ old. serves_nothing limit (with_source before old)) before.sources some;
-  complete = first_alike (λ old new. IsComplete limit 70 (with_source before old) (with_source before new)) (λ old. serves_complete limit 70 (with_source before old) (with_source before old) (serves_nothing limit (with_source before old))) before.sources some;
+scans_nothing : (workers limit : ℕ) (before : World) → ScansBy workers limit 70 before before
+scans_nothing workers limit before = record {
+  serves = serves_nothing limit (with_first workers before);
+  complete = serves_complete limit 70 (with_first workers before) (with_first workers before) (serves_nothing limit (with_first workers before));
   others = refl;
 }
 
-scans_or_not : (enough : Bool) (limit : ℕ) (before : Outside) → 0 < length before.sources → MatchBool enough (ScansFirst limit 70 before before) (IsRefusedWith 2 70 before before)
-scans_or_not true limit before some = scans_nothing limit before some
-scans_or_not false limit before some = (inr refl, refl)
+scans_or_not : (enough : Bool) (workers limit : ℕ) (before : World) → MatchBool enough (ScansBy workers limit 70 before before) (IsRefusedWith 2 70 before before)
+scans_or_not true workers limit before = scans_nothing workers limit before
+scans_or_not false workers limit before = (inr refl, refl)
 
-pub lacks_memory : (asked : Option Command) (before : Outside) → 0 < length before.sources → Runs asked 70 before before
-lacks_memory None before some = (inr refl, refl)
-lacks_memory (Some (Scan segments request workers unordered idle)) before some = scans_or_not (have_sources workers (length before.sources)) idle before some
-lacks_memory (Some (Read segments request split idle)) before some = (inr refl, refl)
-lacks_memory (Some (Tree request)) before some = record {
+pub lacks_memory : (asked : Option Command) (before : World) → Runs asked 70 before before
+lacks_memory None before = (inr refl, refl)
+lacks_memory (Some (Scan segments request workers unordered idle)) before = scans_or_not (have_sources workers (length before.sources)) (workers_of workers (length before.sources)) idle before
+lacks_memory (Some (Read segments request split idle)) before = (inr refl, refl)
+lacks_memory (Some (Tree request)) before = record {
   serves = draws_nothing (without_sources before);
   complete = draws_complete 70 (without_sources before) (without_sources before) (draws_nothing (without_sources before));
   sources = refl;
 }
-lacks_memory (Some (Demo number)) before some = record { serves = record { ending = OutOfMemory; is = refl; ends = inl refl }; request = refl; sources = refl }
+lacks_memory (Some (Demo number)) before = record { serves = record { ending = OutOfMemory; is = refl; ends = inl refl }; request = refl; sources = refl }
 
 -- ---- by the command
 
-pub obeys_tree : (command : Command) (request : List ℕ) (status : ℕ) (before after : Outside) → command ≡ Tree request → DrawsPlan status before after → Obeys command status before after
+-- the sources of the workers served, and the others came back behind them
+pub scans_by : {S : Type 0} (f : S → SourceState) (workers limit status : ℕ) (ending : Ending) (old new : ReadState) (sink sink_after : WriteState) (xs first ys rest : List S) → first ≡ take workers xs → rest ≡ drop workers xs → length ys ≡ workers → status ≡ status_of ending → ReadsPieces old new
+    → Ends limit ending (world old (map f first) sink) (world new (map f ys) sink_after) → ScansBy workers limit status (world old (map f xs) sink) (world new (map f (ys ++ rest)) sink_after)
+scans_by {S} f workers limit status ending old new sink sink_after xs first ys rest own others count is pieces ends =
+    let before = world old (take workers (map f xs)) sink in
+    let after = world new (take workers (map f (ys ++ rest))) sink_after in
+    let served : Ends limit ending before after = ends_alike limit ending old new sink sink_after (map f first) (take workers (map f xs)) (map f ys) (take workers (map f (ys ++ rest))) (first_whole f workers xs first own) (first_back f workers ys rest count) ends in
+    let serves : Serves limit status before after = serves_so limit status ending before after is pieces served in
+    record { serves = serves; complete = serves_complete limit status before after serves; others = rest_same f workers xs ys rest count others }
+
+pub obeys_tree : (command : Command) (request : List ℕ) (status : ℕ) (before after : World) → command ≡ Tree request → DrawsPlan status before after → Obeys command status before after
 obeys_tree command request status before after is draws = subst (λ (c : Command). Obeys c status before after) (sym is) draws

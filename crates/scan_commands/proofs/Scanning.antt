@@ -11,31 +11,16 @@ use Rattle.vx_layout.specs.Rows.{file_leaves}
 use Rattle.vx_scan.specs.declared.errors.ScanError.{ScanError}
 use Rattle.vx_scan.specs.declared.errors.ScanError.TheVariants.{Memory}
 use Rattle.vx_scan.specs.Answer.{FileScan, scan_rows, size_of}
+use Rattle.vx_scan.specs.Asks.{IsLeftClear, Lasts}
 use Rattle.vx_scan.specs.Beginning.{Refuses}
 use Rattle.vx_scan.specs.Fetched.{AreDistinct}
 use Rattle.vx_scan.specs.Laws.{PiecesAnswer}
-use Rattle.vx_scan.specs.Plans.{WhereTold}
-use Rattle.vx_scan.specs.Scanned.{AnswersScan, FirstOf}
+use Rattle.vx_scan.specs.Lent.{EachSource, EachSourceBy, WhereAllTell}
+use Rattle.vx_scan.specs.Reasons.{Reason, chunk_and_segment}
+use Rattle.vx_scan.specs.Scanned.{AnswersScan, Gains}
 use Rattle.scan_commands.specs.RowText.{line, lines}
 use Rattle.scan_commands.specs.RowWriting.{batch_lines}
 use Rattle.scan_commands.specs.Scans.{IsText, ScanGives}
-
--- ---- the first of the sources
-
-pub first_also : (P Q : SourceState → SourceState → Type 0) → ((old new : SourceState) → P old new → Q old new) → (olds news : List SourceState) → FirstOf P olds news → FirstOf Q olds news
-first_also P Q also [] news is = is
-first_also P Q also (old ∷ olds) [] is = is
-first_also P Q also (old ∷ olds) (new ∷ news) is = also old new is
-
--- with a fact that holds where all are left as they were
-pub first_with : (P : SourceState → SourceState → Type 0) (Q : Type 0) (olds news : List SourceState) → (Q → news ≡ olds) → FirstOf P olds news → FirstOf (λ old new. P old new × (Q → new ≡ old)) olds news
-first_with P Q [] news same is = is
-first_with P Q (old ∷ olds) [] same is = is
-first_with P Q (old ∷ olds) (new ∷ news) same is = (is, λ q. ap (head_or new) (same q))
-  where
-    head_or : SourceState → List SourceState → SourceState
-    head_or x [] = x
-    head_or x (y ∷ ys) = y
 
 -- ---- the text of batches
 
@@ -51,22 +36,32 @@ lines_joined t (batch ∷ batches) typed =
     ∙ ap (λ (x : List ℕ). lines t batch.values ++ x) (lines_joined t batches typed.1)
     ∙ sym (lines_append t batch.values (flat_map (λ batch. batch) (map (λ (b : ColumnData). b.values) batches)))
 
-pub text_of : (limit : ℕ) → (scan : FileScan) (result : Result (Vec ColumnData) ScanError) (before after : SourceState) → PiecesAnswer → AnswersScan scan limit result before after → IfOk result (λ batches. WhereTold before (λ file. IsText scan file (batch_lines batches.items)))
-text_of limit scan (Ok batches) before after answer gives = λ file told. (
+pub text_of : (limit : ℕ) → (scan : FileScan) (result : Result (Vec ColumnData) ScanError) (befores afters : List SourceState) → PiecesAnswer → AnswersScan scan limit result befores afters → IfOk result (λ batches. WhereAllTell befores (λ file. IsText scan file (batch_lines batches.items)))
+text_of limit scan (Ok batches) befores afters answer gives = λ file told. (
   flat_map (λ batch. batch) (map (λ (b : ColumnData). b.values) batches.items),
   answer (file_leaves file scan.locations) scan.projection (size_of scan) (scan_rows scan) (map (λ (b : ColumnData). b.values) batches.items) (gives.content file told),
   lines_joined scan.projection.expression.dtype batches.items gives.dtype,
 )
-text_of limit scan (Err error) before after answer gives = tt
+text_of limit scan (Err error) befores afters answer gives = tt
 
-pub refused_untouched : (scan : FileScan) (result : Result (Vec ColumnData) ScanError) (before after : SourceState) → ((error : ScanError) × Refuses scan error → after ≡ before) → IfErr result (λ error. Refuses scan error → after ≡ before)
-refused_untouched scan (Ok batches) before after untouched = tt
-refused_untouched scan (Err error) before after untouched = λ refused. untouched (error, refused)
+pub refused_untouched : (scan : FileScan) (result : Result (Vec ColumnData) ScanError) (befores afters : List SourceState) → ((error : ScanError) → Refuses scan error → afters ≡ befores) → IfErr result (λ error. Refuses scan error → afters ≡ befores)
+refused_untouched scan (Ok batches) befores afters untouched = tt
+refused_untouched scan (Err error) befores afters untouched = untouched error
 
-pub scan_gives : (limit : ℕ) → (scan : FileScan) (result : Result (Vec ColumnData) ScanError) (before after : SourceState) → PiecesAnswer → AnswersScan scan limit result before after → IfErr result (λ error. Refuses scan error → after ≡ before) → ScanGives limit scan result before after
-scan_gives limit scan result before after answer gives untouched = record { answers = gives; text = text_of limit scan result before after answer gives; untouched = untouched }
+pub scan_gives : (limit : ℕ) → (scan : FileScan) (result : Result (Vec ColumnData) ScanError) (befores afters : List SourceState) → PiecesAnswer → AnswersScan scan limit result befores afters → IfErr result (λ error. Refuses scan error → afters ≡ befores) → ScanGives limit scan result befores afters
+scan_gives limit scan result befores afters answer gives untouched = record { answers = gives; text = text_of limit scan result befores afters answer gives; untouched = untouched }
 
--- ---- want of memory before the scan
+-- ---- sources that are left as they were
+
+-- what holds of a source that is left as it was
+pub each_alike : (P : SourceState → SourceState → Type 0) → ((source : SourceState) → P source source) → (sources : List SourceState) → EachSource P sources sources
+each_alike P alike [] = tt
+each_alike P alike (source ∷ sources) = (alike source, each_alike P alike sources)
+
+-- no reason for any of the sources
+no_reasons : List SourceState → List (List Reason)
+no_reasons [] = []
+no_reasons (source ∷ sources) = [] ∷ no_reasons sources
 
 asked_nothing : (asked : Option (List AskedRange)) → option_map (λ ranges. ranges ++ []) asked ≡ asked
 asked_nothing None = refl
@@ -75,31 +70,32 @@ asked_nothing (Some ranges) = ap Some (append-nil ranges)
 distinct_none : {X : Type 0} → AreDistinct {X = X} []
 distinct_none {X} i j d less within = absurd (omega (arith, within))
 
-lacks_memory : (limit : ℕ) (scan : FileScan) (source : SourceState) → ScanGives limit scan (Err Memory) source source
-lacks_memory limit scan source = record {
+gains_nothing : (scan : FileScan) (source : SourceState) → Gains scan [] source source
+gains_nothing scan source = record { ranges = []; gained = sym (asked_nothing source.asked); reached = tt; are_reasons = tt; once_a_leaf = distinct_none }
+
+each_gains_nothing : (scan : FileScan) (sources : List SourceState) → EachSourceBy (Gains scan) (no_reasons sources) sources sources
+unfolding no_reasons
+each_gains_nothing scan [] = tt
+each_gains_nothing scan (source ∷ sources) = (gains_nothing scan source, each_gains_nothing scan sources)
+
+no_chunk_asks : (sources : List SourceState) → AreDistinct (map chunk_and_segment (flat_map (λ own. own) (no_reasons sources)))
+unfolding no_reasons
+no_chunk_asks [] = distinct_none
+no_chunk_asks (source ∷ sources) = no_chunk_asks sources
+
+-- want of memory before the scan
+pub lacks_memory : (limit : ℕ) (scan : FileScan) (sources : List SourceState) → ScanGives limit scan (Err Memory) sources sources
+lacks_memory limit scan sources = record {
   answers = record {
     content = tt;
     count = tt;
     dtype = tt;
-    asks = record {
-      ranges = [];
-      gained = sym (asked_nothing source.asked);
-      reached = tt;
-      reasons = [];
-      are_reasons = tt;
-      once_a_chunk = distinct_none;
-      once_a_leaf = distinct_none;
-    };
+    asks = record { reasons = no_reasons sources; each = each_gains_nothing scan sources; once_a_chunk = no_chunk_asks sources };
     cause = inl refl;
     complete = λ file told valid quiet. refl;
-    lasts = record { file = refl; faults = omega arith; idle = omega arith };
-    in_flight = inr refl;
+    lasts = each_alike Lasts (λ source. record { file = refl; faults = omega arith; idle = omega arith }) sources;
+    in_flight = each_alike IsLeftClear (λ source. inr refl) sources;
   };
   text = tt;
   untouched = λ refuses. refl;
 }
-
--- the first of the sources, which are left as they were
-pub first_lacks : {T : Type 0} (state : T → SourceState) (sources : List T) (limit : ℕ) (scan : FileScan) → length sources ≡ 1 → FirstOf (ScanGives limit scan (Err Memory)) (map state sources) (map state sources)
-first_lacks state [] limit scan one = absurd (omega (arith, one))
-first_lacks state (source ∷ rest) limit scan one = lacks_memory limit scan (state source)

@@ -2,6 +2,8 @@
 use Rattle.std.proofs.Common.{◌≡◌, ℕ, ◌<◌, ◌⊎◌, List, [], ◌∷◌, ◌++◌, length, map, take, drop, Option, Some, None, option_map, Result, Ok, Err, refl, sym, ap, ◌∙◌, subst, inl, inr, arith}
 use Rattle.std.specs.Prelude.{IfSome}
 use Rattle.std.specs.Global.{Vec}
+use Rattle.std.proofs.Math.Seq.{drop-append_seam, take-append_seam}
+use Rattle.std.proofs.lemmas.List.{drop-map, take-map}
 use Rattle.vx_base.specs.Columns.{ColumnData}
 use Rattle.vx_base.specs.Sources.{SourceState, Rose}
 use Rattle.vx_base.specs.Streams.{ReadState, WriteState}
@@ -12,8 +14,9 @@ use Rattle.vx_scan.specs.declared.errors.ScanError.TheVariants as scan
 use Rattle.vx_rows.specs.Derivations.{Leaves}
 use Rattle.vx_scan.specs.Answer.{FileScan}
 use Rattle.vx_scan.specs.Beginning.{Refuses}
-use Rattle.vx_scan.specs.Plans.{WhereTold, IsQuiet}
-use Rattle.vx_scan.specs.Scanned.{FirstOf, LowestCause}
+use Rattle.vx_scan.specs.Lent.{AllTell, EachSource, SomeSource, WhereAllTell}
+use Rattle.vx_scan.specs.Plans.{IsQuiet}
+use Rattle.vx_scan.specs.Scanned.{CausedBy, LowestCause}
 use Rattle.vx_scan.specs.Valid.{IsValidScan}
 use Rattle.scan_commands.specs.declared.endings.Ending.{Ending}
 use Rattle.scan_commands.specs.declared.endings.Ending.TheVariants.{Done, RequestTooLarge, BadRequest, BadLayout, BadProjection, ScanFailed, WriteFault, RequestFault, OutOfMemory}
@@ -25,61 +28,67 @@ use Rattle.scan_commands.specs.RowWriting.{batch_lines}
 use Rattle.scan_commands.specs.Runs.{World, Asks, WritesFront, Ends, Serves, RefusesScan, FailsToScan, ScanFails, IsValid, IsComplete}
 use Rattle.scan_commands.specs.Scans.{scan_of, ScanGives}
 use Rattle.scan_commands.specs.Writing.{WritingGives}
-use Rattle.scan_commands.proofs.Scanning.{first_also}
 use Rattle.scan_commands.proofs.OneRequest.{same_request, projection_is_bound, has_good_layout, has_good_projection}
 
-abbrev pub world : ReadState → SourceState → WriteState → World
-world request source sink = record { request = request; source = source; sink = sink }
+abbrev pub world : ReadState → List SourceState → WriteState → World
+world request sources sink = record { request = request; sources = sources; sink = sink }
 
 -- ---- the scan
 
-asks_of : (limit : ℕ) → (asked : Asked) (result : Result (Vec ColumnData) ScanError) (old new : ReadState) (before after : SourceState) (sink sink_after : WriteState) → ScanGives limit (scan_of asked) result before after → Asks asked (world old before sink) (world new after sink_after)
-asks_of limit asked result old new before after sink sink_after gives = record { gains = gives.answers.asks; lasts = gives.answers.lasts; in_flight = gives.answers.in_flight }
+asks_of : (limit : ℕ) → (asked : Asked) (result : Result (Vec ColumnData) ScanError) (old new : ReadState) (befores afters : List SourceState) (sink sink_after : WriteState) → ScanGives limit (scan_of asked) result befores afters → Asks asked (world old befores sink) (world new afters sink_after)
+asks_of limit asked result old new befores afters sink sink_after gives = record { gains = gives.answers.asks; lasts = gives.answers.lasts; in_flight = gives.answers.in_flight }
 
 -- why the scan failed, but for want of memory
-abbrev WhyScanFailed : (limit : ℕ) → Asked → ScanError → SourceState → SourceState → Type 0
-WhyScanFailed limit asked error before after = Refuses (scan_of asked) error ⊎ LowestCause (scan_of asked) limit error before after
+abbrev WhyScanFailed : (limit : ℕ) → Asked → ScanError → List SourceState → List SourceState → Type 0
+WhyScanFailed limit asked error befores afters = Refuses (scan_of asked) error ⊎ LowestCause (scan_of asked) limit error befores afters
 
-cause_of : (limit : ℕ) → (asked : Asked) (error : ScanError) (before after : SourceState) → (error ≡ scan.Memory → ⊥) → (error ≡ scan.Memory) ⊎ WhyScanFailed limit asked error before after → WhyScanFailed limit asked error before after
-cause_of limit asked error before after other (inl memory) = absurd (other memory)
-cause_of limit asked error before after other (inr cause) = cause
+cause_of : (limit : ℕ) → (asked : Asked) (error : ScanError) (befores afters : List SourceState) → (error ≡ scan.Memory → ⊥) → (error ≡ scan.Memory) ⊎ WhyScanFailed limit asked error befores afters → WhyScanFailed limit asked error befores afters
+cause_of limit asked error befores afters other (inl memory) = absurd (other memory)
+cause_of limit asked error befores afters other (inr cause) = cause
+
+-- what never holds of a source holds of none of them
+no_source : (P : SourceState → SourceState → Type 0) → ((before after : SourceState) → P before after → ⊥) → (befores afters : List SourceState) → SomeSource P befores afters → ⊥
+no_source P never [] afters some = some
+no_source P never (before ∷ befores) [] some = some
+no_source P never (before ∷ befores) (after ∷ afters) (inl here) = never before after here
+no_source P never (before ∷ befores) (after ∷ afters) (inr later) = no_source P never befores afters later
 
 -- it was refused before it began
-begins_not : (limit : ℕ) → (error : ScanError) (asked : Asked) (old new : ReadState) (before after : SourceState) (sink : WriteState) → (LowestCause (scan_of asked) limit error before after → ⊥) → ReadsRequest asked old new → ScanGives limit (scan_of asked) (Err error) before after → WhyScanFailed limit asked error before after → RefusesScan error (world old before sink) (world new after sink)
-begins_not limit error asked old new before after sink never reads gives (inl refused) = record { asked = asked; reads = reads; cause = refused; source = gives.untouched refused; sink = refl }
-begins_not limit error asked old new before after sink never reads gives (inr lowest) = absurd (never lowest)
+begins_not : (limit : ℕ) → (error : ScanError) (asked : Asked) (old new : ReadState) (befores afters : List SourceState) (sink : WriteState) → (LowestCause (scan_of asked) limit error befores afters → ⊥) → ReadsRequest asked old new → ScanGives limit (scan_of asked) (Err error) befores afters → WhyScanFailed limit asked error befores afters → RefusesScan error (world old befores sink) (world new afters sink)
+begins_not limit error asked old new befores afters sink never reads gives (inl refused) = record { asked = asked; reads = reads; cause = refused; sources = gives.untouched refused; sink = refl }
+begins_not limit error asked old new befores afters sink never reads gives (inr lowest) = absurd (never lowest)
 
-lowest : (limit : ℕ) → (asked : Asked) (error : ScanError) (before after : SourceState) → (Refuses (scan_of asked) error → ⊥) → WhyScanFailed limit asked error before after → LowestCause (scan_of asked) limit error before after
-lowest limit asked error before after never (inl refused) = absurd (never refused)
-lowest limit asked error before after never (inr cause) = cause
+lowest : (limit : ℕ) → (asked : Asked) (error : ScanError) (befores afters : List SourceState) → (Refuses (scan_of asked) error → ⊥) → WhyScanFailed limit asked error befores afters → LowestCause (scan_of asked) limit error befores afters
+lowest limit asked error befores afters never (inl refused) = absurd (never refused)
+lowest limit asked error befores afters never (inr cause) = cause
 
-fails : (limit : ℕ) → (error : ScanError) (asked : Asked) (old new : ReadState) (before after : SourceState) (sink : WriteState) → (error ≡ scan.Memory → ⊥) → (Refuses (scan_of asked) error → ⊥) → ReadsRequest asked old new → ScanGives limit (scan_of asked) (Err error) before after → FailsToScan limit error (world old before sink) (world new after sink)
-fails limit error asked old new before after sink other never reads gives = record {
+fails : (limit : ℕ) → (error : ScanError) (asked : Asked) (old new : ReadState) (befores afters : List SourceState) (sink : WriteState) → (error ≡ scan.Memory → ⊥) → (Refuses (scan_of asked) error → ⊥) → ReadsRequest asked old new → ScanGives limit (scan_of asked) (Err error) befores afters → FailsToScan limit error (world old befores sink) (world new afters sink)
+fails limit error asked old new befores afters sink other never reads gives = record {
   not_memory = other;
   asked = asked;
   reads = reads;
-  asks = asks_of limit asked (Err error) old new before after sink sink gives;
-  cause = lowest limit asked error before after never (cause_of limit asked error before after other gives.answers.cause);
+  asks = asks_of limit asked (Err error) old new befores afters sink sink gives;
+  cause = lowest limit asked error befores afters never (cause_of limit asked error befores afters other gives.answers.cause);
   invalid = λ file told valid quiet. other (gives.answers.complete file told valid quiet);
   sink = refl;
 }
 
-pub scan_failed : (limit : ℕ) → (error : ScanError) (asked : Asked) (old new : ReadState) (before after : SourceState) (sink : WriteState) → ReadsRequest asked old new → ScanGives limit (scan_of asked) (Err error) before after → Ends limit (scan_ending error) (world old before sink) (world new after sink)
-scan_failed limit scan.OutOfRange asked old new before after sink reads gives = begins_not limit scan.OutOfRange asked old new before after sink (λ lowest. lowest.cause) reads gives (cause_of limit asked scan.OutOfRange before after (λ e. absurd cc) gives.answers.cause)
-scan_failed limit scan.OffsetOverflow asked old new before after sink reads gives = begins_not limit scan.OffsetOverflow asked old new before after sink (λ lowest. lowest.cause) reads gives (cause_of limit asked scan.OffsetOverflow before after (λ e. absurd cc) gives.answers.cause)
-scan_failed limit scan.BadProjection asked old new before after sink reads gives = fails limit scan.BadProjection asked old new before after sink (λ e. absurd cc) (λ unbound. unbound (projection_is_bound reads.bytes asked reads.are)) reads gives
-scan_failed limit (scan.Unsupported list) asked old new before after sink reads gives = fails limit (scan.Unsupported list) asked old new before after sink (λ e. absurd cc) (λ never. never) reads gives
-scan_failed limit (scan.NoLocation segment) asked old new before after sink reads gives = fails limit (scan.NoLocation segment) asked old new before after sink (λ e. absurd cc) (λ never. never) reads gives
-scan_failed limit scan.ReadFault asked old new before after sink reads gives = fails limit scan.ReadFault asked old new before after sink (λ e. absurd cc) (λ never. never) reads gives
-scan_failed limit scan.Stalled asked old new before after sink reads gives = fails limit scan.Stalled asked old new before after sink (λ e. absurd cc) (λ never. never) reads gives
-scan_failed limit (scan.BadSegment segment) asked old new before after sink reads gives = fails limit (scan.BadSegment segment) asked old new before after sink (λ e. absurd cc) (λ never. never) reads gives
-scan_failed limit (scan.BadCode take row) asked old new before after sink reads gives = fails limit (scan.BadCode take row) asked old new before after sink (λ e. absurd cc) (λ never. never) reads gives
-scan_failed limit (scan.EvalFault row) asked old new before after sink reads gives = fails limit (scan.EvalFault row) asked old new before after sink (λ e. absurd cc) (λ never. never) reads gives
-scan_failed limit scan.Memory asked old new before after sink reads gives = inr (
+pub scan_failed : (limit : ℕ) → (error : ScanError) (asked : Asked) (old new : ReadState) (befores afters : List SourceState) (sink : WriteState) → ReadsRequest asked old new → ScanGives limit (scan_of asked) (Err error) befores afters → Ends limit (scan_ending error) (world old befores sink) (world new afters sink)
+scan_failed limit scan.OutOfRange asked old new befores afters sink reads gives = begins_not limit scan.OutOfRange asked old new befores afters sink (λ lowest. no_source (CausedBy (scan_of asked) limit lowest.rows scan.OutOfRange) (λ before after caused. caused) befores afters lowest.cause) reads gives (cause_of limit asked scan.OutOfRange befores afters (λ e. absurd cc) gives.answers.cause)
+scan_failed limit scan.OffsetOverflow asked old new befores afters sink reads gives = begins_not limit scan.OffsetOverflow asked old new befores afters sink (λ lowest. no_source (CausedBy (scan_of asked) limit lowest.rows scan.OffsetOverflow) (λ before after caused. caused) befores afters lowest.cause) reads gives (cause_of limit asked scan.OffsetOverflow befores afters (λ e. absurd cc) gives.answers.cause)
+scan_failed limit scan.BadProjection asked old new befores afters sink reads gives = fails limit scan.BadProjection asked old new befores afters sink (λ e. absurd cc) (λ unbound. unbound (projection_is_bound reads.bytes asked reads.are)) reads gives
+scan_failed limit (scan.Unsupported list) asked old new befores afters sink reads gives = fails limit (scan.Unsupported list) asked old new befores afters sink (λ e. absurd cc) (λ never. never) reads gives
+scan_failed limit (scan.NoLocation segment) asked old new befores afters sink reads gives = fails limit (scan.NoLocation segment) asked old new befores afters sink (λ e. absurd cc) (λ never. never) reads gives
+scan_failed limit scan.ReadFault asked old new befores afters sink reads gives = fails limit scan.ReadFault asked old new befores afters sink (λ e. absurd cc) (λ never. never) reads gives
+scan_failed limit scan.Stalled asked old new befores afters sink reads gives = fails limit scan.Stalled asked old new befores afters sink (λ e. absurd cc) (λ never. never) reads gives
+scan_failed limit (scan.BadSegment segment) asked old new befores afters sink reads gives = fails limit (scan.BadSegment segment) asked old new befores afters sink (λ e. absurd cc) (λ never. never) reads gives
+scan_failed limit (scan.BadCode take row) asked old new befores afters sink reads gives = fails limit (scan.BadCode take row) asked old new befores afters sink (λ e. absurd cc) (λ never. never) reads gives
+scan_failed limit (scan.EvalFault row) asked old new befores afters sink reads gives = fails limit (scan.EvalFault row) asked old new befores afters sink (λ e. absurd cc) (λ never. never) reads gives
+scan_failed limit scan.Memory asked old new befores afters sink reads gives = inr (
   asked,
   record {
     reads = reads;
-    asks = asks_of limit asked (Err scan.Memory) old new before after sink sink gives;
+    asks = asks_of limit asked (Err scan.Memory) old new befores afters sink sink gives;
     written = inl refl;
     faults = refl;
   },
@@ -90,62 +99,58 @@ scan_failed limit scan.Memory asked old new before after sink reads gives = inr 
 pub reads_request : (asked : Asked) (bytes : List ℕ) (old new : ReadState) → ReadsAll bytes old new → IsRequest bytes asked → ReadsRequest asked old new
 reads_request asked bytes old new reads is = record { bytes = bytes; reads = reads; are = is }
 
-front_of : (limit : ℕ) → (asked : Asked) (batches : Vec ColumnData) (old new : ReadState) (before after : SourceState) (sink sink_after : WriteState) → ScanGives limit (scan_of asked) (Ok batches) before after → (count : ℕ) → sink_after.written ≡ option_map (λ (w : List ℕ). w ++ take count (batch_lines batches.items)) sink.written → WritesFront asked (world old before sink) (world new after sink_after)
-front_of limit asked batches old new before after sink sink_after gives count is = λ file told. (batch_lines batches.items, gives.text file told, (count, is))
+front_of : (limit : ℕ) → (asked : Asked) (batches : Vec ColumnData) (old new : ReadState) (befores afters : List SourceState) (sink sink_after : WriteState) → ScanGives limit (scan_of asked) (Ok batches) befores afters → (count : ℕ) → sink_after.written ≡ option_map (λ (w : List ℕ). w ++ take count (batch_lines batches.items)) sink.written → WritesFront asked (world old befores sink) (world new afters sink_after)
+front_of limit asked batches old new befores afters sink sink_after gives count is = λ file told. (batch_lines batches.items, gives.text file told, (count, is))
 
-pub all_written : (limit : ℕ) → (asked : Asked) (batches : Vec ColumnData) (old new : ReadState) (before after : SourceState) (sink sink_after : WriteState) → ReadsRequest asked old new → ScanGives limit (scan_of asked) (Ok batches) before after → WritingGives (Ok tt) (batch_lines batches.items) sink sink_after → Ends limit Done (world old before sink) (world new after sink_after)
-all_written limit asked batches old new before after sink sink_after reads gives written = record {
+pub all_written : (limit : ℕ) → (asked : Asked) (batches : Vec ColumnData) (old new : ReadState) (befores afters : List SourceState) (sink sink_after : WriteState) → ReadsRequest asked old new → ScanGives limit (scan_of asked) (Ok batches) befores afters → WritingGives (Ok tt) (batch_lines batches.items) sink sink_after → Ends limit Done (world old befores sink) (world new afters sink_after)
+all_written limit asked batches old new befores afters sink sink_after reads gives written = record {
   asked = asked;
   reads = reads;
-  asks = asks_of limit asked (Ok batches) old new before after sink sink_after gives;
+  asks = asks_of limit asked (Ok batches) old new befores afters sink sink_after gives;
   writes = record { text = λ file told. (batch_lines batches.items, gives.text file told, written.0); faults = written.1 };
 }
 
-pub not_written : (limit : ℕ) → (asked : Asked) (batches : Vec ColumnData) (old new : ReadState) (before after : SourceState) (sink sink_after : WriteState) → ReadsRequest asked old new → ScanGives limit (scan_of asked) (Ok batches) before after → WritingGives (Err stream.Failed) (batch_lines batches.items) sink sink_after → Ends limit WriteFault (world old before sink) (world new after sink_after)
-not_written limit asked batches old new before after sink sink_after reads gives ((count, is), rose) = record {
+pub not_written : (limit : ℕ) → (asked : Asked) (batches : Vec ColumnData) (old new : ReadState) (befores afters : List SourceState) (sink sink_after : WriteState) → ReadsRequest asked old new → ScanGives limit (scan_of asked) (Ok batches) befores afters → WritingGives (Err stream.Failed) (batch_lines batches.items) sink sink_after → Ends limit WriteFault (world old befores sink) (world new afters sink_after)
+not_written limit asked batches old new befores afters sink sink_after reads gives ((count, is), rose) = record {
   asked = asked;
   reads = reads;
-  asks = asks_of limit asked (Ok batches) old new before after sink sink_after gives;
-  front = front_of limit asked batches old new before after sink sink_after gives count is;
+  asks = asks_of limit asked (Ok batches) old new befores afters sink sink_after gives;
+  front = front_of limit asked batches old new befores afters sink sink_after gives count is;
   rose = rose;
 }
 
-pub lacks_writing : (limit : ℕ) → (asked : Asked) (batches : Vec ColumnData) (old new : ReadState) (before after : SourceState) (sink sink_after : WriteState) → ReadsRequest asked old new → ScanGives limit (scan_of asked) (Ok batches) before after → WritingGives (Err stream.Memory) (batch_lines batches.items) sink sink_after → Ends limit OutOfMemory (world old before sink) (world new after sink_after)
-lacks_writing limit asked batches old new before after sink sink_after reads gives ((count, is), same) = inr (
+pub lacks_writing : (limit : ℕ) → (asked : Asked) (batches : Vec ColumnData) (old new : ReadState) (befores afters : List SourceState) (sink sink_after : WriteState) → ReadsRequest asked old new → ScanGives limit (scan_of asked) (Ok batches) befores afters → WritingGives (Err stream.Memory) (batch_lines batches.items) sink sink_after → Ends limit OutOfMemory (world old befores sink) (world new afters sink_after)
+lacks_writing limit asked batches old new befores afters sink sink_after reads gives ((count, is), same) = inr (
   asked,
   record {
     reads = reads;
-    asks = asks_of limit asked (Ok batches) old new before after sink sink_after gives;
-    written = inr (front_of limit asked batches old new before after sink sink_after gives count is);
+    asks = asks_of limit asked (Ok batches) old new befores afters sink sink_after gives;
+    written = inr (front_of limit asked batches old new befores afters sink sink_after gives count is);
     faults = same;
   },
 )
 
--- ---- over the first source
+-- ---- over the bytes that were read
 
-pub first_scan_failed : (limit : ℕ) → (ending : Ending) (error : ScanError) (asked : Asked) (bytes : List ℕ) (old new : ReadState) (sink : WriteState) (olds news : List SourceState) → ending ≡ scan_ending error → ReadsAll bytes old new → IsRequest bytes asked → FirstOf (ScanGives limit (scan_of asked) (Err error)) olds news
-    → FirstOf (λ before after. Ends limit ending (world old before sink) (world new after sink)) olds news
-first_scan_failed limit ending error asked bytes old new sink olds news ends reads is gives =
-    first_also (ScanGives limit (scan_of asked) (Err error)) (λ before after. Ends limit ending (world old before sink) (world new after sink))
-    (λ before after gives. subst (λ (e : Ending). Ends limit e (world old before sink) (world new after sink)) (sym ends) (scan_failed limit error asked old new before after sink (reads_request asked bytes old new reads is) gives)) olds news gives
+pub scan_fails : (limit : ℕ) → (ending : Ending) (error : ScanError) (asked : Asked) (bytes : List ℕ) (old new : ReadState) (sink : WriteState) (befores afters : List SourceState) → ending ≡ scan_ending error → ReadsAll bytes old new → IsRequest bytes asked → ScanGives limit (scan_of asked) (Err error) befores afters
+    → Ends limit ending (world old befores sink) (world new afters sink)
+scan_fails limit ending error asked bytes old new sink befores afters ends reads is gives =
+    subst (λ (e : Ending). Ends limit e (world old befores sink) (world new afters sink)) (sym ends) (scan_failed limit error asked old new befores afters sink (reads_request asked bytes old new reads is) gives)
 
-pub first_written : (limit : ℕ) → (asked : Asked) (batches : Vec ColumnData) (lines bytes : List ℕ) (old new : ReadState) (sink sink_after : WriteState) (olds news : List SourceState) → lines ≡ batch_lines batches.items → ReadsAll bytes old new → IsRequest bytes asked → FirstOf (ScanGives limit (scan_of asked) (Ok batches)) olds news
-    → WritingGives (Ok tt) lines sink sink_after → FirstOf (λ before after. Ends limit Done (world old before sink) (world new after sink_after)) olds news
-first_written limit asked batches lines bytes old new sink sink_after olds news same reads is gives written =
-    first_also (ScanGives limit (scan_of asked) (Ok batches)) (λ before after. Ends limit Done (world old before sink) (world new after sink_after))
-    (λ before after gives. all_written limit asked batches old new before after sink sink_after (reads_request asked bytes old new reads is) gives (subst (λ (text : List ℕ). WritingGives (Ok tt) text sink sink_after) same written)) olds news gives
+pub rows_written : (limit : ℕ) → (asked : Asked) (batches : Vec ColumnData) (lines bytes : List ℕ) (old new : ReadState) (sink sink_after : WriteState) (befores afters : List SourceState) → lines ≡ batch_lines batches.items → ReadsAll bytes old new → IsRequest bytes asked → ScanGives limit (scan_of asked) (Ok batches) befores afters
+    → WritingGives (Ok tt) lines sink sink_after → Ends limit Done (world old befores sink) (world new afters sink_after)
+rows_written limit asked batches lines bytes old new sink sink_after befores afters same reads is gives written =
+    all_written limit asked batches old new befores afters sink sink_after (reads_request asked bytes old new reads is) gives (subst (λ (text : List ℕ). WritingGives (Ok tt) text sink sink_after) same written)
 
-pub first_not_written : (limit : ℕ) → (asked : Asked) (batches : Vec ColumnData) (lines bytes : List ℕ) (old new : ReadState) (sink sink_after : WriteState) (olds news : List SourceState) → lines ≡ batch_lines batches.items → ReadsAll bytes old new → IsRequest bytes asked → FirstOf (ScanGives limit (scan_of asked) (Ok batches)) olds news
-    → WritingGives (Err stream.Failed) lines sink sink_after → FirstOf (λ before after. Ends limit WriteFault (world old before sink) (world new after sink_after)) olds news
-first_not_written limit asked batches lines bytes old new sink sink_after olds news same reads is gives written =
-    first_also (ScanGives limit (scan_of asked) (Ok batches)) (λ before after. Ends limit WriteFault (world old before sink) (world new after sink_after))
-    (λ before after gives. not_written limit asked batches old new before after sink sink_after (reads_request asked bytes old new reads is) gives (subst (λ (text : List ℕ). WritingGives (Err stream.Failed) text sink sink_after) same written)) olds news gives
+pub rows_not_written : (limit : ℕ) → (asked : Asked) (batches : Vec ColumnData) (lines bytes : List ℕ) (old new : ReadState) (sink sink_after : WriteState) (befores afters : List SourceState) → lines ≡ batch_lines batches.items → ReadsAll bytes old new → IsRequest bytes asked → ScanGives limit (scan_of asked) (Ok batches) befores afters
+    → WritingGives (Err stream.Failed) lines sink sink_after → Ends limit WriteFault (world old befores sink) (world new afters sink_after)
+rows_not_written limit asked batches lines bytes old new sink sink_after befores afters same reads is gives written =
+    not_written limit asked batches old new befores afters sink sink_after (reads_request asked bytes old new reads is) gives (subst (λ (text : List ℕ). WritingGives (Err stream.Failed) text sink sink_after) same written)
 
-pub first_lacks_writing : (limit : ℕ) → (asked : Asked) (batches : Vec ColumnData) (lines bytes : List ℕ) (old new : ReadState) (sink sink_after : WriteState) (olds news : List SourceState) → lines ≡ batch_lines batches.items → ReadsAll bytes old new → IsRequest bytes asked → FirstOf (ScanGives limit (scan_of asked) (Ok batches)) olds news
-    → WritingGives (Err stream.Memory) lines sink sink_after → FirstOf (λ before after. Ends limit OutOfMemory (world old before sink) (world new after sink_after)) olds news
-first_lacks_writing limit asked batches lines bytes old new sink sink_after olds news same reads is gives written =
-    first_also (ScanGives limit (scan_of asked) (Ok batches)) (λ before after. Ends limit OutOfMemory (world old before sink) (world new after sink_after))
-    (λ before after gives. lacks_writing limit asked batches old new before after sink sink_after (reads_request asked bytes old new reads is) gives (subst (λ (text : List ℕ). WritingGives (Err stream.Memory) text sink sink_after) same written)) olds news gives
+pub rows_lack_memory : (limit : ℕ) → (asked : Asked) (batches : Vec ColumnData) (lines bytes : List ℕ) (old new : ReadState) (sink sink_after : WriteState) (befores afters : List SourceState) → lines ≡ batch_lines batches.items → ReadsAll bytes old new → IsRequest bytes asked → ScanGives limit (scan_of asked) (Ok batches) befores afters
+    → WritingGives (Err stream.Memory) lines sink sink_after → Ends limit OutOfMemory (world old befores sink) (world new afters sink_after)
+rows_lack_memory limit asked batches lines bytes old new sink sink_after befores afters same reads is gives written =
+    lacks_writing limit asked batches old new befores afters sink sink_after (reads_request asked bytes old new reads is) gives (subst (λ (text : List ℕ). WritingGives (Err stream.Memory) text sink sink_after) same written)
 
 -- ---- completeness
 
@@ -183,20 +188,20 @@ refusal_invalid error bytes file before after told refuses valid =
     let same : valid.1.0 ≡ refuses.asked = same_request bytes valid.1.0 refuses.asked valid.1.1 is in
     refused_invalid (file_leaves file refuses.asked.locations) (scan_of refuses.asked) error (subst (λ (a : Asked). IsValidScan (file_leaves file a.locations) (scan_of a)) same valid.1.2) refuses.cause
 
-gives_invalid : (limit : ℕ) → (error : ScanError) (bytes file : List ℕ) (before after : World) → before.request.rest ≡ Some bytes → before.source.file ≡ Some file → FailsToScan limit error before after → IsValid bytes file → IsQuiet limit before.source after.source → ⊥
+gives_invalid : (limit : ℕ) → (error : ScanError) (bytes file : List ℕ) (before after : World) → before.request.rest ≡ Some bytes → AllTell file before.sources → FailsToScan limit error before after → IsValid bytes file → EachSource (IsQuiet limit) before.sources after.sources → ⊥
 gives_invalid limit error bytes file before after told file_told gives valid quiet =
     let is : IsRequest bytes gives.asked = told_bytes (λ b. IsRequest b gives.asked) bytes before.request after.request told gives.reads in
     let same : valid.1.0 ≡ gives.asked = same_request bytes valid.1.0 gives.asked valid.1.1 is in
     gives.invalid file file_told (subst (λ (a : Asked). IsValidScan (file_leaves file a.locations) (scan_of a)) same valid.1.2) quiet
 
-lacking_invalid : (limit : ℕ) → (error : ScanError) (bytes file : List ℕ) (before after : World) → before.request.rest ≡ Some bytes → before.source.file ≡ Some file → ScanFails limit error before after → IsValid bytes file → IsQuiet limit before.source after.source → ⊥
+lacking_invalid : (limit : ℕ) → (error : ScanError) (bytes file : List ℕ) (before after : World) → before.request.rest ≡ Some bytes → AllTell file before.sources → ScanFails limit error before after → IsValid bytes file → EachSource (IsQuiet limit) before.sources after.sources → ⊥
 lacking_invalid limit scan.OutOfRange bytes file before after told file_told lacks valid quiet = refusal_invalid scan.OutOfRange bytes file before after told lacks valid
 lacking_invalid limit scan.OffsetOverflow bytes file before after told file_told lacks valid quiet = refusal_invalid scan.OffsetOverflow bytes file before after told lacks valid
 lacking_invalid limit error bytes file before after told file_told lacks valid quiet = gives_invalid limit error bytes file before after told file_told lacks valid quiet
 
 -- a run over a valid request and file, without fault or stall, is done or out of memory
-ends_well : (limit : ℕ) → (ending : Ending) (bytes file : List ℕ) (before after : World) → before.request.rest ≡ Some bytes → before.source.file ≡ Some file → Ends limit ending before after → IsValid bytes file
-    → (Rose before.request.faults after.request.faults → ⊥) → IsQuiet limit before.source after.source → (Rose before.sink.faults after.sink.faults → ⊥) → (ending ≡ Done) ⊎ (ending ≡ OutOfMemory)
+ends_well : (limit : ℕ) → (ending : Ending) (bytes file : List ℕ) (before after : World) → before.request.rest ≡ Some bytes → AllTell file before.sources → Ends limit ending before after → IsValid bytes file
+    → (Rose before.request.faults after.request.faults → ⊥) → EachSource (IsQuiet limit) before.sources after.sources → (Rose before.sink.faults after.sink.faults → ⊥) → (ending ≡ Done) ⊎ (ending ≡ OutOfMemory)
 ends_well limit Done bytes file before after told file_told ends valid request quiet sink = inl refl
 ends_well limit OutOfMemory bytes file before after told file_told ends valid request quiet sink = inr refl
 ends_well limit RequestTooLarge bytes file before after told file_told ends valid request quiet sink =
@@ -219,36 +224,31 @@ well_known status ending is (inr out) = inr (is ∙ ap status_of out)
 pub serves_complete : (limit : ℕ) → (status : ℕ) (before after : World) → Serves limit status before after → IsComplete limit status before after
 serves_complete limit status before after serves = by before.request.rest refl
   where
-    by : (rest : Option (List ℕ)) → before.request.rest ≡ rest → IfSome rest (λ bytes. WhereTold before.source (λ file. IsValid bytes file
-        → (Rose before.request.faults after.request.faults → ⊥) → IsQuiet limit before.source after.source → (Rose before.sink.faults after.sink.faults → ⊥) → (status ≡ 0) ⊎ (status ≡ 70)))
+    by : (rest : Option (List ℕ)) → before.request.rest ≡ rest → IfSome rest (λ bytes. WhereAllTell before.sources (λ file. IsValid bytes file
+        → (Rose before.request.faults after.request.faults → ⊥) → EachSource (IsQuiet limit) before.sources after.sources → (Rose before.sink.faults after.sink.faults → ⊥) → (status ≡ 0) ⊎ (status ≡ 70)))
     by None told = tt
     by (Some bytes) told = λ file file_told valid request quiet sink. well_known status serves.ending serves.is (ends_well limit serves.ending bytes file before after told file_told serves.ends valid request quiet sink)
 
 -- ---- the first of the sources
 
-pub first_whole : {S : Type 0} (f : S → SourceState) (P : SourceState → SourceState → Type 0) (xs first ys rest : List S) → first ≡ take 1 xs → FirstOf P (map f first) (map f ys) → FirstOf P (map f xs) (map f (ys ++ rest))
-first_whole {S} f P xs first ys rest is holds = by xs ys (subst (λ (zs : List S). FirstOf P (map f zs) (map f ys)) is holds)
-  where
-    by : (xs ys : List S) → FirstOf P (map f (take 1 xs)) (map f ys) → FirstOf P (map f xs) (map f (ys ++ rest))
-    by [] ys h = absurd h
-    by (x ∷ xs) [] h = absurd h
-    by (x ∷ xs) (y ∷ ys) h = h
+-- the first so many, where those were lent apart
+pub first_whole : {S : Type 0} (f : S → SourceState) (count : ℕ) (xs first : List S) → first ≡ take count xs → map f first ≡ take count (map f xs)
+first_whole {S} f count xs first is = ap (λ (ys : List S). map f ys) is ∙ sym (take-map f count xs)
 
-pub rest_same : {S : Type 0} (f : S → SourceState) (xs ys rest : List S) → length ys ≡ 1 → rest ≡ drop 1 xs → drop 1 (map f (ys ++ rest)) ≡ drop 1 (map f xs)
-rest_same {S} f xs ys rest one is = by ys one ∙ ap (λ (zs : List S). map f zs) is ∙ dropped xs
-  where
-    by : (ys : List S) → length ys ≡ 1 → drop 1 (map f (ys ++ rest)) ≡ map f rest
-    by [] one = absurd cc
-    by (y ∷ []) one = refl
-    by (y ∷ z ∷ ys) one = absurd (omega (arith, one))
+-- those that came back, before the others
+pub first_back : {S : Type 0} (f : S → SourceState) (count : ℕ) (ys rest : List S) → length ys ≡ count → map f ys ≡ take count (map f (ys ++ rest))
+first_back {S} f count ys rest are = sym (take-map f count (ys ++ rest) ∙ ap (λ (zs : List S). map f zs) (ap (λ (n : ℕ). take n (ys ++ rest)) (sym are) ∙ take-append_seam ys rest))
 
-    dropped : (xs : List S) → map f (drop 1 xs) ≡ drop 1 (map f xs)
-    dropped [] = refl
-    dropped (x ∷ xs) = refl
+pub rest_same : {S : Type 0} (f : S → SourceState) (count : ℕ) (xs ys rest : List S) → length ys ≡ count → rest ≡ drop count xs → drop count (map f (ys ++ rest)) ≡ drop count (map f xs)
+rest_same {S} f count xs ys rest are is =
+    drop-map f count (ys ++ rest) ∙ ap (λ (zs : List S). map f zs) (ap (λ (n : ℕ). drop n (ys ++ rest)) (sym are) ∙ drop-append_seam ys rest ∙ is) ∙ sym (drop-map f count xs)
+
+-- a run over such lists of sources
+pub ends_alike : (limit : ℕ) → (ending : Ending) (old new : ReadState) (sink sink_after : WriteState) (befores befores_too afters afters_too : List SourceState) → befores ≡ befores_too → afters ≡ afters_too → Ends limit ending (world old befores sink) (world new afters sink_after) → Ends limit ending (world old befores_too sink) (world new afters_too sink_after)
+ends_alike limit ending old new sink sink_after befores befores_too afters afters_too same same_after ends =
+    subst (λ (sources : List SourceState). Ends limit ending (world old befores_too sink) (world new sources sink_after)) same_after
+    (subst (λ (sources : List SourceState). Ends limit ending (world old sources sink) (world new afters sink_after)) same ends)
 
 -- a run that ends so serves with the status of its ending
-pub serves_so : (limit : ℕ) → (status : ℕ) (ending : Ending) (old new : ReadState) (sink sink_after : WriteState) → status ≡ status_of ending → ReadsPieces old new → (before after : SourceState) → Ends limit ending (world old before sink) (world new after sink_after) → Serves limit status (world old before sink) (world new after sink_after)
-serves_so limit status ending old new sink sink_after is pieces before after ends = record { ending = ending; is = is; ends = ends; pieces = pieces }
-
-pub first_complete : (limit : ℕ) → (status : ℕ) (ending : Ending) (old new : ReadState) (sink sink_after : WriteState) → status ≡ status_of ending → ReadsPieces old new → (before after : SourceState) → Ends limit ending (world old before sink) (world new after sink_after) → IsComplete limit status (world old before sink) (world new after sink_after)
-first_complete limit status ending old new sink sink_after is pieces before after ends = serves_complete limit status (world old before sink) (world new after sink_after) (serves_so limit status ending old new sink sink_after is pieces before after ends)
+pub serves_so : (limit : ℕ) → (status : ℕ) (ending : Ending) (before after : World) → status ≡ status_of ending → ReadsPieces before.request after.request → Ends limit ending before after → Serves limit status before after
+serves_so limit status ending before after is pieces ends = record { ending = ending; is = is; ends = ends; pieces = pieces }

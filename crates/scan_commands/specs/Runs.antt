@@ -4,10 +4,11 @@ use Rattle.std.specs.Prelude.{◌≡◌, ◌≢◌, ℕ, ◌≤◌, ◌⊎◌, �
 use Rattle.vx_base.specs.Sources.{SourceState, Rose}
 use Rattle.vx_base.specs.Streams.{ReadState, WriteState}
 use Rattle.vx_layout.specs.Rows.{file_leaves}
-use Rattle.vx_scan.specs.Asks.{Lasts}
+use Rattle.vx_scan.specs.Asks.{IsLeftClear, Lasts}
 use Rattle.vx_scan.specs.Beginning.{Refuses}
-use Rattle.vx_scan.specs.Plans.{WhereTold, IsQuiet}
-use Rattle.vx_scan.specs.Scanned.{Gains, LowestCause}
+use Rattle.vx_scan.specs.Lent.{EachSource, WhereAllTell}
+use Rattle.vx_scan.specs.Plans.{IsQuiet}
+use Rattle.vx_scan.specs.Scanned.{GainsOver, LowestCause}
 use Rattle.vx_scan.specs.Valid.{IsValidScan}
 use Rattle.vx_scan.specs.declared.errors.ScanError.{ScanError}
 use Rattle.vx_scan.specs.declared.errors.ScanError.TheVariants.{OutOfRange, OffsetOverflow, Memory}
@@ -20,38 +21,38 @@ use Rattle.scan_commands.specs.RequestForms.{Asked, IsRequest}
 use Rattle.scan_commands.specs.Scans.{scan_of, IsText}
 use Rattle.scan_commands.specs.Statuses.{done_status, memory_status}
 
--- What a run reads its request from, the source that it asks, and what it writes to.
+-- What a run reads its request from, the sources that it asks, and what it writes to.
 pub record World : Type 0 where
   pub request : ReadState
-  pub source : SourceState
+  pub sources : List SourceState
   pub sink : WriteState
 
--- the same without the source
-abbrev pub without_source : World → Desk
-without_source world = record { request = world.request; sink = world.sink }
+-- the same without the sources
+abbrev pub without_sources : World → Desk
+without_sources world = record { request = world.request; sink = world.sink }
 
 -- ---- what was asked and written
 
--- the run ended so, and the source was not asked
+-- the run ended so, and no source was asked
 abbrev pub EndsUnasked : (Desk → Desk → Type 0) → World → World → Type 0
-EndsUnasked Ended before after = Ended (without_source before) (without_source after) × (after.source ≡ before.source)
+EndsUnasked Ended before after = Ended (without_sources before) (without_sources after) × (after.sources ≡ before.sources)
 
--- The source was asked for nothing but locations of segments that the request's rows reach. Nothing is in flight, if it
--- was asked at all.
+-- The sources were asked for nothing but locations of segments that the request's rows reach. Nothing is in flight at one
+-- of them, if it was asked at all.
 pub record Asks (asked : Asked) (before after : World) : Type 0 where
-  pub gains : Gains (scan_of asked) before.source after.source
-  pub lasts : Lasts before.source after.source
-  pub in_flight : (after.source.in_flight ≡ []) ⊎ (after.source ≡ before.source)
+  pub gains : GainsOver (scan_of asked) before.sources after.sources
+  pub lasts : EachSource Lasts before.sources after.sources
+  pub in_flight : EachSource IsLeftClear before.sources after.sources
 
--- The sink gained exactly the text of the request's rows by the file.
+-- The sink gained exactly the text of the request's rows by the file that all sources tell.
 pub record Writes (asked : Asked) (before after : World) : Type 0 where
-  pub text : WhereTold before.source (λ file. (text : List ℕ) × IsText (scan_of asked) file text
+  pub text : WhereAllTell before.sources (λ file. (text : List ℕ) × IsText (scan_of asked) file text
       × (after.sink.written ≡ option_map (λ written. written ++ text) before.sink.written))
   pub faults : after.sink.faults ≡ before.sink.faults
 
 -- It gained a front of that text.
 abbrev pub WritesFront : Asked → World → World → Type 0
-WritesFront asked before after = WhereTold before.source (λ file. (text : List ℕ) × IsText (scan_of asked) file text
+WritesFront asked before after = WhereAllTell before.sources (λ file. (text : List ℕ) × IsText (scan_of asked) file text
     × ((count : ℕ) × (after.sink.written ≡ option_map (λ written. written ++ take count text) before.sink.written)))
 
 -- ---- by the ending
@@ -68,17 +69,17 @@ pub record RefusesScan (error : ScanError) (before after : World) : Type 0 where
   pub asked : Asked
   pub reads : ReadsRequest asked before.request after.request
   pub cause : Refuses (scan_of asked) error
-  pub source : after.source ≡ before.source
+  pub sources : after.sources ≡ before.sources
   pub sink : after.sink ≡ before.sink
 
--- the scan failed, for its cause, which no valid scan has without a fault or a stall of the source; nothing was written
+-- the scan failed, for its cause, which no valid scan has without a fault or a stall of a source; nothing was written
 pub record FailsToScan (limit : ℕ) (error : ScanError) (before after : World) : Type 0 where
   pub not_memory : error ≢ Memory
   pub asked : Asked
   pub reads : ReadsRequest asked before.request after.request
   pub asks : Asks asked before after
-  pub cause : LowestCause (scan_of asked) limit error before.source after.source
-  pub invalid : WhereTold before.source (λ file. IsValidScan (file_leaves file asked.locations) (scan_of asked) → IsQuiet limit before.source after.source → ⊥)
+  pub cause : LowestCause (scan_of asked) limit error before.sources after.sources
+  pub invalid : WhereAllTell before.sources (λ file. IsValidScan (file_leaves file asked.locations) (scan_of asked) → EachSource (IsQuiet limit) before.sources after.sources → ⊥)
   pub sink : after.sink ≡ before.sink
 
 -- the sink failed behind a front of the text
@@ -133,6 +134,6 @@ IsValid bytes file = (length bytes ≤ most_bytes) × ((asked : Asked) × IsRequ
 
 -- Valid input without fault or stall is answered, or memory runs out.
 abbrev pub IsComplete : ℕ → ℕ → World → World → Type 0
-IsComplete limit status before after = IfSome before.request.rest (λ bytes. WhereTold before.source (λ file. IsValid bytes file
-    → (Rose before.request.faults after.request.faults → ⊥) → IsQuiet limit before.source after.source → (Rose before.sink.faults after.sink.faults → ⊥)
+IsComplete limit status before after = IfSome before.request.rest (λ bytes. WhereAllTell before.sources (λ file. IsValid bytes file
+    → (Rose before.request.faults after.request.faults → ⊥) → EachSource (IsQuiet limit) before.sources after.sources → (Rose before.sink.faults after.sink.faults → ⊥)
     → (status ≡ done_status) ⊎ (status ≡ memory_status)))

@@ -9,7 +9,7 @@ use Rattle.vx_layout.specs.Rows.{file_leaves}
 use Rattle.vx_layout.specs.Trees.{subtree}
 use Rattle.vx_scan.specs.Answer.{FileScan, scan_rows, IsAnswer}
 use Rattle.vx_scan.specs.Beginning.{Refuses}
-use Rattle.vx_scan.specs.Plans.{WhereTold}
+use Rattle.vx_scan.specs.Lent.{WhereAllTell}
 use Rattle.vx_scan.specs.Scanned.{AnswersScan}
 use Rattle.vx_scan.specs.declared.errors.ScanError.{ScanError}
 use Rattle.scan_commands.specs.RequestForms.{Asked}
@@ -33,9 +33,9 @@ abbrev pub IsText : FileScan → List ℕ → List ℕ → Type 0
 IsText scan file text =
     (values : List Datum) × IsAnswer (file_leaves file scan.locations) scan.projection (scan_rows scan) values × (text ≡ lines scan.projection.expression.dtype values)
 
--- What scanning the source gives; the lines of the batches are the answer's. A scan that is refused before it begins leaves
--- the source alone.
-pub record ScanGives (limit : ℕ) (scan : FileScan) (result : Result (Vec ColumnData) ScanError) (before after : SourceState) : Type 0 where
-  pub answers : AnswersScan scan limit result before after
-  pub text : IfOk result (λ batches. WhereTold before (λ file. IsText scan file (batch_lines batches.items)))
-  pub untouched : IfErr result (λ error. Refuses scan error → after ≡ before)
+-- What scanning the sources gives; the lines of the batches are the answer's. A scan that is refused before it begins leaves
+-- the sources alone.
+pub record ScanGives (limit : ℕ) (scan : FileScan) (result : Result (Vec ColumnData) ScanError) (befores afters : List SourceState) : Type 0 where
+  pub answers : AnswersScan scan limit result befores afters
+  pub text : IfOk result (λ batches. WhereAllTell befores (λ file. IsText scan file (batch_lines batches.items)))
+  pub untouched : IfErr result (λ error. Refuses scan error → afters ≡ befores)

@@ -35,6 +35,7 @@ mod row_writing;
 mod runs;
 mod scan_runs;
 mod scans;
+mod side_by_side;
 mod statuses;
 mod texts_by_hand;
 mod writing;

@@ -1,7 +1,7 @@
 //! One run of the program: words, request, sources and output in, a status out.
 
-ghost use Rattle.std.specs.Prelude.{◌≡◌, ◌<◌, ◌≤◌, length, map, string_bytes};
-ghost use Rattle.scan_commands.specs.Commanded.{have_sources, Obeys, Runs, ScansFirst};
+ghost use Rattle.std.specs.Prelude.{◌≡◌, ◌<◌, ◌≤◌, length, map, string_bytes, IsTrue};
+ghost use Rattle.scan_commands.specs.Commanded.{have_sources, workers_of, Obeys, Runs, ScansBy};
 ghost use Rattle.scan_words.specs.Bounds.{IsWithinBounds};
 ghost use Rattle.scan_words.specs.Words.{command_of};
 
@@ -10,15 +10,18 @@ use crate::plan_runs::draw;
 use crate::scan_runs::serve;
 use crate::statuses::{NOT_YET, OUT_OF_MEMORY, USAGE};
 use scan_words::{Command, WordsError, words_of};
-use std::alloc::Global;
+use std::thread::Threads;
 use vx_base::{SegmentSource, Sink, Source};
 
-/// Runs the words of a command line. `scan` reads the request, scans the first source for its rows, and writes a line for
-/// each; `tree` writes the plan of a request; `demo` writes the summary of a made file; `read` isn't done yet
-/// ([`NOT_YET`]). The answer is a status of docs/ANSWERS.md: [`USAGE`] for words of no command, and for a scan by more
-/// workers than there are sources. Output is written only once all of it is known but for the writing, so that a fault
-/// before writes nothing; a fault while writing leaves a front of it.
-pub fn run<R: AllocGlobal, Q: Source, S: SegmentSource + Send, K: Sink>(
+/// How many workers a scan has where no number is said.
+const DEFAULT_WORKERS: usize = 4;
+
+/// Runs the words of a command line. `scan` reads the request, scans the sources for its rows by a worker for each of the
+/// first so many, and writes a line for each; `tree` writes the plan of a request; `demo` writes the summary of a made
+/// file; `read` isn't done yet ([`NOT_YET`]). The answer is a status of docs/ANSWERS.md: [`USAGE`] for words of no
+/// command, and for a scan by more workers than there are sources. Output is written only once all of it is known but for
+/// the writing, so that a fault before writes nothing; a fault while writing leaves a front of it.
+pub fn run<R: AllocGlobal + Threads + Sync, Q: Source, S: SegmentSource + Send, K: Sink>(
     rt: &R,
     words: &[String],
     request: &mut Q,
@@ -32,15 +35,15 @@ pub fn run<R: AllocGlobal, Q: Source, S: SegmentSource + Send, K: Sink>(
         (record { request = Q.state request.new; sources = map S.state sources.new; sink = K.state out.new }) }
 {
     match words_of(rt.alloc(), words) {
-        Ok(command) => obey(rt.alloc(), &command, request, sources, out),
+        Ok(command) => obey(rt, &command, request, sources, out),
         Err(WordsError::Usage) => USAGE,
         Err(WordsError::Memory) => OUT_OF_MEMORY,
     }
 }
 
 /// Does what a command asks.
-fn obey<Q: Source, S: SegmentSource + Send, K: Sink>(
-    alloc: Global,
+fn obey<R: AllocGlobal + Threads + Sync, Q: Source, S: SegmentSource + Send, K: Sink>(
+    rt: &R,
     command: &Command,
     request: &mut Q,
     sources: &mut [S],
@@ -57,11 +60,12 @@ fn obey<Q: Source, S: SegmentSource + Send, K: Sink>(
             if !are_enough(sources.len(), *workers) {
                 return USAGE;
             }
-            scan_first(alloc, *idle, request, sources, out)
+            let workers = worker_count(sources.len(), *workers);
+            scan_by(rt, workers, *idle, request, sources, out)
         }
         Command::Read { .. } => NOT_YET,
-        Command::Tree { .. } => draw(alloc, request, out).status(),
-        Command::Demo { number } => demonstrate(alloc, *number, out).status(),
+        Command::Tree { .. } => draw(rt.alloc(), request, out).status(),
+        Command::Demo { number } => demonstrate(rt, *number, out).status(),
     }
 }
 
@@ -75,20 +79,35 @@ fn are_enough(sources: usize, workers: Option<u64>) -> bool
     }
 }
 
-/// Serves the request from the first source, and leaves the others alone.
-fn scan_first<Q: Source, S: SegmentSource + Send, K: Sink>(
-    alloc: Global,
+/// How many workers serve: the number that is said, else four, or as many as there are sources where those are fewer.
+fn worker_count(sources: usize, workers: Option<u64>) -> usize
+    requires { IsTrue (have_sources workers sources) }
+    ensures workers { result ≡ workers_of workers sources }
+    ensures sources { result ≤ sources }
+{
+    match workers {
+        Some(workers) => workers as usize,
+        None => sources.min(DEFAULT_WORKERS),
+    }
+}
+
+/// Serves the request from the first so many sources, and leaves the others alone.
+fn scan_by<R: AllocGlobal + Threads + Sync, Q: Source, S: SegmentSource + Send, K: Sink>(
+    rt: &R,
+    workers: usize,
     idle_limit: u64,
     request: &mut Q,
     sources: &mut [S],
     out: &mut K,
 ) -> u8
     requires limit { 0 < idle_limit }
-    requires some { 0 < length sources.old }
-    ensures { ScansFirst idle_limit result
+    requires some { 0 < workers }
+    requires few { workers ≤ 64 }
+    requires sources { workers ≤ length sources.old }
+    ensures { ScansBy workers idle_limit result
         (record { request = Q.state request.old; sources = map S.state sources.old; sink = K.state out.old })
         (record { request = Q.state request.new; sources = map S.state sources.new; sink = K.state out.new }) }
 {
-    let (first, _others) = sources.split_at_mut(1);
-    serve(alloc, idle_limit, request, first, out).status()
+    let (own, _others) = sources.split_at_mut(workers);
+    serve(rt, idle_limit, request, own, out).status()
 }

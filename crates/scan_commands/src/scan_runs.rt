@@ -1,36 +1,36 @@
 //! A run that scans: a request is read, its rows are scanned, and their lines are written.
 
-ghost use Rattle.std.specs.Prelude.{◌≡◌, ◌<◌, length, map};
-ghost use Rattle.vx_scan.specs.Scanned.{FirstOf};
+ghost use Rattle.std.specs.Prelude.{◌<◌, ◌≤◌, length, map};
 ghost use Rattle.scan_commands.specs.Reading.{ReadsPieces};
 ghost use Rattle.scan_commands.specs.Runs.{Ends};
 
 use crate::endings::{Ending, of_request, of_scan};
 use crate::request_forms::request_of;
 use crate::requests::{ReadingError, read_request};
-use crate::row_writing::write_batches;
 use crate::scans::batches_of;
-use std::alloc::Global;
+use crate::side_by_side::write_by;
+use std::thread::Threads;
 use vx_base::{SegmentSource, Sink, Source, StreamError};
 
-/// Reads the request, scans the source for its rows, and writes a line for each, once all rows are known: a fault of the
-/// scan writes nothing, and one while writing leaves a front of the lines. The source may answer as often as the idle
+/// Reads the request, scans the sources for its rows, and writes a line for each, once all rows are known: a fault of the
+/// scan writes nothing, and one while writing leaves a front of the lines. A source may answer as often as the idle
 /// limit that a read goes on, from one completion to the next.
-pub(crate) fn serve<Q: Source, S: SegmentSource + Send, K: Sink>(
-    alloc: Global,
+pub(crate) fn serve<R: AllocGlobal + Threads + Sync, Q: Source, S: SegmentSource + Send, K: Sink>(
+    rt: &R,
     idle_limit: u64,
     request: &mut Q,
     sources: &mut [S],
     out: &mut K,
 ) -> Ending
     requires limit { 0 < idle_limit }
-    requires one { length sources.old ≡ 1 }
+    requires some { 0 < length sources.old }
+    requires few { length sources.old ≤ 64 }
     ensures pieces { ReadsPieces (Q.state request.old) (Q.state request.new) }
-    ensures ends { FirstOf (λ old new. Ends idle_limit result
-        (record { request = Q.state request.old; source = old; sink = K.state out.old })
-        (record { request = Q.state request.new; source = new; sink = K.state out.new }))
-        (map S.state sources.old) (map S.state sources.new) }
+    ensures ends { Ends idle_limit result
+        (record { request = Q.state request.old; sources = map S.state sources.old; sink = K.state out.old })
+        (record { request = Q.state request.new; sources = map S.state sources.new; sink = K.state out.new }) }
 {
+    let alloc = rt.alloc();
     let bytes = match read_request(alloc, request) {
         Ok(bytes) => bytes,
         Err(ReadingError::TooLarge) => return Ending::RequestTooLarge,
@@ -41,11 +41,11 @@ pub(crate) fn serve<Q: Source, S: SegmentSource + Send, K: Sink>(
         Ok(request) => request,
         Err(error) => return of_request(&error),
     };
-    let batches = match batches_of(alloc, request, idle_limit, sources) {
+    let batches = match batches_of(rt, alloc, request, idle_limit, sources) {
         Ok(batches) => batches,
         Err(error) => return of_scan(error),
     };
-    match write_batches(alloc, out, &batches) {
+    match write_by(rt, alloc, out, &batches, sources.len()) {
         Ok(()) => Ending::Done,
         Err(StreamError::Failed) => Ending::WriteFault,
         Err(StreamError::Memory) => Ending::OutOfMemory,

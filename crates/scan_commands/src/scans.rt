@@ -2,32 +2,34 @@
 
 ghost use Rattle.std.specs.Prelude.{◌≡◌, ◌<◌, ◌≤◌, IfOk, length, map};
 ghost use Rattle.vx_scan.specs.Builders.{scan_of as built_scan};
-ghost use Rattle.vx_scan.specs.Scanned.{FirstOf};
 ghost use Rattle.scan_commands.specs.JsonForms.{most_items};
 ghost use Rattle.scan_commands.specs.RequestViews.{asked_of};
 ghost use Rattle.scan_commands.specs.Scans.{scan_of, ScanGives};
 
 use crate::request_forms::Request;
 use std::alloc::{AllocError, Global};
+use std::thread::Threads;
 use vx_base::{Column, SegmentSource};
 use vx_scan::{ScanBuilder, ScanError, pieces_are_the_answer};
 
-/// The rows of a request, read from the source: a column for each chunk, in the order of the rows. The source may answer
-/// as often as the idle limit that a read goes on, from one completion to the next.
-pub(crate) fn batches_of<S: SegmentSource + Send>(
+/// The rows of a request, read from the sources by a worker for each: a column for each chunk, in the order of the rows. A
+/// source may answer as often as the idle limit that a read goes on, from one completion to the next.
+pub(crate) fn batches_of<R: Threads + Sync, S: SegmentSource + Send>(
+    rt: &R,
     alloc: Global,
     request: Request,
     idle_limit: u64,
     sources: &mut [S],
 ) -> Result<Vec<Column>, ScanError>
     requires limit { 0 < idle_limit }
-    requires one { length sources.old ≡ 1 }
+    requires some { 0 < length sources.old }
+    requires workers { length sources.old ≤ 64 }
     requires few { length request.file.locations.items ≤ most_items }
-    ensures { FirstOf (ScanGives idle_limit (scan_of (asked_of request)) result) (map S.state sources.old) (map S.state sources.new) }
+    ensures { ScanGives idle_limit (scan_of (asked_of request)) result (map S.state sources.old) (map S.state sources.new) }
 {
     pieces_are_the_answer();
     match builder_of(alloc, request, idle_limit) {
-        Ok(builder) => builder.into_batches(alloc, sources),
+        Ok(builder) => builder.into_batches(rt, alloc, sources),
         Err(_) => Err(ScanError::Memory),
     }
 }

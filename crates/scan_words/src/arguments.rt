@@ -1,10 +1,11 @@
 //! What the texts that `clap` holds of a command ask of the program.
 
-ghost use Rattle.std.specs.Prelude.{◌≡◌, ◌<◌, IfOk, option_map};
+ghost use Rattle.std.specs.Prelude.{◌≡◌, ◌<◌, IfOk, IfSome, option_map};
 ghost use Rattle.clap.specs.Words.{first_of};
 ghost use Rattle.scan_words.specs.Answers.{Answers};
-ghost use Rattle.scan_words.specs.Bounds.{IsWithinBounds};
+ghost use Rattle.scan_words.specs.Bounds.{IsWithinBounds, LiesBetween};
 ghost use Rattle.scan_words.specs.Grammar.{rows_in};
+ghost use Rattle.scan_words.specs.Limits.{most_workers};
 ghost use Rattle.scan_words.specs.Words.{demo_command, idle_limit, has_flag, read_command, scan_command, split_choice, tree_command, worker_count};
 
 use crate::commands::{Command, WordsError};
@@ -88,7 +89,8 @@ pub fn demo_of(matches: &ArgMatches<'_>) -> Result<Command, WordsError>
 /// The number of workers, where one is said.
 #[tactic(auto, unfolding(crate::specs::Words::worker_count))]
 fn workers_in(matches: &ArgMatches<'_>) -> Result<Option<u64>, WordsError>
-    ensures { Answers (worker_count (rows_in matches.now)) result }
+    ensures count { Answers (worker_count (rows_in matches.now)) result }
+    ensures bounds { IfOk result (λ workers. IfSome workers (LiesBetween 1 most_workers)) }
 {
     let Some(text) = text_in(matches, "workers") else {
         return Ok(None);
