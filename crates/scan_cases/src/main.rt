@@ -3,12 +3,18 @@
 //! A line that has no answer is printed as it is. The commands stand in `README.md`.
 #![tactic(auto)]
 
+mod demo_scans;
 mod fields;
+mod gates;
 mod outcomes;
+mod runs;
 
+use demo_scans::demo_rows;
+use gates::gate_outcome;
 use outcomes::outcome;
 use scan_commands::status_text;
 use std::io;
+use std::thread::Threads;
 
 fn main(rt: HostRuntime) -> io::Result<()> {
     let alloc = rt.alloc();
@@ -27,13 +33,18 @@ fn main(rt: HostRuntime) -> io::Result<()> {
 }
 
 /// The answer to a line that has one, where the line `file` tells the file.
-fn answer<R: AllocGlobal>(rt: &R, file: &str, line: &str) -> Option<String> {
+fn answer<R: AllocGlobal + Threads + Sync>(rt: &R, file: &str, line: &str) -> Option<String> {
     let (command, rest) = line.split_once(' ')?;
     match command {
         "run" => {
             let (options, request) = rest.split_once('|')?;
             outcome(rt, file, options, request.trim())
         }
+        "gate" => {
+            let (options, request) = rest.split_once('|')?;
+            gate_outcome(rt, file, options, request.trim())
+        }
+        "demo_rows" => demo_rows(rt, rest),
         "status" => {
             let status = rest.parse::<u8>().ok()?;
             String::from_str(rt.alloc(), status_text(status)).ok()

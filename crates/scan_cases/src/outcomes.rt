@@ -1,92 +1,64 @@
 //! A run over memory, and what it left behind.
 
-ghost use Rattle.std.specs.Prelude.{◌<◌, ◌≤◌, length};
-
-use crate::fields::{bytes_of, list, number, option, words_of};
-use scan_commands::{run, status_text};
+use crate::fields::{number, option};
+use crate::runs::{Ran, run_once};
+use scan_commands::status_text;
 use std::alloc::{AllocError, Global};
-use vx_base::{BytesSink, BytesSource, Script, ScriptSource};
-
-/// The bytes of a text: what stands behind a `~` is repeated.
-fn repeated_bytes(alloc: Global, text: &str, times: usize) -> Option<Vec<u8>> {
-    let (front, again) = text.split_once('~').unwrap_or((text, ""));
-    let mut bytes = bytes_of(alloc, front)?;
-    let again = bytes_of(alloc, again)?;
-    for _time in 0..times {
-        bytes.extend_from_slice(&again).ok()?;
-    }
-    Some(bytes)
-}
-
-/// A source of the file that keeps to the script of the options.
-fn source_of(alloc: Global, file: &str, options: &str) -> Option<ScriptSource> {
-    let fail_requests = list(alloc, options, "request_fails")?;
-    let fail_polls = list(alloc, options, "poll_fails")?;
-    let waits = list(alloc, options, "waits")?;
-    let order = list(alloc, options, "order")?;
-    let script = Script {
-        fail_requests,
-        fail_polls,
-        waits,
-        order,
-    };
-    let (_, text) = file.split_once(' ').unwrap_or((file, ""));
-    let bytes = repeated_bytes(alloc, text, number(options, "file_times", 0))?;
-    Some(ScriptSource::new(alloc, bytes, script))
-}
+use std::thread::Threads;
+use vx_base::ScriptSource;
 
 /// Runs a request over sources of a file, and says what came of it.
-pub(crate) fn outcome<R: AllocGlobal>(
+pub(crate) fn outcome<R: AllocGlobal + Threads + Sync>(
     rt: &R,
     file: &str,
     options: &str,
     request: &str,
 ) -> Option<String> {
-    let alloc = rt.alloc();
-    let mut sources = Vec::new(alloc);
-    for _source in 0..number(options, "sources", 1) {
-        let source = source_of(alloc, file, options)?;
-        sources.push(source).ok()?;
+    let words = option(options, "words").unwrap_or("scan,s,r");
+    let count = number(options, "sources", 1);
+    let first = run_once(rt, file, options, words, count, request)?;
+    let mut report = report_of(rt.alloc(), options, &first).ok()?;
+    if !has_own(options) && !is_same(rt, file, options, request, &first)? {
+        report.push_str("; but not by several workers").ok()?;
     }
-    if sources.is_empty() || sources.len() > 64 {
-        return None;
-    }
-    ran(rt, sources.as_mut_slice(), options, request)
+    Some(report)
 }
 
-/// Runs a request over sources, and says what came of it.
-fn ran<R: AllocGlobal>(
+/// Whether the line has words of its own, or says what its source does: such a line isn't run by several workers besides.
+fn has_own(options: &str) -> bool {
+    for word in options.split_whitespace() {
+        let (name, _) = word.split_once('=').unwrap_or((word, ""));
+        if !matches!(
+            name,
+            "reads" | "writes" | "file_times" | "brief" | "write_fails" | "read_fails"
+        ) {
+            return true;
+        }
+    }
+    false
+}
+
+/// Whether the run comes to the same with one, two and four workers, ordered and not.
+fn is_same<R: AllocGlobal + Threads + Sync>(
     rt: &R,
-    sources: &mut [ScriptSource],
+    file: &str,
     options: &str,
     request: &str,
-) -> Option<String>
-    requires some { 0 < length sources.old }
-    requires few { length sources.old ≤ 64 }
-{
-    let alloc = rt.alloc();
-    let words = words_of(alloc, option(options, "words").unwrap_or("scan,s,r"))?;
-    let bytes = repeated_bytes(alloc, request, number(options, "times", 0))?;
-    let reads = number(options, "reads", usize::MAX).max(1);
-    let fails = list(alloc, options, "read_fails")?;
-    let mut request = BytesSource::new(alloc, bytes, reads, fails);
-    let writes = number(options, "writes", usize::MAX).max(1);
-    let fails = list(alloc, options, "write_fails")?;
-    let mut out = BytesSink::new(alloc, writes, fails);
-    let status = run(rt, &words, &mut request, sources, &mut out);
-    let text = match option(options, "brief") {
-        Some(_) => brief_text(alloc, out.written()),
-        None => whole_text(alloc, out.written()),
-    };
-    report_of(
-        alloc,
-        status,
-        &text.ok()?,
-        request.faults(),
-        out.faults(),
-        sources,
-    )
-    .ok()
+    first: &Ran,
+) -> Option<bool> {
+    for words in [
+        "scan,s,r,--workers,1,--unordered",
+        "scan,s,r,--workers,2",
+        "scan,s,r,--workers,2,--unordered",
+        "scan,s,r,--workers,4",
+        "scan,s,r,--unordered",
+    ] {
+        let again = run_once(rt, file, options, words, 4, request)?;
+        if again.status != first.status || again.out.written() != first.out.written() {
+            return Some(false);
+        }
+    }
+    Some(true)
 }
 
 /// What was written, whole.
@@ -105,21 +77,46 @@ fn brief_text(alloc: Global, written: &[u8]) -> Result<String, AllocError> {
     format!(in alloc; "{count} bytes of sum {sum}")
 }
 
-/// The status, what was written, the faults of the request and of the sink, and of each source the ranges that
-/// it was asked for, its faults, and how often a poll found nothing.
-fn report_of(
-    alloc: Global,
-    status: u8,
-    written: &String,
-    faults: u64,
-    more: u64,
-    sources: &[ScriptSource],
-) -> Result<String, AllocError> {
-    let text = status_text(status);
+/// The status, what was written, the faults of the request and of the sink, and what the sources were asked.
+fn report_of(alloc: Global, options: &str, ran: &Ran) -> Result<String, AllocError> {
+    let written = match option(options, "brief") {
+        Some(_) => brief_text(alloc, ran.out.written())?,
+        None => whole_text(alloc, ran.out.written())?,
+    };
+    let (status, text) = (ran.status, status_text(ran.status));
+    let (faults, more) = (ran.request.faults(), ran.out.faults());
     let mut report = format!(in alloc; "{status} {text}, wrote {written}, faults {faults} {more}")?;
+    match option(options, "together") {
+        Some(_) => write_together(alloc, &ran.sources, &mut report)?,
+        None => write_each(&ran.sources, &mut report)?,
+    }
+    Ok(report)
+}
+
+/// Appends of each source the ranges that it was asked for, its faults, and how often a poll found nothing.
+fn write_each(sources: &[ScriptSource], report: &mut String) -> Result<(), AllocError> {
     for source in sources {
         let (asked, faults, idle) = (source.asked(), source.faults(), source.idle());
         write!(report, "; asked {asked:?}, faults {faults}, idle {idle}")?;
     }
-    Ok(report)
+    Ok(())
+}
+
+/// Appends the ranges that all sources together were asked for, in the order of their offsets, and all faults: what does
+/// not hang on which worker came first.
+fn write_together(
+    alloc: Global,
+    sources: &[ScriptSource],
+    report: &mut String,
+) -> Result<(), AllocError> {
+    let mut asked = Vec::new(alloc);
+    let mut faults: u64 = 0;
+    for source in sources {
+        for range in source.asked() {
+            asked.push((range.offset, range.length))?;
+        }
+        faults = faults.saturating_add(source.faults());
+    }
+    asked.sort()?;
+    write!(report, "; asked {asked:?}, faults {faults}")
 }

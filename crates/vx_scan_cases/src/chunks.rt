@@ -37,7 +37,11 @@ fn plans_of(alloc: Global, tree: &LayoutTree, desk: Desk<'_>) -> Result<ScanPlan
 
 /// Adds the column that is written so, as `given 3 i64: 7 8`, for the plan of that number; none where its values don't
 /// fit.
-fn push_given(alloc: Global, text: &str, given: &mut Vec<KeptValue>) -> Result<(), AllocError> {
+pub(crate) fn push_given(
+    alloc: Global,
+    text: &str,
+    given: &mut Vec<KeptValue>,
+) -> Result<(), AllocError> {
     let (_, words) = text.split_once(' ').unwrap_or((text, ""));
     let (number, words) = words.split_once(' ').unwrap_or((words, ""));
     let (dtype, values) = words.split_once(':').unwrap_or((words, ""));

@@ -4,7 +4,9 @@ use crate::adaptors::write_adaptor;
 use crate::chunks::write_chunk;
 use crate::scans::{write_dtype, write_scan, write_selected};
 use crate::trees::write_tree;
-use std::alloc::{AllocError, Global};
+use crate::workers::{write_book, write_executed, write_prepared};
+use std::alloc::AllocError;
+use std::thread::Threads;
 
 /// The file in words: the nodes of its tree, where its segments lie, its bytes, and the script that its source keeps
 /// to; and how often that may answer that a read goes on.
@@ -18,12 +20,13 @@ pub(crate) struct Desk<'a> {
 }
 
 /// Appends the answer to a line.
-fn write_answer<'a>(
-    alloc: Global,
+fn write_answer<'a, R: AllocGlobal + Threads + Sync>(
+    rt: &R,
     desk: &mut Desk<'a>,
     line: &'a str,
     out: &mut String,
 ) -> Result<(), AllocError> {
+    let alloc = rt.alloc();
     let (command, words) = line.split_once(' ').unwrap_or((line, ""));
     match command {
         "at" => desk.places = words,
@@ -35,9 +38,12 @@ fn write_answer<'a>(
             write_tree(alloc, words, out)?;
         }
         "dtype" => write_dtype(alloc, *desk, out)?,
-        "scan" => write_scan(alloc, *desk, out)?,
-        "select" => write_selected(alloc, *desk, words, out)?,
+        "scan" => write_scan(rt, *desk, out)?,
+        "select" => write_selected(rt, *desk, words, out)?,
         "chunk" => write_chunk(alloc, *desk, words, out)?,
+        "prepare" => write_prepared(alloc, *desk, words, out)?,
+        "execute" => write_executed(rt, *desk, words, out)?,
+        "book" => write_book(alloc, words, out)?,
         "adaptor" => write_adaptor(alloc, *desk, words, out)?,
         _ => out.push_str(" no command")?,
     }
@@ -45,7 +51,11 @@ fn write_answer<'a>(
 }
 
 /// Appends each line with its answer.
-pub(crate) fn write_lines(alloc: Global, lines: &str, out: &mut String) -> Result<(), AllocError> {
+pub(crate) fn write_lines<R: AllocGlobal + Threads + Sync>(
+    rt: &R,
+    lines: &str,
+    out: &mut String,
+) -> Result<(), AllocError> {
     let mut desk = Desk {
         nodes: "",
         places: "",
@@ -57,7 +67,7 @@ pub(crate) fn write_lines(alloc: Global, lines: &str, out: &mut String) -> Resul
         out.push_str(line)?;
         if !line.is_empty() && !line.starts_with("# ") {
             out.push_str(" =>")?;
-            write_answer(alloc, &mut desk, line, out)?;
+            write_answer(rt, &mut desk, line, out)?;
         }
         out.push('\n')?;
     }

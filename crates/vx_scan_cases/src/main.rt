@@ -11,6 +11,7 @@ mod files;
 mod scans;
 mod splits;
 mod trees;
+mod workers;
 
 use commands::write_lines;
 use std::io;
@@ -19,6 +20,6 @@ fn main(rt: HostRuntime) -> io::Result<()> {
     let alloc = rt.alloc();
     let lines = io::read_to_string(alloc, rt.reader())?;
     let mut out = String::new(alloc);
-    let _all = write_lines(alloc, lines.as_str(), &mut out);
+    let _all = write_lines(&rt, lines.as_str(), &mut out);
     print!(rt; "{out}")
 }

@@ -5,10 +5,11 @@ ghost use Rattle.std.specs.Prelude.{◌≡◌, IfOk, IfSome};
 use crate::answers::{write_column, write_error, write_source};
 use crate::commands::Desk;
 use crate::files::{numbers_of, places_of, source_of};
-use crate::trees::tree_of;
+use crate::trees::{tree_of, type_of};
 use std::alloc::{AllocError, Global};
+use std::thread::Threads;
 use vx_base::Column;
-use vx_expr::{BindError, Expr, bind};
+use vx_expr::{BindError, BoundExpression, Expr, bind};
 use vx_notation::dtype_text;
 use vx_scan::{ScanBuilder, ScanError, ScanFile};
 use vx_splits::StrictSorted;
@@ -32,11 +33,12 @@ fn write_batches(
 }
 
 /// Appends the batches of a scan of the file, and what its source was asked.
-pub(crate) fn write_scan(
-    alloc: Global,
+pub(crate) fn write_scan<R: AllocGlobal + Threads + Sync>(
+    rt: &R,
     desk: Desk<'_>,
     out: &mut String,
 ) -> Result<(), AllocError> {
+    let alloc = rt.alloc();
     let Some(layout) = tree_of(alloc, desk.nodes)? else {
         return out.push_str(" no tree;");
     };
@@ -44,14 +46,36 @@ pub(crate) fn write_scan(
     let mut sources = [source_of(alloc, desk.bytes, desk.script)?];
     let batches = ScanBuilder::new(alloc, ScanFile { layout, locations })?
         .with_idle_limit(desk.limit.max(1))
-        .into_batches(alloc, &mut sources);
+        .into_batches(rt, alloc, &mut sources);
     write_batches(alloc, &batches, out)?;
     write_source(&sources[0], out)
 }
 
+/// The row's number for `row`, the root for `root`, and for any other word the root of that dtype.
+fn projection_of(
+    alloc: Global,
+    builder: &ScanBuilder,
+    word: &str,
+) -> Result<Option<BoundExpression>, AllocError> {
+    let bound = match word {
+        "row" => bind(alloc, &Expr::RowIdx, builder.dtype()),
+        "root" => bind(alloc, &Expr::Root, builder.dtype()),
+        other => bind(alloc, &Expr::Root, &type_of(alloc, other)),
+    };
+    match bound {
+        Ok(projection) => Ok(Some(projection)),
+        Err(BindError::Memory) => Err(AllocError),
+        Err(_) => Ok(None),
+    }
+}
+
 /// The scan with settings that are written so: `1..4 0,3 7 row` is of the rows 0 and 3 in a range, counted from 7, and
-/// projects their numbers; any other last word projects the root.
-fn set(alloc: Global, builder: ScanBuilder, words: &str) -> Result<Option<ScanBuilder>, AllocError>
+/// projects their numbers.
+pub(crate) fn set(
+    alloc: Global,
+    builder: ScanBuilder,
+    words: &str,
+) -> Result<Option<ScanBuilder>, AllocError>
     ensures { IfOk result (λ made. IfSome made (λ set. set.locations ≡ builder.locations)) }
 {
     let mut parts = words.split_whitespace();
@@ -63,15 +87,8 @@ fn set(alloc: Global, builder: ScanBuilder, words: &str) -> Result<Option<ScanBu
     let rows = start.parse::<u64>().unwrap_or(0)..end.parse::<u64>().unwrap_or(0);
     let indices = numbers_of(alloc, parts.next().unwrap_or("-"))?;
     let offset = parts.next().unwrap_or("").parse::<u64>().unwrap_or(0);
-    let expr = if parts.next() == Some("row") {
-        Expr::RowIdx
-    } else {
-        Expr::Root
-    };
-    let projection = match bind(alloc, &expr, builder.dtype()) {
-        Ok(projection) => projection,
-        Err(BindError::Memory) => return Err(AllocError),
-        Err(_) => return Ok(None),
+    let Some(projection) = projection_of(alloc, &builder, parts.next().unwrap_or("root"))? else {
+        return Ok(None);
     };
     let Ok(indices) = StrictSorted::try_new(indices) else {
         return Ok(None);
@@ -87,12 +104,13 @@ fn set(alloc: Global, builder: ScanBuilder, words: &str) -> Result<Option<ScanBu
 }
 
 /// Appends the batches of a scan of the file with these settings, and what its source was asked.
-pub(crate) fn write_selected(
-    alloc: Global,
+pub(crate) fn write_selected<R: AllocGlobal + Threads + Sync>(
+    rt: &R,
     desk: Desk<'_>,
     words: &str,
     out: &mut String,
 ) -> Result<(), AllocError> {
+    let alloc = rt.alloc();
     let Some(layout) = tree_of(alloc, desk.nodes)? else {
         return out.push_str(" no tree;");
     };
@@ -102,7 +120,7 @@ pub(crate) fn write_selected(
     let Some(builder) = set(alloc, builder, words)? else {
         return out.push_str(" not set;");
     };
-    let batches = builder.into_batches(alloc, &mut sources);
+    let batches = builder.into_batches(rt, alloc, &mut sources);
     write_batches(alloc, &batches, out)?;
     write_source(&sources[0], out)
 }

@@ -1,0 +1,133 @@
+//! Scans of rows of the demo's file by several workers.
+
+ghost use Rattle.std.specs.Prelude.{◌<◌, ◌≤◌, length};
+
+use crate::fields::{list, number, option};
+use scan_commands::append_column_lines;
+use scan_demo::{DemoFile, demo_file};
+use std::alloc::{AllocError, Global};
+use std::thread::Threads;
+use vx_base::{Column, Script, ScriptSource};
+use vx_scan::{ScanBuilder, ScanError, ScanFile};
+use vx_splits::StrictSorted;
+
+/// As many sources of the bytes, of which the last one fails at the requests of these numbers.
+fn sources_of(
+    alloc: Global,
+    bytes: &[u8],
+    count: usize,
+    options: &str,
+) -> Option<Vec<ScriptSource>> {
+    let mut sources = Vec::new(alloc);
+    for place in 0..count {
+        let fails = if place + 1 == count {
+            list(alloc, options, "request_fails")?
+        } else {
+            Vec::new(alloc)
+        };
+        let script = Script {
+            fail_requests: fails,
+            fail_polls: Vec::new(alloc),
+            waits: Vec::new(alloc),
+            order: Vec::new(alloc),
+        };
+        let bytes = bytes.to_vec(alloc).ok()?;
+        sources.push(ScriptSource::new(alloc, bytes, script)).ok()?;
+    }
+    Some(sources)
+}
+
+/// So many rows from the first on, with a step between them.
+fn indices_of(alloc: Global, options: &str) -> Option<StrictSorted> {
+    let step = number(options, "step", 1) as u64;
+    let mut row = number(options, "first", 0) as u64;
+    let mut indices = Vec::new(alloc);
+    for _index in 0..number(options, "count", 0) {
+        indices.push(row).ok()?;
+        row = row.checked_add(step)?;
+    }
+    StrictSorted::try_new(indices).ok()
+}
+
+/// The batches of the rows with these numbers in a range.
+fn batches_of<R: Threads + Sync>(
+    rt: &R,
+    alloc: Global,
+    file: ScanFile,
+    options: &str,
+    sources: &mut [ScriptSource],
+) -> Option<Result<Vec<Column>, ScanError>>
+    requires some { 0 < length sources.old }
+    requires few { length sources.old ≤ 64 }
+{
+    if file.locations.len() > 1000 {
+        return None;
+    }
+    let rows = number(options, "start", 0) as u64..number(options, "end", 0) as u64;
+    let builder = ScanBuilder::new(alloc, file)
+        .ok()?
+        .with_row_range(rows)
+        .with_row_indices(indices_of(alloc, options)?);
+    Some(builder.into_batches(rt, alloc, sources))
+}
+
+/// The lines of all rows, joined.
+fn lines_of(alloc: Global, batches: &[Column]) -> Result<String, AllocError> {
+    let mut lines = Vec::new(alloc);
+    for batch in batches {
+        append_column_lines(alloc, batch, &mut lines)?;
+    }
+    match String::from_utf8(lines) {
+        Ok(lines) => Ok(lines),
+        Err(_) => Err(AllocError),
+    }
+}
+
+/// How many ranges the sources were asked for, a range of several sources once.
+fn asked_ranges(alloc: Global, sources: &[ScriptSource]) -> Option<usize> {
+    let mut asked = Vec::new(alloc);
+    for source in sources {
+        for range in source.asked() {
+            asked.push((range.offset, range.length)).ok()?;
+        }
+    }
+    asked.sort().ok()?;
+    asked.dedup();
+    Some(asked.len())
+}
+
+/// Scans rows of the demo's file, and says them, and what was asked for. Where the last source fails, it says whether the
+/// rows are there and that source did not fail, or a read failed.
+pub(crate) fn demo_rows<R: AllocGlobal + Threads + Sync>(rt: &R, options: &str) -> Option<String> {
+    let alloc = rt.alloc();
+    let rows = number(options, "rows", 0) as u64;
+    if rows > 1000000 {
+        return None;
+    }
+    let DemoFile { file, bytes } = demo_file(alloc, rows).ok()?;
+    let segments = file.locations.len();
+    let mut sources = sources_of(alloc, &bytes, number(options, "sources", 1), options)?;
+    if sources.is_empty() || sources.len() > 64 {
+        return None;
+    }
+    let batches = match batches_of(rt, alloc, file, options, sources.as_mut_slice())? {
+        Ok(batches) => batches,
+        Err(ScanError::ReadFault) => return String::from_str(alloc, "rows or a read fault").ok(),
+        Err(error) => return format!(in alloc; "{error}").ok(),
+    };
+    let lines = lines_of(alloc, &batches).ok()?;
+    if option(options, "request_fails").is_some() {
+        return rows_or_fault(alloc, options, &lines, sources.last()?.faults());
+    }
+    let asked = asked_ranges(alloc, &sources)?;
+    let count = batches.len();
+    format!(in alloc; "{count} batches, asked {asked} of {segments}, {lines:?}").ok()
+}
+
+/// What is said of rows over a source that would have failed.
+fn rows_or_fault(alloc: Global, options: &str, lines: &String, faults: u64) -> Option<String> {
+    if faults == 0 && lines.lines().count() == number(options, "count", 0) {
+        return String::from_str(alloc, "rows or a read fault").ok();
+    }
+    format!(in alloc; "neither, {faults} faults, {lines:?}").ok()
+}

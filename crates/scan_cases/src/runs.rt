@@ -1,0 +1,87 @@
+//! One run over memory.
+
+ghost use Rattle.std.specs.Prelude.{◌<◌, ◌≤◌, length};
+
+use crate::fields::{bytes_of, list, number, words_of};
+use scan_commands::run;
+use std::alloc::Global;
+use std::thread::Threads;
+use vx_base::{BytesSink, BytesSource, Script, ScriptSource};
+
+/// What a run came to: its status, and the request, the sink and the sources as it left them.
+#[derive(Drop)]
+pub(crate) struct Ran {
+    pub(crate) status: u8,
+    pub(crate) request: BytesSource,
+    pub(crate) out: BytesSink,
+    pub(crate) sources: Vec<ScriptSource>,
+}
+
+/// The bytes of a text: what stands behind a `~` is repeated.
+pub(crate) fn repeated_bytes(alloc: Global, text: &str, times: usize) -> Option<Vec<u8>> {
+    let (front, again) = text.split_once('~').unwrap_or((text, ""));
+    let mut bytes = bytes_of(alloc, front)?;
+    let again = bytes_of(alloc, again)?;
+    for _time in 0..times {
+        bytes.extend_from_slice(&again).ok()?;
+    }
+    Some(bytes)
+}
+
+/// A source of the file that keeps to the script of the options.
+fn source_of(alloc: Global, file: &str, options: &str) -> Option<ScriptSource> {
+    let fail_requests = list(alloc, options, "request_fails")?;
+    let fail_polls = list(alloc, options, "poll_fails")?;
+    let waits = list(alloc, options, "waits")?;
+    let order = list(alloc, options, "order")?;
+    let script = Script {
+        fail_requests,
+        fail_polls,
+        waits,
+        order,
+    };
+    let (_, text) = file.split_once(' ').unwrap_or((file, ""));
+    let bytes = repeated_bytes(alloc, text, number(options, "file_times", 0))?;
+    Some(ScriptSource::new(alloc, bytes, script))
+}
+
+/// As many sources of the file, each of which keeps to the script.
+fn sources_of(alloc: Global, file: &str, options: &str, count: usize) -> Option<Vec<ScriptSource>> {
+    let mut sources = Vec::new(alloc);
+    for _source in 0..count {
+        let source = source_of(alloc, file, options)?;
+        sources.push(source).ok()?;
+    }
+    Some(sources)
+}
+
+/// Runs a request over so many sources of a file, by words between commas.
+pub(crate) fn run_once<R: AllocGlobal + Threads + Sync>(
+    rt: &R,
+    file: &str,
+    options: &str,
+    words: &str,
+    count: usize,
+    request: &str,
+) -> Option<Ran> {
+    let alloc = rt.alloc();
+    let mut sources = sources_of(alloc, file, options, count)?;
+    if sources.is_empty() || sources.len() > 64 {
+        return None;
+    }
+    let words = words_of(alloc, words)?;
+    let bytes = repeated_bytes(alloc, request, number(options, "times", 0))?;
+    let reads = number(options, "reads", usize::MAX).max(1);
+    let fails = list(alloc, options, "read_fails")?;
+    let mut request = BytesSource::new(alloc, bytes, reads, fails);
+    let writes = number(options, "writes", usize::MAX).max(1);
+    let fails = list(alloc, options, "write_fails")?;
+    let mut out = BytesSink::new(alloc, writes, fails);
+    let status = run(rt, &words, &mut request, sources.as_mut_slice(), &mut out);
+    Some(Ran {
+        status,
+        request,
+        out,
+        sources,
+    })
+}
