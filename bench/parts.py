@@ -30,7 +30,7 @@ Run = namedtuple("Run", "words lines")
 
 
 def scan(segments, request, lines):
-    return Run(["scan", path_of(segments + ".seg"), path_of(request + ".json")], lines)
+    return Run(["scan", "--workers", "1", path_of(segments + ".seg"), path_of(request + ".json")], lines)
 
 
 PAIRS = {

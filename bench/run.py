@@ -228,9 +228,9 @@ def main():
         return
     # In a process of its own: a child's peak memory counts from the size of the one that starts it.
     subprocess.check_call([sys.executable, __file__, options.program, "--seed", str(options.seed), "--make"])
-    programs = {"proved": [options.program, "scan"], "plain": [build_plain()]}
+    programs = {"proved": [options.program, "scan", "--workers", "1"], "plain": [build_plain()]}
     if options.before:
-        programs["before"] = [options.before, "scan"]
+        programs["before"] = [options.before, "scan", "--workers", "1"]
     print("%-14s %17s %17s %21s %19s %9s" % ("", "proved, seconds", "plain, seconds", "ratio", "peak MB", "proved"))
     print("%-14s %8s %8s %8s %8s %7s %7s %5s %9s %9s %9s" % (
         "data set", "best", "median", "best", "median", "best", "median", "most", "proved", "plain", "bytes/row"))
