@@ -9,9 +9,7 @@ use Rattle.vx_types.specs.ColumnCalls.{natural}
 use Rattle.vx_types.specs.Data.{Datum, null, number}
 use Rattle.vx_types.specs.Reading.{where_valid}
 use Rattle.vx_types.specs.ValueViews.{datum}
-use Rattle.vx_words.specs.Masks.{chosen}
 use Rattle.vx_words.specs.Rows.{NullsHold}
-use Rattle.vx_words.proofs.Chosen.{chosen_between}
 use Rattle.vx_packed.specs.Slots.{Takes}
 
 -- ---- one value more
@@ -48,14 +46,6 @@ all_taken (suc n) = (tt, all_taken n)
 pub naturals : (ns : List ℕ) → map number (map pos ns) ≡ map natural ns
 naturals [] = refl
 naturals (n ∷ ns) = ap (λ (vs : List Datum). natural n ∷ vs) (naturals ns)
-
--- ---- the rows of a range that a mask chooses
-pub range_chosen : (mask wide front : List Bool) (start end more : ℕ) (xs : List Datum) → start ≤ end → end ≤ length xs → length mask ≡ end - start → front ≡ replicate start false ++ mask → wide ≡ front ++ replicate more false
-    → chosen wide xs ≡ chosen mask (slice_range xs start end)
-range_chosen mask wide front start end more xs forwards within len e f =
-    ap (λ (bits : List Bool). chosen bits xs) (f ∙ ap (λ (bits : List Bool). bits ++ replicate more false) e)
-    ∙ chosen_between Datum start more mask xs (omega arith)
-    ∙ ap (λ (k : ℕ). chosen mask (take k (drop start xs))) len
 
 -- ---- a row of two columns, each where its value stands
 pub row_agrees : (xs ys ones others : List Datum) (row place second : ℕ) (P : Type 0) → slice_get xs row ≡ slice_get ones place → slice_get ys row ≡ slice_get others second → (P ↔ (slice_get ones place ≡ slice_get others second)) → (P ↔ (slice_get xs row ≡ slice_get ys row))

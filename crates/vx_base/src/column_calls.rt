@@ -69,12 +69,10 @@ impl Column {
         ensures dtype { IfOk result (λ column. column.dtype ≡ self.now.dtype) }
         ensures values { IfOk result (λ column. column.values ≡ chosen mask.now (slice_range self.now.values rows.start rows.end)) }
     {
-        let before = Mask::new_false(alloc, rows.start)?;
-        let front = before.append(mask)?;
-        let behind = Mask::new_false(alloc, self.len() - rows.end)?;
-        let wide = front.append(&behind)?;
-        let column = self.filter(alloc, &wide)?;
-        Ok(column)
+        let range = rows.start as usize..rows.end as usize;
+        let made = self.rows().filter_range(alloc, range, mask)?;
+        let dtype = self.dtype().copy(alloc)?;
+        Ok(Column::of_rows(dtype, made))
     }
 
     /// The rows whose value is true: a null is not.

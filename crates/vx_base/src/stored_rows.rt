@@ -1,7 +1,7 @@
 //! The rows of a column: packed one by one, or in runs. Runs stay runs through ranges and masks, and are spread
 //! for the calls that go over packed rows.
 
-ghost use Rattle.std.specs.Prelude.{◌≡◌, ◌<◌, ◌≤◌, ◌↔◌, ◌++◌, Some, length, map, slice_get, IsTrue, IfOk, OnOk};
+ghost use Rattle.std.specs.Prelude.{◌≡◌, ◌-◌, ◌<◌, ◌≤◌, ◌↔◌, ◌++◌, Some, length, map, slice_get, IsTrue, IfOk, OnOk};
 ghost use Rattle.std.specs.List.{AllByRecursion};
 ghost use Rattle.vx_base.specs.ColumnCalls.{IsBool, IsUnsigned};
 ghost use Rattle.vx_base.specs.Leaf.{IsLeaf, slot_bytes};
@@ -99,6 +99,24 @@ impl Rows {
         Ok(match self {
             Rows::Plain(part) => Rows::Plain(part.filter(alloc, mask)?),
             Rows::Runs(runs) => Rows::Runs(runs.filter(alloc, mask)?),
+        })
+    }
+
+    /// The rows of a range that the mask chooses of them.
+    pub(crate) fn filter_range(
+        &self,
+        alloc: Global,
+        rows: Range<usize>,
+        mask: &Mask,
+    ) -> Result<Rows, AllocError>
+        requires forwards { rows.start ≤ rows.end }
+        requires inside { rows.end ≤ length (row_data self.now).values }
+        requires masked { length mask.now ≡ rows.end - rows.start }
+        ensures { IfOk result (λ made. row_data made ≡ filtered mask.now (sliced rows.start rows.end (row_data self.now))) }
+    {
+        Ok(match self {
+            Rows::Plain(part) => Rows::Plain(part.filter_range(alloc, rows, mask)?),
+            Rows::Runs(runs) => Rows::Runs(runs.slice(alloc, rows)?.filter(alloc, mask)?),
         })
     }
 

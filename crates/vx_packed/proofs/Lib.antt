@@ -1,4 +1,5 @@
 mod CutTexts
+mod MovedTexts
 mod DecodedNumbers
 mod DecodedTexts
 mod HeldRows

@@ -4,7 +4,7 @@ use Rattle.std.specs.Prelude.{slice_get, IfSome}
 use Rattle.std.specs.Slice.{IsItemAt}
 use Rattle.std.proofs.lemmas.List.{length-map}
 use Rattle.vx_types.specs.Columns.{ColumnData}
-use Rattle.vx_types.specs.Data.{Datum, truth, number, text, structure, Items, item}
+use Rattle.vx_types.specs.Data.{Datum, truth, number, text, structure, Items}
 use Rattle.vx_types.specs.ValueViews.{data_in}
 use Rattle.vx_words.specs.Rows.{NullsHold}
 use Rattle.vx_packed.specs.declared.parts.Slots.{Slots}

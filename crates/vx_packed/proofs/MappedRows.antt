@@ -15,6 +15,9 @@ map_chosen f (false ∷ bits) [] = refl
 map_chosen {X} {Y} f (true ∷ bits) (x ∷ xs) = ap (λ (ys : List Y). f x ∷ ys) (map_chosen f bits xs)
 map_chosen f (false ∷ bits) (x ∷ xs) = map_chosen f bits xs
 
+pub map_range_chosen : {X Y : Type 0} (f : X → Y) (bits : List Bool) (xs : List X) (from to : ℕ) → map f (chosen bits (slice_range xs from to)) ≡ chosen bits (slice_range (map f xs) from to)
+map_range_chosen f bits xs from to = map_chosen f bits (slice_range xs from to) ∙ ap (chosen bits) (map_range f xs from to)
+
 pub map_get_or : {X Y : Type 0} (f : X → Y) (blank : X) (xs : List X) (place : ℕ) → f (get_or xs place blank) ≡ get_or (map f xs) place (f blank)
 map_get_or f blank [] place = refl
 map_get_or f blank (x ∷ xs) zero = refl

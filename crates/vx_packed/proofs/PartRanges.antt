@@ -73,6 +73,24 @@ part_filtered bits mask kept slots others h same is e = λ i. record {
   values = ((λ j. where_valid (e j) (is j)) ∙ sym (chosen-where_valid bits mask (slot_values slots) h.rows)) i;
 }
 
+-- ---- chosen rows of a range
+ranges_len : (mask : List Bool) (values : List Datum) (from to : ℕ) → length mask ≡ length values → length (slice_range mask from to) ≡ length (slice_range values from to)
+ranges_len mask values from to e = length_take (to - from) (drop from mask) (drop from values) (length_drop from mask values e)
+
+pub part_range_chosen : (bits mask kept : List Bool) (slots others : Slots) (from to : ℕ) → IsPart mask slots → slot_type others ≡ slot_type slots → slot_values others ≡ chosen bits (slice_range (slot_values slots) from to) → kept ≡ chosen bits (slice_range mask from to) → IsPart kept others
+part_range_chosen bits mask kept slots others from to h same is e =
+    let len = ranges_len mask (slot_values slots) from to h.rows in
+    subst (λ (bs : List Bool). IsPart bs others) (sym e)
+    (picked (chosen bits (slice_range mask from to)) slots others (chosen bits (slice_range (slot_values slots) from to)) same is
+    (length-chosen bits (slice_range mask from to) (slice_range (slot_values slots) from to) len)
+    (chosen_held (slot_type slots) bits (slice_range mask from to) (slice_range (slot_values slots) from to) len (range_held (slot_type slots) mask (slot_values slots) from to h.held)))
+
+pub part_range_filtered : (bits mask kept : List Bool) (slots others : Slots) (from to : ℕ) → IsPart mask slots → slot_type others ≡ slot_type slots → slot_values others ≡ chosen bits (slice_range (slot_values slots) from to) → kept ≡ chosen bits (slice_range mask from to) → part_column kept others ≡ filtered bits (sliced from to (part_column mask slots))
+part_range_filtered bits mask kept slots others from to h same is e = λ i. record {
+  dtype = same i;
+  values = ((λ j. where_valid (e j) (is j)) ∙ sym (chosen-where_valid bits (slice_range mask from to) (slice_range (slot_values slots) from to) (ranges_len mask (slot_values slots) from to h.rows)) ∙ ap (chosen bits) (sym (range_where_valid mask (slot_values slots) from to))) i;
+}
+
 -- ---- taken rows
 taken_held : (t : DataType) (mask : List Bool) (values : List Datum) (places : List ℕ) → length mask ≡ length values → LeafNullsHold t mask values → LeafNullsHold t (taken false mask places) (taken (blank_in t) values places)
 taken_held (struct_type ms n) mask values places e h = tt

@@ -1,6 +1,6 @@
 -- Texts that lie one behind the other in one buffer, cut at their ends.
 use Rattle.vx_types.specs.Reading.{lengths_read}
-use Rattle.std.specs.Prelude.{◌≡◌, ℕ, zero, suc, ◌+◌, ◌≤◌, List, [], ◌∷◌, length, slice_index, slice_range}
+use Rattle.std.specs.Prelude.{◌≡◌, ℕ, zero, suc, ◌+◌, ◌-◌, ◌≤◌, List, [], ◌∷◌, length, slice_index, slice_range}
 use Rattle.std.specs.List.{AllByRecursion}
 use Rattle.std.specs.Str.{IsUtf8}
 
@@ -18,6 +18,10 @@ AreEnds from to (end ∷ ends) = (from ≤ end) × AreEnds end to ends
 abbrev pub start_in : List ℕ → ℕ → ℕ
 start_in ends zero = 0
 start_in ends (suc row) = slice_index ends row
+
+-- where a text ends whose bytes were moved from one place of a buffer behind the bytes of another
+abbrev pub moved : ℕ → ℕ → ℕ → ℕ
+moved base from end = base + (end - from)
 
 -- the texts fill the buffer, and each of them is well-formed
 pub record AreTexts (bytes : List ℕ) (ends : List ℕ) : Type 0 where

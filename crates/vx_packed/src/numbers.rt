@@ -1,6 +1,6 @@
 //! Whole numbers of one of the eight kinds. Each call is that of the numbers of the kind.
 
-ghost use Rattle.std.specs.Prelude.{◌≡◌, ◌≤◌, ◌<◌, ◌↔◌, ◌*◌, ◌++◌, [], length, slice_get, slice_range, pos, Some, IsTrue, IfOk, OnOk};
+ghost use Rattle.std.specs.Prelude.{◌≡◌, ◌≤◌, ◌<◌, ◌↔◌, ◌-◌, ◌*◌, ◌++◌, [], length, slice_get, slice_range, pos, Some, IsTrue, IfOk, OnOk};
 ghost use Rattle.std.specs.List.{AllByRecursion, flat_map};
 ghost use Rattle.std.specs.Int.{byte_len};
 ghost use Rattle.vx_types.specs.Fits.{IsInside};
@@ -103,6 +103,22 @@ impl Numbers {
         ensures numbers { IfOk result (λ numbers. numbers_in numbers ≡ chosen mask.now (numbers_in self.now)) }
     {
         Ok(as_each_kind!(self, numbers => numbers.filter(alloc, mask)?))
+    }
+
+    /// The numbers of a range of rows that the mask chooses of them.
+    pub fn filter_range(
+        &self,
+        alloc: Global,
+        rows: Range<usize>,
+        mask: &Mask,
+    ) -> Result<Numbers, AllocError>
+        requires forwards { rows.start ≤ rows.end }
+        requires inside { rows.end ≤ length (numbers_in self.now) }
+        requires masked { length mask.now ≡ rows.end - rows.start }
+        ensures kind { IfOk result (λ numbers. kind_in numbers ≡ kind_in self.now) }
+        ensures numbers { IfOk result (λ numbers. numbers_in numbers ≡ chosen mask.now (slice_range (numbers_in self.now) rows.start rows.end)) }
+    {
+        Ok(as_each_kind!(self, numbers => numbers.filter_range(alloc, rows, mask)?))
     }
 
     /// The numbers at these places, and 0 at a place past the last row.

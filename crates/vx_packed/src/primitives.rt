@@ -1,6 +1,6 @@
 //! Numbers of one kind, in a vector of the kind's type.
 
-ghost use Rattle.std.specs.Prelude.{◌≡◌, ◌≤◌, ◌<◌, ◌↔◌, ◌*◌, ◌++◌, [], length, map, slice_get, slice_range, pos, Some, IsTrue, IfOk, OnOk};
+ghost use Rattle.std.specs.Prelude.{◌≡◌, ◌≤◌, ◌<◌, ◌↔◌, ◌-◌, ◌*◌, ◌++◌, [], length, map, slice_get, slice_range, pos, Some, IsTrue, IfOk, OnOk};
 ghost use Rattle.std.specs.List.{AllByRecursion, flat_map};
 ghost use Rattle.std.specs.Int.{byte_len};
 ghost use Rattle.vx_types.specs.Fits.{IsInside};
@@ -90,6 +90,24 @@ impl<T: Kind> Primitive<T> {
         ensures { IfOk result (λ numbers. numbers ≡ chosen mask.now self.now) }
     {
         let numbers = vx_words::filter(alloc, mask, self.as_slice())?;
+        Ok(Primitive { numbers })
+    }
+
+    /// The numbers of a range of rows that the mask chooses of them.
+    #[tactic(auto, using(crate::proofs::MappedRows::map_range_chosen))]
+    pub fn filter_range(
+        &self,
+        alloc: Global,
+        rows: Range<usize>,
+        mask: &Mask,
+    ) -> Result<Primitive<T>, AllocError>
+        requires forwards { rows.start ≤ rows.end }
+        requires inside { rows.end ≤ length self.now }
+        requires masked { length mask.now ≡ rows.end - rows.start }
+        ensures { IfOk result (λ numbers. numbers ≡ chosen mask.now (slice_range self.now rows.start rows.end)) }
+    {
+        let part = &self.as_slice()[rows.start..rows.end];
+        let numbers = vx_words::filter(alloc, mask, part)?;
         Ok(Primitive { numbers })
     }
 

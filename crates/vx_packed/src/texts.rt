@@ -1,12 +1,12 @@
 //! Texts in one buffer, cut at their ends.
 
-ghost use Rattle.std.specs.Prelude.{◌≡◌, ◌≤◌, ◌<◌, ◌^◌, ◌↔◌, ◌++◌, ◌∷◌, [], length, slice_get, slice_index_or, slice_range, Some, IsTrue, IsNone, IfOk, IfSome, OnOk};
+ghost use Rattle.std.specs.Prelude.{◌≡◌, ◌≤◌, ◌<◌, ◌^◌, ◌+◌, ◌-◌, ◌↔◌, ◌++◌, ◌∷◌, [], length, map, slice_get, slice_index_or, slice_range, Some, IsTrue, IsNone, IfOk, IfSome, OnOk};
 ghost use Rattle.std.specs.List.{AllByRecursion, flat_map};
 ghost use Rattle.std.specs.Str.{IsUtf8};
 ghost use Rattle.std.specs.Int.{w32, to_le_bytes};
 ghost use Rattle.vx_words.specs.Masks.{chosen};
 ghost use Rattle.vx_words.specs.Rows.{taken, Holds, NullsHold};
-ghost use Rattle.vx_packed.specs.Texts.{cut, start_in, AreEnds, AreTexts};
+ghost use Rattle.vx_packed.specs.Texts.{cut, moved, start_in, AreEnds, AreTexts};
 
 use crate::rows::leaves_none;
 use std::alloc::{AllocError, Global};
@@ -44,6 +44,42 @@ fn push_text(bytes: &mut Vec<u8>, ends: &mut Vec<usize>, text: &str) -> Result<(
     Ok(())
 }
 
+/// Puts the bytes between two places of another buffer behind these, and tells where they begin.
+fn push_bytes(
+    bytes: &mut Vec<u8>,
+    others: &[u8],
+    from: usize,
+    to: usize,
+) -> Result<usize, AllocError>
+    requires forwards { from ≤ to }
+    requires inside { to ≤ length others.now }
+    ensures pushed { OnOk result (bytes.new.items ≡ bytes.old.items ++ slice_range others.now from to) }
+    ensures begin { IfOk result (λ base. base ≡ length bytes.old.items) }
+    ensures fits { IfOk result (λ base. base + (to - from) < 2 ^ 64) }
+{
+    bytes.extend_from_slice(&others[from..to])?;
+    Ok(bytes.len() - (to - from))
+}
+
+/// Puts ends behind others, for texts whose bytes were moved from one place of a buffer to another.
+fn push_ends(
+    ends: &mut Vec<usize>,
+    more: &[usize],
+    from: usize,
+    to: usize,
+    base: usize,
+) -> Result<(), AllocError>
+    requires lie { AreEnds from to more.now }
+    requires fits { base + (to - from) < 2 ^ 64 }
+    ensures { OnOk result (ends.new.items ≡ ends.old.items ++ map (moved base from) more.now) }
+{
+    ends.reserve(more.len())?;
+    for end in more {
+        ends.push(base + (*end - from))?;
+    }
+    Ok(())
+}
+
 /// Where the text of a row begins: where the one before it ends.
 fn start_of(ends: &[usize], row: usize) -> usize
     requires { row ≤ length ends.now }
@@ -69,6 +105,28 @@ fn text_in<'a>(bytes: &'a [u8], ends: &[usize], row: usize) -> &'a str
     ensures { slice_get (cut bytes.now 0 ends.now) row ≡ Some result.now }
 {
     text_of(bytes, start_of(ends, row), ends[row])
+}
+
+/// Puts the texts of a range of rows behind the others: their bytes all at once, and an end for each.
+fn push_texts(
+    bytes: &mut Vec<u8>,
+    ends: &mut Vec<usize>,
+    others: &[u8],
+    more: &[usize],
+    rows: Range<usize>,
+) -> Result<(), AllocError>
+    requires texts { AreTexts bytes.old.items ends.old.items }
+    requires others { AreTexts others.now more.now }
+    requires forwards { rows.start ≤ rows.end }
+    requires inside { rows.end ≤ length more.now }
+    ensures texts { OnOk result (AreTexts bytes.new.items ends.new.items) }
+    ensures pushed { OnOk result (cut bytes.new.items 0 ends.new.items ≡ cut bytes.old.items 0 ends.old.items ++ slice_range (cut others.now 0 more.now) rows.start rows.end) }
+{
+    let from = start_of(more, rows.start);
+    let to = start_of(more, rows.end);
+    let base = push_bytes(bytes, others, from, to)?;
+    push_ends(ends, &more[rows.start..rows.end], from, to, base)?;
+    Ok(())
 }
 
 /// Puts a text behind the others where told.
@@ -204,7 +262,7 @@ impl Texts {
         ensures { IfOk result (λ texts. texts ≡ chosen mask.now self.now) }
     {
         let mut bytes = Vec::new(alloc);
-        let mut ends = Vec::new(alloc);
+        let mut ends = Vec::with_capacity(alloc, mask.true_count() as usize)?;
         for row in 0..self.len() {
             push_chosen(
                 &mut bytes,
@@ -229,17 +287,15 @@ impl Texts {
     }
 
     /// The texts of a range of rows.
-    #[tactic(auto, using(crate::proofs::TextRows::range_none))]
+    #[tactic(auto, using(crate::proofs::CutTexts::length_cut))]
     pub fn slice(&self, alloc: Global, rows: Range<usize>) -> Result<Texts, AllocError>
         requires forwards { rows.start ≤ rows.end }
         requires inside { rows.end ≤ length self.now }
         ensures { IfOk result (λ texts. texts ≡ slice_range self.now rows.start rows.end) }
     {
         let mut bytes = Vec::new(alloc);
-        let mut ends = Vec::with_capacity(alloc, rows.end - rows.start)?;
-        for row in rows.start..rows.end {
-            push_text(&mut bytes, &mut ends, self.text(row))?;
-        }
+        let mut ends = Vec::new(alloc);
+        push_texts(&mut bytes, &mut ends, &self.bytes, &self.ends, rows)?;
         Ok(Texts { bytes, ends })
     }
 
@@ -251,9 +307,8 @@ impl Texts {
             mut bytes,
             mut ends,
         } = self;
-        for row in 0..other.len() {
-            push_text(&mut bytes, &mut ends, other.text(row))?;
-        }
+        let rows = 0..other.len();
+        push_texts(&mut bytes, &mut ends, &other.bytes, &other.ends, rows)?;
         Ok(Texts { bytes, ends })
     }
 

@@ -2,7 +2,7 @@
 use Rattle.std.proofs.Common.{inl, inr, ◌≡◌, ℕ, zero, suc, ◌+◌, ◌-◌, ◌*◌, ◌/◌, ◌^◌, ◌<◌, ◌≤◌, min, Bool, true, false, List, [], ◌∷◌, ◌++◌, length, take, drop, get_or, replicate, refl, sym, ap, subst, ◌∙◌, arith, zero-add}
 use lib.Count.{count_trailing_zeros}
 use Rattle.std.proofs.lemmas.Bool.{cases_lt}
-use Rattle.std.proofs.lemmas.List.{append-nil, append_assoc, length-take-le, take-append-drop, length-drop, drop_all, drop_at, drop-drop, get_or-drop}
+use Rattle.std.proofs.lemmas.List.{append-nil, append_assoc, length-drop, drop_all, drop_at, drop-drop, get_or-drop}
 use Rattle.std.proofs.lemmas.Nat.{shr-shr, shr_below}
 use Rattle.std.proofs.Math.Nat.{mod-le}
 use lib.Pow.{pow_mono}
@@ -102,19 +102,6 @@ module _ (X : Type 0) where
   chosen_whole zero xs h = refl
   chosen_whole (suc k) [] h = absurd (omega arith)
   chosen_whole (suc k) (x ∷ xs) h = ap (λ (ys : List X). x ∷ ys) (chosen_whole k xs (omega arith))
-
-  -- a mask of the rows in between
-  pub chosen_between : (start k : ℕ) (mask : List Bool) (xs : List X) → start + length mask ≤ length xs → chosen ((replicate start false ++ mask) ++ replicate k false) xs ≡ chosen mask (take (length mask) (drop start xs))
-  chosen_between start k mask xs h =
-      let rest = drop start xs in
-      let front = take (length mask) rest in
-      let long : length front ≡ length mask = length-take-le (length mask) rest (omega (arith, length-drop start xs)) in
-      chosen-append (replicate start false ++ mask) (replicate k false) xs
-      ∙ ap (λ (ys : List X). chosen (replicate start false ++ mask) xs ++ ys) (chosen_nothing k (drop (length (replicate start false ++ mask)) xs))
-      ∙ append-nil (chosen (replicate start false ++ mask) xs)
-      ∙ chosen_skip start mask xs
-      ∙ ap (chosen mask) (sym (take-append-drop (length mask) rest))
-      ∙ chosen_front mask front (drop (length mask) rest) (omega (arith, long))
 
   chosen_here : (d : X) (p : ℕ) (mask : List Bool) (xs : List X) → p < length xs → chosen (true ∷ mask) (drop p xs) ≡ get_or xs p d ∷ chosen mask (drop (suc p) xs)
   chosen_here d p mask [] h = absurd (omega arith)

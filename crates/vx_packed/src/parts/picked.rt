@@ -1,6 +1,6 @@
 //! Rows that are picked out of parts: a range, those that a mask chooses, and those at given places.
 
-ghost use Rattle.std.specs.Prelude.{◌≡◌, ◌≤◌, ◌<◌, length, slice_range, IfOk};
+ghost use Rattle.std.specs.Prelude.{◌≡◌, ◌-◌, ◌≤◌, ◌<◌, length, slice_range, IfOk};
 ghost use Rattle.vx_types.specs.Data.{null};
 ghost use Rattle.vx_words.specs.Masks.{chosen};
 ghost use Rattle.vx_packed.specs.PartRows.{sliced, filtered, picked_at};
@@ -111,6 +111,29 @@ impl Slots {
         })
     }
 
+    /// The slots of a range of rows that the mask chooses of them. Numbers are gone over once.
+    #[tactic(auto, using(crate::proofs::MappedRows::map_range_chosen))]
+    fn filter_range(
+        &self,
+        alloc: Global,
+        rows: Range<usize>,
+        mask: &Mask,
+    ) -> Result<Slots, AllocError>
+        requires forwards { rows.start ≤ rows.end }
+        requires inside { rows.end ≤ length (slot_values self.now) }
+        requires masked { length mask.now ≡ rows.end - rows.start }
+        ensures dtype { IfOk result (λ slots. slot_type slots ≡ slot_type self.now) }
+        ensures values { IfOk result (λ slots. slot_values slots ≡ chosen mask.now (slice_range (slot_values self.now) rows.start rows.end)) }
+    {
+        if let Slots::Numbers(numbers) = self {
+            let kept = numbers.filter_range(alloc, rows, mask)?;
+            return Ok(Slots::Numbers(kept));
+        }
+        let range = self.slice(alloc, rows)?;
+        let kept = range.filter(alloc, mask)?;
+        Ok(kept)
+    }
+
     /// The slots at these places, and the blank at a place past the last row.
     #[cycle(take)]
     #[tactic(auto, using(crate::proofs::MappedRows::map_taken))]
@@ -153,6 +176,27 @@ impl Part {
     {
         let validity = self.validity.filter(alloc, mask)?;
         let slots = self.slots.filter(alloc, mask)?;
+        Ok(Part { validity, slots })
+    }
+
+    /// The rows of a range that the mask chooses of them.
+    #[tactic(auto, using(crate::proofs::PartRanges::part_len))]
+    pub fn filter_range(
+        &self,
+        alloc: Global,
+        rows: Range<usize>,
+        mask: &Mask,
+    ) -> Result<Part, AllocError>
+        requires forwards { rows.start ≤ rows.end }
+        requires inside { rows.end ≤ length self.now.values }
+        requires masked { length mask.now ≡ rows.end - rows.start }
+        ensures { IfOk result (λ part. part ≡ filtered mask.now (sliced rows.start rows.end self.now)) }
+    {
+        let range = self
+            .validity
+            .slice(alloc, rows.start as u64..rows.end as u64)?;
+        let validity = range.filter(alloc, mask)?;
+        let slots = self.slots.filter_range(alloc, rows, mask)?;
         Ok(Part { validity, slots })
     }
 
