@@ -5,3 +5,4 @@ mod SideRows
 mod SingleRows
 mod Somes
 mod Steps
+mod TestedRows

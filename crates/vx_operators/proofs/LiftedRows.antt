@@ -12,7 +12,7 @@ use Rattle.vx_operators.specs.declared.operators.ArithOp.{ArithOp}
 use Rattle.vx_operators.specs.declared.operators.CompareOp.{CompareOp}
 use Rattle.vx_operators.specs.Operators.{comparison_of, arithmetic_of, exact, if_inside}
 use Rattle.vx_operators.specs.Rows.{along, front}
-use Rattle.vx_operators.specs.Kernels.{LiftsTwo, of_two, compared, compared_text, inside, exact_inside}
+use Rattle.vx_operators.specs.Kernels.{LiftsTwo, of_two, compared, compared_text, compared_truth, inside, exact_inside}
 
 -- ---- the rows of two columns
 pub lifted_two : {X Y Z : Type 0} (seen : X → Datum) (other : Y → Datum) (made : Z → Datum) (op : X → Y → Option Z) (step : Datum → Datum → Option Datum) (blank : Z) → LiftsTwo seen other made op step →
@@ -73,6 +73,9 @@ comparison_lifts op = record { none = λ w. refl; left = null_right op; values =
 
 pub text_comparison_lifts : (op : CompareOp) → LiftsTwo text text truth (compared_text op) (comparison_of op)
 text_comparison_lifts op = record { none = λ w. refl; left = null_right op; values = λ x y. refl }
+
+pub truth_comparison_lifts : (op : CompareOp) → LiftsTwo truth truth truth (compared_truth op) (comparison_of op)
+truth_comparison_lifts op = record { none = λ w. refl; left = null_right op; values = λ x y. refl }
 
 inside_lifts : (kind : IntKind) (r : Option ℤ) → option_and_then (if_inside kind) r ≡ option_map number (option_and_then (inside kind) r)
 inside_lifts kind None = refl

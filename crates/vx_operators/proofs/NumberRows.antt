@@ -11,18 +11,15 @@ use Rattle.vx_operators.specs.declared.operators.ArithOp.{ArithOp}
 use Rattle.vx_operators.specs.declared.operators.CompareOp.{CompareOp}
 use Rattle.vx_operators.specs.Operators.{arithmetic_of, comparison_of}
 use Rattle.vx_operators.specs.Rows.{along, front}
-use Rattle.vx_operators.specs.Kernels.{of_two, compared, compares, exact_inside}
+use Rattle.vx_operators.specs.Kernels.{of_two, compares, exact_inside}
 use Rattle.vx_operators.proofs.LiftedRows.{lifted_two, blank_of_two, comparison_lifts, arithmetic_lifts}
+use Rattle.vx_operators.proofs.TestedRows.{tested_part}
 
 pub whole_mask : (n : ℕ) (xs : List Bool) → length xs ≤ n → xs ≡ take n xs
 whole_mask zero [] e = refl
 whole_mask (suc n) [] e = refl
 whole_mask zero (x ∷ xs) e = absurd (omega arith)
 whole_mask (suc n) (x ∷ xs) e = ap (λ (ys : List Bool). x ∷ ys) (whole_mask n xs (omega arith))
-
-front_some : {A : Type 0} (xs : List A) → front (map (λ x. Some x) xs) ≡ xs
-front_some [] = refl
-front_some {A} (x ∷ xs) = ap (λ (ys : List A). x ∷ ys) (front_some xs)
 
 -- ---- how many rows
 pub both_len : (xs ys : List Bool) → length ys ≡ length xs → length (both xs ys) ≡ length xs
@@ -61,27 +58,6 @@ beside_none zero [] e = refl
 beside_none zero (bit ∷ mask) e = absurd (omega arith)
 beside_none (suc n) [] e = absurd (omega arith)
 beside_none (suc n) (bit ∷ mask) e = ap (λ (bits : List Bool). false ∷ bits) (beside_none n mask (omega arith))
-
--- ---- comparison
-masked : {X Y : Type 0} (f : X → Y → Bool) (mask : List Bool) (xs : List X) (ys : List Y) → map Some (both mask (along f xs ys)) ≡ of_two (λ x y. Some (f x y)) false mask xs ys
-masked f [] xs ys = refl
-masked f (bit ∷ mask) [] ys = refl
-masked f (bit ∷ mask) (x ∷ xs) [] = refl
-masked f (true ∷ mask) (x ∷ xs) (y ∷ ys) = ap (λ (rows : List (Option Bool)). Some (f x y) ∷ rows) (masked f mask xs ys)
-masked f (false ∷ mask) (x ∷ xs) (y ∷ ys) = ap (λ (rows : List (Option Bool)). Some false ∷ rows) (masked f mask xs ys)
-
-pub masked_held : (mask bits : List Bool) → NullsHold false mask (both mask bits)
-masked_held [] bits = tt
-masked_held (true ∷ mask) [] = tt
-masked_held (false ∷ mask) [] = tt
-masked_held (true ∷ mask) (bit ∷ bits) = masked_held mask bits
-masked_held (false ∷ mask) (bit ∷ bits) = (refl, masked_held mask bits)
-
-pub compared_sides : (op : CompareOp) (lv rv truths : List Bool) (ls rs : List ℤ) → truths ≡ along (compares op) ls rs → length lv ≡ length ls → length rv ≡ length rs
-    → where_valid (both lv rv) (map truth (both (both lv rv) truths)) ≡ front (along (comparison_of op) (where_valid lv (map number ls)) (where_valid rv (map number rs)))
-compared_sides op lv rv truths ls rs e c d =
-    let same : both (both lv rv) truths ≡ front (of_two (compared op) false (both lv rv) ls rs) = sym (front_some (both (both lv rv) truths)) ∙ ap front (ap (λ (bits : List Bool). map Some (both (both lv rv) bits)) e ∙ masked (compares op) (both lv rv) ls rs) in
-    ap (λ (ts : List Bool). where_valid (both lv rv) (map truth ts)) same ∙ sym (lifted_two number number truth (compared op) (comparison_of op) false (comparison_lifts op) lv rv ls rs c d)
 
 -- ---- arithmetic: as many rows as there are before the first fault
 front_two_len : {X Y Z : Type 0} (op : X → Y → Option Z) (blank : Z) (mask : List Bool) (xs : List X) (ys : List Y) → length (front (of_two op blank mask xs ys)) ≤ length mask
@@ -139,8 +115,7 @@ made_rows seen known validity made numbers n v e k le = omega (arith, ap length 
 -- ---- the parts that are made
 pub compared_part : (op : CompareOp) (lv rv validity truths values : List Bool) (ls rs : List ℤ) → validity ≡ both lv rv → truths ≡ along (compares op) ls rs → values ≡ both validity truths → length lv ≡ length ls → length rv ≡ length rs
     → where_valid validity (map truth values) ≡ front (along (comparison_of op) (where_valid lv (map number ls)) (where_valid rv (map number rs)))
-compared_part op lv rv validity truths values ls rs valid made held c d =
-    ap (λ (bits : List Bool). where_valid validity (map truth bits)) held ∙ ap (λ (mask : List Bool). where_valid mask (map truth (both mask truths))) valid ∙ compared_sides op lv rv truths ls rs made c d
+compared_part op = tested_part number number (compares op) (comparison_of op) (comparison_lifts op)
 
 pub joined_part : (kind : IntKind) (nullability : Nullability) (op : ArithOp) (lv rv known validity : List Bool) (ls rs numbers : List ℤ) (n : ℕ) → known ≡ both lv rv → validity ≡ take n known → numbers ≡ front (of_two (exact_inside kind op) (pos 0) known ls rs) → n ≡ length numbers → length lv ≡ length ls → length rv ≡ length rs
     → where_valid validity (map number numbers) ≡ front (along (arithmetic_of op (Some (int_type kind nullability))) (where_valid lv (map number ls)) (where_valid rv (map number rs)))

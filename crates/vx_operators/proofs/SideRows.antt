@@ -2,11 +2,14 @@
 use Rattle.std.specs.Prelude.{slice_get}
 use Rattle.std.proofs.Common.{◌≡◌, ℕ, zero, suc, ◌<◌, ◌≤◌, ℤ, pos, Bool, true, false, List, [], ◌∷◌, length, map, take, replicate, Some, refl, sym, ap, ◌∙◌, arith}
 use Rattle.std.proofs.lemmas.List.{length-map, length-replicate}
-use Rattle.vx_types.specs.Data.{Datum, null, number}
+use Rattle.vx_types.specs.Data.{Datum, null, number, text}
 use Rattle.vx_types.specs.Reading.{where_valid}
 use Rattle.vx_operators.specs.declared.sides.Side.{Side}
 use Rattle.vx_operators.specs.declared.sides.Side.TheVariants.{Rows, One, Null}
 use Rattle.vx_operators.specs.Sides.{side_numbers, side_rows, IsSide}
+use Rattle.vx_operators.specs.declared.text_sides.TextSide.{TextSide}
+use Rattle.vx_operators.specs.declared.text_sides.TextSide.TheVariants as texts
+use Rattle.vx_operators.specs.TextSides.{side_texts, text_rows, IsTextSide}
 
 pub get_same : {X : Type 0} (rows : ℕ) (x : X) (row : ℕ) → row < length (replicate rows x) → slice_get (replicate rows x) row ≡ Some x
 get_same zero x row lt = absurd (omega arith)
@@ -27,12 +30,31 @@ pub nulls_same : (rows : ℕ) (z : ℤ) → where_valid (replicate rows false) (
 nulls_same zero z = refl
 nulls_same (suc rows) z = ap (λ (vs : List Datum). null ∷ vs) (nulls_same rows z)
 
+-- ---- a value of any sort, or none, at each row
+pub values_same : {X : Type 0} (seen : X → Datum) (rows : ℕ) (x : X) → where_valid (replicate rows true) (map seen (replicate rows x)) ≡ replicate rows (seen x)
+values_same seen zero x = refl
+values_same seen (suc rows) x = ap (λ (vs : List Datum). seen x ∷ vs) (values_same seen rows x)
+
+pub nulls_for : {X : Type 0} (seen : X → Datum) (rows : ℕ) (x : X) → where_valid (replicate rows false) (map seen (replicate rows x)) ≡ replicate rows null
+nulls_for seen zero x = refl
+nulls_for seen (suc rows) x = ap (λ (vs : List Datum). null ∷ vs) (nulls_for seen rows x)
+
 -- ---- how many rows
 valid_len : (mask : List Bool) (vs : List Datum) → length mask ≡ length vs → length (where_valid mask vs) ≡ length vs
 valid_len [] [] e = refl
 valid_len (bit ∷ mask) (v ∷ vs) e = omega (arith, valid_len mask vs (omega arith))
 valid_len [] (v ∷ vs) e = absurd (omega arith)
 valid_len (bit ∷ mask) [] e = absurd (omega arith)
+
+valid_count : {X : Type 0} (seen : X → Datum) (mask : List Bool) (xs : List X) → length mask ≡ length xs → length (where_valid mask (map seen xs)) ≡ length xs
+valid_count seen mask xs e = valid_len mask (map seen xs) (e ∙ sym (length-map xs seen)) ∙ length-map xs seen
+
+pub text_count : (side : TextSide) → IsTextSide side → length (text_rows side) ≡ length (side_texts side)
+text_count (texts.Rows valid held) e = valid_count text valid.now held.now e
+text_count (texts.One t rows) e = valid_count text (replicate rows true) (replicate rows t.now) (length-replicate rows true ∙ sym (length-replicate rows t.now))
+text_count (texts.Null rows) e =
+    let none : List ℕ = [] in
+    valid_count text (replicate rows false) (replicate rows none) (length-replicate rows false ∙ sym (length-replicate rows none))
 
 pub side_count : {X : Type 0} (seen : X → ℤ) (side : Side X) → IsSide side → length (side_rows seen side) ≡ length (side_numbers seen side)
 side_count seen (Rows valid numbers) e =

@@ -1,6 +1,6 @@
 -- What is made of the rows of columns, before it is seen as data.
 use Rattle.std.specs.Prelude.{◌≡◌, ℕ, ℤ, int_le, Bool, ◌&&◌, if◌then◌else◌, List, [], ◌∷◌, Option, Some, None, option_map, option_and_then}
-use Rattle.std.specs.Ordering.{int_cmp, nat_cmp}
+use Rattle.std.specs.Ordering.{int_cmp, nat_cmp, bool_cmp}
 use Rattle.std.specs.Cmp.Lexicographic.{slice_cmp}
 use Rattle.vx_types.specs.declared.dtypes.IntKind.{IntKind}
 use Rattle.vx_types.specs.Data.{Datum, null}
@@ -22,8 +22,18 @@ abbrev pub compares : CompareOp → ℤ → ℤ → Bool
 compares op x y = holds op (int_cmp x y)
 
 -- the same of two texts, by their bytes
+abbrev pub compares_text : CompareOp → List ℕ → List ℕ → Bool
+compares_text op a b = holds op (slice_cmp nat_cmp a b)
+
+-- the same of two truth values: false stands before true
+abbrev pub compares_truth : CompareOp → Bool → Bool → Bool
+compares_truth op a b = holds op (bool_cmp a b)
+
 abbrev pub compared_text : CompareOp → List ℕ → List ℕ → Option Bool
-compared_text op a b = Some (holds op (slice_cmp nat_cmp a b))
+compared_text op a b = Some (compares_text op a b)
+
+abbrev pub compared_truth : CompareOp → Bool → Bool → Option Bool
+compared_truth op a b = Some (compares_truth op a b)
 
 abbrev pub compared : CompareOp → ℤ → ℤ → Option Bool
 compared op x y = Some (compares op x y)

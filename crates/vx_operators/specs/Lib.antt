@@ -3,4 +3,5 @@ pub mod Logic
 pub mod Operators
 pub mod Rows
 pub mod Sides
+pub mod TextSides
 pub mod Worths

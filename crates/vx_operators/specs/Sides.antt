@@ -4,6 +4,14 @@ use Rattle.vx_types.specs.Data.{Datum, number}
 use Rattle.vx_types.specs.Reading.{where_valid}
 use Rattle.vx_operators.specs.declared.sides.Side.{Side}
 use Rattle.vx_operators.specs.declared.sides.Side.TheVariants.{Rows, One, Null}
+use Rattle.vx_operators.specs.declared.valid_rows.Valid.{Valid}
+use Rattle.vx_operators.specs.declared.valid_rows.Valid.TheVariants.{Where, Everywhere, Nowhere}
+
+-- which rows have a value
+abbrev pub valid_rows : Valid → List Bool
+valid_rows (Where valid) = valid.now
+valid_rows (Everywhere rows) = replicate rows true
+valid_rows (Nowhere rows) = replicate rows false
 
 -- which rows have a number
 abbrev pub side_valid : {X : Type 0} → Side X → List Bool

@@ -10,13 +10,16 @@ ghost use Rattle.vx_operators.specs.Worths.{worth_rows};
 
 use crate::number_operators::{compare_kind, join_kind};
 use crate::operators::{ArithOp, CompareOp};
-use crate::truth_operators::{and_truths, not_truths, null_rows, or_truths, value_rows};
+use crate::text_operators::compare_text_rows;
+use crate::truth_operators::{
+    and_truths, compare_truths, not_truths, null_rows, or_truths, value_rows,
+};
 use crate::worths::Worth;
 use std::alloc::{AllocError, Global};
 use vx_packed::Part;
 use vx_types::IntKind;
 
-/// How the numbers of both compare, row by row.
+/// How the truth values, the texts or the numbers of both compare, row by row.
 pub fn compare_worths(
     alloc: Global,
     op: CompareOp,
@@ -26,6 +29,14 @@ pub fn compare_worths(
     requires { length (worth_rows right.now) ≡ length (worth_rows left.now) }
     ensures { IfOk result (λ made. IfSome made (λ part. part.values ≡ front (along (comparison_of op) (worth_rows left.now) (worth_rows right.now)))) }
 {
+    if left.is_truth() && right.is_truth() {
+        let part = compare_truths(alloc, op, left, right)?;
+        return Ok(Some(part));
+    }
+    if left.is_text() && right.is_text() {
+        let part = compare_text_rows(alloc, op, left, right)?;
+        return Ok(Some(part));
+    }
     match left.kind() {
         Some(kind) => {
             if !right.is_of(kind) {

@@ -11,8 +11,12 @@ mod number_operators;
 mod numbers;
 pub mod operators;
 mod sides;
+mod text_operators;
+mod text_sides;
+mod texts;
 mod truth_operators;
 mod truths;
+mod valid_rows;
 mod worths;
 
 pub use dispatch::{

@@ -3,9 +3,10 @@
 
 ghost use Rattle.std.specs.Prelude.{◌≡◌, ◌<◌, length, map, slice_get, Some, IfOk};
 ghost use Rattle.vx_words.specs.Masks.{both};
-ghost use Rattle.vx_operators.specs.Sides.{side_valid, side_numbers, IsSide};
+ghost use Rattle.vx_operators.specs.Sides.{side_valid, side_numbers, valid_rows, IsSide};
 
 use crate::integers::Integer;
+use crate::valid_rows::Valid;
 use std::alloc::{AllocError, Global};
 use vx_words::Mask;
 
@@ -58,14 +59,14 @@ impl<'a, T: Integer> Side<'a, T> {
         }
     }
 
-    /// The rows that have a number.
-    fn validity(&self, alloc: Global) -> Result<Mask, AllocError>
-        ensures { IfOk result (λ mask. mask ≡ side_valid self.now) }
+    /// Which rows have a number. It takes no memory.
+    fn valid(&self) -> Valid<'_>
+        ensures { valid_rows result ≡ side_valid self.now }
     {
         match self {
-            Side::Rows(valid, _) => valid.copy(alloc),
-            Side::One(_, rows) => Mask::new_true(alloc, *rows as u64),
-            Side::Null(rows) => Mask::new_false(alloc, *rows as u64),
+            Side::Rows(valid, _) => Valid::Where(valid),
+            Side::One(_, rows) => Valid::Everywhere(*rows),
+            Side::Null(rows) => Valid::Nowhere(*rows),
         }
     }
 
@@ -74,27 +75,7 @@ impl<'a, T: Integer> Side<'a, T> {
         requires { length (side_valid other.now) ≡ length (side_valid self.now) }
         ensures { IfOk result (λ mask. mask ≡ both (side_valid self.now) (side_valid other.now)) }
     {
-        match (self, other) {
-            (Side::Rows(valid, _), Side::Rows(other_valid, _)) => {
-                let mask = valid.and(alloc, other_valid)?;
-                Ok(mask)
-            }
-            (Side::Rows(valid, _), Side::One(_, _)) => {
-                let mask = valid.copy(alloc)?;
-                Ok(mask)
-            }
-            (Side::Rows(_, _), Side::Null(rows)) => {
-                let mask = Mask::new_false(alloc, *rows as u64)?;
-                Ok(mask)
-            }
-            (Side::One(_, _), _) => {
-                let mask = other.validity(alloc)?;
-                Ok(mask)
-            }
-            (Side::Null(rows), _) => {
-                let mask = Mask::new_false(alloc, *rows as u64)?;
-                Ok(mask)
-            }
-        }
+        let mask = self.valid().both(alloc, &other.valid())?;
+        Ok(mask)
     }
 }

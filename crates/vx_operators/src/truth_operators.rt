@@ -5,11 +5,12 @@ ghost use Rattle.vx_types.specs.declared.dtypes.Nullability.TheVariants.{NonNull
 ghost use Rattle.vx_types.specs.Data.{bool_type, null, truth};
 ghost use Rattle.vx_types.specs.Reading.{where_valid};
 ghost use Rattle.vx_words.specs.Rows.{Holds, NullsHold};
-ghost use Rattle.vx_operators.specs.Operators.{and_of, or_of, negated, null_test_of, value_test_of};
-ghost use Rattle.vx_operators.specs.Rows.{along};
+ghost use Rattle.vx_operators.specs.Operators.{and_of, comparison_of, or_of, negated, null_test_of, value_test_of};
+ghost use Rattle.vx_operators.specs.Rows.{along, front};
 ghost use Rattle.vx_operators.specs.Worths.{worth_type, worth_rows};
 
-use crate::truths::{Truths, and, is_not_null, is_null, not, or};
+use crate::operators::CompareOp;
+use crate::truths::{Truths, and, compare, is_not_null, is_null, not, or};
 use crate::worths::{Single, Worth};
 use std::alloc::{AllocError, Global};
 use vx_packed::{Look, Part};
@@ -132,6 +133,26 @@ pub(crate) fn or_truths(
     let left = truths_of(alloc, left)?;
     let right = truths_of(alloc, right)?;
     let made = or(alloc, &left, &right)?;
+    Ok(part_of(made))
+}
+
+/// How the truth values of both compare, row by row.
+#[tactic(auto, using(crate::proofs::LogicRows::truths_count))]
+pub(crate) fn compare_truths(
+    alloc: Global,
+    op: CompareOp,
+    left: &Worth<'_>,
+    right: &Worth<'_>,
+) -> Result<Part, AllocError>
+    requires left { worth_type left.now ≡ bool_type NonNullable }
+    requires right { worth_type right.now ≡ bool_type NonNullable }
+    requires rows { length (worth_rows right.now) ≡ length (worth_rows left.now) }
+    ensures dtype { IfOk result (λ part. part.dtype ≡ bool_type NonNullable) }
+    ensures values { IfOk result (λ part. part.values ≡ front (along (comparison_of op) (worth_rows left.now) (worth_rows right.now))) }
+{
+    let left = truths_of(alloc, left)?;
+    let right = truths_of(alloc, right)?;
+    let made = compare(alloc, op, &left, &right)?;
     Ok(part_of(made))
 }
 

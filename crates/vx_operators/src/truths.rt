@@ -5,10 +5,13 @@ ghost use Rattle.std.specs.Prelude.{◌≡◌, List, Some, false, length, map, I
 ghost use Rattle.vx_types.specs.Data.{Datum, truth};
 ghost use Rattle.vx_types.specs.Reading.{where_valid};
 ghost use Rattle.vx_types.specs.Segment.{is_value};
+ghost use Rattle.vx_words.specs.Masks.{both};
 ghost use Rattle.vx_words.specs.Rows.{NullsHold};
-ghost use Rattle.vx_operators.specs.Operators.{and_of, or_of, negated, null_test_of, value_test_of};
-ghost use Rattle.vx_operators.specs.Rows.{along};
+ghost use Rattle.vx_operators.specs.Operators.{and_of, comparison_of, or_of, negated, null_test_of, value_test_of};
+ghost use Rattle.vx_operators.specs.Kernels.{compares_truth};
+ghost use Rattle.vx_operators.specs.Rows.{along, front};
 
+use crate::operators::CompareOp;
 use std::alloc::{AllocError, Global};
 use vx_words::Mask;
 
@@ -57,6 +60,52 @@ pub(crate) fn or(alloc: Global, left: &Truths, right: &Truths) -> Result<Truths,
     let known = left.validity.and(alloc, &right.validity)?;
     let values = left.values.either(alloc, &right.values)?;
     let validity = known.either(alloc, &values)?;
+    Ok(Truths { validity, values })
+}
+
+/// How both compare in the rows that are known, and false in all others: false stands before true.
+#[tactic(auto, using(crate::proofs::NumberRows::both_len, crate::proofs::LogicRows::either_len, crate::proofs::LogicRows::without_len, crate::proofs::TestedRows::less_bits, crate::proofs::TestedRows::greater_bits, crate::proofs::TestedRows::no_greater_bits, crate::proofs::TestedRows::no_less_bits, crate::proofs::TestedRows::other_bits, crate::proofs::TestedRows::same_bits))]
+fn compared_bits(
+    alloc: Global,
+    op: CompareOp,
+    known: &Mask,
+    left: &Mask,
+    right: &Mask,
+) -> Result<Mask, AllocError>
+    requires known { length known.now ≡ length left.now }
+    requires rows { length right.now ≡ length left.now }
+    ensures { IfOk result (λ bits. bits ≡ both known.now (along (compares_truth op) left.now right.now)) }
+{
+    let less = right.without(alloc, left)?;
+    let greater = left.without(alloc, right)?;
+    let bits = match op {
+        CompareOp::Eq => known.without(alloc, &less.either(alloc, &greater)?)?,
+        CompareOp::Ne => known.and(alloc, &less.either(alloc, &greater)?)?,
+        CompareOp::Lt => known.and(alloc, &less)?,
+        CompareOp::Le => known.without(alloc, &greater)?,
+        CompareOp::Gt => known.and(alloc, &greater)?,
+        CompareOp::Ge => known.without(alloc, &less)?,
+    };
+    Ok(bits)
+}
+
+/// How both compare: null where one is null.
+#[tactic(auto, using(crate::proofs::NumberRows::both_len, crate::proofs::NumberRows::along_len, crate::proofs::TestedRows::masked_held))]
+pub(crate) fn compare(
+    alloc: Global,
+    op: CompareOp,
+    left: &Truths,
+    right: &Truths,
+) -> Result<Truths, AllocError>
+    requires left { length left.now.validity ≡ length left.now.values }
+    requires right { length right.now.validity ≡ length right.now.values }
+    requires rows { length right.now.validity ≡ length left.now.validity }
+    ensures rows { IfOk result (λ truths. length truths.validity ≡ length truths.values) }
+    ensures values { IfOk result (λ truths. where_valid truths.validity (map truth truths.values) ≡ front (along (comparison_of op) (where_valid left.now.validity (map truth left.now.values)) (where_valid right.now.validity (map truth right.now.values)))) }
+    ensures held { IfOk result (λ truths. NullsHold false truths.validity truths.values) }
+{
+    let validity = left.validity.and(alloc, &right.validity)?;
+    let values = compared_bits(alloc, op, &validity, &left.values, &right.values)?;
     Ok(Truths { validity, values })
 }
 

@@ -4,13 +4,15 @@
 ghost use Rattle.std.specs.Prelude.{◌≡◌, ◌≤◌, length, take, IfOk, IfSome, IsTrue};
 ghost use Rattle.vx_types.specs.declared.dtypes.Nullability.TheVariants.{NonNullable};
 ghost use Rattle.vx_types.specs.Fits.{IsInside};
-ghost use Rattle.vx_types.specs.Data.{bool_type, int_type};
+ghost use Rattle.vx_types.specs.Data.{bool_type, int_type, utf8_type};
 ghost use Rattle.vx_operators.specs.Operators.{is_null};
 ghost use Rattle.vx_operators.specs.Sides.{side_rows, IsSide};
+ghost use Rattle.vx_operators.specs.TextSides.{text_rows, IsTextSide};
 ghost use Rattle.vx_operators.specs.Worths.{single_datum, single_type, whole_in, worth_type, worth_rows, IsSingle, IsWorth};
 
 use crate::integers::Integer;
 use crate::sides::Side;
+use crate::text_sides::TextSide;
 use std::alloc::{AllocError, Global};
 use vx_packed::{Look, Part};
 use vx_types::IntKind;
@@ -145,6 +147,33 @@ impl<'a> Worth<'a> {
         }
     }
 
+    /// Whether the rows hold texts, or none.
+    pub(crate) fn is_text(&self) -> bool
+        ensures { IsTrue result → worth_type self.now ≡ utf8_type NonNullable }
+    {
+        match self {
+            Worth::Lent(part) => matches!(part.look(), Look::Texts(_, _)),
+            Worth::Made(part) => matches!(part.look(), Look::Texts(_, _)),
+            Worth::Same(single, _) => matches!(single, Single::Text(_)),
+        }
+    }
+
+    /// The texts, as the side of an operator. It takes no memory.
+    #[tactic(auto, using(crate::proofs::SideRows::values_same, crate::proofs::SideRows::nulls_for))]
+    pub(crate) fn text_side(&self) -> TextSide<'_>
+        requires { worth_type self.now ≡ utf8_type NonNullable }
+        ensures side { IsTextSide result }
+        ensures rows { text_rows result ≡ worth_rows self.now }
+    {
+        match self {
+            Worth::Lent(part) => part_texts(part),
+            Worth::Made(part) => part_texts(part),
+            Worth::Same(Single::Text(Some(text)), rows) => TextSide::One(text, *rows),
+            Worth::Same(Single::Text(None), rows) => TextSide::Null(*rows),
+            Worth::Same(_, _) => unreachable!(),
+        }
+    }
+
     /// The numbers of this kind, as the side of an operator. It takes no memory.
     pub(crate) fn side<T: Integer>(&self) -> Side<'_, T>
         requires worth { IsWorth self.now }
@@ -182,6 +211,18 @@ fn part_side<T: Integer>(part: &Part) -> Side<'_, T>
 {
     match part.look() {
         Look::Numbers(validity, numbers) => Side::Rows(validity, T::of_kind(numbers)),
+        _ => unreachable!(),
+    }
+}
+
+/// The texts of the rows of a part.
+fn part_texts(part: &Part) -> TextSide<'_>
+    requires { part.now.dtype ≡ utf8_type NonNullable }
+    ensures side { IsTextSide result }
+    ensures rows { text_rows result ≡ part.now.values }
+{
+    match part.look() {
+        Look::Texts(validity, texts) => TextSide::Rows(validity, texts),
         _ => unreachable!(),
     }
 }

@@ -1,7 +1,8 @@
 use Rattle.std.proofs.Common.{◌≡◌, ◌∙◌, length, sym, ap}
 use Rattle.vx_operators.specs.Kernels.{compares}
 use Rattle.vx_operators.specs.Sides.{side_valid, side_numbers}
-use Rattle.vx_operators.proofs.NumberRows.{both_len, along_len, masked_held, compared_part}
+use Rattle.vx_operators.proofs.NumberRows.{both_len, along_len, compared_part}
+use Rattle.vx_operators.proofs.TestedRows.{masked_held}
 use Rattle.vx_operators.proofs.numbers.compare_numbers.Goals as goal
 
 pub and-requires : goal.and-requires

@@ -1,0 +1,104 @@
+-- A test of the values of both sides at each row, whatever they are: what the meaning says of a comparison.
+use Rattle.std.proofs.Common.{◌≡◌, Bool, true, false, ◌&&◌, not, List, [], ◌∷◌, length, map, Option, Some, refl, sym, ap, ◌∙◌}
+use Rattle.vx_types.specs.Data.{Datum, truth}
+use Rattle.vx_types.specs.Reading.{where_valid}
+use Rattle.vx_words.specs.Masks.{both, either, without}
+use Rattle.vx_words.specs.Rows.{NullsHold}
+use Rattle.vx_operators.specs.declared.operators.CompareOp.TheVariants.{Eq, Ne, Lt, Le, Gt, Ge}
+use Rattle.vx_operators.specs.Rows.{along, front}
+use Rattle.vx_operators.specs.Kernels.{LiftsTwo, of_two, compares_truth}
+use Rattle.vx_operators.proofs.LiftedRows.{lifted_two}
+
+front_some : {A : Type 0} (xs : List A) → front (map (λ x. Some x) xs) ≡ xs
+front_some [] = refl
+front_some {A} (x ∷ xs) = ap (λ (ys : List A). x ∷ ys) (front_some xs)
+
+masked : {X Y : Type 0} (f : X → Y → Bool) (mask : List Bool) (xs : List X) (ys : List Y) → map Some (both mask (along f xs ys)) ≡ of_two (λ x y. Some (f x y)) false mask xs ys
+masked f [] xs ys = refl
+masked f (bit ∷ mask) [] ys = refl
+masked f (bit ∷ mask) (x ∷ xs) [] = refl
+masked f (true ∷ mask) (x ∷ xs) (y ∷ ys) = ap (λ (rows : List (Option Bool)). Some (f x y) ∷ rows) (masked f mask xs ys)
+masked f (false ∷ mask) (x ∷ xs) (y ∷ ys) = ap (λ (rows : List (Option Bool)). Some false ∷ rows) (masked f mask xs ys)
+
+-- a row that is not valid holds false
+pub masked_held : (mask bits : List Bool) → NullsHold false mask (both mask bits)
+masked_held [] bits = tt
+masked_held (true ∷ mask) [] = tt
+masked_held (false ∷ mask) [] = tt
+masked_held (true ∷ mask) (bit ∷ bits) = masked_held mask bits
+masked_held (false ∷ mask) (bit ∷ bits) = (refl, masked_held mask bits)
+
+pub tested_sides : {X Y : Type 0} (seen : X → Datum) (other : Y → Datum) (f : X → Y → Bool) (step : Datum → Datum → Option Datum) → LiftsTwo seen other truth (λ x y. Some (f x y)) step
+    → (lv rv truths : List Bool) (ls : List X) (rs : List Y) → truths ≡ along f ls rs → length lv ≡ length ls → length rv ≡ length rs
+    → where_valid (both lv rv) (map truth (both (both lv rv) truths)) ≡ front (along step (where_valid lv (map seen ls)) (where_valid rv (map other rs)))
+tested_sides seen other f step lifts lv rv truths ls rs e c d =
+    let same : both (both lv rv) truths ≡ front (of_two (λ x y. Some (f x y)) false (both lv rv) ls rs) = sym (front_some (both (both lv rv) truths)) ∙ ap front (ap (λ (bits : List Bool). map Some (both (both lv rv) bits)) e ∙ masked f (both lv rv) ls rs) in
+    ap (λ (ts : List Bool). where_valid (both lv rv) (map truth ts)) same ∙ sym (lifted_two seen other truth (λ x y. Some (f x y)) step false lifts lv rv ls rs c d)
+
+-- the part that is made
+pub tested_part : {X Y : Type 0} (seen : X → Datum) (other : Y → Datum) (f : X → Y → Bool) (step : Datum → Datum → Option Datum) → LiftsTwo seen other truth (λ x y. Some (f x y)) step
+    → (lv rv validity truths values : List Bool) (ls : List X) (rs : List Y) → validity ≡ both lv rv → truths ≡ along f ls rs → values ≡ both validity truths → length lv ≡ length ls → length rv ≡ length rs
+    → where_valid validity (map truth values) ≡ front (along step (where_valid lv (map seen ls)) (where_valid rv (map other rs)))
+tested_part seen other f step lifts lv rv validity truths values ls rs valid made held c d =
+    ap (λ (bits : List Bool). where_valid validity (map truth bits)) held ∙ ap (λ (mask : List Bool). where_valid mask (map truth (both mask truths))) valid ∙ tested_sides seen other f step lifts lv rv truths ls rs made c d
+
+-- ---- truth values by whole masks
+pub less_bits : (known a b : List Bool) → both known (without b a) ≡ both known (along (compares_truth Lt) a b)
+less_bits [] a b = refl
+less_bits (k ∷ known) [] [] = refl
+less_bits (k ∷ known) [] (y ∷ b) = refl
+less_bits (k ∷ known) (x ∷ a) [] = refl
+less_bits (k ∷ known) (false ∷ a) (false ∷ b) = ap (λ (bits : List Bool). (k && false) ∷ bits) (less_bits known a b)
+less_bits (k ∷ known) (false ∷ a) (true ∷ b) = ap (λ (bits : List Bool). (k && true) ∷ bits) (less_bits known a b)
+less_bits (k ∷ known) (true ∷ a) (false ∷ b) = ap (λ (bits : List Bool). (k && false) ∷ bits) (less_bits known a b)
+less_bits (k ∷ known) (true ∷ a) (true ∷ b) = ap (λ (bits : List Bool). (k && false) ∷ bits) (less_bits known a b)
+
+pub greater_bits : (known a b : List Bool) → both known (without a b) ≡ both known (along (compares_truth Gt) a b)
+greater_bits [] a b = refl
+greater_bits (k ∷ known) [] [] = refl
+greater_bits (k ∷ known) [] (y ∷ b) = refl
+greater_bits (k ∷ known) (x ∷ a) [] = refl
+greater_bits (k ∷ known) (false ∷ a) (false ∷ b) = ap (λ (bits : List Bool). (k && false) ∷ bits) (greater_bits known a b)
+greater_bits (k ∷ known) (false ∷ a) (true ∷ b) = ap (λ (bits : List Bool). (k && false) ∷ bits) (greater_bits known a b)
+greater_bits (k ∷ known) (true ∷ a) (false ∷ b) = ap (λ (bits : List Bool). (k && true) ∷ bits) (greater_bits known a b)
+greater_bits (k ∷ known) (true ∷ a) (true ∷ b) = ap (λ (bits : List Bool). (k && false) ∷ bits) (greater_bits known a b)
+
+pub no_greater_bits : (known a b : List Bool) → without known (without a b) ≡ both known (along (compares_truth Le) a b)
+no_greater_bits [] a b = refl
+no_greater_bits (k ∷ known) [] [] = refl
+no_greater_bits (k ∷ known) [] (y ∷ b) = refl
+no_greater_bits (k ∷ known) (x ∷ a) [] = refl
+no_greater_bits (k ∷ known) (false ∷ a) (false ∷ b) = ap (λ (bits : List Bool). (k && true) ∷ bits) (no_greater_bits known a b)
+no_greater_bits (k ∷ known) (false ∷ a) (true ∷ b) = ap (λ (bits : List Bool). (k && true) ∷ bits) (no_greater_bits known a b)
+no_greater_bits (k ∷ known) (true ∷ a) (false ∷ b) = ap (λ (bits : List Bool). (k && false) ∷ bits) (no_greater_bits known a b)
+no_greater_bits (k ∷ known) (true ∷ a) (true ∷ b) = ap (λ (bits : List Bool). (k && true) ∷ bits) (no_greater_bits known a b)
+
+pub no_less_bits : (known a b : List Bool) → without known (without b a) ≡ both known (along (compares_truth Ge) a b)
+no_less_bits [] a b = refl
+no_less_bits (k ∷ known) [] [] = refl
+no_less_bits (k ∷ known) [] (y ∷ b) = refl
+no_less_bits (k ∷ known) (x ∷ a) [] = refl
+no_less_bits (k ∷ known) (false ∷ a) (false ∷ b) = ap (λ (bits : List Bool). (k && true) ∷ bits) (no_less_bits known a b)
+no_less_bits (k ∷ known) (false ∷ a) (true ∷ b) = ap (λ (bits : List Bool). (k && false) ∷ bits) (no_less_bits known a b)
+no_less_bits (k ∷ known) (true ∷ a) (false ∷ b) = ap (λ (bits : List Bool). (k && true) ∷ bits) (no_less_bits known a b)
+no_less_bits (k ∷ known) (true ∷ a) (true ∷ b) = ap (λ (bits : List Bool). (k && true) ∷ bits) (no_less_bits known a b)
+
+pub other_bits : (known a b : List Bool) → both known (either (without b a) (without a b)) ≡ both known (along (compares_truth Ne) a b)
+other_bits [] a b = refl
+other_bits (k ∷ known) [] [] = refl
+other_bits (k ∷ known) [] (y ∷ b) = refl
+other_bits (k ∷ known) (x ∷ a) [] = refl
+other_bits (k ∷ known) (false ∷ a) (false ∷ b) = ap (λ (bits : List Bool). (k && false) ∷ bits) (other_bits known a b)
+other_bits (k ∷ known) (false ∷ a) (true ∷ b) = ap (λ (bits : List Bool). (k && true) ∷ bits) (other_bits known a b)
+other_bits (k ∷ known) (true ∷ a) (false ∷ b) = ap (λ (bits : List Bool). (k && true) ∷ bits) (other_bits known a b)
+other_bits (k ∷ known) (true ∷ a) (true ∷ b) = ap (λ (bits : List Bool). (k && false) ∷ bits) (other_bits known a b)
+
+pub same_bits : (known a b : List Bool) → without known (either (without b a) (without a b)) ≡ both known (along (compares_truth Eq) a b)
+same_bits [] a b = refl
+same_bits (k ∷ known) [] [] = refl
+same_bits (k ∷ known) [] (y ∷ b) = refl
+same_bits (k ∷ known) (x ∷ a) [] = refl
+same_bits (k ∷ known) (false ∷ a) (false ∷ b) = ap (λ (bits : List Bool). (k && true) ∷ bits) (same_bits known a b)
+same_bits (k ∷ known) (false ∷ a) (true ∷ b) = ap (λ (bits : List Bool). (k && false) ∷ bits) (same_bits known a b)
+same_bits (k ∷ known) (true ∷ a) (false ∷ b) = ap (λ (bits : List Bool). (k && false) ∷ bits) (same_bits known a b)
+same_bits (k ∷ known) (true ∷ a) (true ∷ b) = ap (λ (bits : List Bool). (k && true) ∷ bits) (same_bits known a b)

@@ -1,0 +1,63 @@
+//! Comparison of texts, row by row, where they stand.
+
+ghost use Rattle.std.specs.Prelude.{◌≡◌, length, map, IfOk};
+ghost use Rattle.vx_types.specs.declared.dtypes.Nullability.TheVariants.{NonNullable};
+ghost use Rattle.vx_types.specs.Data.{bool_type};
+ghost use Rattle.vx_operators.specs.Kernels.{compares_text};
+ghost use Rattle.vx_operators.specs.Operators.{comparison_of};
+ghost use Rattle.vx_operators.specs.Rows.{along, front};
+ghost use Rattle.vx_operators.specs.TextSides.{text_valid, side_texts, text_rows, IsTextSide};
+
+use crate::operators::CompareOp;
+use crate::text_sides::TextSide;
+use std::alloc::{AllocError, Global};
+use vx_packed::Part;
+use vx_words::Mask;
+
+/// How two texts compare.
+#[inline(always)]
+fn test_text(op: CompareOp, left: &str, right: &str) -> bool
+    ensures { result ≡ compares_text op left.now right.now }
+{
+    op.holds(left.cmp(right))
+}
+
+/// How what the rows of both sides hold compares.
+fn compared_texts(
+    alloc: Global,
+    op: CompareOp,
+    left: TextSide<'_>,
+    right: TextSide<'_>,
+) -> Result<Vec<bool>, AllocError>
+    requires left { IsTextSide left }
+    requires rows { length (side_texts right) ≡ length (side_texts left) }
+    ensures { IfOk result (λ truths. truths.items ≡ along (compares_text op) (side_texts left.entry) (side_texts right.entry)) }
+{
+    let rows = left.len();
+    let mut truths = Vec::with_capacity(alloc, rows)?;
+    for row in 0..rows {
+        truths.push(test_text(op, left.at(row), right.at(row)))?;
+    }
+    Ok(truths)
+}
+
+/// How the texts of both sides compare.
+pub(crate) fn compare_texts(
+    alloc: Global,
+    op: CompareOp,
+    left: TextSide<'_>,
+    right: TextSide<'_>,
+) -> Result<Part, AllocError>
+    requires left { IsTextSide left }
+    requires right { IsTextSide right }
+    requires rows { length (side_texts right) ≡ length (side_texts left) }
+    ensures dtype { IfOk result (λ part. part.dtype ≡ bool_type NonNullable) }
+    ensures values { IfOk result (λ part. part.values ≡ front (along (comparison_of op) (text_rows left.entry) (text_rows right.entry))) }
+{
+    let _rows = (left.len(), right.len());
+    let validity = left.both_valid(alloc, &right)?;
+    let truths = compared_texts(alloc, op, left, right)?;
+    let truths = Mask::of(alloc, truths)?;
+    let values = validity.and(alloc, &truths)?;
+    Ok(Part::of_truths(validity, values))
+}
