@@ -3,13 +3,15 @@ use Rattle.std.proofs.Common.{◌≡◌, ℕ, suc, ◌+◌, Bool, true, false, n
 use Rattle.std.specs.List.{position_or_len}
 use Rattle.std.proofs.lemmas.Bool.{lt-ltb}
 use Prim.Native.Nat.compare
-use Rattle.vx_base.specs.Data.{DataType, struct_type, Members, no_members, member, Datum, null, truth, number, text, structure, Items, no_items, item}
+use Rattle.vx_base.specs.Data.{DataType, bool_type, int_type, utf8_type, list_type, struct_type, Members, no_members, member, Datum, null, truth, number, text, structure, Items, no_items, item}
 use Rattle.vx_base.specs.declared.dtypes.Nullability.{Nullability}
-use Rattle.vx_base.specs.Views.{FieldData, fields_in}
+use Rattle.vx_base.specs.declared.dtypes.DType.{DType}
+use Rattle.vx_base.specs.declared.dtypes.DType.TheVariants as variants
+use Rattle.vx_base.specs.Views.{FieldData, data_type, fields_in}
 use Rattle.vx_base.specs.ValueViews.{data_in}
+use Rattle.vx_expr.specs.Finds.{place_found}
 use Rattle.vx_expr.specs.Meaning.{item_in, field_of}
 use Rattle.vx_expr.specs.Steps.{item_at}
-use Rattle.vx_expr.proofs.MemberTypes.{a_type}
 
 -- the place of the first field of that name
 abbrev pub place_of : List ℕ → Members → Option ℕ
@@ -19,7 +21,7 @@ one_further : (b : Bool) (p : ℕ) → cond b (Some (suc p)) None ≡ option_map
 one_further true p = refl
 one_further false p = refl
 
-place_step : (b : Bool) (p len : ℕ) → cond (ltb (cond (not b) (1 + p) 0) (suc len)) (Some (cond (not b) (1 + p) 0)) None ≡ cond b (Some 0) (option_map suc (cond (ltb p len) (Some p) None))
+pub place_step : (b : Bool) (p len : ℕ) → cond (ltb (cond (not b) (1 + p) 0) (suc len)) (Some (cond (not b) (1 + p) 0)) None ≡ cond b (Some 0) (option_map suc (cond (ltb p len) (Some p) None))
 place_step true p len = let first : ltb 0 (suc len) ≡ true = lt-ltb 0 (suc len) (omega arith) in rw first refl
 place_step false p len = let next : 1 + p ≡ suc p = omega arith in rw (next, compare.suc-suc) (one_further (ltb p len) p)
 
@@ -61,9 +63,35 @@ field_here ms n name place (text bytes) e = refl
 field_here ms n name place (structure vs) e = at_place place vs ∙ ap (item_there (data_in vs)) e ∙ item_of_name ms name vs
 
 -- the item at that place is the field
-pub field_at : (t : Option DataType) (ms : Members) (n : Nullability) (name written : List ℕ) (place : Option ℕ) → t ≡ Some (struct_type ms n) → written ≡ name → place ≡ place_of written ms → (v : Datum) → item_at place v ≡ field_of t name v
-field_at t ms n name written place is same e v = field_here ms n name place v (e ∙ ap (λ (bytes : List ℕ). place_of bytes ms) same) ∙ ap (λ (s : Option DataType). field_of s name v) (sym is)
+pub field_at : (t : Option DataType) (name : List ℕ) (v : Datum) → item_at (place_found t name) v ≡ field_of t name v
+field_at (Some (struct_type ms n)) name v = field_here ms n name (place_of name ms) v refl
+field_at None name null = refl
+field_at None name (truth b) = refl
+field_at None name (number z) = refl
+field_at None name (text bytes) = refl
+field_at None name (structure vs) = refl
+field_at (Some (bool_type n)) name null = refl
+field_at (Some (bool_type n)) name (truth b) = refl
+field_at (Some (bool_type n)) name (number z) = refl
+field_at (Some (bool_type n)) name (text bytes) = refl
+field_at (Some (bool_type n)) name (structure vs) = refl
+field_at (Some (int_type kind n)) name null = refl
+field_at (Some (int_type kind n)) name (truth b) = refl
+field_at (Some (int_type kind n)) name (number z) = refl
+field_at (Some (int_type kind n)) name (text bytes) = refl
+field_at (Some (int_type kind n)) name (structure vs) = refl
+field_at (Some (utf8_type n)) name null = refl
+field_at (Some (utf8_type n)) name (truth b) = refl
+field_at (Some (utf8_type n)) name (number z) = refl
+field_at (Some (utf8_type n)) name (text bytes) = refl
+field_at (Some (utf8_type n)) name (structure vs) = refl
+field_at (Some (list_type s n)) name null = refl
+field_at (Some (list_type s n)) name (truth b) = refl
+field_at (Some (list_type s n)) name (number z) = refl
+field_at (Some (list_type s n)) name (text bytes) = refl
+field_at (Some (list_type s n)) name (structure vs) = refl
 
--- the dtype that was found is the one that was looked at
-pub found_type : (found : Option DataType) (given looked written : DataType) → found ≡ a_type given → looked ≡ given → looked ≡ written → found ≡ Some written
-found_type found given looked written e f g = e ∙ ap a_type (sym f ∙ g)
+-- the place of a name in a dtype in memory
+pub place_there : (d : DType) (ms : Members) (n : Nullability) (name written : List ℕ) (place : Option ℕ) → d ≡ variants.Struct ms n → written ≡ name → place ≡ place_of written ms → place ≡ place_found (Some (data_type d)) name
+place_there d ms n name written place is same e =
+    e ∙ ap (λ (bytes : List ℕ). place_of bytes ms) same ∙ ap (λ (other : DType). place_found (Some (data_type other)) name) (sym is)

@@ -147,6 +147,21 @@ so_far_next t items i item fields more start next after field lt is d name step 
     (so_far_more t (terms_of items) (terms_of (drop (i + 1) items)) fields start next after item.0 (term item.1) field d name step
     (subst (λ (es : Terms). SoFar t (terms_of items) es fields start next) (left_next items i item lt is) h))
 
+-- the first of those that are left refuses
+pub so_far_refused : (t : DataType) (items : List (List ℕ × Expr)) (self : Terms) (i : ℕ) (item : List ℕ × Expr) (fields : List Field) (start next : ℕ) (error : BindError) → i < length items → item ≡ get_or items i item → terms_of items ≡ self
+    → SoFar t (terms_of items) (terms_of (drop i items)) fields start next → IsRefusal error (type_of t (term item.1)) (refusal t (term item.1) next) → (last : BindError) → IsRefusal error (types_in t self) (refusal_in t self start last)
+so_far_refused t items self i item fields start next error lt is whole h refused last =
+    let e = term item.1 in
+    let rest = terms_of (drop (i + 1) items) in
+    let left = left_next items i item lt is in
+    refused_too error (type_of t e) (types_in t self) (refusal t e next) (refusal_in t self start last)
+    (λ none. ap (types_in t) (sym whole) ∙ h.none (ap (types_in t) left ∙ ap (λ (o : Option DataType). on_both (one_more_member item.0) o (types_in t rest)) none))
+    (λ none. sym (ap (λ (o : Option DataType). unless o (refusal t e next) (refusal_in t rest (behind next e) last)) none)
+    ∙ ap (λ (es : Terms). refusal_in t es next last) (sym left)
+    ∙ h.reasons last
+    ∙ ap (λ (es : Terms). refusal_in t es start last) whole)
+    refused
+
 -- the dtypes of all of them
 pub all_typed : (t : DataType) (items : List (List ℕ × Expr)) (self : Terms) (i : ℕ) (fields : List Field) (start next : ℕ) → terms_of items ≡ self → length items ≤ i → SoFar t (terms_of items) (terms_of (drop i items)) fields start next → types_in t self ≡ Some (members_of fields)
 all_typed t items self i fields start next e past h =

@@ -1,7 +1,6 @@
 -- What expressions are worth at the rows before the first fault, by their parts.
-use Rattle.std.proofs.Common.{◌≡◌, ℕ, ◌+◌, ◌<◌, ◌≤◌, List, [], ◌∷◌, length, map, take, drop, get_or, replicate, Option, Some, None, option_map, option_and_then, Vec, Result, IfOk, ◌⊎◌, inl, inr, refl, sym, ap, subst, ◌∙◌, arith}
-use Rattle.std.specs.Global.{Global}
-use Rattle.std.proofs.lemmas.List.{length-map, length-replicate, length-take}
+use Rattle.std.proofs.Common.{◌≡◌, ℕ, ◌+◌, ◌<◌, ◌≤◌, List, [], ◌∷◌, length, map, take, drop, get_or, replicate, Option, Some, None, option_map, option_and_then, Result, IfOk, ◌⊎◌, inl, inr, refl, sym, ap, subst, ◌∙◌, arith}
+use Rattle.std.proofs.lemmas.List.{length-replicate, length-take}
 use Rattle.vx_base.specs.declared.dtypes.DType.{DType}
 use Rattle.vx_base.specs.declared.values.Value.{Value}
 use Rattle.vx_base.specs.ColumnCalls.{natural}
@@ -18,13 +17,16 @@ use Rattle.vx_expr.specs.declared.steps.OneStep.{OneStep}
 use Rattle.vx_expr.specs.declared.steps.OneStep.TheVariants.{Field}
 use Rattle.vx_expr.specs.declared.steps.TwoStep.{TwoStep}
 use Rattle.vx_expr.specs.declared.steps.TwoStep.TheVariants.{Arith}
+use Rattle.vx_expr.specs.Finds.{place_found}
 use Rattle.vx_expr.specs.Meaning.{meaning, meanings_in, one_more_item, struct_of, field_of, arithmetic_of}
+use Rattle.vx_expr.specs.Packs.{struct_row}
 use Rattle.vx_expr.specs.Rows.{along, front, front_at, items_made, no_bound}
-use Rattle.vx_expr.specs.Steps.{evaluated_rows, row_data, one_step, two_step, one_made, pair_made, item_at, kind_in, number_type, part_of, left_of, right_of}
+use Rattle.vx_expr.specs.Steps.{evaluated_rows, one_step, two_step, one_made, pair_made, item_at, kind_in, number_type, part_of, left_of, right_of}
 use Rattle.vx_expr.specs.Terms.{Term, Terms, named}
 use Rattle.vx_expr.specs.Types.{on_both, type_of}
 use Rattle.vx_expr.specs.TermViews.{term, terms_of}
-use Rattle.vx_expr.proofs.Fronts.{along_no_more_left, front_along_left, front_values, front_numbers, front_constant, front_then, front_pair, continued, put_before, put_behind, continued_more, continued_start, continued_done}
+use Rattle.vx_expr.proofs.FieldPlaces.{field_at}
+use Rattle.vx_expr.proofs.Fronts.{front_along_left, front_values, front_numbers, front_constant, front_then, front_pair, continued, put_before, put_behind, continued_more, continued_start, continued_done}
 use Rattle.vx_expr.proofs.Pairs.{left_next, left_none}
 
 -- ---- named expressions
@@ -42,46 +44,38 @@ one_named : (t : DataType) (name : List ℕ) (e : Term) (es : Terms) (rows : Lis
 one_named t name e es rows vs ns = (λ i. front (continued rows (λ v n. items_named t name e es v n i) vs ns)) ∙ continued_more (meaning t no_bound e) (items_made t es) rows vs ns
 
 -- the rows so far, and one value more in each
-pub rows_more : (t : DataType) (items : List (List ℕ × Expr)) (i : ℕ) (pair : List ℕ × Expr) (made longer : List (Vec Value Global)) (xs vs : List Datum) (numbers : List ℕ) (whole : List (List Datum))
+pub rows_more : (t : DataType) (items : List (List ℕ × Expr)) (i : ℕ) (pair : List ℕ × Expr) (rows longer : List (List Datum)) (xs vs : List Datum) (numbers : List ℕ) (whole : List (List Datum))
     → i < length items → pair ≡ get_or items i pair
-    → xs ≡ front_at t (term pair.1) (take (length made) vs) (take (length made) numbers)
-    → map row_data longer ≡ along put_behind (map row_data made) xs
-    → front (continued (map row_data made) (items_made t (terms_of (drop i items))) vs numbers) ≡ whole
-    → front (continued (map row_data longer) (items_made t (terms_of (drop (i + 1) items))) vs numbers) ≡ whole
-rows_more t items i pair made longer xs vs numbers whole lt is here added so_far =
+    → xs ≡ front_at t (term pair.1) (take (length rows) vs) (take (length rows) numbers)
+    → longer ≡ along put_behind rows xs
+    → front (continued rows (items_made t (terms_of (drop i items))) vs numbers) ≡ whole
+    → front (continued longer (items_made t (terms_of (drop (i + 1) items))) vs numbers) ≡ whole
+rows_more t items i pair rows longer xs vs numbers whole lt is here added so_far =
     let next = left_next items i pair lt is in
     let e = term pair.1 in
     let rest = terms_of (drop (i + 1) items) in
-    let rows = map row_data made in
-    let there : front_at t e (take (length rows) vs) (take (length rows) numbers) ≡ xs =
-    ap (λ (k : ℕ). front_at t e (take k vs) (take k numbers)) (length-map made row_data) ∙ sym here in
-    ap (λ (rs : List (List Datum)). front (continued rs (items_made t rest) vs numbers)) (added ∙ ap (λ (cs : List Datum). along put_behind rows cs) (sym there))
+    ap (λ (rs : List (List Datum)). front (continued rs (items_made t rest) vs numbers)) (added ∙ ap (λ (cs : List Datum). along put_behind rows cs) here)
     ∙ sym (one_named t pair.0 e rest rows vs numbers)
     ∙ ap (λ (es : Terms). front (continued rows (items_made t es) vs numbers)) (sym next)
     ∙ so_far
 
-pub rows_few : (made longer : List (Vec Value Global)) (xs : List Datum) → map row_data longer ≡ along put_behind (map row_data made) xs → length longer ≤ length made
-rows_few made longer xs added =
-    omega (arith, length-map longer row_data, ap length added, along_no_more_left put_behind (map row_data made) xs, length-map made row_data)
-
 -- no values yet
-pub rows_start : (t : DataType) (es : Terms) (made : List (Vec Value Global)) (count : ℕ) (vs : List Datum) (numbers : List ℕ) → map row_data made ≡ replicate count [] → length vs ≡ count
-    → front (continued (map row_data made) (items_made t es) vs numbers) ≡ front (along (items_made t es) vs numbers)
-rows_start t es made count vs numbers e level =
+pub rows_start : (t : DataType) (es : Terms) (rows : List (List Datum)) (count : ℕ) (vs : List Datum) (numbers : List ℕ) → rows ≡ replicate count [] → length vs ≡ count
+    → front (continued rows (items_made t es) vs numbers) ≡ front (along (items_made t es) vs numbers)
+rows_start t es rows count vs numbers e level =
     ap (λ (rs : List (List Datum)). front (continued rs (items_made t es) vs numbers)) (e ∙ ap (λ (k : ℕ). replicate k []) (sym level))
     ∙ ap front (continued_start (items_made t es) vs numbers)
 
-pub rows_start_few : (made : List (Vec Value Global)) (count : ℕ) → map row_data made ≡ replicate count [] → length made ≤ count
-rows_start_few made count e = omega (arith, length-map made row_data, ap length e, length-replicate {A = List Datum} count [])
+pub rows_start_count : (rows : List (List Datum)) (count : ℕ) → rows ≡ replicate count [] → count ≡ length rows
+rows_start_count rows count e = omega (arith, ap length e, length-replicate {A = List Datum} count [])
 
 -- all values
-pub rows_done : (t : DataType) (items : List (List ℕ × Expr)) (i : ℕ) (es : Terms) (made : List (Vec Value Global)) (count : ℕ) (vs : List Datum) (numbers : List ℕ)
-    → length items ≤ i → terms_of items ≡ es → length numbers ≡ length vs → length vs ≡ count → length made ≤ count
-    → front (continued (map row_data made) (items_made t (terms_of (drop i items))) vs numbers) ≡ front (along (items_made t (terms_of items)) vs numbers)
-    → map row_data made ≡ front (along (items_made t es) vs numbers)
-rows_done t items i es made count vs numbers past whole len level few so_far =
-    let rows = map row_data made in
-    sym (continued_done rows vs numbers (omega (arith, length-map made row_data)) (omega (arith, length-map made row_data)))
+pub rows_done : (t : DataType) (items : List (List ℕ × Expr)) (i : ℕ) (es : Terms) (rows : List (List Datum)) (count : ℕ) (vs : List Datum) (numbers : List ℕ)
+    → length items ≤ i → terms_of items ≡ es → length numbers ≡ length vs → length vs ≡ count → length rows ≤ count
+    → front (continued rows (items_made t (terms_of (drop i items))) vs numbers) ≡ front (along (items_made t (terms_of items)) vs numbers)
+    → rows ≡ front (along (items_made t es) vs numbers)
+rows_done t items i es rows count vs numbers past whole len level few so_far =
+    sym (continued_done rows vs numbers (omega arith) (omega arith))
     ∙ ap (λ (fs : Terms). front (continued rows (items_made t fs) vs numbers)) (sym (left_none items i past))
     ∙ so_far
     ∙ ap (λ (fs : Terms). front (along (items_made t fs) vs numbers)) whole
@@ -91,29 +85,20 @@ front_somes : {A B : Type 0} (f : A → B) (xs : List A) → front (map (λ x. S
 front_somes f [] = refl
 front_somes {B = B} f (x ∷ xs) = ap (λ (rest : List B). f x ∷ rest) (front_somes f xs)
 
-abbrev struct_from : List Datum → Datum
-struct_from ds = structure (items_from ds)
-
 items_back : (vs : Items) → items_from (data_in vs) ≡ vs
 items_back no_items = refl
 items_back (item v vs) = ap (item v) (items_back vs)
 
-same_struct : (y : Option Items) → option_and_then (λ ds. Some (struct_from ds)) (option_map data_in y) ≡ option_and_then struct_of y
+same_struct : (y : Option Items) → option_and_then (λ ds. Some (struct_row ds)) (option_map data_in y) ≡ option_and_then struct_of y
 same_struct None = refl
 same_struct (Some vs) = ap (λ (ws : Items). Some (structure ws)) (items_back vs)
 
-map_after : {A B C : Type 0} (f : B → C) (g : A → B) (xs : List A) → map (λ x. f (g x)) xs ≡ map f (map g xs)
-map_after f g [] = refl
-map_after {C = C} f g (x ∷ xs) = ap (λ (rest : List C). f (g x) ∷ rest) (map_after f g xs)
-
-pub struct_front : (t : DataType) (x : Expr) (es : Terms) (rows : List (Vec Value Global)) (vs : List Datum) (ns : List ℕ)
-    → x ≡ variants.Pack es → map row_data rows ≡ front (along (items_made t es) vs ns)
-    → map (λ row. structure (items_from (row_data row))) rows ≡ front_at t (term x) vs ns
+pub struct_front : (t : DataType) (x : Expr) (es : Terms) (rows : List (List Datum)) (vs : List Datum) (ns : List ℕ)
+    → x ≡ variants.Pack es → rows ≡ front (along (items_made t es) vs ns) → map struct_row rows ≡ front_at t (term x) vs ns
 struct_front t x es rows vs ns is here =
-    map_after struct_from row_data rows
-    ∙ sym (front_somes struct_from (map row_data rows))
-    ∙ ap (λ (rs : List (List Datum)). front (map (λ ds. Some (struct_from ds)) rs)) here
-    ∙ front_then (λ ds. Some (struct_from ds)) (items_made t es) vs ns
+    sym (front_somes struct_row rows)
+    ∙ ap (λ (rs : List (List Datum)). front (map (λ ds. Some (struct_row ds)) rs)) here
+    ∙ front_then (λ ds. Some (struct_row ds)) (items_made t es) vs ns
     ∙ (λ i. front (along (λ v n. same_struct (meanings_in t no_bound es v n) i) vs ns))
     ∙ ap (λ (y : Expr). front_at t (term y) vs ns) (sym is)
 
@@ -142,29 +127,29 @@ pair_rows t a b step lefts rights vs numbers left right =
 abbrev pub IsJoined : Expr → Term → Term → Type 0
 IsJoined x a b = (x ≡ variants.And a b) ⊎ ((x ≡ variants.Or a b) ⊎ (((op : CompareOp) × (x ≡ variants.Compare op a b)) ⊎ ((op : ArithOp) × (x ≡ variants.Arith op a b))))
 
-lefts_are : (x : Expr) (a b : Term) → IsJoined x a b → left_of (term x) ≡ a
+pub lefts_are : (x : Expr) (a b : Term) → IsJoined x a b → left_of (term x) ≡ a
 lefts_are x a b (inl e) = ap (λ (y : Expr). left_of (term y)) e
 lefts_are x a b (inr (inl e)) = ap (λ (y : Expr). left_of (term y)) e
 lefts_are x a b (inr (inr (inl e))) = ap (λ (y : Expr). left_of (term y)) e.1
 lefts_are x a b (inr (inr (inr e))) = ap (λ (y : Expr). left_of (term y)) e.1
 
-rights_are : (x : Expr) (a b : Term) → IsJoined x a b → right_of (term x) ≡ b
+pub rights_are : (x : Expr) (a b : Term) → IsJoined x a b → right_of (term x) ≡ b
 rights_are x a b (inl e) = ap (λ (y : Expr). right_of (term y)) e
 rights_are x a b (inr (inl e)) = ap (λ (y : Expr). right_of (term y)) e
 rights_are x a b (inr (inr (inl e))) = ap (λ (y : Expr). right_of (term y)) e.1
 rights_are x a b (inr (inr (inr e))) = ap (λ (y : Expr). right_of (term y)) e.1
 
-pub joined_front : (t : DataType) (x : Expr) (a b : Term) (step : TwoStep) (vs : List Datum) (ns : List ℕ) → IsJoined x a b → ((v : Datum) (n : ℕ) → pair_made step t (left_of (term x)) (right_of (term x)) v n ≡ meaning t no_bound (term x) v n)
-    → front (along (pair_made step t a b) vs ns) ≡ front_at t (term x) vs ns
-joined_front t x a b step vs ns is same =
-    (λ i. front (along (pair_made step t (sym (lefts_are x a b is) i) (sym (rights_are x a b is) i)) vs ns))
+pub joined_front : (t : DataType) (e a b : Term) (step : TwoStep) (vs : List Datum) (ns : List ℕ) → left_of e ≡ a → right_of e ≡ b → ((v : Datum) (n : ℕ) → pair_made step t (left_of e) (right_of e) v n ≡ meaning t no_bound e v n)
+    → front (along (pair_made step t a b) vs ns) ≡ front_at t e vs ns
+joined_front t e a b step vs ns p q same =
+    (λ i. front (along (pair_made step t (sym p i) (sym q i)) vs ns))
     ∙ (λ i. front (along (λ v n. same v n i) vs ns))
 
 -- ---- one part
 abbrev pub IsMadeOf : Expr → Term → Type 0
 IsMadeOf x a = ((name : List ℕ) × (x ≡ variants.GetField name a)) ⊎ ((x ≡ variants.Not a) ⊎ ((x ≡ variants.IsNull a) ⊎ ((x ≡ variants.IsNotNull a) ⊎ (x ≡ variants.AtMostBound a))))
 
-parts_are : (x : Expr) (a : Term) → IsMadeOf x a → part_of (term x) ≡ a
+pub parts_are : (x : Expr) (a : Term) → IsMadeOf x a → part_of (term x) ≡ a
 parts_are x a (inl e) = ap (λ (y : Expr). part_of (term y)) e.1
 parts_are x a (inr (inl e)) = ap (λ (y : Expr). part_of (term y)) e
 parts_are x a (inr (inr (inl e))) = ap (λ (y : Expr). part_of (term y)) e
@@ -210,10 +195,11 @@ option_same : {A B : Type 0} (f g : A → Option B) (r : Option A) → ((x : A) 
 option_same f g None same = refl
 option_same f g (Some x) same = same x
 
-pub field_step : (t : DataType) (x : Expr) (name : List ℕ) (a : Term) (place : Option ℕ) → x ≡ variants.GetField name a → ((v : Datum) → item_at place v ≡ field_of (type_of t a) name v) → (v : Datum) (n : ℕ) → one_made (Field place) t (part_of (term x)) v n ≡ meaning t no_bound (term x) v n
-field_step t x name a place is same v n =
+pub field_step : (t : DataType) (x : Expr) (name : List ℕ) (a : Term) (place : Option ℕ) → x ≡ variants.GetField name a → place ≡ place_found (type_of t a) name → (v : Datum) (n : ℕ) → one_made (Field place) t (part_of (term x)) v n ≡ meaning t no_bound (term x) v n
+field_step t x name a place is found v n =
     ap (λ (y : Expr). one_made (Field place) t (part_of (term y)) v n) is
-    ∙ option_same (item_at place) (field_of (type_of t a) name) (meaning t no_bound a v n) same
+    ∙ ap (λ (p : Option ℕ). one_made (Field p) t a v n) found
+    ∙ option_same (item_at (place_found (type_of t a) name)) (field_of (type_of t a) name) (meaning t no_bound a v n) (field_at (type_of t a) name)
     ∙ ap (λ (y : Expr). meaning t no_bound (term y) v n) (sym is)
 
 number_step : (op : ArithOp) (s : Option DataType) (v w : Datum) → arithmetic_of op (number_type (kind_in s)) v w ≡ arithmetic_of op s v w

@@ -2,7 +2,8 @@
 -- are tried.
 use Rattle.std.proofs.Common.{◌≡◌, ℕ, List}
 use base.Stored.{Gv, gcons, Coded, coded_list}
-use Rattle.std.specs.Prelude.{◌-◌, ◌/◌, ◌^◌, ◌==◌, ◌≢◌, nat_lt, Bool, [], ◌∷◌, ◌++◌, length, slice_get, slice_index_or, IsPermutation, MatchBool, IsSomeAnd}
+use Rattle.std.specs.Bool.{OnTrue}
+use Rattle.std.specs.Prelude.{◌+◌, ◌-◌, ◌/◌, ◌^◌, ◌<◌, ◌==◌, ◌≢◌, nat_lt, Bool, if◌then◌else◌, [], ◌∷◌, ◌++◌, length, replicate, sum, slice_get, slice_index_or, IsPermutation, MatchBool, IsSomeAnd}
 use Rattle.std.specs.List.{AllByRecursion, list_all, range_with_len}
 use Rattle.std.specs.List.Sorted.{IsSortedByKey, IsStableByKey, IsNonDecreasing}
 use Rattle.std.specs.Ordering.{nat_cmp}
@@ -33,13 +34,6 @@ pub record FilterData : Type 0 where
 abbrev pub IsOrdering : FilterData → Type 0
 IsOrdering a = IsPermutation (range_with_len 0 (length a.conjuncts)) a.ordering
 
--- what every filter keeps
-pub record IsFilter (a : FilterData) : Type 0 where
-  pub truths : AllByRecursion (λ c. IsBool c.dtype) a.conjuncts
-  pub counted : length a.reports ≡ length a.conjuncts
-  pub ascending : AllByRecursion IsNonDecreasing a.reports
-  pub ordered : IsOrdering a
-
 abbrev pub reports_of : List (List ℕ) → ℕ → List ℕ
 reports_of reports conjunct = slice_index_or reports conjunct []
 
@@ -53,6 +47,18 @@ quantile_of reports conjunct = quantile (reports_of reports conjunct)
 -- whether each conjunct has a report
 abbrev pub are_reported : List (List ℕ) → Bool
 are_reported reports = list_all (λ one. nat_lt 0 (length one)) reports
+
+-- once each conjunct has a report, the ordering is sorted by the quantiles
+abbrev pub IsOrderedByReports : List (List ℕ) → List ℕ → Type 0
+IsOrderedByReports reports ordering = OnTrue (are_reported reports) (IsSortedByKey (quantile_of reports) nat_cmp ordering)
+
+-- what every filter keeps
+pub record IsFilter (a : FilterData) : Type 0 where
+  pub truths : AllByRecursion (λ c. IsBool c.dtype) a.conjuncts
+  pub counted : length a.reports ≡ length a.conjuncts
+  pub ascending : AllByRecursion IsNonDecreasing a.reports
+  pub ordered : IsOrdering a
+  pub sorted : IsOrderedByReports a.reports a.ordering
 
 -- the same numbers by ascending key; those of equal keys keep their order
 pub record IsStablySorted (key : ℕ → ℕ) (old new : List ℕ) : Type 0 where
@@ -75,6 +81,34 @@ pub record AddsReport (old : FilterData) (conjunct permille : ℕ) (new : Filter
 -- a conjunct that has as many reports as a number of 64 bits counts takes no more
 abbrev pub TakesReport : FilterData → ℕ → ℕ → FilterData → Type 0
 TakesReport old conjunct permille new = MatchBool (length (reports_of old.reports conjunct) == 2 ^ 64 - 1) (new ≡ old) (AddsReport old conjunct permille new)
+
+-- ---- reports as counters
+-- the ascending reports, where so many are of each permille from the first on
+abbrev pub counted_reports : ℕ → List ℕ → List ℕ
+counted_reports first [] = []
+counted_reports first (count ∷ counts) = replicate count first ++ counted_reports (first + 1) counts
+
+-- the counters of the permilles up to 1000, the reports above them, and how many there are in all
+pub record AreCounters (counts above : List ℕ) (total : ℕ) : Type 0 where
+  pub permilles : length counts ≡ 1001
+  pub beyond : AllByRecursion (λ report. 1000 < report) above
+  pub summed : total ≡ sum counts + length above
+  pub fits : total < 2 ^ 64
+
+-- the ascending reports and one more, in its place
+abbrev pub with_report : ℕ → List ℕ → List ℕ
+with_report permille [] = permille ∷ []
+with_report permille (report ∷ reports) = if nat_lt report permille then report ∷ with_report permille reports else permille ∷ report ∷ reports
+
+-- the ascending reports but one that was added
+abbrev pub without_report : ℕ → List ℕ → List ℕ
+without_report permille [] = []
+without_report permille (report ∷ reports) = if nat_lt report permille then report ∷ without_report permille reports else reports
+
+-- there was a report, and the quantile is as it was
+pub record KeepsQuantile (old new : List ℕ) : Type 0 where
+  pub reported : 0 < length old
+  pub same : quantile new ≡ quantile old
 
 -- ---- as a tree of numbers
 abbrev coded_conjuncts : Coded (List Bound)

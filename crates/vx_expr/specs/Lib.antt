@@ -7,10 +7,13 @@ pub mod Rewritten
 pub mod Collected
 pub mod StatisticCodes
 pub mod Steps
+pub mod Finds
+pub mod Indexed
 pub mod Rows
 pub mod Meaning
 pub mod Mentions
 pub mod Bound
+pub mod Packs
 pub mod Refusals
 pub mod Mismatches
 pub mod Types

@@ -24,6 +24,9 @@ use Rattle.vx_expr.specs.Meaning.{meaning, negated, and_of, or_of, comparison_of
 use Rattle.vx_expr.specs.Terms.{Term, get_field, negation, conjunction, disjunction, comparison, null_test, value_test, arithmetic, bound_test}
 use Rattle.vx_expr.specs.Types.{on_both, row_number_type}
 use Rattle.vx_expr.specs.Rows.{no_bound, number_of_row}
+use Rattle.vx_expr.specs.Packs.{rows_along, struct_row}
+use Rattle.vx_expr.specs.declared.packing.Packing.{Packing}
+use Rattle.vx_expr.specs.declared.packing.Packing.TheVariants as packing
 use Rattle.vx_operators.specs.Worths.{worth_rows}
 
 -- the value that a cell stands for
@@ -38,6 +41,7 @@ cell_datum (cells.Owned value) = datum value
 -- the value of each row
 abbrev pub evaluated_rows : Evaluated → List Datum
 evaluated_rows (evaluated.Packed worth) = worth_rows worth
+evaluated_rows (evaluated.Structs rows worths) = map struct_row (rows_along rows (map worth_rows worths.items))
 evaluated_rows (evaluated.Cells row_cells) = map cell_datum row_cells.items
 
 -- the root's value of each row that counts, and its number
@@ -114,6 +118,11 @@ row_data row = map datum row.items
 
 abbrev pub appended : List Datum → Datum → List Datum
 appended row v = row ++ v ∷ []
+
+-- the values of each row of what is packed so far
+abbrev pub packing_rows : Packing → List (List Datum)
+packing_rows (packing.Worths rows worths) = rows_along rows (map worth_rows worths.items)
+packing_rows (packing.Rows rows) = map row_data rows.items
 
 -- the kind of a dtype's numbers
 abbrev pub kind_in : Option DataType → Option IntKind

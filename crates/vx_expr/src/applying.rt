@@ -3,25 +3,24 @@
 ghost use Rattle.std.specs.Prelude.{◌≡◌, ℕ, Some, map, length, IfOk, IsErrOf, IsTrue};
 ghost use Rattle.std.specs.List.{AllByRecursion};
 ghost use Rattle.vx_base.specs.Fits.{Fits};
-ghost use Rattle.vx_base.specs.ValueViews.{datum};
 ghost use Rattle.vx_base.specs.Views.{data_type};
 ghost use Rattle.vx_expr.specs.declared.applying.ApplyError.TheVariants as errors;
 ghost use Rattle.vx_expr.specs.Bound.{IsBoundTo};
 ghost use Rattle.vx_expr.specs.Mentions.{uses_root};
 ghost use Rattle.vx_expr.specs.Rows.{worth, IsFirstFault};
-ghost use Rattle.vx_expr.specs.Steps.{cell_datum, evaluated_rows};
+ghost use Rattle.vx_expr.specs.Steps.{evaluated_rows};
 ghost use Rattle.vx_expr.specs.Types.{row_number_type};
 ghost use Rattle.vx_packed.specs.Slots.{bare};
 
 use crate::bound_expressions::BoundExpression;
-use crate::cells::Cell;
-use crate::evaluated::{Evaluated, own_cells};
+use crate::evaluated::Evaluated;
 use crate::evaluation::Rows;
+use crate::fitting::{cell_part, fitting_structs, fitting_worth};
+use crate::found::Finds;
 use std::alloc::{AllocError, AllocFailed, Global};
 use thiserror::Error;
-use vx_base::{Column, DType, Value};
-use vx_operators::Worth;
-use vx_packed::{Look, Part};
+use vx_base::{Column, DType};
+use vx_packed::Part;
 
 /// Why an expression has no column over these rows.
 #[derive(Debug, Drop, Error)]
@@ -50,89 +49,39 @@ impl<T: Drop> From<AllocFailed<T>> for ApplyError {
     }
 }
 
-/// The values of the cells, in memory of their own.
-fn values_of(alloc: Global, cells: Vec<Cell<'_>>) -> Result<Vec<Value>, AllocError>
-    ensures { IfOk result (λ values. map datum values.items ≡ map cell_datum cells.entry.items) }
+/// The same values as a part of a dtype that takes them, wherever they are held.
+fn part_of(alloc: Global, dtype: &DType, made: Evaluated<'_>) -> Result<Part, AllocError>
+    requires { AllByRecursion (Fits (data_type dtype.now)) (evaluated_rows made) }
+    ensures dtype { IfOk result (λ part. part.dtype ≡ bare (data_type dtype.now)) }
+    ensures values { IfOk result (λ part. part.values ≡ evaluated_rows made.entry) }
 {
-    let mut values = Vec::with_capacity(alloc, cells.len())?;
-    for cell in cells {
-        values.push(cell.into_value(alloc)?)?;
+    match made {
+        Evaluated::Packed(worth) => {
+            let rows = worth.len();
+            let part = fitting_worth(alloc, dtype, worth, rows)?;
+            Ok(part)
+        }
+        Evaluated::Structs(rows, worths) => {
+            let part = fitting_structs(alloc, dtype, rows, worths)?;
+            Ok(part)
+        }
+        Evaluated::Cells(cells) => {
+            let part = cell_part(alloc, dtype, cells)?;
+            Ok(part)
+        }
     }
-    Ok(values)
-}
-
-/// Whether the rows of a part are those of a leaf dtype, but for nulls.
-fn is_leaf_of(dtype: &DType, part: &Part) -> bool
-    ensures { IsTrue result → part.now.dtype ≡ bare (data_type dtype.now) }
-{
-    match (dtype, part.look()) {
-        (DType::Bool(_), Look::Truths(_, _)) => true,
-        (DType::Int(kind, _), Look::Numbers(_, numbers)) => *kind == numbers.kind(),
-        (DType::Utf8(_), Look::Texts(_, _)) => true,
-        _ => false,
-    }
-}
-
-/// The column of values that fit, which are handed over cell by cell.
-fn cell_column(alloc: Global, dtype: &DType, cells: Vec<Cell<'_>>) -> Result<Column, AllocError>
-    requires { AllByRecursion (Fits (data_type dtype.now)) (map cell_datum cells.items) }
-    ensures dtype { IfOk result (λ column. column.dtype ≡ data_type dtype.now) }
-    ensures values { IfOk result (λ column. column.values ≡ map cell_datum cells.entry.items) }
-{
-    let values = values_of(alloc, cells)?;
-    let dtype = dtype.copy(alloc)?;
-    let column = Column::of_fitting(alloc, dtype, values)?;
-    Ok(column)
-}
-
-/// The column of the rows of a part, which fit. It moves them where they are of a leaf dtype.
-#[tactic(auto, using(vx_packed::proofs::PackedRows::column_of_values))]
-fn part_column(alloc: Global, dtype: &DType, part: Part) -> Result<Column, AllocError>
-    requires { AllByRecursion (Fits (data_type dtype.now)) part.values }
-    ensures dtype { IfOk result (λ column. column.dtype ≡ data_type dtype.now) }
-    ensures values { IfOk result (λ column. column.values ≡ part.values) }
-{
-    if is_leaf_of(dtype, &part) {
-        let dtype = dtype.copy(alloc)?;
-        Ok(Column::of_part(dtype, part))
-    } else {
-        let cells = own_cells(alloc, &part)?;
-        let column = cell_column(alloc, dtype, cells)?;
-        Ok(column)
-    }
-}
-
-/// The rows of a part, in memory of their own.
-#[tactic(auto, using(vx_packed::proofs::PackedRows::whole_range))]
-fn part_copy(alloc: Global, part: &Part) -> Result<Part, AllocError>
-    ensures { IfOk result (λ copied. copied.values ≡ part.now.values) }
-{
-    let copied = part.slice(alloc, 0..part.len())?;
-    Ok(copied)
 }
 
 /// The column of values that fit, wherever they are held.
+#[tactic(auto, using(vx_packed::proofs::PackedRows::column_of_values))]
 fn column_of(alloc: Global, dtype: &DType, made: Evaluated<'_>) -> Result<Column, AllocError>
     requires { AllByRecursion (Fits (data_type dtype.now)) (evaluated_rows made) }
     ensures dtype { IfOk result (λ column. column.dtype ≡ data_type dtype.now) }
     ensures values { IfOk result (λ column. column.values ≡ evaluated_rows made.entry) }
 {
-    match made {
-        Evaluated::Packed(Worth::Made(part)) => {
-            let column = part_column(alloc, dtype, part)?;
-            Ok(column)
-        }
-        Evaluated::Packed(Worth::Lent(part)) => {
-            let copied = part_copy(alloc, part)?;
-            let column = part_column(alloc, dtype, copied)?;
-            Ok(column)
-        }
-        _ => {
-            let cells = made.into_cells(alloc)?;
-            let column = cell_column(alloc, dtype, cells)?;
-            Ok(column)
-        }
-    }
+    let part = part_of(alloc, dtype, made)?;
+    let dtype = dtype.copy(alloc)?;
+    Ok(Column::of_part(dtype, part))
 }
 
 /// The rows of a column, spread.
@@ -167,7 +116,8 @@ fn applied(
         numbers,
         count,
     };
-    let made = expression.expr().evaluated(alloc, rows)?;
+    let mut finds = Finds::new(expression.found());
+    let made = expression.expr().evaluated(alloc, rows, &mut finds)?;
     let found = made.len();
     if found < count {
         return Err(ApplyError::EvalFault(found as u64));

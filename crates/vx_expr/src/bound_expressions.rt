@@ -4,6 +4,7 @@ ghost use Rattle.std.specs.Prelude.{◌≡◌, ◌↔◌, ℕ, Some, false, IfOk
 ghost use Rattle.vx_base.specs.ColumnCalls.{IsBool};
 ghost use Rattle.vx_base.specs.Views.{data_type};
 ghost use Rattle.vx_expr.specs.Filters.{IsTruth};
+ghost use Rattle.vx_expr.specs.Finds.{found_of};
 ghost use Rattle.vx_expr.specs.Bound.{IsBoundTo};
 ghost use Rattle.vx_expr.specs.Meaning.{is_strict};
 ghost use Rattle.vx_expr.specs.Mentions.{is_root, uses_root, uses_row_number, uses_bound, root_fields, first_ones};
@@ -16,6 +17,8 @@ ghost use Rattle.vx_expr.specs.Types.{type_of};
 
 use crate::binding::BindError;
 use crate::expressions::Expr;
+use crate::finding::{found_over, typed_over};
+use crate::found::Found;
 use crate::mentions::Part;
 use crate::rewriting::Leaves;
 use crate::root_fields::fields_of_root;
@@ -33,14 +36,15 @@ pub struct BoundExpression {
     expr: Expr,
     root: DType,
     dtype: DType,
+    /// The places of the fields that it gets and the kinds of the numbers that it joins.
+    found: Vec<Found>,
 }
 
 impl Model for BoundExpression {
-    ghost use Rattle.std.specs.Prelude.{◌≡◌, Some};
     ghost use Rattle.vx_base.specs.Views.{data_type};
     ghost use Rattle.vx_expr.specs.Bound.{Bound, coded_bound};
     ghost use Rattle.vx_expr.specs.TermViews.{term};
-    ghost use Rattle.vx_expr.specs.Types.{type_of};
+    ghost use Rattle.vx_expr.specs.Finds.{IsFound};
 
     ghost Value = { Bound };
 
@@ -48,7 +52,7 @@ impl Model for BoundExpression {
 
     ghost view = { λ a. record { term = term a.expr; root = data_type a.root; dtype = data_type a.dtype } };
 
-    ghost invariant = { λ a. type_of (data_type a.root) (term a.expr) ≡ Some (data_type a.dtype) };
+    ghost invariant = { λ a. IsFound (data_type a.root) (term a.expr) (data_type a.dtype) a.found.items };
 }
 
 /// Binds an expression to the dtype of its root: of the dtype that the forms of its parts give, from the
@@ -59,18 +63,17 @@ pub fn bind(alloc: Global, expr: &Expr, dtype: &DType) -> Result<BoundExpression
     if !expr.is_within(DEEPEST) {
         return Err(BindError::TooDeep);
     }
-    let mut next = 0;
-    let typed = match expr.typed(alloc, dtype, &mut next) {
-        Ok(typed) => typed,
+    let (bound, found) = match typed_over(alloc, expr, dtype) {
+        Ok(made) => made,
         Err(error) => return Err(error),
     };
-    let bound = typed.into_dtype(alloc)?;
     let root = dtype.copy(alloc)?;
     let expr = expr.copy(alloc)?;
     Ok(BoundExpression {
         expr,
         root,
         dtype: bound,
+        found,
     })
 }
 
@@ -105,6 +108,7 @@ impl BoundExpression {
             expr: Expr::Root,
             root,
             dtype,
+            found: Vec::new(alloc),
         })
     }
 
@@ -120,15 +124,15 @@ impl BoundExpression {
         ensures root { IfOk result (λ bound. bound.root ≡ data_type root.now) }
         ensures truth { IfOk result (λ bound. IsBool bound.dtype) }
     {
-        let mut next = 0;
-        let dtype = match expr.typed(alloc, root, &mut next) {
-            Ok(typed) => typed.into_dtype(alloc)?,
-            Err(BindError::Memory) => return Err(AllocError),
-            Err(_) => unreachable!(),
-        };
+        let (dtype, found) = found_over(alloc, expr, root)?;
         let root = root.copy(alloc)?;
         let expr = expr.copy(alloc)?;
-        Ok(BoundExpression { expr, root, dtype })
+        Ok(BoundExpression {
+            expr,
+            root,
+            dtype,
+            found,
+        })
     }
 
     /// The dtype of the expression. It takes no memory.
@@ -152,6 +156,13 @@ impl BoundExpression {
         ensures { data_type result.now ≡ self.now.root }
     {
         &self.root
+    }
+
+    /// What was found of its parts. It takes no memory.
+    pub(crate) fn found(&self) -> &[Found]
+        ensures { result.now ≡ found_of self.now.root self.now.term }
+    {
+        self.found.as_slice()
     }
 
     /// Whether the expression is the root value itself. It takes no memory.
@@ -219,10 +230,15 @@ impl BoundExpression {
         requires { type_of (data_type dtype.now) self.now.term ≡ Some self.now.dtype }
         ensures { IfOk result (λ bound. bound ≡ record self.now { root = data_type dtype.now }) }
     {
+        let (typed, found) = found_over(alloc, &self.expr, dtype)?;
         let expr = self.expr.copy(alloc)?;
         let root = dtype.copy(alloc)?;
-        let dtype = self.dtype.copy(alloc)?;
-        Ok(BoundExpression { expr, root, dtype })
+        Ok(BoundExpression {
+            expr,
+            root,
+            dtype: typed,
+            found,
+        })
     }
 
     /// The expression with the root in the place of the row's number, bound to non-nullable `u64`. Its
@@ -233,11 +249,13 @@ impl BoundExpression {
         ensures { IfOk result (λ bound. bound ≡ row_number_as_root self.now) }
     {
         let expr = self.expr.rewritten(alloc, Leaves::RowIdxAsRoot)?;
-        let dtype = self.dtype.copy(alloc)?;
+        let root = row_idx_dtype();
+        let (dtype, found) = found_over(alloc, &expr, &root)?;
         Ok(BoundExpression {
             expr,
-            root: row_idx_dtype(),
+            root,
             dtype,
+            found,
         })
     }
 
@@ -250,8 +268,13 @@ impl BoundExpression {
     {
         let expr = self.expr.rewritten(alloc, Leaves::OverRowIdx)?;
         let root = with_row_idx(alloc, &self.root)?;
-        let dtype = self.dtype.copy(alloc)?;
-        Ok(BoundExpression { expr, root, dtype })
+        let (dtype, found) = found_over(alloc, &expr, &root)?;
+        Ok(BoundExpression {
+            expr,
+            root,
+            dtype,
+            found,
+        })
     }
 
     /// The printed form of the expression. No struct literal is printed: a literal has a leaf dtype.
@@ -270,6 +293,12 @@ impl BoundExpression {
         let expr = self.expr.copy(alloc)?;
         let root = self.root.copy(alloc)?;
         let dtype = self.dtype.copy(alloc)?;
-        Ok(BoundExpression { expr, root, dtype })
+        let found = self.found.clone()?;
+        Ok(BoundExpression {
+            expr,
+            root,
+            dtype,
+            found,
+        })
     }
 }

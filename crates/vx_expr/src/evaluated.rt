@@ -9,6 +9,7 @@ ghost use Rattle.vx_expr.specs.Rows.{along, front};
 ghost use Rattle.vx_expr.specs.Steps.{cell_datum, evaluated_rows, item_at, one_step, two_step};
 
 use crate::cells::Cell;
+use crate::packing::{fewest_rows, rows_of_worths, struct_cells};
 use crate::steps::{OneStep, TwoStep, one, two};
 use std::alloc::{AllocError, Global};
 use vx_base::{DType, Value};
@@ -22,6 +23,8 @@ use vx_packed::{Look, Part};
 #[derive(Drop)]
 pub(crate) enum Evaluated<'a> {
     Packed(Worth<'a>),
+    /// Structs of a worth for each field, as far as each of them has rows, and of so many rows at most.
+    Structs(usize, Vec<Worth<'a>>),
     Cells(Vec<Cell<'a>>),
 }
 
@@ -106,7 +109,7 @@ pub(crate) fn literal<'a>(
 }
 
 /// The values of a worth, cell by cell.
-fn worth_cells<'a>(alloc: Global, worth: Worth<'a>) -> Result<Vec<Cell<'a>>, AllocError>
+pub(crate) fn worth_cells<'a>(alloc: Global, worth: Worth<'a>) -> Result<Vec<Cell<'a>>, AllocError>
     ensures { IfOk result (λ cells. map cell_datum cells.items ≡ worth_rows worth.entry) }
 {
     match worth {
@@ -132,6 +135,7 @@ impl<'a> Evaluated<'a> {
     {
         match self {
             Evaluated::Packed(worth) => worth.len(),
+            Evaluated::Structs(rows, worths) => fewest_rows(*rows, worths.as_slice()),
             Evaluated::Cells(cells) => cells.len(),
         }
     }
@@ -143,6 +147,11 @@ impl<'a> Evaluated<'a> {
         match self {
             Evaluated::Packed(worth) => {
                 let cells = worth_cells(alloc, worth)?;
+                Ok(cells)
+            }
+            Evaluated::Structs(rows, worths) => {
+                let made = rows_of_worths(alloc, rows, worths)?;
+                let cells = struct_cells(alloc, made)?;
                 Ok(cells)
             }
             Evaluated::Cells(cells) => Ok(cells),
@@ -266,7 +275,8 @@ pub(crate) fn derived<'a>(
             OneStep::Field(Some(place)) => item_of_worth(alloc, place, worth),
             _ => one_of_worth(alloc, step, worth),
         },
-        Evaluated::Cells(cells) => {
+        operand => {
+            let cells = operand.into_cells(alloc)?;
             let made = one_each(alloc, step, cells)?;
             Ok(Evaluated::Cells(made))
         }

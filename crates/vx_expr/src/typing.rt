@@ -1,17 +1,25 @@
 //! Typing: the dtype of an expression over the dtype of its root, form by form.
 
-ghost use Rattle.std.specs.Prelude.{◌≡◌, ◌+◌, IfOk, IfErr, OnOk, option_map};
+ghost use Rattle.std.specs.Prelude.{◌≡◌, ℕ, List, ◌+◌, ◌++◌, Some, IfOk, IfErr, OnOk, option_map};
+ghost use Rattle.std.specs.List.{position};
+ghost use Rattle.std.specs.Str.{bytes_eq};
 ghost use Rattle.vx_base.specs.ColumnCalls.{nullable_where};
-ghost use Rattle.vx_base.specs.Views.{data_type};
+ghost use Rattle.vx_base.specs.Data.{DataType};
+ghost use Rattle.vx_base.specs.Views.{data_type, fields_in};
 ghost use Rattle.vx_base.specs.ValueViews.{datum};
 ghost use Rattle.vx_expr.specs.Counts.{node_count, nodes_in};
+ghost use Rattle.vx_expr.specs.Finds.{place_found, own_found, found_of, found_in};
 ghost use Rattle.vx_expr.specs.Refusals.{capped, first_part, behind};
+ghost use Rattle.vx_expr.specs.Steps.{left_of, part_of};
+ghost use Rattle.vx_expr.specs.Terms.{IsPair};
 ghost use Rattle.vx_expr.specs.TermViews.{term, terms_of};
 ghost use Rattle.vx_expr.specs.Typing.{typed_data, pair_type, GivesOr, GivesType, GivesPair, GivesMembers, GivesField, GivesPack, GivesDerived};
-ghost use Rattle.vx_expr.specs.Types.{either_nullable, literal_type, type_in, are_distinct, negation_type, logic_type, comparison_type, arithmetic_type, bound_test_type, row_number_type, names_in};
+ghost use Rattle.vx_expr.specs.Types.{either_nullable, literal_type, type_in, are_distinct, negation_type, logic_type, comparison_type, arithmetic_type, bound_test_type, row_number_type, names_in, type_of};
 
 use crate::binding::BindError;
 use crate::expressions::{Expr, NamedExprs, Operand};
+use crate::found::Found;
+use crate::indexed_roots::IndexedRoot;
 use std::alloc::{AllocError, Global};
 use std::collections::BTreeSet;
 use vx_base::{DType, Field, Fields, IntKind, Nullability, Text, Value, fits};
@@ -140,17 +148,19 @@ fn bound_test_typed(dtype: &DType) -> Option<DType>
 fn field_typed<'a>(
     alloc: Global,
     operand: Typed<'a>,
+    found: Option<usize>,
     name: &Text,
     place: u64,
 ) -> Result<Typed<'a>, BindError>
+    requires { found ≡ place_found (Some (typed_data operand)) name.now }
     ensures { GivesField (typed_data operand.entry) name.now place result }
 {
     match operand {
-        Typed::Borrowed(DType::Struct(fields, nullability)) => match field_named(fields, name) {
+        Typed::Borrowed(DType::Struct(fields, nullability)) => match field_at(fields, found) {
             Some(field) => nullable_field(alloc, field, *nullability),
             None => Err(BindError::NoField(name.copy(alloc)?)),
         },
-        Typed::Owned(DType::Struct(fields, nullability)) => match field_named(&fields, name) {
+        Typed::Owned(DType::Struct(fields, nullability)) => match field_at(&fields, found) {
             Some(field) => owned_field(alloc, field, nullability),
             None => Err(BindError::NoField(name.copy(alloc)?)),
         },
@@ -158,14 +168,36 @@ fn field_typed<'a>(
     }
 }
 
-/// The first field of that name.
-fn field_named<'a>(fields: &'a Fields, name: &Text) -> Option<&'a DType>
-    ensures { option_map (λ found. data_type found.now) result ≡ type_in fields.now name.now }
+/// The dtype of the field at the place where a name was found.
+fn field_at(fields: &Fields, place: Option<usize>) -> Option<&DType>
+    ensures { (name : List ℕ) → place ≡ position (λ field. bytes_eq field.name name) (fields_in fields.now) → option_map (λ found. data_type found.now) result ≡ type_in fields.now name }
 {
-    let place = fields.find(name.as_str())?;
-    match fields.get(place) {
-        Some(field) => Some(&field.dtype),
+    match place {
+        Some(place) => match fields.get(place) {
+            Some(field) => Some(&field.dtype),
+            None => None,
+        },
         None => None,
+    }
+}
+
+/// The place of the field of that name in the dtype of an operand. None where there is none. The fields of
+/// the root are not searched.
+fn place_named(
+    root: &IndexedRoot<'_>,
+    operand: &Operand,
+    dtype: &DType,
+    name: &Text,
+) -> Option<usize>
+    requires { type_of root.now operand.now ≡ Some (data_type dtype.now) }
+    ensures { result ≡ place_found (Some (data_type dtype.now)) name.now }
+{
+    match operand.expr() {
+        Expr::Root => root.find(name),
+        _ => match dtype {
+            DType::Struct(fields, _) => fields.find(name.as_str()),
+            _ => None,
+        },
     }
 }
 
@@ -262,16 +294,18 @@ impl NamedExprs {
     fn fields<'a>(
         &'a self,
         alloc: Global,
-        root: &'a DType,
+        root: &'a IndexedRoot<'_>,
         next: &mut u64,
+        found: &mut Vec<Found>,
     ) -> Result<Fields, BindError>
-        ensures given { GivesMembers (data_type root.now) self.now next.old result }
+        ensures given { GivesMembers root.now self.now next.old result }
         ensures counted { OnOk result (next.new ≡ capped (next.old + nodes_in self.now)) }
+        ensures found { OnOk result (found.new.items ≡ found.old.items ++ found_in root.now self.now) }
     {
         let items = self.items();
         let mut fields = Vec::with_capacity(alloc, items.len())?;
         for item in items {
-            let typed = match item.1.typed(alloc, root, next) {
+            let typed = match item.1.typed(alloc, root, next, found) {
                 Ok(typed) => typed,
                 Err(error) => return Err(error),
             };
@@ -292,17 +326,19 @@ impl Operand {
         &'a self,
         alloc: Global,
         right: &'a Operand,
-        root: &'a DType,
+        root: &'a IndexedRoot<'_>,
         next: &mut u64,
+        found: &mut Vec<Found>,
     ) -> Result<(Typed<'a>, Typed<'a>), BindError>
-        ensures given { GivesPair (data_type root.now) self.now right.now next.old result }
+        ensures given { GivesPair root.now self.now right.now next.old result }
         ensures counted { OnOk result (next.new ≡ capped (next.old + (node_count self.now + node_count right.now))) }
+        ensures found { OnOk result (found.new.items ≡ found.old.items ++ (found_of root.now self.now ++ found_of root.now right.now)) }
     {
-        let left = match self.expr().typed(alloc, root, next) {
+        let left = match self.expr().typed(alloc, root, next, found) {
             Ok(left) => left,
             Err(error) => return Err(error),
         };
-        let right = match right.expr().typed(alloc, root, next) {
+        let right = match right.expr().typed(alloc, root, next, found) {
             Ok(right) => right,
             Err(error) => return Err(error),
         };
@@ -314,54 +350,65 @@ impl Operand {
     fn typed<'a>(
         &'a self,
         alloc: Global,
-        root: &'a DType,
+        root: &'a IndexedRoot<'_>,
         next: &mut u64,
+        found: &mut Vec<Found>,
     ) -> Result<Typed<'a>, BindError>
-        ensures given { GivesType (data_type root.now) self.now next.old result }
+        ensures given { GivesType root.now self.now next.old result }
         ensures counted { OnOk result (next.new ≡ behind next.old self.now) }
+        ensures found { OnOk result (found.new.items ≡ found.old.items ++ found_of root.now self.now) }
     {
-        self.expr().typed(alloc, root, next)
+        self.expr().typed(alloc, root, next, found)
     }
 }
 
 impl Expr {
     /// The dtype of the expression over the root's dtype. `next` is its number, and then of what stands
-    /// behind it.
+    /// behind it. What is found of its parts goes behind what was found before.
     #[cycle(typing)]
     pub(crate) fn typed<'a>(
         &'a self,
         alloc: Global,
-        root: &'a DType,
+        root: &'a IndexedRoot<'_>,
         next: &mut u64,
+        found: &mut Vec<Found>,
     ) -> Result<Typed<'a>, BindError>
-        ensures given { GivesType (data_type root.now) (term self.now) next.old result }
+        ensures given { GivesType root.now (term self.now) next.old result }
         ensures counted { OnOk result (next.new ≡ behind next.old (term self.now)) }
+        ensures found { OnOk result (found.new.items ≡ found.old.items ++ found_of root.now (term self.now)) }
     {
         let place = count(next);
         match self {
-            Expr::Root => Ok(Typed::Borrowed(root)),
+            Expr::Root => Ok(Typed::Borrowed(root.dtype())),
             Expr::RowIdx => Ok(Typed::Owned(row_idx_dtype())),
             Expr::Lit(value, dtype) => match literal_typed(value, dtype) {
                 Some(typed) => Ok(typed),
                 None => Err(BindError::TypeMismatch(place)),
             },
-            Expr::Pack(items) => match items.fields(alloc, root, next) {
+            Expr::Pack(items) => match items.fields(alloc, root, next, found) {
                 Ok(fields) => packed(alloc, fields, items.items(), place),
                 Err(error) => Err(error),
             },
             Expr::And(left, right)
             | Expr::Or(left, right)
             | Expr::Compare(_, left, right)
-            | Expr::Arith(_, left, right) => match left.typed_pair(alloc, right, root, next) {
-                Ok((left, right)) => given(self.joined_typed(left.dtype(), right.dtype()), place),
+            | Expr::Arith(_, left, right) => match left.typed_pair(
+                alloc, right, root, next, found,
+            ) {
+                Ok((left, right)) => {
+                    let one = left.dtype();
+                    let other = right.dtype();
+                    self.find_kind(one, found)?;
+                    given(self.joined_typed(one, other), place)
+                }
                 Err(error) => Err(error),
             },
             Expr::GetField(_, operand)
             | Expr::Not(operand)
             | Expr::IsNull(operand)
             | Expr::IsNotNull(operand)
-            | Expr::AtMostBound(operand) => match operand.typed(alloc, root, next) {
-                Ok(operand) => self.derived_typed(alloc, operand, place),
+            | Expr::AtMostBound(operand) => match operand.typed(alloc, root, next, found) {
+                Ok(operand) => self.derived_typed(alloc, operand, root, place, found),
                 Err(error) => Err(error),
             },
         }
@@ -379,17 +426,41 @@ impl Expr {
         }
     }
 
-    /// The dtype of this expression of one part, by that part's.
+    /// Adds the kind of the numbers that this expression joins, by the dtype of its left part.
+    fn find_kind(&self, left: &DType, found: &mut Vec<Found>) -> Result<(), AllocError>
+        requires { IsPair (term self.now) }
+        ensures { OnOk result ((t : DataType) → type_of t (left_of (term self.now)) ≡ Some (data_type left.now) → found.new.items ≡ found.old.items ++ own_found t (term self.now)) }
+    {
+        if let Expr::Arith(_, _, _) = self {
+            let kind = match left {
+                DType::Int(kind, _) => Some(*kind),
+                _ => None,
+            };
+            found.push(Found::Kind(kind))?;
+        }
+        Ok(())
+    }
+
+    /// The dtype of this expression of one part, by that part's. The place of the field that it gets goes
+    /// behind what was found before.
     fn derived_typed<'a>(
         &self,
         alloc: Global,
         operand: Typed<'a>,
+        root: &IndexedRoot<'_>,
         place: u64,
+        found: &mut Vec<Found>,
     ) -> Result<Typed<'a>, BindError>
-        ensures { GivesDerived (term self.now) (typed_data operand.entry) place result }
+        requires { type_of root.now (part_of (term self.now)) ≡ Some (typed_data operand) }
+        ensures given { GivesDerived (term self.now) (typed_data operand.entry) place result }
+        ensures found { OnOk result (found.new.items ≡ found.old.items ++ own_found root.now (term self.now)) }
     {
         match self {
-            Expr::GetField(name, _) => field_typed(alloc, operand, name, place),
+            Expr::GetField(name, part) => {
+                let at = place_named(root, part, operand.dtype(), name);
+                found.push(Found::Place(at))?;
+                field_typed(alloc, operand, at, name, place)
+            }
             Expr::Not(_) => given(negation_typed(operand.dtype()), place),
             Expr::IsNull(_) | Expr::IsNotNull(_) => {
                 Ok(Typed::Owned(DType::Bool(Nullability::NonNullable)))

@@ -5,4 +5,4 @@ use Rattle.vx_expr.proofs.FirstMismatches.{bind_refuses}
 use Rattle.vx_expr.proofs.bound_expressions.bind.Goals as goal
 
 pub returns-in-Err : goal.returns-in-Err
-returns-in-Err c = bind_refuses (data_type c.args.dtype.now) (term c.args.expr.now) c.in-Err.error (search rules) c.in-Err.ensures.given
+returns-in-Err c = bind_refuses (data_type c.args.dtype.now) (term c.args.expr.now) c.in-Err.error (search rules) c.in-Err.ensures

@@ -1,6 +1,6 @@
-use Rattle.std.proofs.Common.{◌+◌, ◌*◌, drop}
-use Rattle.vx_base.specs.Views.{data_type}
+use Rattle.std.proofs.Common.{◌≡◌, ◌+◌, ◌*◌, ◌++◌, drop}
 use Rattle.vx_expr.specs.Counts.{node_count, nodes_in}
+use Rattle.vx_expr.specs.Finds.{found_in}
 use Rattle.vx_expr.specs.TermViews.{term, terms_of}
 use Rattle.vx_expr.proofs.Refused.{SoFar}
 use Rattle.vx_expr.proofs.expressions.+typing.Given as goal
@@ -18,4 +18,7 @@ abbrev pub decreases-Operand::typed_pair : goal.decreases-Operand::typed_pair
 decreases-Operand::typed_pair l = 3 * (node_count l.self.now + node_count l.right.now) + 1
 
 abbrev pub invariant-NamedExprs::fields-loop-item : goal.invariant-NamedExprs::fields-loop-item
-invariant-NamedExprs::fields-loop-item l = SoFar (data_type l.root) (terms_of l.items) (terms_of (drop l.item-index l.items)) l.fields.items l.fn.next l.next
+invariant-NamedExprs::fields-loop-item l = record {
+  so_far : SoFar l.root (terms_of l.items) (terms_of (drop l.item-index l.items)) l.fields.items l.fn.next l.next;
+  found : l.found.items ++ found_in l.root (terms_of (drop l.item-index l.items)) ≡ l.fn.found.items ++ found_in l.root (terms_of l.items);
+}

@@ -1,6 +1,6 @@
-use Rattle.std.proofs.Common.{◌≡◌, map, drop}
+use Rattle.std.proofs.Common.{◌≡◌, drop}
 use Rattle.vx_expr.specs.Filters.{are_reported}
 use Rattle.vx_expr.proofs.filters.are_reported.Given as goal
 
 abbrev pub invariant-loop-one : goal.invariant-loop-one
-invariant-loop-one l = are_reported (map (λ one. one.items) (drop l.one-index l.reports)) ≡ are_reported (map (λ one. one.items) l.reports)
+invariant-loop-one l = are_reported (drop l.one-index l.reports) ≡ are_reported l.reports
