@@ -28,7 +28,7 @@ use Rattle.vx_steps.specs.Held.{AreMade}
 use Rattle.vx_steps.specs.KeptData.{Kept}
 use Rattle.vx_steps.specs.Kept.{kept_at, values_of, whole_of}
 use Rattle.vx_steps.specs.Rows.{rows_of, AreOf}
-use Rattle.vx_steps.proofs.ComputedRows.{each_at}
+use Rattle.vx_steps.proofs.WholeRows.{each_at}
 use Rattle.vx_steps.proofs.Shaping.{given_known}
 use Rattle.vx_steps.proofs.Standing.{IsOfTable, stands_of_table}
 use Rattle.vx_steps.proofs.UsedValues.{selected_same, used_columns}

@@ -24,7 +24,7 @@ use Rattle.vx_plan.specs.Rules.{node_at}
 use Rattle.vx_plan.specs.Shapes.{HasShape}
 use Rattle.vx_steps.specs.declared.errors.StepError.{StepError}
 use Rattle.vx_steps.specs.declared.errors.StepError.TheVariants.{Unsupported, BadSegment, BadCode, EvalFault, Memory}
-use Rattle.vx_steps.specs.Computed.{else_kept, kept_in, whole_in, HasCause, HasWholeCause, Outcome, Computes, ComputesWhole}
+use Rattle.vx_steps.specs.Computed.{else_kept, kept_in, whole_in, HasCause, HasWholeCause, IsByFor, Outcome, Computes, ComputesWhole}
 use Rattle.vx_steps.specs.Given.{Handed, given_for, handed_by, row_value, values_for, whole_value}
 use Rattle.vx_steps.specs.Held.{Held, AreTyped, IsBy, IsHeld, alone, handed_in}
 use Rattle.vx_steps.specs.KeptData.{Kept}
@@ -32,10 +32,11 @@ use Rattle.vx_steps.specs.Kept.{kept_at, values_of, whole_of}
 use Rattle.vx_steps.specs.RowFaults.{root_meaning, IsCodeFault, IsEvalFault, IsPastCode, IsRowAt}
 use Rattle.vx_steps.specs.Rows.{rows_of, SelectsNone, SelectsSome}
 use Rattle.vx_steps.specs.Visits.{Test, Visits, SomeVisit, HasBadCode, HasEvalFault, IsListRead}
-use Rattle.vx_rows.proofs.Givens.{none_given as none_given_is}
 use Rattle.vx_steps.proofs.Keeping.{got_inside}
+use Rattle.vx_steps.proofs.Premises.{is_by_for}
 use Rattle.vx_steps.proofs.SelectedRows.{map_same, picked_rows, row_bit, rows_all, rows_none, rows_same, then_rows, value_row}
 use Rattle.vx_steps.proofs.Shaping.{head_of, IsEvalPlan, IsLeafPlan, IsListPlan, IsSharePlan, IsTakePlan, IsZonedPlan}
+use Rattle.vx_steps.proofs.WholeRows.{derived_given, each_at, each_same, length_all, row_below, same_below}
 
 -- ---- causes
 
@@ -118,7 +119,7 @@ NoMeaning t e o = IsSomeAnd o (λ v. root_meaning t e v ≡ None)
 pub eval_computed : (h : Held) (n child start : ℕ) (a : Bound) (bits : List Bool) (root : ColumnData) (result : Result ColumnData StepError) → IsEvalPlan h.nodes n child a → root.dtype ≡ (node_at h.nodes child).dtype → Computes h child start bits (Ok root) →
     IfOk result (λ column. map (root_meaning root.dtype a.term) root.values ≡ map Some column.values) → IfErr result (IsEvalFault root.dtype a.term root.values start bits) → Computes h n start bits result
 eval_computed h n child start a bits root result over typed computed worked faulted leaves are =
-    subst (OutcomeOf h leaves start bits result) (sym over.law) (by_result result worked faulted)
+    subst (OutcomeOf h leaves start bits result) (sym over.law) (by_result result are worked faulted)
   where
     p : Plan
     p = eval_plan (head_of h.nodes n) a.term (plan_at h.nodes child)
@@ -126,10 +127,10 @@ eval_computed h n child start a bits root result over typed computed worked faul
     f : ℕ → Option Datum
     f = row_value leaves (handed_in h) h.offset (plan_at h.nodes child)
 
-    at_place : (place row : ℕ) (o : Option Datum) → slice_get root.values place ≡ o → IsSomeAnd o (λ v. root_meaning root.dtype a.term v ≡ None) → IsRowAt start bits place row → SomeVisit (HasEvalFault leaves h.offset row) (handed_in h) (eval_plan (head_of h.nodes n) a.term (plan_at h.nodes child)) start bits
-    at_place place row None e some is_row = absurd some
-    at_place place row (Some v) e some is_row =
-        let r = value_row (row_value leaves (handed_in h) h.offset (plan_at h.nodes child)) (rows_of start bits) root.values (computed leaves are) place v e in
+    at_place : IsBy h leaves → (place row : ℕ) (o : Option Datum) → slice_get root.values place ≡ o → IsSomeAnd o (λ v. root_meaning root.dtype a.term v ≡ None) → IsRowAt start bits place row → SomeVisit (HasEvalFault leaves h.offset row) (handed_in h) (eval_plan (head_of h.nodes n) a.term (plan_at h.nodes child)) start bits
+    at_place by place row None e some is_row = absurd some
+    at_place by place row (Some v) e some is_row =
+        let r = value_row (row_value leaves (handed_in h) h.offset (plan_at h.nodes child)) (rows_of start bits) root.values (computed leaves by) place v e in
         let b = row_bit start bits place r.0 r.1 in
         let named : row ≡ r.0 = is_row r.0 r.1 in
         let same : start + b.0 ≡ row = sym b.2 ∙ sym named in
@@ -139,13 +140,13 @@ eval_computed h n child start a bits root result over typed computed worked faul
         let here : G r.0 = subst (NoMeaning (plan_head (plan_at h.nodes child)).dtype a.term) (sym r.2) (subst T type_is some) in
         (b.0, b.1, inl (same, subst G b.2 here))
 
-    by_result : (r : Result ColumnData StepError) → IfOk r (λ column. map (root_meaning root.dtype a.term) root.values ≡ map Some column.values) → IfErr r (IsEvalFault root.dtype a.term root.values start bits) → Outcome leaves (handed_in h) h.offset (eval_plan (head_of h.nodes n) a.term (plan_at h.nodes child)) start bits r
-    by_result (Ok column) ok err = then_rows (row_value leaves (handed_in h) h.offset (plan_at h.nodes child)) (row_value leaves (handed_in h) h.offset (eval_plan (head_of h.nodes n) a.term (plan_at h.nodes child))) (root_meaning root.dtype a.term) (λ row v at. eval_row leaves (handed_in h) h.offset h.nodes n child a over root.dtype typed row v at) (rows_of start bits) root.values column.values (computed leaves are) ok
-    by_result (Err (Unsupported list)) ok err = absurd err
-    by_result (Err (BadSegment s)) ok err = absurd err
-    by_result (Err (BadCode m at)) ok err = absurd err
-    by_result (Err (EvalFault row)) ok err = at_place err.0 row (slice_get root.values err.0) refl err.1 err.2
-    by_result (Err Memory) ok err = tt
+    by_result : (r : Result ColumnData StepError) → IsByFor h leaves r → IfOk r (λ column. map (root_meaning root.dtype a.term) root.values ≡ map Some column.values) → IfErr r (IsEvalFault root.dtype a.term root.values start bits) → Outcome leaves (handed_in h) h.offset (eval_plan (head_of h.nodes n) a.term (plan_at h.nodes child)) start bits r
+    by_result (Ok column) by ok err = then_rows (row_value leaves (handed_in h) h.offset (plan_at h.nodes child)) (row_value leaves (handed_in h) h.offset (eval_plan (head_of h.nodes n) a.term (plan_at h.nodes child))) (root_meaning root.dtype a.term) (λ row v at. eval_row leaves (handed_in h) h.offset h.nodes n child a over root.dtype typed row v at) (rows_of start bits) root.values column.values (computed leaves by) ok
+    by_result (Err (Unsupported list)) by ok err = absurd err
+    by_result (Err (BadSegment s)) by ok err = absurd err
+    by_result (Err (BadCode m at)) by ok err = absurd err
+    by_result (Err (EvalFault row)) by ok err = at_place by err.0 row (slice_get root.values err.0) refl err.1 err.2
+    by_result (Err Memory) by ok err = tt
 
 -- the child's fault is the plan's
 pub eval_failed : (h : Held) (n child start : ℕ) (a : Bound) (bits : List Bool) (fault : StepError) → IsEvalPlan h.nodes n child a → Computes h child start bits (Err fault) → Computes h n start bits (Err fault)
@@ -154,10 +155,6 @@ eval_failed h n child start a bits fault over computed leaves are =
     (cause_up leaves h.offset (handed_in h) (plan_at h.nodes child) start bits (handed_in h) (eval_plan (head_of h.nodes n) a.term (plan_at h.nodes child)) start bits (λ P r. (r.0, r.1, inr r.2)) fault (computed leaves are))
 
 -- ---- whole values
-
-derived_given : (leaves : Leaves) (vs : List Datum) → derived_each leaves (all_given vs) ≡ Some vs
-derived_given leaves [] = refl
-derived_given leaves (v ∷ vs) = rw (derived_given leaves vs) refl
 
 -- these are the whole values of the number: handed in, or else those of the plan
 abbrev pub AreWhole : Held → Leaves → ℕ → ℕ → ℕ → List Datum → Type 0
@@ -223,12 +220,12 @@ pub take_computed : (h : Held) (n codes values start : ℕ) (bits : List Bool) (
     ((leaves : Leaves) → IsBy h leaves → AreWhole h leaves n values (plan_head (plan_at h.nodes values)).rows column.values) → length column.values ≡ (node_at h.nodes values).rows →
     IfOk result (λ out. map (look_up column.values) code.values ≡ map Some out.values) → IfErr result (IsCodeFault n (length column.values) code.values start bits) → Computes h n start bits result
 take_computed h n codes values start bits code column result over computed whole long looked faulted leaves are =
-    subst (OutcomeOf h leaves start bits result) (sym over.law) (by_result result looked faulted)
+    subst (OutcomeOf h leaves start bits result) (sym over.law) (by_result result are looked faulted)
   where
-    at_place : (take : PlanRef) (place row : ℕ) (o : Option Datum) → number_of take ≡ n → slice_get code.values place ≡ o → IsSomeAnd o (IsPastCode (length column.values)) → IsRowAt start bits place row → SomeVisit (HasBadCode leaves h.offset (number_of take) row) (handed_in h) (take_plan (head_of h.nodes n) (plan_at h.nodes codes) (plan_at h.nodes values)) start bits
-    at_place take place row None is e some is_row = absurd some
-    at_place take place row (Some v) is e some is_row =
-        let r = value_row (row_value leaves (handed_in h) h.offset (plan_at h.nodes codes)) (rows_of start bits) code.values (computed leaves are) place v e in
+    at_place : IsBy h leaves → (take : PlanRef) (place row : ℕ) (o : Option Datum) → number_of take ≡ n → slice_get code.values place ≡ o → IsSomeAnd o (IsPastCode (length column.values)) → IsRowAt start bits place row → SomeVisit (HasBadCode leaves h.offset (number_of take) row) (handed_in h) (take_plan (head_of h.nodes n) (plan_at h.nodes codes) (plan_at h.nodes values)) start bits
+    at_place by take place row None is e some is_row = absurd some
+    at_place by take place row (Some v) is e some is_row =
+        let r = value_row (row_value leaves (handed_in h) h.offset (plan_at h.nodes codes)) (rows_of start bits) code.values (computed leaves by) place v e in
         let b = row_bit start bits place r.0 r.1 in
         let named : row ≡ r.0 = is_row r.0 r.1 in
         let same : start + b.0 ≡ row = sym b.2 ∙ sym named in
@@ -239,22 +236,19 @@ take_computed h n codes values start bits code column result over computed whole
         let here : G r.0 = subst (BadCodeOf (plan_head (plan_at h.nodes values)).rows) (sym r.2) (subst C count bad) in
         (b.0, b.1, inl (sym is, same, subst G b.2 here))
 
-    by_result : (r : Result ColumnData StepError) → IfOk r (λ out. map (look_up column.values) code.values ≡ map Some out.values) → IfErr r (IsCodeFault n (length column.values) code.values start bits) → Outcome leaves (handed_in h) h.offset (take_plan (head_of h.nodes n) (plan_at h.nodes codes) (plan_at h.nodes values)) start bits r
-    by_result (Ok out) ok err = then_rows (row_value leaves (handed_in h) h.offset (plan_at h.nodes codes)) (row_value leaves (handed_in h) h.offset (take_plan (head_of h.nodes n) (plan_at h.nodes codes) (plan_at h.nodes values))) (look_up column.values) (λ row v at. look_row column.values (TakeValues h leaves n values) (take_values h leaves n values column.values (whole leaves are)) (row_value leaves (handed_in h) h.offset (plan_at h.nodes codes) row) v at) (rows_of start bits) code.values out.values (computed leaves are) ok
-    by_result (Err (Unsupported list)) ok err = absurd err
-    by_result (Err (BadSegment s)) ok err = absurd err
-    by_result (Err (BadCode m row)) ok err = at_place m err.1.0 row (slice_get code.values err.1.0) err.0 refl err.1.1 err.1.2
-    by_result (Err (EvalFault row)) ok err = absurd err
-    by_result (Err Memory) ok err = tt
+    by_result : (r : Result ColumnData StepError) → IsByFor h leaves r → IfOk r (λ out. map (look_up column.values) code.values ≡ map Some out.values) → IfErr r (IsCodeFault n (length column.values) code.values start bits) → Outcome leaves (handed_in h) h.offset (take_plan (head_of h.nodes n) (plan_at h.nodes codes) (plan_at h.nodes values)) start bits r
+    by_result (Ok out) by ok err = then_rows (row_value leaves (handed_in h) h.offset (plan_at h.nodes codes)) (row_value leaves (handed_in h) h.offset (take_plan (head_of h.nodes n) (plan_at h.nodes codes) (plan_at h.nodes values))) (look_up column.values) (λ row v at. look_row column.values (TakeValues h leaves n values) (take_values h leaves n values column.values (whole leaves by)) (row_value leaves (handed_in h) h.offset (plan_at h.nodes codes) row) v at) (rows_of start bits) code.values out.values (computed leaves by) ok
+    by_result (Err (Unsupported list)) by ok err = absurd err
+    by_result (Err (BadSegment s)) by ok err = absurd err
+    by_result (Err (BadCode m row)) by ok err = at_place by m err.1.0 row (slice_get code.values err.1.0) err.0 refl err.1.1 err.1.2
+    by_result (Err (EvalFault row)) by ok err = absurd err
+    by_result (Err Memory) by ok err = tt
 
 -- the codes have the fault
 pub codes_failed : (h : Held) (n codes values start : ℕ) (bits : List Bool) (fault : StepError) → IsTakePlan h.nodes n codes values → Computes h codes start bits (Err fault) → Computes h n start bits (Err fault)
 codes_failed h n codes values start bits fault over computed leaves are =
     subst (OutcomeOf h leaves start bits (Err fault)) (sym over.law)
     (cause_up leaves h.offset (handed_in h) (plan_at h.nodes codes) start bits (handed_in h) (take_plan (head_of h.nodes n) (plan_at h.nodes codes) (plan_at h.nodes values)) start bits (λ P r. (r.0, r.1, inr (inl r.2))) fault (computed leaves are))
-
-row_below : (bs : List Bool) (rows : ℕ) → length bs ≡ rows → (place : ℕ) → slice_get bs place ≡ Some true → 0 + place < rows
-row_below bs rows long place at = omega (arith, got_inside bs place true at)
 
 -- the whole values have it, where nothing is there for them
 pub values_failed : (h : Held) (n codes values start : ℕ) (bits : List Bool) (fault : StepError) → IsTakePlan h.nodes n codes values → whole_in h values ≡ None → SelectsSome bits → ComputesWhole h values (Err fault) → Computes h n start bits (Err fault)
@@ -267,33 +261,6 @@ values_failed h n codes values start bits fault over none some computed leaves a
     subst (OutcomeOf h leaves start bits (Err fault)) (sym over.law) (cause_up leaves h.offset None (plan_at h.nodes values) 0 w.0 (handed_in h) q start bits up fault w.2)
 
 -- ---- a share
-
-pub each_at : (leaves : Leaves) (f : ℕ → Derivation) (from count : ℕ) (vs : List Datum) → derived_each leaves (each_row f from count) ≡ Some vs → (k : ℕ) → k < count → slice_get vs k ≡ derived leaves (f (from + k))
-each_at leaves f from zero vs e k h = absurd (omega arith)
-each_at leaves f from (suc count) vs e k h = by (derived leaves (f from)) (derived_each leaves (each_row f (from + 1) count)) refl (λ us q j less. each_at leaves f (from + 1) count us q j less) vs e k h
-  where
-    by : (first : Option Datum) (rest : Option (List Datum)) → derived leaves (f from) ≡ first → ((us : List Datum) → rest ≡ Some us → (j : ℕ) → j < count → slice_get us j ≡ derived leaves (f (from + 1 + j))) → (ws : List Datum) → on_both one_more first rest ≡ Some ws → (j : ℕ) → j < suc count → slice_get ws j ≡ derived leaves (f (from + j))
-    by None rest p q ws e j h = absurd cc
-    by (Some v) None p q ws e j h = absurd cc
-    by (Some v) (Some us) p q ws e zero h =
-        let same : v ∷ us ≡ ws = cc in
-        let zero_more : from ≡ from + 0 = omega arith in
-        ap (λ (xs : List Datum). slice_get xs 0) (sym same) ∙ sym p ∙ ap (λ (k : ℕ). derived leaves (f k)) zero_more
-    by (Some v) (Some us) p q ws e (suc j) h =
-        let same : v ∷ us ≡ ws = cc in
-        let more : from + 1 + j ≡ from + suc j = omega arith in
-        ap (λ (xs : List Datum). slice_get xs (suc j)) (sym same) ∙ q us refl j (omega arith) ∙ ap (λ (k : ℕ). derived leaves (f k)) more
-
-pub each_length : (leaves : Leaves) (f : ℕ → Derivation) (from count : ℕ) (vs : List Datum) → derived_each leaves (each_row f from count) ≡ Some vs → length vs ≡ count
-each_length leaves f from zero vs e = let same : [] ≡ vs = cc in ap length (sym same)
-each_length leaves f from (suc count) vs e = by (derived leaves (f from)) (derived_each leaves (each_row f (from + 1) count)) (λ us q. each_length leaves f (from + 1) count us q) vs e
-  where
-    by : (first : Option Datum) (rest : Option (List Datum)) → ((us : List Datum) → rest ≡ Some us → length us ≡ count) → (ws : List Datum) → on_both one_more first rest ≡ Some ws → length ws ≡ suc count
-    by None rest q ws e = absurd cc
-    by (Some v) None q ws e = absurd cc
-    by (Some v) (Some us) q ws e =
-        let same : v ∷ us ≡ ws = cc in
-        ap length (sym same) ∙ ap suc (q us refl)
 
 -- the row of a share, by its whole values
 share_row : (h : Held) (leaves : Leaves) (n child : ℕ) (vs : List Datum) → (plan_head (plan_at h.nodes child)).rows ≡ (node_at h.nodes child).rows → AreWhole h leaves n child (node_at h.nodes child).rows vs → length vs ≡ (node_at h.nodes child).rows → (row : ℕ) → row < (node_at h.nodes child).rows → row_value leaves (handed_in h) h.offset (share_plan (head_of h.nodes n) (plan_at h.nodes child)) row ≡ slice_get vs row
@@ -309,9 +276,6 @@ share_row h leaves n child vs head (inr e) long row less =
     let zero_more : 0 + row ≡ row = omega arith in
     let own : slice_get vs row ≡ derived leaves (plan_derivation h.offset (plan_at h.nodes child) row) = each_at leaves (plan_derivation h.offset (plan_at h.nodes child)) 0 (node_at h.nodes child).rows vs e.1 row less ∙ ap (λ (k : ℕ). derived leaves (plan_derivation h.offset (plan_at h.nodes child) k)) zero_more in
     subst F (sym e.0) (sym own)
-
-same_below : (f g : ℕ → Option Datum) (rows start : ℕ) (bits : List Bool) → start + length bits ≤ rows → ((row : ℕ) → row < rows → f row ≡ g row) → map f (rows_of start bits) ≡ map g (rows_of start bits)
-same_below f g rows start bits inside same = rows_same f g start start bits (λ k h. same (start + k) (omega arith))
 
 pub share_computed : (h : Held) (n child start : ℕ) (bits : List Bool) (column out : ColumnData) → IsSharePlan h.nodes n child → start + length bits ≤ (node_at h.nodes n).rows →
     ((leaves : Leaves) → IsBy h leaves → AreWhole h leaves n child (node_at h.nodes child).rows column.values) → length column.values ≡ (node_at h.nodes n).rows →
@@ -356,26 +320,8 @@ shared_failed h n child start bits fault over none some computed leaves are =
 
 -- ---- all rows
 
-pub length_all : (count : ℕ) → length (replicate count true) ≡ count
-length_all zero = refl
-length_all (suc count) = omega (arith, length_all count)
-
-none_given : (leaves : Leaves) (offset : ℕ) (p : Plan) (row : ℕ) → row_value leaves None offset p row ≡ derived leaves (plan_derivation offset p row)
-none_given leaves offset p row = ap (derived leaves) (none_given_is (plan_derivation offset p row))
-
-each_same : (leaves : Leaves) (offset : ℕ) (p : Plan) (from count : ℕ) (values : List Datum) → map (row_value leaves None offset p) (range_with_len from count) ≡ map Some values → derived_each leaves (each_row (plan_derivation offset p) from count) ≡ Some values
-each_same leaves offset p from zero [] are = refl
-each_same leaves offset p from zero (v ∷ values) are = absurd cc
-each_same leaves offset p from (suc count) [] are = absurd cc
-each_same leaves offset p from (suc count) (v ∷ values) are =
-    let first : row_value leaves None offset p from ≡ Some v = cc in
-    let rest : map (row_value leaves None offset p) (range_with_len (from + 1) count) ≡ map Some values = cc in
-    let here : derived leaves (plan_derivation offset p from) ≡ Some v = sym (none_given leaves offset p from) ∙ first in
-    let more : derived_each leaves (each_row (plan_derivation offset p) (from + 1) count) ≡ Some values = each_same leaves offset p (from + 1) count values rest in
-    rw (here, more) refl
-
 pub whole_computed : (h : Held) (n : ℕ) (result : Result ColumnData StepError) → (plan_head (plan_at h.nodes n)).rows ≡ (node_at h.nodes n).rows → Computes (alone h) n 0 (replicate (node_at h.nodes n).rows true) result → ComputesWhole h n result
-whole_computed h n result head computed leaves are = by_result result (computed leaves (record { leaves_are = are.leaves_are; made_are = are.made_are }))
+whole_computed h n result head computed leaves are = by_result result (computed leaves (is_by_for h (alone h) leaves (λ by. record { leaves_are = by.leaves_are; made_are = by.made_are }) result are))
   where
     by_result : (r : Result ColumnData StepError) → Outcome leaves None h.offset (plan_at h.nodes n) 0 (replicate (node_at h.nodes n).rows true) r → MatchResult r (λ column. whole_value leaves h.offset (plan_at h.nodes n) ≡ Some column.values) (λ fault. HasWholeCause leaves h.offset (plan_at h.nodes n) (node_at h.nodes n).rows fault)
     by_result (Ok column) o =

@@ -6,13 +6,14 @@ use Rattle.vx_steps.specs.declared.jobs.Progress.{Progress}
 use Rattle.vx_steps.specs.declared.reads.ReadId.{ReadId}
 use Rattle.vx_plan.specs.Nodes.{Node}
 use Rattle.vx_steps.specs.ReadTableData.{ReadsData}
-use Rattle.vx_steps.specs.ReadTable.{Delivers}
+use Rattle.vx_steps.specs.ReadTable.{Delivers, KeepsStored}
 use Rattle.vx_steps.specs.Jobs.{IsActive, IsGood}
 use Rattle.vx_steps.specs.ScanData.{ScanData, TakesBytes}
 use Rattle.vx_steps.proofs.Agreeing.{asked_delivered, of_delivered}
+use Rattle.vx_steps.proofs.Releasing.{serves_stored}
 
-pub good_delivered : (nodes : List Node) (job : Job) (old : Progress) (read : ReadId) (bytes : List ℕ) (reads : ReadsData) → Delivers read bytes old.reads reads → IsGood nodes job old → IsGood nodes job (record { next = old.next; active = old.active; reads = reads; leaves = old.leaves; wholes = old.wholes })
-good_delivered nodes job old read bytes reads delivers good = record {
+pub good_delivered : (nodes : List Node) (job : Job) (old : Progress) (read : ReadId) (bytes : List ℕ) (reads : ReadsData) → Delivers read bytes old.reads reads → KeepsStored old.reads reads → IsGood nodes job old → IsGood nodes job (record { next = old.next; active = old.active; reads = reads; leaves = old.leaves; wholes = old.wholes })
+good_delivered nodes job old read bytes reads delivers stored good = record {
   known = good.known;
   inside = good.inside;
   fits = good.fits;
@@ -23,6 +24,7 @@ good_delivered nodes job old read bytes reads delivers good = record {
   apart_used = good.apart_used;
   uses = good.uses;
   actives = λ a m. active_delivered a (good.actives a m);
+  serves = serves_stored job old reads stored good.serves;
 }
   where
     active_delivered : (a : ActiveSplit) → IsActive nodes job old.leaves old.reads.wanted a → IsActive nodes job old.leaves reads.wanted a

@@ -25,16 +25,20 @@ use Rattle.vx_steps.specs.declared.wholes.Wholes.{Wholes}
 use Rattle.vx_steps.specs.Wholes.{AddsAsked, AddsOnly, Asks, KeepsValues, UsesGiven}
 use Rattle.vx_steps.specs.ReadTableData.{Wanted, ReadsData}
 use Rattle.vx_steps.specs.ReadTable.{bytes_of, HandsOut, StandsAt}
+use Rattle.vx_steps.specs.Agreement.{Agrees}
 use Rattle.vx_steps.specs.Delivered.{KeepsLeaves, LacksNeed}
+use Rattle.vx_steps.specs.Releasing.{IsServed, ServesAll}
 use Rattle.vx_steps.specs.Splits.{IsInside}
 use Rattle.vx_steps.specs.Turns.{AreLeavesKept, HasNeedCause, IsOutput, IsRefusal, LeavesWholes, ReadsFor}
-use Rattle.vx_steps.specs.Jobs.{numbers_from, number_of_active, left_of, IsActive, AddsLeaves, IsAskedBy, IsAskedFor, IsGood, IsLeafFor, IsWantedBy, KeepsColumns, KeepsTold, KeepsWholes, KeepsWholesFor, OnlyKeeps, Starts, WantsFor, WantsOnly}
+use Rattle.vx_steps.specs.Jobs.{numbers_from, number_of_active, left_of, IsActive, AddsLeaves, IsAskedBy, IsAskedFor, IsGood, IsLast, IsLeafFor, IsTold, IsWantedBy, KeepsTold, KeepsWholes, KeepsWholesFor, OnlyKeeps, Starts, WantsFor, WantsOnly}
 use Rattle.vx_steps.specs.Steps.{GivesOutput, GoesOn, HandsRead, HasCauseIn, HasSplitCause, HoldsAll, TakesTurn, work_left, IsActiveOutput, IsHeldAt, IsHeldUp, IsMissing, IsStepRefusal}
 use Rattle.std.proofs.lemmas.List.{set-get_or}
 use Rattle.std.proofs.lemmas.List.Edits.{length-remove, remove-append_left}
 use Rattle.std.proofs.lemmas.Option.{slice_get-map}
 use Rattle.vx_steps.proofs.Decoding.{adds_then, not_kept_before}
 use Rattle.vx_steps.proofs.Keeping.{got_inside, same_got}
+use Rattle.vx_steps.proofs.Premises.{unless_by}
+use Rattle.vx_steps.proofs.Releasing.{among_at, none_before, serves_tried}
 use Rattle.vx_steps.proofs.Starting.{got_at}
 use Rattle.vx_steps.proofs.Turning.{leaves_before}
 
@@ -62,6 +66,7 @@ pub record HasParts (nodes : List Node) (job : Job) (progress : Progress) (place
   pub needs : AreNeeds (ReadsFor nodes job split) active.needs
   pub are_leaves : AreLeaves nodes active.needs
   pub asked : (need : LeafRead) → Among need active.needs → kept_at progress.leaves need.leaf ≡ None → IsAsked progress.reads.wanted need.segment
+  pub served : IsServed progress.leaves progress.reads active.needs
 
 pub active_at : (nodes : List Node) (job : Job) (progress : Progress) (place : ℕ) (active : ActiveSplit) → IsGood nodes job progress → place < length progress.active.items → active ≡ get_or progress.active.items place active →
     IsActive nodes job progress.leaves progress.reads.wanted active
@@ -76,13 +81,15 @@ parts_of nodes job progress place active split good inside is split_is =
     let a = active_at nodes job progress place active good inside is in
     let here = got_at job.splits.items active.split split (split_inside nodes job progress place active good inside is) split_is in
     let P : Split → Type 0 = λ s. HasParts nodes job progress place active s in
+    let at = got_at progress.active.items place active inside is in
     let own : P a.split = record {
-      active_at = got_at progress.active.items place active inside is;
+      active_at = at;
       split_at = a.at;
       inside = all_got (IsInside (node_at nodes job.plan).rows) job.splits.items active.split a.split good.inside a.at;
       needs = a.needs;
       are_leaves = a.are_leaves;
       asked = a.asked;
+      served = good.serves.served active (got_among progress.active.items place active at);
     } in
     subst P (same_got (slice_get job.splits.items active.split) a.split split a.at here) own
 
@@ -106,9 +113,9 @@ same_actives xs place a needs is same =
     ∙ ap (set xs place) is
     ∙ set-get_or xs place a
 
-pub good_tried : (nodes : List Node) (job : Job) (old : Progress) (active : Vec ActiveSplit Global) (leaves : List Kept) (wholes : Wholes) → active.items ≡ old.active.items → KeepsLeaves nodes old.reads.wanted old.leaves leaves → KeepsValues nodes leaves job.offset old.wholes.made wholes.made → UsesGiven job.given old.wholes.used wholes.used → IsGood nodes job old →
-    IsGood nodes job (record { next = old.next; active = active; reads = old.reads; leaves = leaves; wholes = wholes })
-good_tried nodes job old active leaves wholes same keeps values uses good = record {
+pub good_tried : (nodes : List Node) (job : Job) (old : Progress) (active : Vec ActiveSplit Global) (reads : ReadsData) (leaves : List Kept) (wholes : Wholes) → active.items ≡ old.active.items → reads.wanted ≡ old.reads.wanted → ServesAll job (record { next = old.next; active = active; reads = reads; leaves = leaves; wholes = wholes }) → KeepsLeaves nodes old.reads.wanted old.leaves leaves → KeepsValues nodes leaves job.offset old.wholes.made wholes.made → UsesGiven job.given old.wholes.used wholes.used → IsGood nodes job old →
+    IsGood nodes job (record { next = old.next; active = active; reads = reads; leaves = leaves; wholes = wholes })
+good_tried nodes job old active reads leaves wholes same wanted serves keeps values uses good = record {
   known = good.known;
   inside = good.inside;
   fits = good.fits;
@@ -119,27 +126,35 @@ good_tried nodes job old active leaves wholes same keeps values uses good = reco
   apart_used = uses.apart good.apart_used;
   uses = uses_then job.given [] old.wholes.used wholes.used good.uses uses;
   actives = λ a m. active_keeps a (good.actives a (subst (λ (xs : List ActiveSplit). Among a xs) same m));
+  serves = serves;
 }
   where
-    active_keeps : (a : ActiveSplit) → IsActive nodes job old.leaves old.reads.wanted a → IsActive nodes job leaves old.reads.wanted a
+    active_keeps : (a : ActiveSplit) → IsActive nodes job old.leaves old.reads.wanted a → IsActive nodes job leaves reads.wanted a
     active_keeps a is = record {
       split = is.split;
       at = is.at;
       needs = is.needs;
       are_leaves = is.are_leaves;
-      asked = λ need among none. is.asked need among (not_kept_before nodes old.reads.wanted old.leaves leaves keeps need.leaf none);
+      asked = λ need among none. subst (λ (ws : List Wanted). IsAsked ws need.segment) (sym wanted) (is.asked need among (not_kept_before nodes old.reads.wanted old.leaves leaves keeps need.leaf none));
     }
 
+-- what is let go while a split is tried serves none of its needs, and no other split is active
+pub serves_at : (nodes : List Node) (job : Job) (old : Progress) (actives : Vec ActiveSplit Global) (reads : ReadsData) (leaves : List Kept) (wholes : Wholes) → actives.items ≡ old.active.items → KeepsLeaves nodes old.reads.wanted old.leaves leaves → (place : ℕ) (active : ActiveSplit) (split : Split) → HasParts nodes job old place active split →
+    (last : Bool) → (last ≡ true → IsLast job old) → (last ≡ false → reads ≡ old.reads) → IsServed leaves reads active.needs → IsGood nodes job old → ServesAll job (record { next = old.next; active = actives; reads = reads; leaves = leaves; wholes = wholes })
+serves_at nodes job old actives reads leaves wholes same keeps place active split parts last is_last lets served good =
+    serves_tried job old actives reads leaves wholes same keeps.grows place active parts.active_at last is_last lets served good.serves
+
 -- a split that is tried keeps what lies outside
-pub keeps_tried : (nodes : List Node) (job : Job) (old : Progress) (actives : Vec ActiveSplit Global) (leaves : List Kept) (wholes : Wholes) → actives.items ≡ old.active.items → KeepsLeaves nodes old.reads.wanted old.leaves leaves → KeepsValues nodes leaves job.offset old.wholes.made wholes.made → UsesGiven job.given old.wholes.used wholes.used →
-    (place : ℕ) (active : ActiveSplit) (split : Split) → HasParts nodes job old place active split → AddsOnly (IsNeededLeaf active.needs) old.leaves leaves → AddsAsked nodes job.given job.plan split.rows.start split.mask old.wholes wholes → OnlyKeeps nodes job old (record { next = old.next; active = actives; reads = old.reads; leaves = leaves; wholes = wholes })
-keeps_tried nodes job old actives leaves wholes same keeps values uses place active split parts needed asked = record {
+pub keeps_tried : (nodes : List Node) (job : Job) (old : Progress) (actives : Vec ActiveSplit Global) (reads : ReadsData) (leaves : List Kept) (wholes : Wholes) → actives.items ≡ old.active.items → reads.wanted ≡ old.reads.wanted → reads.handed ≡ old.reads.handed → KeepsLeaves nodes old.reads.wanted old.leaves leaves → KeepsValues nodes leaves job.offset old.wholes.made wholes.made → UsesGiven job.given old.wholes.used wholes.used →
+    (place : ℕ) (active : ActiveSplit) (split : Split) → HasParts nodes job old place active split → AddsOnly (IsNeededLeaf active.needs) old.leaves leaves → AddsAsked nodes job.given job.plan split.rows.start split.mask old.wholes wholes → OnlyKeeps nodes job old (record { next = old.next; active = actives; reads = reads; leaves = leaves; wholes = wholes })
+keeps_tried nodes job old actives reads leaves wholes same wanted handed keeps values uses place active split parts needed asked = record {
   next = refl;
   active = same;
-  reads = refl;
+  wanted = wanted;
+  handed = handed;
   told = λ outside is.
       let have = keeps.right outside is.bytes is.leaves_are in
-      record { bytes = is.bytes; leaves_are = have; made_are = values.right (leaves_of outside) have is.made_are };
+      record { bytes = subst (λ (ws : List Wanted). Agrees ws outside) (sym wanted) is.bytes; leaves_are = have; made_are = values.right (leaves_of outside) have is.made_are };
   leaves = keeps.grows;
   leaves_only = λ n kept. ⊎_elim (λ (k : IsKept old.leaves n). inl k) (λ (l : IsNeededLeaf active.needs n). inr (record { number = active.split; among = number_among old.active.items place active parts.active_at; split = split; at = parts.split_at; read = l.0; reads = parts.needs.only l.0 l.1; leaf_is = l.2 })) (needed n kept);
   wholes = record {
@@ -188,7 +203,7 @@ held_up nodes job old place active split (Ok None) parts waiting = λ e a at.
     subst P (same_got (slice_get old.active.items place) active a parts.active_at at) here
 held_up nodes job old place active split (Err error) parts waiting = tt
 
-pub cause_of_split : (nodes : List Node) (job : Job) (old new : Progress) (place : ℕ) (active : ActiveSplit) (split : Split) (result : Result (Option ColumnData) StepError) → HasParts nodes job old place active split → new.reads ≡ old.reads → new.active.items ≡ old.active.items →
+pub cause_of_split : (nodes : List Node) (job : Job) (old new : Progress) (place : ℕ) (active : ActiveSplit) (split : Split) (result : Result (Option ColumnData) StepError) → HasParts nodes job old place active split → new.reads.wanted ≡ old.reads.wanted → new.active.items ≡ old.active.items →
     IfErr result (IsRefusal nodes job split active.needs old.reads.wanted old.leaves old.wholes.made) → IfErr result (LeavesWholes nodes job split old.reads.wanted old.leaves old.wholes.made new.wholes) → IfErr result (IsStepRefusal nodes job old new)
 cause_of_split nodes job old new place active split (Ok output) parts same actives cause left = tt
 cause_of_split nodes job old new place active split (Err error) parts same actives cause left = inr (record {
@@ -196,7 +211,7 @@ cause_of_split nodes job old new place active split (Err error) parts same activ
   active = subst (λ (xs : List ActiveSplit). Among active.split (map number_of_active xs)) (sym actives) (number_among old.active.items place active parts.active_at);
   split = split;
   at = parts.split_at;
-  cause = subst (λ (r : ReadsData). HasSplitCause nodes job old r.wanted split error) (sym same) (λ outside is. by outside error (cause outside is));
+  cause = subst (λ (ws : List Wanted). HasSplitCause nodes job old ws split error) (sym same) (λ outside is. by outside error (cause outside is));
   left = left;
 })
   where
@@ -338,11 +353,11 @@ gives_output nodes job first mid tried new place column active before out after 
         there = out.output.there;
       });
       leaves = subst (λ (ks : List Kept). AreLeavesKept nodes job out.split ks) (sym leaves) out.leaves;
-      handed = ap (λ r. r.handed) (reads ∙ (after.reads ∙ before.reads));
+      handed = ap (λ r. r.handed) reads ∙ (after.handed ∙ before.handed);
     }
 
 pub keeps_none : (nodes : List Node) (job : Job) (progress : Progress) → OnlyKeeps nodes job progress progress
-keeps_none nodes job progress = record { next = refl; active = refl; reads = refl; told = λ outside is. is; leaves = λ n column at. at; leaves_only = λ n kept. inl kept; wholes = wholes_none nodes job (map number_of_active progress.active.items) progress.wholes }
+keeps_none nodes job progress = record { next = refl; active = refl; wanted = refl; handed = refl; told = λ outside is. is; leaves = λ n column at. at; leaves_only = λ n kept. inl kept; wholes = wholes_none nodes job (map number_of_active progress.active.items) progress.wholes }
 
 pub only_keeps_then : (nodes : List Node) (job : Job) (old mid new : Progress) → OnlyKeeps nodes job old mid → OnlyKeeps nodes job mid new → OnlyKeeps nodes job old new
 only_keeps_then nodes job old mid new first second =
@@ -351,33 +366,20 @@ only_keeps_then nodes job old mid new first second =
     record {
       next = second.next ∙ first.next;
       active = second.active ∙ first.active;
-      reads = second.reads ∙ first.reads;
+      wanted = second.wanted ∙ first.wanted;
+      handed = second.handed ∙ first.handed;
       told = λ outside is. second.told outside (first.told outside is);
       leaves = λ n column at. second.leaves n column (first.leaves n column at);
       leaves_only = adds_then (IsLeafFor nodes job (map number_of_active old.active.items)) old.leaves mid.leaves new.leaves first.leaves_only (subst L first.active second.leaves_only);
       wholes = wholes_then nodes job (map number_of_active old.active.items) old.wholes mid.wholes new.wholes first.wholes (subst W first.active second.wholes);
     }
 
-none_before : (old new : List Kept) (n : ℕ) → KeepsColumns old new → kept_at new n ≡ None → kept_at old n ≡ None
-none_before old new n keeps e = by (kept_at old n) refl
-  where
-    by : (o : Option ColumnData) → kept_at old n ≡ o → o ≡ None
-    by None at = refl
-    by (Some column) at = let both : Some column ≡ None = sym (keeps n column at) ∙ e in absurd cc
-
 pub held_before : (nodes : List Node) (job : Job) (old mid : Progress) (place : ℕ) → OnlyKeeps nodes job old mid → IsHeldAt mid place → IsHeldAt old place
 held_before nodes job old mid place keeps held a at =
     let G : List ActiveSplit → Type 0 = λ xs. slice_get xs place ≡ Some a in
     let H : List Wanted → Type 0 = λ wanted. IsHeldUp old.leaves wanted a in
     let is = held a (subst G (sym keeps.active) at) in
-    subst H (ap (λ r. r.wanted) keeps.reads) (is.0, is.1, none_before old.leaves mid.leaves (is.0).leaf keeps.leaves is.2, is.3)
-
-among_at : {X : Type 0} (xs : List X) (x : X) → Among x xs → (i : ℕ) × (i < length xs) × (slice_get xs i ≡ Some x)
-among_at [] x h = absurd h
-among_at (y ∷ xs) x (inl e) = (0, omega arith, ap Some e)
-among_at (y ∷ xs) x (inr h) =
-    let at = among_at xs x h in
-    (suc at.0, omega arith, at.2)
+    subst H keeps.wanted (is.0, is.1, none_before old.leaves mid.leaves (is.0).leaf keeps.leaves is.2, is.3)
 
 pub holds_all : (nodes : List Node) (job : Job) (old new : Progress) → OnlyKeeps nodes job old new → ((place : ℕ) → place < length old.active.items → IsHeldAt old place) → HoldsAll old new
 holds_all nodes job old new keeps held = record {
@@ -387,7 +389,7 @@ holds_all nodes job old new keeps held = record {
       let M : List ActiveSplit → Type 0 = λ xs. Among a xs in
       let H : List Wanted → Type 0 = λ wanted. IsHeldUp old.leaves wanted a in
       let at = among_at old.active.items a (subst M keeps.active m) in
-      subst H (sym (ap (λ r. r.wanted) keeps.reads)) (held at.0 at.1 a at.2);
+      subst H (sym keeps.wanted) (held at.0 at.1 a at.2);
 }
 
 pub refusal_before : (nodes : List Node) (job : Job) (old mid new : Progress) (error : StepError) → KeepsTold nodes job old mid → IsStepRefusal nodes job mid new error → IsStepRefusal nodes job old new error
@@ -397,7 +399,7 @@ refusal_before nodes job old mid new error keeps (inr r) = inr (record {
   active = r.active;
   split = r.split;
   at = r.at;
-  cause = λ outside is. r.cause outside (keeps outside is);
+  cause = λ outside is. r.cause outside (unless_by error (IsTold nodes job old outside) (IsTold nodes job mid outside) (keeps outside) is);
   left = leaves_before nodes job r.split old.reads.wanted mid.reads.wanted old.leaves mid.leaves old.wholes.made mid.wholes.made new.wholes error keeps r.left;
 })
 

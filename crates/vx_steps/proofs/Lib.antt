@@ -21,7 +21,9 @@ pub mod Offering
 pub mod OutermostTakes
 pub mod PickedValues
 pub mod PlacedVisits
+pub mod Premises
 pub mod Readying
+pub mod Releasing
 pub mod ReadVisits
 pub mod SelectedRows
 pub mod Selecting
@@ -41,3 +43,4 @@ pub mod WantedReads
 pub mod WholeAsking
 pub mod WholeFaults
 pub mod WholeMaking
+pub mod WholeRows

@@ -60,6 +60,11 @@ pub want_all : (result : Result (Unit {0}) AllocError) (segment : ℕ) (old new 
 want_all (Ok x) segment old new P wanted = λ p. wanted_all segment old.wanted new.wanted wanted
 want_all (Err e) segment old new P wanted = tt
 
+-- what holds once the segment is wanted holds where no column was handed in
+pub want_named : (result : Result (Unit {0}) AllocError) (P Q : Type 0) → OnOk result Q → OnOk result (P → Q)
+want_named (Ok x) P Q q = λ p. q
+want_named (Err e) P Q q = tt
+
 pub want_only : (result : Result (Unit {0}) AllocError) (segment : ℕ) (old new : ReadsData) → OnOk result (IsWanted segment old.wanted new.wanted) → OnErr result (new ≡ old) → (s : ℕ) → IsAsked new.wanted s → IsAsked old.wanted s ⊎ (segment ≡ s)
 want_only (Ok x) segment old new wanted same s asked = wanted_only segment old.wanted new.wanted wanted s asked
 want_only (Err e) segment old new wanted same s asked =

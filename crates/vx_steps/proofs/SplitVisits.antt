@@ -16,6 +16,7 @@ use Rattle.vx_steps.specs.declared.jobs.Job.{Job}
 use Rattle.vx_steps.specs.declared.leaf_reads.LeafRead.{LeafRead}
 use Rattle.vx_steps.specs.declared.splits.Split.{Split}
 use Rattle.vx_steps.specs.Agreement.{Agrees}
+use Rattle.vx_steps.specs.Computed.{UnlessList}
 use Rattle.vx_steps.specs.Given.{Handed, handed_by}
 use Rattle.vx_steps.specs.Held.{AreTyped}
 use Rattle.vx_steps.specs.Jobs.{IsReadFor}
@@ -89,7 +90,7 @@ torn_read nodes good job there wanted split outside segment agrees (read, reads,
 
 -- ---- causes
 
-pub split_cause : (nodes : List Node) → IsGoodTable nodes → (job : Job) → job.plan < length nodes → AreTyped nodes job.given → (wanted : List Wanted) (split : Split) (outside : Bytes) (error : StepError) → Agrees wanted outside → HasCauseIn nodes job wanted split outside error → IsSplitCause nodes job split outside error
+pub split_cause : (nodes : List Node) → IsGoodTable nodes → (job : Job) → job.plan < length nodes → AreTyped nodes job.given → (wanted : List Wanted) (split : Split) (outside : Bytes) (error : StepError) → UnlessList error (Agrees wanted outside) → HasCauseIn nodes job wanted split outside error → IsSplitCause nodes job split outside error
 split_cause nodes good job there typed wanted split outside (BadSegment segment) agrees has = torn_read nodes good job there wanted split outside segment agrees has
 split_cause nodes good job there typed wanted split outside (Unsupported list) agrees has = cause_read (leaves_of outside) (handed_by nodes (Some job.given)) job.offset (plan_at nodes job.plan) split.rows.start split.mask (Unsupported list) (typed_fit nodes good job.given typed job.plan there) has
 split_cause nodes good job there typed wanted split outside (BadCode take row) agrees has = cause_read (leaves_of outside) (handed_by nodes (Some job.given)) job.offset (plan_at nodes job.plan) split.rows.start split.mask (BadCode take row) (typed_fit nodes good job.given typed job.plan there) has

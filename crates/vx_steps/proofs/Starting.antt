@@ -14,9 +14,11 @@ use Rattle.vx_steps.specs.KeptData.{Kept}
 use Rattle.vx_steps.specs.Needs.{Among, AreAmong}
 use Rattle.vx_steps.specs.Turns.{ReadsFor}
 use Rattle.vx_steps.specs.Wants.{AreNeeds, IsAsked, IsNeeded, Grows}
+use Rattle.vx_steps.specs.ReadTable.{KeepsStored}
 use Rattle.vx_steps.specs.ReadTableData.{Wanted, ReadsData}
 use Rattle.vx_steps.specs.Jobs.{active_of, numbers_from, number_of_active, CanStart, IsActive, IsGood, IsWantedBy, KeepsBound, Starts}
 use Rattle.vx_steps.proofs.Needing.{asked_grows, among_pushed}
+use Rattle.vx_steps.proofs.Releasing.{serves_stored}
 
 pub got_at : {X : Type 0} (xs : List X) (i : ℕ) (x : X) → i < length xs → x ≡ get_or xs i x → slice_get xs i ≡ Some x
 got_at [] i x h is = absurd (omega arith)
@@ -79,8 +81,8 @@ pub wants_split : (nodes : List Node) (job : Job) (leaves : List Kept) (old new 
 wants_split nodes job leaves old new number numbers split needs among at are only segment asked =
     ⊎_elim (λ (a : IsAsked old segment). inl a) (λ (n : IsNeeded needs leaves segment). inr (record { number = number; split = split; at = at; read = n.0; reads = are.only n.0 n.1; not_kept = n.2; segment_is = n.3 }, among)) (only segment asked)
 
-pub good_wanted : (nodes : List Node) (job : Job) (old : Progress) (reads : ReadsData) → Grows old.reads.wanted reads.wanted → IsGood nodes job old → IsGood nodes job (record { next = old.next; active = old.active; reads = reads; leaves = old.leaves; wholes = old.wholes })
-good_wanted nodes job old reads grows good = record {
+pub good_wanted : (nodes : List Node) (job : Job) (old : Progress) (reads : ReadsData) → Grows old.reads.wanted reads.wanted → KeepsStored old.reads reads → IsGood nodes job old → IsGood nodes job (record { next = old.next; active = old.active; reads = reads; leaves = old.leaves; wholes = old.wholes })
+good_wanted nodes job old reads grows stored good = record {
   known = good.known;
   inside = good.inside;
   fits = good.fits;
@@ -91,6 +93,7 @@ good_wanted nodes job old reads grows good = record {
   apart_used = good.apart_used;
   uses = good.uses;
   actives = λ a m. active_grows nodes job old.leaves old.reads.wanted reads.wanted a grows (good.actives a m);
+  serves = serves_stored job old reads stored good.serves;
 }
 
 pub starts_none : (nodes : List Node) (job : Job) (progress : Progress) → Starts nodes job progress progress
@@ -134,4 +137,5 @@ good_max nodes job progress count good = record {
   actives = λ a m.
       let is = good.actives a m in
       record { split = is.split; at = is.at; needs = is.needs; are_leaves = is.are_leaves; asked = is.asked };
+  serves = record { gone_late = good.serves.gone_late; passed_late = good.serves.passed_late; served = good.serves.served };
 }

@@ -7,12 +7,14 @@ use Rattle.vx_steps.specs.declared.errors.StepError.TheVariants.{BadSegment, Uns
 use Rattle.vx_steps.specs.declared.jobs.Job.{Job}
 use Rattle.vx_steps.specs.declared.leaf_reads.LeafRead.{LeafRead}
 use Rattle.vx_steps.specs.declared.splits.Split.{Split}
+use Rattle.vx_steps.specs.Computed.{UnlessList}
 use Rattle.vx_steps.specs.Delivered.{IsOf, SomeTornCause}
 use Rattle.vx_steps.specs.KeptData.{Kept}
 use Rattle.vx_steps.specs.ReadTableData.{Wanted}
 use Rattle.vx_steps.specs.Turns.{FailsInWholes, HasNeedCause, HasRowCause, IsRefusal, LeavesWholes}
 use Rattle.vx_steps.specs.Wholes.{AddsAsked, AreThere, KeepsValues, UsesGiven}
 use Rattle.vx_steps.specs.declared.wholes.Wholes.{Wholes}
+use Rattle.vx_steps.proofs.Premises.{unless_by}
 
 pub values_none : (nodes : List Node) (leaves : List Kept) (offset : ℕ) (old : List Kept) → KeepsValues nodes leaves offset old old
 values_none nodes leaves offset old = record { grows = λ n column at. at; typed = λ typed. typed; apart = λ apart. apart; right = λ by have are. are }
@@ -39,7 +41,7 @@ need_cause nodes job split needs wanted outside (EvalFault row) cause = cause
 need_cause nodes job split needs wanted outside Memory cause = tt
 
 -- and so is one of its column
-pub row_refusal : (nodes : List Node) (job : Job) (split : Split) (needs : List LeafRead) (wanted : List Wanted) (leaves made : List Kept) (error : StepError) → ((outside : Bytes) → IsOf nodes job.offset wanted leaves made outside → HasRowCause nodes job split outside error) → IsRefusal nodes job split needs wanted leaves made error
+pub row_refusal : (nodes : List Node) (job : Job) (split : Split) (needs : List LeafRead) (wanted : List Wanted) (leaves made : List Kept) (error : StepError) → ((outside : Bytes) → UnlessList error (IsOf nodes job.offset wanted leaves made outside) → HasRowCause nodes job split outside error) → IsRefusal nodes job split needs wanted leaves made error
 row_refusal nodes job split needs wanted leaves made error cause = λ outside is. need_cause nodes job split needs wanted outside error (cause outside is)
 
 -- ---- what a refusal leaves
@@ -61,7 +63,7 @@ row_leaves nodes job split wanted leaves made after Memory left = tt
 fails_before : (nodes : List Node) (job : Job) (split : Split) (wanted mid_wanted : List Wanted) (leaves mid_leaves made mid_made : List Kept) (after : Wholes) (error : StepError) → ((outside : Bytes) → IsOf nodes job.offset wanted leaves made outside → IsOf nodes job.offset mid_wanted mid_leaves mid_made outside) →
     AreThere nodes job.given after job.plan split.rows.start split.mask ⊎ FailsInWholes nodes job split mid_wanted mid_leaves mid_made error → AreThere nodes job.given after job.plan split.rows.start split.mask ⊎ FailsInWholes nodes job split wanted leaves made error
 fails_before nodes job split wanted mid_wanted leaves mid_leaves made mid_made after error keeps left =
-    ⊎_elim (λ (there : AreThere nodes job.given after job.plan split.rows.start split.mask). inl there) (λ (fails : FailsInWholes nodes job split mid_wanted mid_leaves mid_made error). inr (λ outside is. fails outside (keeps outside is))) left
+    ⊎_elim (λ (there : AreThere nodes job.given after job.plan split.rows.start split.mask). inl there) (λ (fails : FailsInWholes nodes job split mid_wanted mid_leaves mid_made error). inr (λ outside is. fails outside (unless_by error (IsOf nodes job.offset wanted leaves made outside) (IsOf nodes job.offset mid_wanted mid_leaves mid_made outside) (keeps outside) is))) left
 
 pub leaves_before : (nodes : List Node) (job : Job) (split : Split) (wanted mid_wanted : List Wanted) (leaves mid_leaves made mid_made : List Kept) (after : Wholes) (error : StepError) → ((outside : Bytes) → IsOf nodes job.offset wanted leaves made outside → IsOf nodes job.offset mid_wanted mid_leaves mid_made outside) →
     LeavesWholes nodes job split mid_wanted mid_leaves mid_made after error → LeavesWholes nodes job split wanted leaves made after error

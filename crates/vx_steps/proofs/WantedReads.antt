@@ -1,5 +1,5 @@
 -- The wanted segments: each stands at one place, which the map of places has.
-use Rattle.std.proofs.Common.{◌≡◌, ℕ, zero, suc, ◌+◌, ◌<◌, ◌==◌, ◌⊎◌, inl, inr, ⊎_elim, Bool, true, false, cond, List, [], ◌∷◌, ◌++◌, Option, Some, None, length, map, get_or, set, refl, sym, ap, ◌∙◌, subst, arith}
+use Rattle.std.proofs.Common.{◌≡◌, ℕ, zero, suc, ◌+◌, ◌<◌, ◌≤◌, ◌==◌, ◌⊎◌, inl, inr, ⊎_elim, Bool, true, false, cond, List, [], ◌∷◌, ◌++◌, Option, Some, None, length, map, get_or, set, refl, sym, ap, ◌∙◌, subst, arith}
 use Rattle.std.specs.Prelude.{IsSomeAnd, if◌then◌else◌}
 use Rattle.std.specs.List.{slice_get}
 use Rattle.std.specs.Option.{option_map, is_some}
@@ -8,9 +8,11 @@ use Rattle.std.specs.BTreeMap.{BTreeMap, get}
 use Rattle.std.proofs.lemmas.Bool.{cases_eq}
 use Rattle.std.proofs.lemmas.List.{length-map}
 use Rattle.std.proofs.lemmas.Option.{slice_get-map, slice_get-get_or}
+use Rattle.vx_steps.specs.declared.reads.SegmentBytes.{SegmentBytes}
+use Rattle.vx_steps.specs.declared.reads.SegmentBytes.TheVariants.{NotYet, Came, LetGo}
 use Rattle.vx_steps.specs.declared.reads.WantedSegment.{WantedSegment}
-use Rattle.vx_steps.specs.ReadTableData.{Wanted, wanted_data}
-use Rattle.vx_steps.specs.ReadTable.{StandsAt, AreReads, bytes_of}
+use Rattle.vx_steps.specs.ReadTableData.{Wanted, Stored, bytes_in, is_gone, stored_data, wanted_data}
+use Rattle.vx_steps.specs.ReadTable.{StandsAt, AreReads, IsGone, IsNamed, bytes_of}
 
 pub wanted_at : (ws : List WantedSegment) (i : ℕ) (w : WantedSegment) → i < length ws → w ≡ get_or ws i w → slice_get (map wanted_data ws) i ≡ Some (wanted_data w)
 wanted_at ws i w inside is =
@@ -230,3 +232,108 @@ pub is_still : (wanted : List Wanted) (place segment : ℕ) → slice_get wanted
 is_still wanted place segment at =
     let P : Option Wanted → Type 0 = λ o. IsSomeAnd o (λ w. w.bytes ≡ None) in
     subst P (sym at) refl
+
+-- ---- what is stored
+
+some_same : {X : Type 0} (a b : X) → Some a ≡ Some b → a ≡ b
+some_same a b h = cc
+
+pub item_at : (ws : List WantedSegment) (i : ℕ) (w : WantedSegment) → i < length ws → w ≡ get_or ws i w → slice_get ws i ≡ Some w
+item_at ws i w inside is = slice_get-get_or ws i w inside ∙ ap Some (sym is)
+
+pub same_item : (ws : List WantedSegment) (i : ℕ) (v w : WantedSegment) → slice_get ws i ≡ Some v → slice_get ws i ≡ Some w → v ≡ w
+same_item ws i v w at_v at_w = some_same v w (sym at_v ∙ at_w)
+
+-- bytes that did not come are not gone
+pub none_gone : (bytes : SegmentBytes) → bytes_in bytes ≡ None → is_gone bytes ≡ false
+none_gone NotYet none = refl
+none_gone (Came bytes) none = refl
+none_gone (LetGo bytes) none = absurd (some_is (bytes.value).items none)
+  where
+    some_is : (x : List ℕ) → Some x ≡ None → ⊥
+    some_is x h = cc
+
+item_mapped : {Y : Type 0} (f : WantedSegment → Y) (ws : List WantedSegment) (i : ℕ) (w : WantedSegment) → slice_get ws i ≡ Some w → slice_get (map f ws) i ≡ Some (f w)
+item_mapped f ws i w at = slice_get-map f ws i ∙ ap (option_map f) at
+
+pub stored_at : (ws : List WantedSegment) (i : ℕ) (w : WantedSegment) → i < length ws → w ≡ get_or ws i w → slice_get (map stored_data ws) i ≡ Some (stored_data w)
+stored_at ws i w inside is = item_mapped stored_data ws i w (item_at ws i w inside is)
+
+stored_from : (ws : List WantedSegment) (i : ℕ) (s : Stored) → slice_get (map stored_data ws) i ≡ Some s → (w : WantedSegment) × (slice_get ws i ≡ Some w) × (stored_data w ≡ s)
+stored_from [] i s at = absurd cc
+stored_from (w ∷ ws) zero s at = (w, refl, some_same (stored_data w) s at)
+stored_from (w ∷ ws) (suc i) s at = stored_from ws i s at
+
+-- one wanted segment in place of another that is seen as the same
+pub same_set : {Y : Type 0} (f : WantedSegment → Y) (ws : List WantedSegment) (i : ℕ) (v w : WantedSegment) → slice_get ws i ≡ Some w → f v ≡ f w → map f (set ws i v) ≡ map f ws
+same_set f [] i v w at e = refl
+same_set f (z ∷ ws) zero v w at e =
+    let is : z ≡ w = some_same z w at in
+    ap (λ (y : _). y ∷ map f ws) (e ∙ ap f (sym is))
+same_set f (z ∷ ws) (suc i) v w at e = ap (λ (ys : List _). f z ∷ ys) (same_set f ws i v w at e)
+
+named_set : (stored : List Stored) (place : ℕ) (old new : Stored) → slice_get stored place ≡ Some old → old.segment ≡ new.segment → old.last ≤ new.last → (segment n : ℕ) → IsNamed stored segment n → IsNamed (set stored place new) segment n
+named_set stored place old new at same last segment n (i, s, at_i, is, less) = ⊎_elim here (λ (apart : place ≡ i → ⊥). (i, s, set_there stored place i new apart ∙ at_i, is, less)) (cases_eq place i)
+  where
+    here : place ≡ i → IsNamed (set stored place new) segment n
+    here e =
+        let G : ℕ → Type 0 = λ k. slice_get stored k ≡ Some old in
+        let S : ℕ → Type 0 = λ k. slice_get (set stored place new) k ≡ Some new in
+        let one : old ≡ s = some_same old s (sym (subst G e at) ∙ at_i) in
+        let named : old.segment ≡ s.segment = ap (λ (x : Stored). x.segment) one in
+        let as_last : old.last ≡ s.last = ap (λ (x : Stored). x.last) one in
+        let more : n ≤ new.last = omega arith in
+        (i, new, subst S e (set_here stored place new old at), sym same ∙ named ∙ is, more)
+
+gone_set : (stored : List Stored) (place : ℕ) (old new : Stored) → slice_get stored place ≡ Some old → (segment : ℕ) → IsGone (set stored place new) segment → IsGone stored segment ⊎ ((new.segment ≡ segment) × (new.gone ≡ true))
+gone_set stored place old new at segment (i, s, at_i, is, gone) = ⊎_elim (λ (e : place ≡ i). inr (here e)) (λ (apart : place ≡ i → ⊥). inl (i, s, sym (set_there stored place i new apart) ∙ at_i, is, gone)) (cases_eq place i)
+  where
+    here : place ≡ i → (new.segment ≡ segment) × (new.gone ≡ true)
+    here e =
+        let S : ℕ → Type 0 = λ k. slice_get (set stored place new) k ≡ Some new in
+        let one : new ≡ s = some_same new s (sym (subst S e (set_here stored place new old at)) ∙ at_i) in
+        (ap (λ (x : Stored). x.segment) one ∙ is, ap (λ (x : Stored). x.gone) one ∙ gone)
+
+pub stored_set : (ws : List WantedSegment) (place : ℕ) (v w : WantedSegment) → slice_get ws place ≡ Some w → slice_get (map stored_data (set ws place v)) place ≡ Some (stored_data v)
+stored_set ws place v w at = item_mapped stored_data (set ws place v) place v (set_here ws place v w at)
+
+-- what names a segment still does, when no last place falls
+pub changed_named : (ws : List WantedSegment) (place : ℕ) (v w : WantedSegment) → slice_get ws place ≡ Some w → w.segment ≡ v.segment → w.last ≤ v.last → (segment n : ℕ) → IsNamed (map stored_data ws) segment n → IsNamed (map stored_data (set ws place v)) segment n
+changed_named ws place v w at same last segment n named =
+    let P : List Stored → Type 0 = λ stored. IsNamed stored segment n in
+    subst P (sym (map_set stored_data ws place v)) (named_set (map stored_data ws) place (stored_data w) (stored_data v) (item_mapped stored_data ws place w at) same last segment n named)
+
+-- only the bytes of the segment that was changed may be gone from then on
+pub changed_gone : (ws : List WantedSegment) (place : ℕ) (v w : WantedSegment) → slice_get ws place ≡ Some w → (segment : ℕ) → IsGone (map stored_data (set ws place v)) segment → IsGone (map stored_data ws) segment ⊎ ((v.segment ≡ segment) × (is_gone v.bytes ≡ true))
+changed_gone ws place v w at segment gone =
+    let P : List Stored → Type 0 = λ stored. IsGone stored segment in
+    gone_set (map stored_data ws) place (stored_data w) (stored_data v) (item_mapped stored_data ws place w at) segment (subst P (map_set stored_data ws place v) gone)
+
+-- and none are where the segment's are as they were
+pub kept_gone : (ws : List WantedSegment) (place : ℕ) (v w : WantedSegment) → slice_get ws place ≡ Some w → w.segment ≡ v.segment → is_gone v.bytes ≡ is_gone w.bytes → (segment : ℕ) → IsGone (map stored_data (set ws place v)) segment → IsGone (map stored_data ws) segment
+kept_gone ws place v w at same as_gone segment gone =
+    ⊎_elim (λ (g : IsGone (map stored_data ws) segment). g) (λ (e : (v.segment ≡ segment) × (is_gone v.bytes ≡ true)). (place, stored_data w, item_mapped stored_data ws place w at, same ∙ e.0, sym as_gone ∙ e.1)) (changed_gone ws place v w at segment gone)
+
+-- a segment is stored once
+one_stored : (places : BTreeMap ℕ ℕ) (ws : List WantedSegment) (handed : ℕ) → AreReads places (map wanted_data ws) handed → (place : ℕ) (w : WantedSegment) → slice_get ws place ≡ Some w → (i : ℕ) (s : Stored) → slice_get (map stored_data ws) i ≡ Some s → s.segment ≡ w.segment → w.last ≡ s.last
+one_stored places ws handed reads place w at i s at_i same =
+    let x = stored_from ws i s at_i in
+    let one : i ≡ place = one_place places (map wanted_data ws) handed reads i place (wanted_data x.0) (wanted_data w) (item_mapped wanted_data ws i x.0 x.1) (item_mapped wanted_data ws place w at) (ap (λ (y : Stored). y.segment) x.2 ∙ same) in
+    let G : ℕ → Type 0 = λ k. slice_get ws k ≡ Some x.0 in
+    let is : w ≡ x.0 = some_same w x.0 (sym at ∙ subst G one x.1) in
+    ap (λ (y : WantedSegment). y.last) is ∙ ap (λ (y : Stored). y.last) x.2
+
+-- no need past the last place names a segment
+pub named_before : (places : BTreeMap ℕ ℕ) (ws : List WantedSegment) (handed : ℕ) → AreReads places (map wanted_data ws) handed → (place : ℕ) (w : WantedSegment) → slice_get ws place ≡ Some w → (segment : ℕ) → w.segment ≡ segment → (n : ℕ) → IsNamed (map stored_data ws) segment n → n ≤ w.last
+named_before places ws handed reads place w at segment is n (i, s, at_i, named, less) =
+    let same : w.last ≡ s.last = one_stored places ws handed reads place w at i s at_i (named ∙ sym is) in
+    omega arith
+
+pub pushed_named : (old : List Stored) (more : Stored) (segment n : ℕ) → IsNamed old segment n → IsNamed (old ++ more ∷ []) segment n
+pushed_named old more segment n (i, s, at, is, less) = (i, s, pushed_old old more i s at, is, less)
+
+pub pushed_gone : (old : List Stored) (more : Stored) → more.gone ≡ false → (segment : ℕ) → IsGone (old ++ more ∷ []) segment → IsGone old segment
+pushed_gone old more kept segment (i, s, at, is, gone) = ⊎_elim (λ (e : slice_get old i ≡ Some s). (i, s, e, is, gone)) (λ (e : (i ≡ length old) × (more ≡ s)). absurd (true_false (sym gone ∙ ap (λ (x : Stored). x.gone) (sym e.1) ∙ kept))) (got_pushed old more i s at)
+  where
+    true_false : true ≡ false → ⊥
+    true_false h = cc

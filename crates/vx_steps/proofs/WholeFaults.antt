@@ -12,7 +12,7 @@ use Rattle.vx_steps.specs.declared.errors.StepError.{StepError}
 use Rattle.vx_steps.specs.declared.errors.StepError.TheVariants.{Unsupported, BadSegment, BadCode, EvalFault, Memory}
 use Rattle.vx_steps.specs.Computed.{else_kept, kept_in, HasCause, HasWholeCause}
 use Rattle.vx_steps.specs.Given.{Handed}
-use Rattle.vx_steps.specs.Held.{Held, handed_in}
+use Rattle.vx_steps.specs.Held.{Held, IsBy, handed_in}
 use Rattle.vx_steps.specs.KeptData.{Kept}
 use Rattle.vx_steps.specs.Kept.{kept_at}
 use Rattle.vx_steps.specs.Needs.{NoneGiven}
@@ -21,6 +21,7 @@ use Rattle.vx_steps.specs.Visits.{Test, Visits, VisitsIn, VisitsField, VisitsVal
 use Rattle.vx_steps.specs.Wholes.{FailsInside, HasInsideCause, Inside, KeepsValues, WholeFails}
 use Rattle.vx_steps.proofs.ComputedRows.{VisitsUp}
 use Rattle.vx_steps.proofs.Keeping.{got_inside}
+use Rattle.vx_steps.proofs.Premises.{unless_by}
 use Rattle.vx_steps.proofs.Shaping.{IsSharePlan, IsTakePlan}
 use Rattle.vx_steps.proofs.Visiting.{up_shared, up_values}
 use Rattle.vx_steps.proofs.WholeMaking.{holding}
@@ -94,7 +95,8 @@ inside_by h child start bits n start2 bits2 up error fails by are = inside_up by
 
 -- by more values it is by the leaves that the old ones are by
 pub still_inside : (nodes : List Node) (leaves : List Kept) (given : Option (List Kept)) (offset : ℕ) (old new : List Kept) → KeepsValues nodes leaves offset old new → (n start : ℕ) (bits : List Bool) (error : StepError) → FailsInside (holding nodes leaves given offset new) n start bits error → FailsInside (holding nodes leaves given offset old) n start bits error
-still_inside nodes leaves given offset old new keeps n start bits error fails by are = fails by (record { leaves_are = are.leaves_are; made_are = keeps.right by are.leaves_are are.made_are })
+still_inside nodes leaves given offset old new keeps n start bits error fails by are =
+    fails by (unless_by error (IsBy (holding nodes leaves given offset old) by) (IsBy (holding nodes leaves given offset new) by) (λ is. record { leaves_are = is.leaves_are; made_are = keeps.right by is.leaves_are is.made_are }) are)
 
 -- ---- whole values
 

@@ -24,6 +24,7 @@ use Rattle.vx_steps.specs.Wholes.{AddsOnly, IsWholeOf, KeepsValues, UsesGiven, W
 use Rattle.vx_steps.proofs.Apart.{apart_more}
 use Rattle.vx_steps.proofs.ComputedRows.{VisitsUp, cause_up, memory_computed, share_whole, shared_failed, values_failed}
 use Rattle.vx_steps.proofs.Keeping.{kept_new, kept_old}
+use Rattle.vx_steps.proofs.Premises.{is_by_for}
 use Rattle.vx_steps.proofs.Shaping.{IsSharePlan, IsTakePlan, share_plan_at}
 
 -- ---- one more column
@@ -162,7 +163,8 @@ held_by nodes leaves given offset old new keeps are = record { leaves = are.leav
 
 -- what is computed from more values is by the leaves that the old ones are by
 pub computed_by : (nodes : List Node) (leaves : List Kept) (given : Option (List Kept)) (offset : ℕ) (old new : List Kept) → KeepsValues nodes leaves offset old new → (n start : ℕ) (bits : List Bool) (result : Result ColumnData StepError) → Computes (holding nodes leaves given offset new) n start bits result → Computes (holding nodes leaves given offset old) n start bits result
-computed_by nodes leaves given offset old new keeps n start bits result computed by are = computed by (record { leaves_are = are.leaves_are; made_are = keeps.right by are.leaves_are are.made_are })
+computed_by nodes leaves given offset old new keeps n start bits result computed by are =
+    computed by (is_by_for (holding nodes leaves given offset old) (holding nodes leaves given offset new) by (λ is. record { leaves_are = is.leaves_are; made_are = keeps.right by is.leaves_are is.made_are }) result are)
 
 pub ok_computed : (h : Held) (n start : ℕ) (bits : List Bool) (result : Result ColumnData StepError) → Computes h n start bits result → IfOk result (λ column. Computes h n start bits (Ok column))
 ok_computed h n start bits (Ok column) computed = computed

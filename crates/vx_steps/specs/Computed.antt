@@ -1,5 +1,5 @@
 -- The column that is computed for the selected rows of a plan, and why none is.
-use Rattle.std.specs.Prelude.{◌≡◌, ℕ, Bool, List, [], ◌∷◌, Option, Some, None, length, MatchResult, Result, Ok}
+use Rattle.std.specs.Prelude.{◌≡◌, ℕ, Bool, List, [], ◌∷◌, Option, Some, None, length, MatchResult, Result, Ok, Err}
 use Rattle.vx_base.specs.Columns.{ColumnData}
 use Rattle.vx_plan.specs.Plans.{Plan, plan_at}
 use Rattle.vx_plan.specs.Refs.{number_of}
@@ -47,17 +47,29 @@ HasCause leaves handed offset p start bits Memory = Unit {0}
 abbrev pub Outcome : Leaves → Handed → ℕ → Plan → ℕ → List Bool → Result ColumnData StepError → Type 0
 Outcome leaves handed offset p start bits result = MatchResult result (λ column. AreOf (row_value leaves handed offset p) (rows_of start bits) column.values) (λ fault. HasCause leaves handed offset p start bits fault)
 
--- For all leaves by which what is held is so: the values of the selected rows, or a fault that they have.
+-- P, unless the fault is that a list is read: whether one is, the plans alone decide
+abbrev pub UnlessList : StepError → Type 0 → Type 0
+UnlessList (Unsupported list) P = Unit {0}
+UnlessList fault P = P
+
+-- what is held is so by these leaves, unless the fault is that a list is read
+abbrev pub IsByFor : Held → Leaves → Result ColumnData StepError → Type 0
+IsByFor h leaves (Ok column) = IsBy h leaves
+IsByFor h leaves (Err fault) = UnlessList fault (IsBy h leaves)
+
+-- For all leaves by which what is held is so: the values of the selected rows, or a fault that they have. That they read
+-- a list is so for all leaves.
 abbrev pub Computes : Held → ℕ → ℕ → List Bool → Result ColumnData StepError → Type 0
-Computes h n start bits result = (leaves : Leaves) → IsBy h leaves → Outcome leaves (handed_in h) h.offset (plan_at h.nodes n) start bits result
+Computes h n start bits result = (leaves : Leaves) → IsByFor h leaves result → Outcome leaves (handed_in h) h.offset (plan_at h.nodes n) start bits result
 
 -- some row has the visit that the fault names, while whole values are made
 abbrev pub HasWholeCause : Leaves → ℕ → Plan → ℕ → StepError → Type 0
 HasWholeCause leaves offset p rows fault = (bits : List Bool) × (length bits ≡ rows) × HasCause leaves None offset p 0 bits fault
 
--- For all leaves by which what is held is so: the values of all rows, or a fault that they have.
+-- For all leaves by which what is held is so: the values of all rows, or a fault that they have. That they read a list is
+-- so for all leaves.
 abbrev pub ComputesWhole : Held → ℕ → Result ColumnData StepError → Type 0
-ComputesWhole h n result = (leaves : Leaves) → IsBy h leaves →
+ComputesWhole h n result = (leaves : Leaves) → IsByFor h leaves result →
     MatchResult result (λ column. whole_value leaves h.offset (plan_at h.nodes n) ≡ Some column.values) (λ fault. HasWholeCause leaves h.offset (plan_at h.nodes n) (node_at h.nodes n).rows fault)
 
 -- ---- several plans

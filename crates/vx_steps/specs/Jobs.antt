@@ -18,6 +18,7 @@ use Rattle.vx_steps.specs.KeptData.{Kept}
 use Rattle.vx_steps.specs.Kept.{kept_at, AreApart}
 use Rattle.vx_steps.specs.Needs.{Among, AreAmong, AreLeaves}
 use Rattle.vx_steps.specs.ReadTableData.{Wanted}
+use Rattle.vx_steps.specs.Releasing.{ServesAll}
 use Rattle.vx_steps.specs.Splits.{IsInside}
 use Rattle.vx_steps.specs.Turns.{ReadsFor}
 use Rattle.vx_steps.specs.Wants.{AreNeeds, Grows, IsAsked}
@@ -60,6 +61,7 @@ pub record IsGood (nodes : List Node) (job : Job) (progress : Progress) : Type 0
   pub apart_used : AreApart progress.wholes.used
   pub uses : UsesGiven job.given [] progress.wholes.used
   pub actives : (active : ActiveSplit) → Among active progress.active.items → IsActive nodes job progress.leaves progress.reads.wanted active
+  pub serves : ServesAll job progress
 
 -- no split was started, no segment is wanted, and no value that was handed in was used
 pub record IsUnstarted (progress : Progress) : Type 0 where
@@ -159,11 +161,16 @@ pub record Starts (nodes : List Node) (job : Job) (old new : Progress) : Type 0 
 abbrev pub CanStart : Job → Progress → Type 0
 CanStart job progress = (progress.next < length job.splits.items) × ((length progress.active.items ≡ 0) ⊎ (length progress.active.items < job.max_active))
 
+-- no split is left to be started, and one alone is active
+abbrev pub IsLast : Job → Progress → Type 0
+IsLast job progress = (progress.next ≡ length job.splits.items) × (length progress.active.items ≡ 1)
+
 -- An active split was tried: only leaves and whole values were kept.
 pub record OnlyKeeps (nodes : List Node) (job : Job) (old new : Progress) : Type 0 where
   pub next : new.next ≡ old.next
   pub active : new.active.items ≡ old.active.items
-  pub reads : new.reads ≡ old.reads
+  pub wanted : new.reads.wanted ≡ old.reads.wanted
+  pub handed : new.reads.handed ≡ old.reads.handed
   pub told : KeepsTold nodes job old new
   pub leaves : KeepsColumns old.leaves new.leaves
   pub leaves_only : AddsLeaves nodes job (active_of old) old.leaves new.leaves

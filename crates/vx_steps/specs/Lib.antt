@@ -16,6 +16,7 @@ pub mod Offers
 pub mod Places
 pub mod ReadTable
 pub mod ReadTableData
+pub mod Releasing
 pub mod RowFaults
 pub mod Rows
 pub mod ScanData

@@ -1,11 +1,11 @@
 -- What the calls of the table of reads do. Each segment is wanted once, and a read's number is its place.
-use Rattle.std.specs.Prelude.{◌≡◌, ℕ, ◌+◌, ◌^◌, ◌<◌, ◌≤◌, ◌⊎◌, ◌==◌, if◌then◌else◌, List, [], ◌∷◌, ◌++◌, length, Option, Some, None, IsSomeAnd, slice_set}
+use Rattle.std.specs.Prelude.{◌≡◌, ℕ, ◌+◌, ◌^◌, ◌<◌, ◌≤◌, ◌⊎◌, ◌==◌, if◌then◌else◌, true, List, [], ◌∷◌, ◌++◌, length, Option, Some, None, IsSomeAnd, slice_set}
 use Rattle.std.specs.List.{slice_get}
 use Rattle.std.specs.Ordering.{nat_cmp}
 use Rattle.std.specs.BTreeMap.{BTreeMap, get}
 use Rattle.vx_steps.specs.declared.reads.ReadId.{ReadId}
 use Rattle.vx_steps.specs.declared.reads.ReadRequest.{ReadRequest}
-use Rattle.vx_steps.specs.ReadTableData.{Wanted, ReadsData}
+use Rattle.vx_steps.specs.ReadTableData.{Wanted, Stored, ReadsData}
 
 -- the segment stands at the place
 abbrev pub StandsAt : List Wanted → ℕ → ℕ → Type 0
@@ -47,3 +47,28 @@ pub record Delivers (read : ReadId) (bytes : List ℕ) (old new : ReadsData) : T
 abbrev pub bytes_of : List Wanted → ℕ → Option (List ℕ)
 bytes_of [] segment = None
 bytes_of (w ∷ wanted) segment = if w.segment == segment then w.bytes else bytes_of wanted segment
+
+-- ---- what is stored of the segments
+
+-- the bytes of the segment are gone from memory
+abbrev pub IsGone : List Stored → ℕ → Type 0
+IsGone stored segment = (place : ℕ) × (s : Stored) × (slice_get stored place ≡ Some s) × (s.segment ≡ segment) × (s.gone ≡ true)
+
+-- the segment is named by a split's need at the place, or at a later one
+abbrev pub IsNamed : List Stored → ℕ → ℕ → Type 0
+IsNamed stored segment n = (place : ℕ) × (s : Stored) × (slice_get stored place ≡ Some s) × (s.segment ≡ segment) × (n ≤ s.last)
+
+-- What names the segments still does, no bytes were let go, and no need was passed.
+pub record KeepsStored (old new : ReadsData) : Type 0 where
+  pub named : (segment n : ℕ) → IsNamed old.stored segment n → IsNamed new.stored segment n
+  pub gone : (segment : ℕ) → IsGone new.stored segment → IsGone old.stored segment
+  pub passed : new.passed ≡ old.passed
+
+-- So many needs were passed, the last of which names the segment. Only its bytes were let go, and only where no later
+-- need names it.
+pub record Passes (segment count : ℕ) (old new : ReadsData) : Type 0 where
+  pub wanted : new.wanted ≡ old.wanted
+  pub handed : new.handed ≡ old.handed
+  pub passed : new.passed ≡ count
+  pub named : (segment n : ℕ) → IsNamed old.stored segment n → IsNamed new.stored segment n
+  pub gone : (s : ℕ) → IsGone new.stored s → IsGone old.stored s ⊎ ((segment ≡ s) × ((n : ℕ) → IsNamed old.stored s n → n < count))

@@ -12,6 +12,7 @@ use Rattle.vx_steps.specs.declared.errors.StepError.TheVariants.{BadSegment}
 use Rattle.vx_steps.specs.declared.jobs.Job.{Job}
 use Rattle.vx_steps.specs.declared.splits.Split.{Split}
 use Rattle.vx_steps.specs.Agreement.{Agrees}
+use Rattle.vx_steps.specs.Computed.{UnlessList}
 use Rattle.vx_steps.specs.Given.{handed_by}
 use Rattle.vx_steps.specs.Held.{AreTyped}
 use Rattle.vx_steps.specs.Jobs.{IsReadFor}
@@ -47,7 +48,8 @@ abbrev pub IsSplitCause : List Node → Job → Split → Bytes → StepError �
 IsSplitCause nodes job split outside (BadSegment segment) = SplitReads (IsTornIn outside segment) nodes job split
 IsSplitCause nodes job split outside error = IsReadCause (leaves_of outside) (handed_by nodes (Some job.given)) job.offset (plan_at nodes job.plan) split.rows.start split.mask error
 
--- the cause of a refusal is one by what the split's selected rows read, for all that lies outside
+-- the cause of a refusal is one by what the split's selected rows read, for all that lies outside and agrees with what was
+-- delivered; that they read a list, whatever lies outside
 abbrev pub SplitCauseIsRead : Type 0
-SplitCauseIsRead = (nodes : List Node) → IsGoodTable nodes → (job : Job) → job.plan < length nodes → AreTyped nodes job.given → (wanted : List Wanted) (split : Split) (outside : Bytes) (error : StepError) → Agrees wanted outside → HasCauseIn nodes job wanted split outside error →
+SplitCauseIsRead = (nodes : List Node) → IsGoodTable nodes → (job : Job) → job.plan < length nodes → AreTyped nodes job.given → (wanted : List Wanted) (split : Split) (outside : Bytes) (error : StepError) → UnlessList error (Agrees wanted outside) → HasCauseIn nodes job wanted split outside error →
     IsSplitCause nodes job split outside error

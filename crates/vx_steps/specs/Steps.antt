@@ -15,6 +15,7 @@ use Rattle.vx_steps.specs.declared.progress.Turn.TheVariants.{Read, Output, Wait
 use Rattle.vx_steps.specs.declared.reads.ReadRequest.{ReadRequest}
 use Rattle.vx_steps.specs.declared.splits.Split.{Split}
 use Rattle.vx_steps.specs.declared.wholes.Wholes.{Wholes}
+use Rattle.vx_steps.specs.Computed.{UnlessList}
 use Rattle.vx_steps.specs.Delivered.{IsTornNeed}
 use Rattle.vx_steps.specs.Jobs.{active_of, left_of, CanStart, IsTold}
 use Rattle.vx_steps.specs.Kept.{kept_at}
@@ -37,9 +38,10 @@ abbrev pub HasCauseIn : List Node → Job → List Wanted → Split → Bytes �
 HasCauseIn nodes job wanted split outside (BadSegment segment) = ReadsTorn nodes job wanted split segment
 HasCauseIn nodes job wanted split outside error = HasRowCause nodes job split outside error
 
--- The refusal has its cause in what the split's selected rows visit, by whatever lies outside of which the scan is.
+-- The refusal has its cause in what the split's selected rows visit, by whatever lies outside of which the scan is; that
+-- a list is read, whatever lies outside.
 abbrev pub HasSplitCause : List Node → Job → Progress → List Wanted → Split → StepError → Type 0
-HasSplitCause nodes job old wanted split error = (outside : Bytes) → IsTold nodes job old outside → HasCauseIn nodes job wanted split outside error
+HasSplitCause nodes job old wanted split error = (outside : Bytes) → UnlessList error (IsTold nodes job old outside) → HasCauseIn nodes job wanted split outside error
 
 -- what the refusal leaves of whole values
 abbrev pub LeavesSplit : List Node → Job → Progress → Wholes → Split → StepError → Type 0

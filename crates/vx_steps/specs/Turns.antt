@@ -12,7 +12,7 @@ use Rattle.vx_steps.specs.declared.jobs.Job.{Job}
 use Rattle.vx_steps.specs.declared.leaf_reads.LeafRead.{LeafRead}
 use Rattle.vx_steps.specs.declared.splits.Split.{Split}
 use Rattle.vx_steps.specs.declared.wholes.Wholes.{Wholes}
-use Rattle.vx_steps.specs.Computed.{HasCause}
+use Rattle.vx_steps.specs.Computed.{HasCause, UnlessList}
 use Rattle.vx_steps.specs.Delivered.{IsOf, SomeTornCause}
 use Rattle.vx_steps.specs.Given.{handed_by, row_value}
 use Rattle.vx_steps.specs.Kept.{IsKept}
@@ -48,14 +48,15 @@ abbrev pub HasNeedCause : List Node → Job → Split → List LeafRead → List
 HasNeedCause nodes job split needs wanted outside (BadSegment segment) = SomeTornCause nodes wanted needs (BadSegment segment)
 HasNeedCause nodes job split needs wanted outside error = HasRowCause nodes job split outside error
 
--- The refusal has its cause, by whatever lies outside of which the scan is.
+-- The refusal has its cause, by whatever lies outside of which the scan is; that a list is read, whatever lies outside.
 abbrev pub IsRefusal : List Node → Job → Split → List LeafRead → List Wanted → List Kept → List Kept → StepError → Type 0
-IsRefusal nodes job split needs wanted leaves made error = (outside : Bytes) → IsOf nodes job.offset wanted leaves made outside → HasNeedCause nodes job split needs wanted outside error
+IsRefusal nodes job split needs wanted leaves made error = (outside : Bytes) → UnlessList error (IsOf nodes job.offset wanted leaves made outside) → HasNeedCause nodes job split needs wanted outside error
 
--- The fault is one of whole values that the split's selected rows ask for, by whatever lies outside of which the scan is.
+-- The fault is one of whole values that the split's selected rows ask for, by whatever lies outside of which the scan is;
+-- that a list is read there, whatever lies outside.
 abbrev pub FailsInWholes : List Node → Job → Split → List Wanted → List Kept → List Kept → StepError → Type 0
 FailsInWholes nodes job split wanted leaves made error =
-    (outside : Bytes) → IsOf nodes job.offset wanted leaves made outside → HasInsideCause (leaves_of outside) (handed_by nodes (Some job.given)) job.offset (plan_at nodes job.plan) split.rows.start split.mask error
+    (outside : Bytes) → UnlessList error (IsOf nodes job.offset wanted leaves made outside) → HasInsideCause (leaves_of outside) (handed_by nodes (Some job.given)) job.offset (plan_at nodes job.plan) split.rows.start split.mask error
 
 -- Where a refusal names a fault of rows, the whole values that the split's selected rows ask for were made or used, or
 -- the fault is one of theirs.

@@ -11,7 +11,7 @@ use Rattle.vx_steps.specs.declared.errors.StepError.{StepError}
 use Rattle.vx_steps.specs.declared.errors.StepError.TheVariants.{Unsupported, BadSegment, BadCode, EvalFault, Memory}
 use Rattle.vx_steps.specs.declared.wholes.Grounds.{Grounds}
 use Rattle.vx_steps.specs.declared.wholes.Wholes.{Wholes}
-use Rattle.vx_steps.specs.Computed.{whole_in, ComputesWhole}
+use Rattle.vx_steps.specs.Computed.{whole_in, ComputesWhole, UnlessList}
 use Rattle.vx_steps.specs.Given.{Handed, handed_by}
 use Rattle.vx_steps.specs.Held.{Held, handed_in, AreMade, AreTyped, HaveLeaves, IsBy}
 use Rattle.vx_steps.specs.KeptData.{Kept}
@@ -88,6 +88,7 @@ HasInsideCause leaves handed offset p start bits (BadCode take at) = SomeVisit (
 HasInsideCause leaves handed offset p start bits (EvalFault at) = SomeVisit (Inside (HasEvalFault leaves offset at)) handed p start bits
 HasInsideCause leaves handed offset p start bits Memory = Unit {0}
 
--- For all leaves by which what is held is so: the fault is one of whole values that the selected rows ask for.
+-- For all leaves by which what is held is so: the fault is one of whole values that the selected rows ask for. That a list
+-- is read there is so for all leaves.
 abbrev pub FailsInside : Held → ℕ → ℕ → List Bool → StepError → Type 0
-FailsInside h n start bits error = (leaves : Leaves) → IsBy h leaves → HasInsideCause leaves (handed_in h) h.offset (plan_at h.nodes n) start bits error
+FailsInside h n start bits error = (leaves : Leaves) → UnlessList error (IsBy h leaves) → HasInsideCause leaves (handed_in h) h.offset (plan_at h.nodes n) start bits error

@@ -72,6 +72,8 @@ impl Progress {
         ensures active { result.active.items ≡ [] }
         ensures wanted { result.reads.wanted ≡ [] }
         ensures handed { result.reads.handed ≡ 0 }
+        ensures stored { result.reads.stored ≡ [] }
+        ensures passed { result.reads.passed ≡ 0 }
         ensures leaves { result.leaves ≡ [] }
         ensures made { result.wholes.made ≡ [] }
         ensures used { result.wholes.used ≡ [] }

@@ -8,7 +8,8 @@ ghost use Rattle.vx_steps.specs.declared.leaf_reads.LeafRead.{LeafRead};
 ghost use Rattle.vx_steps.specs.Delivered.{KeepsLeaves, LacksNeed, HasTornCause, SomeTornCause};
 ghost use Rattle.vx_steps.specs.Kept.{kept_at, IsKept};
 ghost use Rattle.vx_steps.specs.Needs.{Among, AreLeaves};
-ghost use Rattle.vx_steps.specs.ReadTable.{bytes_of};
+ghost use Rattle.vx_steps.specs.ReadTable.{IsGone, bytes_of};
+ghost use Rattle.vx_steps.specs.Releasing.{AreHeld, IsServed};
 ghost use Rattle.vx_steps.specs.Wants.{IsNeededLeaf};
 ghost use Rattle.vx_steps.specs.Wholes.{AddsOnly};
 
@@ -31,6 +32,7 @@ fn decode_need(
 ) -> Result<bool, StepError>
     requires known { need.leaf < length table.now }
     requires leaf { HasShape table.now need.leaf (Leaf need.segment) }
+    requires held { IsGone reads.now.stored need.segment → IsKept leaves.old need.leaf }
     ensures keeps { KeepsLeaves table.now reads.now.wanted leaves.old leaves.new }
     ensures only { AddsOnly (λ n. need.leaf ≡ n) leaves.old leaves.new }
     ensures there { IfOk result (λ there. MatchBool there (IsKept leaves.new need.leaf) ((kept_at leaves.old need.leaf ≡ None) × (bytes_of reads.now.wanted need.segment ≡ None))) }
@@ -65,7 +67,8 @@ fn decode_from(
     reads: &ReadTable,
     leaves: &mut KeptColumns,
 ) -> Result<usize, StepError>
-    requires { AreLeaves table.now needs.now }
+    requires known { AreLeaves table.now needs.now }
+    requires held { AreHeld leaves.old reads.now.stored needs.now }
     ensures keeps { KeepsLeaves table.now reads.now.wanted leaves.old leaves.new }
     ensures only { AddsOnly (IsNeededLeaf needs.now) leaves.old leaves.new }
     ensures missing { IfOk result (λ place. place < length needs.now → LacksNeed reads.now.wanted leaves.old needs.now) }
@@ -89,7 +92,8 @@ fn decode_needs(
     reads: &ReadTable,
     leaves: &mut KeptColumns,
 ) -> Result<bool, StepError>
-    requires { AreLeaves table.now needs.now }
+    requires known { AreLeaves table.now needs.now }
+    requires held { AreHeld leaves.old reads.now.stored needs.now }
     ensures keeps { KeepsLeaves table.now reads.now.wanted leaves.old leaves.new }
     ensures only { AddsOnly (IsNeededLeaf needs.now) leaves.old leaves.new }
     ensures all { IfOk result (λ there. there ≡ true → (need : LeafRead) → Among need needs.now → IsKept leaves.new need.leaf) }
@@ -99,6 +103,37 @@ fn decode_needs(
     for need in needs {
         match decode_need(alloc, table, *need, reads, leaves) {
             Ok(true) => {}
+            Ok(false) => return Ok(false),
+            Err(error) => return Err(error),
+        }
+    }
+    Ok(true)
+}
+
+/// Decodes the needed leaves of the last split while no other is active, from the first that was not passed on, and says
+/// whether all their columns are there. The bytes of a segment are let go once the last need that names it is passed.
+fn decode_last(
+    alloc: Global,
+    table: &PlanTable,
+    needs: &[LeafRead],
+    reads: &mut ReadTable,
+    leaves: &mut KeptColumns,
+) -> Result<bool, StepError>
+    requires known { AreLeaves table.now needs.now }
+    requires served { IsServed leaves.old reads.old needs.now }
+    ensures served { IsServed leaves.new reads.new needs.now }
+    ensures wanted { reads.new.wanted ≡ reads.old.wanted }
+    ensures handed { reads.new.handed ≡ reads.old.handed }
+    ensures keeps { KeepsLeaves table.now reads.old.wanted leaves.old leaves.new }
+    ensures only { AddsOnly (IsNeededLeaf needs.now) leaves.old leaves.new }
+    ensures all { IfOk result (λ there. there ≡ true → (need : LeafRead) → Among need needs.now → IsKept leaves.new need.leaf) }
+    ensures none { IfOk result (λ there. there ≡ false → LacksNeed reads.old.wanted leaves.old needs.now) }
+    ensures torn { IfErr result (SomeTornCause table.now reads.old.wanted needs.now) }
+{
+    for place in reads.passed()..needs.len() {
+        let need = needs[place];
+        match decode_need(alloc, table, need, reads, leaves) {
+            Ok(true) => reads.pass(need.segment, place + 1),
             Ok(false) => return Ok(false),
             Err(error) => return Err(error),
         }
@@ -131,22 +166,32 @@ impl NeededLeaves {
     }
 
     /// Decodes the leaves, and says whether all their columns are there. A try goes on where the last one stopped, and
-    /// looks all of them up once that came to the end.
+    /// looks all of them up once that came to the end. In the last split, while no other is active, the bytes of a segment
+    /// are let go once its leaves are decoded.
     pub(crate) fn decode(
         &mut self,
         alloc: Global,
         table: &PlanTable,
-        reads: &ReadTable,
+        last: bool,
+        reads: &mut ReadTable,
         leaves: &mut KeptColumns,
     ) -> Result<bool, StepError>
-        requires { AreLeaves table.now self.old }
+        requires known { AreLeaves table.now self.old }
+        requires served { IsServed leaves.old reads.old self.old }
         ensures same { self.new ≡ self.old }
-        ensures keeps { KeepsLeaves table.now reads.now.wanted leaves.old leaves.new }
+        ensures served { IsServed leaves.new reads.new self.old }
+        ensures wanted { reads.new.wanted ≡ reads.old.wanted }
+        ensures handed { reads.new.handed ≡ reads.old.handed }
+        ensures lets { last ≡ false → reads.new ≡ reads.old }
+        ensures keeps { KeepsLeaves table.now reads.old.wanted leaves.old leaves.new }
         ensures only { AddsOnly (IsNeededLeaf self.old) leaves.old leaves.new }
         ensures all { IfOk result (λ there. there ≡ true → (need : LeafRead) → Among need self.old → IsKept leaves.new need.leaf) }
-        ensures none { IfOk result (λ there. there ≡ false → LacksNeed reads.now.wanted leaves.old self.old) }
-        ensures torn { IfErr result (SomeTornCause table.now reads.now.wanted self.old) }
+        ensures none { IfOk result (λ there. there ≡ false → LacksNeed reads.old.wanted leaves.old self.old) }
+        ensures torn { IfErr result (SomeTornCause table.now reads.old.wanted self.old) }
     {
+        if last {
+            return decode_last(alloc, table, &self.reads, reads, leaves);
+        }
         let next = decode_from(alloc, table, &self.reads, self.next, reads, leaves)?;
         if next < self.reads.len() {
             self.next = next;

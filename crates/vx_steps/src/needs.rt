@@ -6,6 +6,8 @@ ghost use Rattle.vx_steps.specs.declared.leaf_reads.LeafRead.{LeafRead};
 ghost use Rattle.vx_steps.specs.Agreement.{KeepsAgreeing};
 ghost use Rattle.vx_steps.specs.Kept.{kept_at};
 ghost use Rattle.vx_steps.specs.Needs.{Among, AreLeaves};
+ghost use Rattle.vx_steps.specs.ReadTable.{IsNamed, KeepsStored};
+ghost use Rattle.vx_steps.specs.Releasing.{AreNamed};
 ghost use Rattle.vx_steps.specs.Wants.{AreNeeds, Grows, IsAsked, IsNeeded, ReadsLeaf};
 
 use crate::kept::KeptColumns;
@@ -34,17 +36,24 @@ pub(crate) fn needs_of(
     Ok(needs)
 }
 
-/// Wants the segment of a needed leaf, unless a column was handed in for it.
-fn want_need(need: LeafRead, handed: &KeptColumns, reads: &mut ReadTable) -> Result<(), AllocError>
+/// Wants the segment of a needed leaf, which stands at the place among the needs, unless a column was handed in for it.
+fn want_need(
+    need: LeafRead,
+    place: usize,
+    handed: &KeptColumns,
+    reads: &mut ReadTable,
+) -> Result<(), AllocError>
     ensures all { OnOk result (kept_at handed.now need.leaf ≡ None → IsAsked reads.new.wanted need.segment) }
     ensures only { (segment : ℕ) → IsAsked reads.new.wanted segment → IsAsked reads.old.wanted segment ⊎ ((kept_at handed.now need.leaf ≡ None) × (need.segment ≡ segment)) }
     ensures grows { Grows reads.old.wanted reads.new.wanted }
     ensures agrees { KeepsAgreeing reads.old.wanted reads.new.wanted }
     ensures handed { reads.new.handed ≡ reads.old.handed }
+    ensures named { OnOk result (kept_at handed.now need.leaf ≡ None → IsNamed reads.new.stored need.segment place) }
+    ensures stored { KeepsStored reads.old reads.new }
 {
     match handed.find(need.leaf) {
         Some(_) => Ok(()),
-        None => reads.want(need.segment),
+        None => reads.want(need.segment, place),
     }
 }
 
@@ -59,9 +68,11 @@ pub(crate) fn want_needs(
     ensures grows { Grows reads.old.wanted reads.new.wanted }
     ensures agrees { KeepsAgreeing reads.old.wanted reads.new.wanted }
     ensures handed { reads.new.handed ≡ reads.old.handed }
+    ensures named { OnOk result (AreNamed handed.now needs.now reads.new.stored) }
+    ensures stored { KeepsStored reads.old reads.new }
 {
-    for need in needs {
-        want_need(*need, handed, reads)?;
+    for place in 0..needs.len() {
+        want_need(needs[place], place, handed, reads)?;
     }
     Ok(())
 }

@@ -1,8 +1,8 @@
 //! The steps of a scan over what it is to do and how far it is.
 
-ghost use Rattle.std.specs.Prelude.{◌≡◌, ◌+◌, ◌<◌, ◌≤◌, ℕ, [], length, Some, None, IfOk, IfErr, IfSome, OnOk};
+ghost use Rattle.std.specs.Prelude.{◌≡◌, ◌+◌, ◌<◌, ◌≤◌, ℕ, [], length, Some, None, true, IfOk, IfErr, IfSome, OnOk};
 ghost use Rattle.std.specs.Bool.{MatchBool};
-ghost use Rattle.vx_steps.specs.Jobs.{active_of, AddsLeaves, IsGood, KeepsBound, KeepsColumns, KeepsTold, KeepsWholesFor, OnlyKeeps, Starts, CanStart, WantsFor};
+ghost use Rattle.vx_steps.specs.Jobs.{active_of, AddsLeaves, IsGood, IsLast, KeepsBound, KeepsColumns, KeepsTold, KeepsWholesFor, OnlyKeeps, Starts, CanStart, WantsFor};
 ghost use Rattle.vx_steps.specs.Needs.{AreAmong};
 ghost use Rattle.vx_steps.specs.Steps.{active_in, tried_in, GivesOutput, HoldsAll, IsActiveOutput, IsHeldAt, IsStepRefusal, TakesTurn};
 ghost use Rattle.vx_steps.specs.Wants.{Grows};
@@ -99,6 +99,13 @@ fn start_splits(
     Ok(())
 }
 
+/// Whether no split is left to be started, and one alone is active.
+fn is_last(job: &Job, progress: &Progress) -> bool
+    ensures { result ≡ true → IsLast job.now progress.now }
+{
+    progress.next == job.splits.len() && progress.active.len() == 1
+}
+
 /// Finishes the active split at the place: its column, once all leaves that it needs came, and None before.
 fn finish_at(
     alloc: Global,
@@ -115,14 +122,16 @@ fn finish_at(
     ensures held { IfOk result (λ output. output ≡ None → IsHeldAt progress.old place) }
     ensures cause { IfErr result (IsStepRefusal table.now job.now progress.old progress.new) }
 {
+    let last = is_last(job, progress);
     let split = &job.splits[progress.active[place].split];
     finish_split(
         alloc,
         table,
         job,
         split,
+        last,
         &mut progress.active[place].needs,
-        &progress.reads,
+        &mut progress.reads,
         &mut progress.leaves,
         &mut progress.wholes,
     )
@@ -139,7 +148,8 @@ fn finish_some(
     ensures good { IsGood table.now job.now progress.new }
     ensures told { KeepsTold table.now job.now progress.old progress.new }
     ensures wholes { KeepsWholesFor table.now job.now (active_of progress.old) progress.old.wholes progress.new.wholes }
-    ensures reads { progress.new.reads ≡ progress.old.reads }
+    ensures wanted { progress.new.reads.wanted ≡ progress.old.reads.wanted }
+    ensures handed { progress.new.reads.handed ≡ progress.old.reads.handed }
     ensures leaves { KeepsColumns progress.old.leaves progress.new.leaves }
     ensures leaves_only { AddsLeaves table.now job.now (active_of progress.old) progress.old.leaves progress.new.leaves }
     ensures bounded { length progress.new.active.items ≤ length progress.old.active.items }

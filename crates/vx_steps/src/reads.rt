@@ -1,13 +1,15 @@
 //! The reads of a scan: which segments it wants, which of them it has handed out, and what came.
 
-ghost use Rattle.std.specs.Prelude.{◌≡◌, ◌+◌, [], ◌∷◌, ◌++◌, length, Some, None, OnOk, OnErr, MatchOption, MatchResult, option_map, slice_set};
+ghost use Rattle.std.specs.Prelude.{◌≡◌, ◌⊎◌, [], length, Some, None, OnOk, OnErr, MatchOption};
 ghost use Rattle.std.specs.Bool.{MatchBool};
-ghost use Rattle.std.specs.Option.{option_copied};
-ghost use Rattle.vx_steps.specs.ReadTable.{IsWanted, HandsOut, IsOutstanding, Delivers, bytes_of};
+ghost use Rattle.std.specs.Option.{is_some};
+ghost use Rattle.vx_steps.specs.ReadTable.{IsWanted, HandsOut, IsGone, IsNamed, IsOutstanding, Delivers, KeepsStored, Passes, bytes_of};
+ghost use Rattle.vx_steps.specs.ReadTableData.{bytes_in};
 
 use std::alloc::{AllocError, Global};
 use std::collections::BTreeMap;
 use std::marker::Model;
+use std::snapshot::Snapshot;
 
 /// The number of a read of a scan.
 #[derive(Clone, Copy, Debug, PartialEq, Eq, Hash)]
@@ -20,20 +22,57 @@ pub struct ReadRequest {
     pub segment_id: u32,
 }
 
-/// A segment that is wanted, and its bytes, once they came.
+/// The bytes of a wanted segment: they did not come, they came, or they came and were let go, so that they are gone from
+/// memory, and only clauses remember them.
+#[derive(Drop)]
+enum SegmentBytes {
+    NotYet,
+    Came(Vec<u8>),
+    LetGo(Snapshot<Vec<u8>>),
+}
+
+impl SegmentBytes {
+    /// Whether the bytes came.
+    fn came(&self) -> bool
+        ensures { result ≡ is_some (bytes_in self.now) }
+    {
+        match self {
+            SegmentBytes::NotYet => false,
+            SegmentBytes::Came(_) => true,
+            SegmentBytes::LetGo(_) => true,
+        }
+    }
+
+    /// Lets the bytes go, if they came.
+    fn let_go(&mut self)
+        ensures { bytes_in self.new ≡ bytes_in self.old }
+    {
+        let seen = match self {
+            SegmentBytes::NotYet => return,
+            SegmentBytes::Came(bytes) => Snapshot::of(bytes),
+            SegmentBytes::LetGo(_) => return,
+        };
+        *self = SegmentBytes::LetGo(seen);
+    }
+}
+
+/// A segment that is wanted, its bytes, and the last place at which the needs of a split name it.
 #[derive(Drop)]
 pub(crate) struct WantedSegment {
     segment: u32,
-    bytes: Option<Vec<u8>>,
+    bytes: SegmentBytes,
+    last: usize,
 }
 
 /// The segments that a scan wants, each once, in the order in which they are handed out. A read's number
-/// is its segment's place.
+/// is its segment's place. Once the last split is the only active one, the bytes of a segment are let go when its last
+/// need is passed: `passed` counts the needs whose columns are there.
 #[derive(Drop)]
 pub(crate) struct ReadTable {
     wanted: Vec<WantedSegment>,
     handed: usize,
     places: BTreeMap<u32, usize>,
+    passed: usize,
 }
 
 impl Model for ReadTable {
@@ -42,10 +81,10 @@ impl Model for ReadTable {
     ghost Value = { ReadsData };
 
     ghost use Rattle.std.specs.Prelude.{map};
-    ghost use Rattle.vx_steps.specs.ReadTableData.{wanted_data};
+    ghost use Rattle.vx_steps.specs.ReadTableData.{stored_data, wanted_data};
     ghost use Rattle.vx_steps.specs.ReadTable.{AreReads};
 
-    ghost view = { λ a. record { wanted = map wanted_data a.wanted.items; handed = a.handed } };
+    ghost view = { λ a. record { wanted = map wanted_data a.wanted.items; handed = a.handed; stored = map stored_data a.wanted.items; passed = a.passed } };
 
     ghost invariant = { λ a. AreReads a.places (map wanted_data a.wanted.items) a.handed };
 }
@@ -55,27 +94,37 @@ impl ReadTable {
     pub(crate) fn new(alloc: Global) -> ReadTable
         ensures wanted { result.wanted ≡ [] }
         ensures handed { result.handed ≡ 0 }
+        ensures stored { result.stored ≡ [] }
+        ensures passed { result.passed ≡ 0 }
     {
         ReadTable {
             wanted: Vec::new(alloc),
             handed: 0,
             places: BTreeMap::new(alloc),
+            passed: 0,
         }
     }
 
-    /// Wants a segment, unless it is wanted already.
-    pub(crate) fn want(&mut self, segment: u32) -> Result<(), AllocError>
+    /// Wants a segment, unless it is wanted already, for a need at the place among a split's.
+    pub(crate) fn want(&mut self, segment: u32, need: usize) -> Result<(), AllocError>
         ensures wanted { OnOk result (IsWanted segment self.old.wanted self.new.wanted) }
         ensures handed { self.new.handed ≡ self.old.handed }
         ensures as_before { OnErr result (self.new ≡ self.old) }
+        ensures named { OnOk result (IsNamed self.new.stored segment need) }
+        ensures stored { KeepsStored self.old self.new }
     {
-        if self.places.get(&segment).is_some() {
+        if let Some(found) = self.places.get(&segment) {
+            let place = *found;
+            if self.wanted[place].last < need {
+                self.wanted[place].last = need;
+            }
             return Ok(());
         }
         let place = self.wanted.len();
         self.wanted.push(WantedSegment {
             segment,
-            bytes: None,
+            bytes: SegmentBytes::NotYet,
+            last: need,
         })?;
         if self.places.insert(segment, place).is_err() {
             self.wanted.pop();
@@ -86,7 +135,8 @@ impl ReadTable {
 
     /// The next read that was not handed out yet, which is outstanding from now on.
     pub(crate) fn hand_out(&mut self) -> Option<ReadRequest>
-        ensures { MatchOption result ((self.old.handed ≡ length self.old.wanted) × (self.new ≡ self.old)) (HandsOut self.old self.new) }
+        ensures turn { MatchOption result ((self.old.handed ≡ length self.old.wanted) × (self.new ≡ self.old)) (HandsOut self.old self.new) }
+        ensures stored { KeepsStored self.old self.new }
     {
         let place = self.handed;
         if place == self.wanted.len() {
@@ -103,26 +153,49 @@ impl ReadTable {
     /// Takes the bytes of an outstanding read, and says whether the read was outstanding. It takes no
     /// memory.
     pub(crate) fn deliver(&mut self, read: ReadId, bytes: Vec<u8>) -> bool
-        ensures { MatchBool result (Delivers read bytes.items self.old self.new) ((IsOutstanding self.old read → ⊥) × (self.new ≡ self.old)) }
+        ensures turn { MatchBool result (Delivers read bytes.items self.old self.new) ((IsOutstanding self.old read → ⊥) × (self.new ≡ self.old)) }
+        ensures stored { KeepsStored self.old self.new }
     {
         let place = read.0 as usize;
-        if place >= self.handed || self.wanted[place].bytes.is_some() {
+        if place >= self.handed || self.wanted[place].bytes.came() {
             return false;
         }
-        self.wanted[place].bytes = Some(bytes);
+        self.wanted[place].bytes = SegmentBytes::Came(bytes);
         true
     }
 
-    /// The bytes of a segment, where they came.
+    /// The bytes of a segment, where they came and were not let go.
     pub(crate) fn bytes(&self, segment: u32) -> Option<&[u8]>
-        ensures { option_copied result ≡ bytes_of self.now.wanted segment }
+        ensures { MatchOption result ((bytes_of self.now.wanted segment ≡ None) ⊎ IsGone self.now.stored segment) (λ bytes. bytes_of self.now.wanted segment ≡ Some bytes.now) }
     {
         match self.places.get(&segment) {
             Some(place) => match &self.wanted[*place].bytes {
-                Some(bytes) => Some(bytes.as_slice()),
-                None => None,
+                SegmentBytes::NotYet => None,
+                SegmentBytes::Came(bytes) => Some(bytes.as_slice()),
+                SegmentBytes::LetGo(_) => None,
             },
             None => None,
+        }
+    }
+
+    /// How many needs of the last split were passed.
+    pub(crate) fn passed(&self) -> usize
+        ensures { result ≡ self.now.passed }
+    {
+        self.passed
+    }
+
+    /// Passes needs, up to so many, the last of which names the segment: its bytes are let go, unless a later need names
+    /// it.
+    pub(crate) fn pass(&mut self, segment: u32, count: usize)
+        ensures { Passes segment count self.old self.new }
+    {
+        self.passed = count;
+        if let Some(found) = self.places.get(&segment) {
+            let place = *found;
+            if self.wanted[place].last < count {
+                self.wanted[place].bytes.let_go();
+            }
         }
     }
 }

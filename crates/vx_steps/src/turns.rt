@@ -1,6 +1,6 @@
 //! What a split passes through: it is started, and it is finished once all that it needs was delivered.
 
-ghost use Rattle.std.specs.Prelude.{◌≡◌, ◌+◌, ◌<◌, ◌≤◌, ℕ, ◌⊎◌, length, None, IfOk, IfErr, IfSome};
+ghost use Rattle.std.specs.Prelude.{◌≡◌, ◌+◌, ◌<◌, ◌≤◌, ℕ, ◌⊎◌, length, None, false, IfOk, IfErr, IfSome};
 ghost use Rattle.vx_plan.specs.Rules.{node_at};
 ghost use Rattle.vx_steps.specs.declared.leaf_reads.LeafRead.{LeafRead};
 ghost use Rattle.vx_steps.specs.Agreement.{KeepsAgreeing};
@@ -8,6 +8,8 @@ ghost use Rattle.vx_steps.specs.Delivered.{KeepsLeaves, LacksNeed};
 ghost use Rattle.vx_steps.specs.Held.{AreTyped, FitsOffset};
 ghost use Rattle.vx_steps.specs.Kept.{kept_at};
 ghost use Rattle.vx_steps.specs.Needs.{Among, AreLeaves};
+ghost use Rattle.vx_steps.specs.ReadTable.{KeepsStored};
+ghost use Rattle.vx_steps.specs.Releasing.{AreNamed, IsServed};
 ghost use Rattle.vx_steps.specs.Turns.{AreLeavesKept, IsOutput, IsRefusal, LeavesWholes, ReadsFor};
 ghost use Rattle.vx_steps.specs.Wants.{AreNeeds, Grows, IsAsked, IsNeeded, IsNeededLeaf};
 ghost use Rattle.vx_steps.specs.Wholes.{AddsAsked, AddsOnly, KeepsValues, UsesGiven};
@@ -44,6 +46,8 @@ pub(crate) fn start_split(
     ensures grows { Grows reads.old.wanted reads.new.wanted }
     ensures agrees { KeepsAgreeing reads.old.wanted reads.new.wanted }
     ensures handed { reads.new.handed ≡ reads.old.handed }
+    ensures named { IfOk result (λ needs. AreNamed handed.now needs.items reads.new.stored) }
+    ensures stored { KeepsStored reads.old reads.new }
 {
     let needs = needs_of(
         alloc,
@@ -57,14 +61,16 @@ pub(crate) fn start_split(
     Ok(needs)
 }
 
-/// Finishes a split: its column, once all leaves that it needs were delivered, and None before.
+/// Finishes a split: its column, once all leaves that it needs were delivered, and None before. Bytes are let go only in
+/// the last split, while no other is active.
 pub(crate) fn finish_split(
     alloc: Global,
     table: &PlanTable,
     job: &Job,
     split: &Split,
+    last: bool,
     needs: &mut NeededLeaves,
-    reads: &ReadTable,
+    reads: &mut ReadTable,
     leaves: &mut KeptColumns,
     wholes: &mut Wholes,
 ) -> Result<Option<Column>, StepError>
@@ -76,19 +82,24 @@ pub(crate) fn finish_split(
     requires typed_leaves { AreTyped table.now leaves.old }
     requires typed_given { AreTyped table.now job.now.given }
     requires typed_made { AreTyped table.now wholes.old.made }
+    requires served { IsServed leaves.old reads.old needs.old }
     ensures same { needs.new ≡ needs.old }
-    ensures keeps { KeepsLeaves table.now reads.now.wanted leaves.old leaves.new }
+    ensures served { IsServed leaves.new reads.new needs.old }
+    ensures wanted { reads.new.wanted ≡ reads.old.wanted }
+    ensures handed { reads.new.handed ≡ reads.old.handed }
+    ensures lets { last ≡ false → reads.new ≡ reads.old }
+    ensures keeps { KeepsLeaves table.now reads.old.wanted leaves.old leaves.new }
     ensures only { AddsOnly (IsNeededLeaf needs.old) leaves.old leaves.new }
     ensures made { KeepsValues table.now leaves.new job.now.offset wholes.old.made wholes.new.made }
     ensures used { UsesGiven job.now.given wholes.old.used wholes.new.used }
     ensures asked { AddsAsked table.now job.now.given job.now.plan split.now.rows.start split.now.mask wholes.old wholes.new }
-    ensures output { IfOk result (λ output. IfSome output (IsOutput table.now job.now split.now reads.now.wanted leaves.old wholes.old.made wholes.new)) }
+    ensures output { IfOk result (λ output. IfSome output (IsOutput table.now job.now split.now reads.old.wanted leaves.old wholes.old.made wholes.new)) }
     ensures leaves { IfOk result (λ output. IfSome output (λ _. AreLeavesKept table.now job.now split.now leaves.new)) }
-    ensures waiting { IfOk result (λ output. output ≡ None → LacksNeed reads.now.wanted leaves.old needs.old) }
-    ensures cause { IfErr result (IsRefusal table.now job.now split.now needs.old reads.now.wanted leaves.old wholes.old.made) }
-    ensures left { IfErr result (LeavesWholes table.now job.now split.now reads.now.wanted leaves.old wholes.old.made wholes.new) }
+    ensures waiting { IfOk result (λ output. output ≡ None → LacksNeed reads.old.wanted leaves.old needs.old) }
+    ensures cause { IfErr result (IsRefusal table.now job.now split.now needs.old reads.old.wanted leaves.old wholes.old.made) }
+    ensures left { IfErr result (LeavesWholes table.now job.now split.now reads.old.wanted leaves.old wholes.old.made wholes.new) }
 {
-    match needs.decode(alloc, table, reads, leaves) {
+    match needs.decode(alloc, table, last, reads, leaves) {
         Ok(true) => {}
         Ok(false) => return Ok(None),
         Err(error) => return Err(error),

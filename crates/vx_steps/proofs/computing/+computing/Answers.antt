@@ -27,11 +27,12 @@ use Rattle.vx_plan.specs.Rules.{node_at}
 use Rattle.vx_steps.specs.Held.{alone, held, handed_in, IsBy}
 use Rattle.vx_steps.proofs.ChunkRows.{chunk_dtype, concat_plan_at}
 use Rattle.vx_steps.proofs.ComputedChunks.{chunk_failed, chunk_values}
-use Rattle.vx_steps.proofs.ComputedRows.{codes_failed, eval_computed, eval_failed, leaf_computed, length_all, none_computed, numbers_computed, same_computed, share_computed, share_made, share_there, shared_failed, take_computed, values_failed, whole_computed, whole_made, whole_memory, whole_there, whole_typed, zoned_computed}
+use Rattle.vx_steps.proofs.ComputedRows.{codes_failed, eval_computed, eval_failed, leaf_computed, none_computed, numbers_computed, same_computed, share_computed, share_made, share_there, shared_failed, take_computed, values_failed, whole_computed, whole_made, whole_memory, whole_there, whole_typed, zoned_computed}
 use Rattle.vx_steps.proofs.MaskRanges.{all_pushed, count_more, length_between}
 use Rattle.vx_steps.proofs.Readying.{nothing_given, ready_chunk, ready_field, ready_leaf, ready_same, ready_shared, ready_values, ready_whole, ready_zoned}
 use Rattle.vx_steps.proofs.SelectedRows.{count_none, picked_count, rows_count}
 use Rattle.vx_steps.proofs.Shaping.{eval_at, leaf_plan, over_plan, pack_plan_at, numbers_law, numbers_type, same_law, same_plan, share_plan_at, take_plan_at, zoned_law, zoned_like_plan}
+use Rattle.vx_steps.proofs.WholeRows.{length_all}
 use Rattle.vx_steps.proofs.computing.+computing.Goals as goal
 
 looked_dtype : (codes values out c v : DataType) → out ≡ nullable_where (nullability_of c) v → c ≡ codes → v ≡ values → out ≡ nullable_where (nullability_of codes) values

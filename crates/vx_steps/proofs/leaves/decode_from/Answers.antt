@@ -1,5 +1,6 @@
 use Rattle.vx_steps.specs.Wants.{IsNeededLeaf}
 use Rattle.vx_steps.proofs.Decoding.{adds_then, keeps_then, need_added, torn_up, not_kept_before}
+use Rattle.vx_steps.proofs.Releasing.{held_kept}
 use Rattle.vx_steps.proofs.Needing.{need_at, need_is, need_among}
 use Rattle.vx_steps.proofs.leaves.decode_from.Goals as goal
 
@@ -42,3 +43,9 @@ returns-in-Err-clause-only c =
     let needs = c.args.needs.now in
     let i = c.loop-place.place in
     adds_then (IsNeededLeaf needs) c.args.leaves.now c.loop-place.leaves c.decode_need.new.leaves c.loop-place.invariant.only (need_added needs (need_at needs i) c.loop-place.leaves c.decode_need.new.leaves (need_among needs i (need_at needs i) c.loop-place-test.true (need_is needs i c.loop-place-test.true)) c.in-Err.ensures.only)
+
+pub decode_need-requires-clause-held : goal.decode_need-requires-clause-held
+decode_need-requires-clause-held c =
+    let needs = c.args.needs.now in
+    let i = c.loop-place.place in
+    held_kept c.args.table.now c.args.reads.now.wanted c.args.leaves.now c.loop-place.leaves needs c.args.reads.now.stored (need_at needs i) c.loop-place.invariant.keeps (need_among needs i (need_at needs i) c.loop-place-test.true (need_is needs i c.loop-place-test.true)) c.requires.held

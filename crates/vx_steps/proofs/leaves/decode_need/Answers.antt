@@ -1,7 +1,9 @@
-use Rattle.std.proofs.Common.{◌≡◌, sym, ◌∙◌}
+use Rattle.std.proofs.Common.{◌≡◌, ⊎_elim, None, sym, ◌∙◌}
 use Rattle.vx_steps.specs.Kept.{kept_at}
 use Rattle.vx_steps.proofs.Shaping.{leaf_plan}
 use Rattle.vx_steps.proofs.Decoding.{keeps_none, decoded_keeps, none_kept, kept_here}
+use Rattle.vx_steps.specs.ReadTable.{IsGone, bytes_of}
+use Rattle.vx_steps.proofs.Releasing.{not_kept}
 use Rattle.vx_steps.proofs.WholeMaking.{none_more, one_only}
 use Rattle.vx_steps.proofs.leaves.decode_need.Goals as goal
 
@@ -15,7 +17,7 @@ returns-clause-keeps c =
     let column = c.in-Ok.column in
     let none = none_kept c.find.result (kept_at c.args.leaves.now need.leaf) c.find.ensures (sym c.if-is_some.ensures) in
     let read = rw (c.dtype.ensures, c.row_count.ensures) at c.in-Ok.ensures.read in
-    rw c.in_ok-keep.ensures.kept (decoded_keeps nodes c.args.reads.now.wanted c.args.leaves.now need c.in-Some.bytes.now column c.requires.known c.requires.leaf none (sym c.in-Some.ensures) (c.in-Ok.ensures.dtype ∙ c.dtype.ensures) (c.in-Ok.ensures.spelled.count ∙ c.row_count.ensures) read)
+    rw c.in_ok-keep.ensures.kept (decoded_keeps nodes c.args.reads.now.wanted c.args.leaves.now need c.in-Some.bytes.now column c.requires.known c.requires.leaf none c.in-Some.ensures (c.in-Ok.ensures.dtype ∙ c.dtype.ensures) (c.in-Ok.ensures.spelled.count ∙ c.row_count.ensures) read)
 
 pub returns-clause-there : goal.returns-clause-there
 returns-clause-there c =
@@ -30,3 +32,8 @@ returns-in_err-keep-clause-only c = none_more (λ n. c.args.need.leaf ≡ n) c.a
 
 pub returns-clause-only : goal.returns-clause-only
 returns-clause-only c = one_only c.args.leaves.now c.keep.new.self c.args.need.leaf c.in-Ok.column c.in_ok-keep.ensures.kept
+
+pub returns-in-None-clause-there : goal.returns-in-None-clause-there
+returns-in-None-clause-there c =
+    let none = none_kept c.find.result (kept_at c.args.leaves.now c.args.need.leaf) c.find.ensures (sym c.if-is_some.ensures) in
+    (none, ⊎_elim (λ (e : bytes_of c.args.reads.now.wanted c.args.need.segment ≡ None). e) (λ (gone : IsGone c.args.reads.now.stored c.args.need.segment). absurd (not_kept c.args.leaves.now c.args.need.leaf none (c.requires.held gone))) c.in-None.ensures)

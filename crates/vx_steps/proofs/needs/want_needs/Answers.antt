@@ -1,27 +1,40 @@
-use Rattle.std.proofs.Common.{◌∙◌}
+use Rattle.std.proofs.Common.{rules, ◌∙◌, ◌<◌, length}
 use Rattle.vx_steps.proofs.Needing.{asked_more, only_more, grows_then, need_at, need_is}
+use Rattle.vx_steps.proofs.Keeping.{got_inside}
+use Rattle.vx_steps.proofs.Releasing.{named_more, stored_then}
 use Rattle.vx_steps.proofs.needs.want_needs.Goals as goal
 
-pub loop-need-preserved : goal.loop-need-preserved
-loop-need-preserved c =
+pub loop-place-preserved : goal.loop-place-preserved
+loop-place-preserved c =
     let needs = c.args.needs.now in
-    let i = c.loop-need.need-index in
+    let i = c.loop-place.place in
     let need = need_at needs i in
-    let is = need_is needs i c.loop-need-test.true in
+    let is = need_is needs i c.loop-place-test.true in
     let h = c.in_ok-want_need.ensures in
     record {
-      all = asked_more c.args.handed.now c.loop-need.reads.wanted c.want_need.new.reads.wanted needs i need c.loop-need-test.true is c.loop-need.invariant.all h.grows h.all;
-      only = only_more c.args.handed.now c.args.reads.now.wanted c.loop-need.reads.wanted c.want_need.new.reads.wanted needs i need c.loop-need-test.true is c.loop-need.invariant.only h.only;
-      grows = grows_then c.args.reads.now.wanted c.loop-need.reads.wanted c.want_need.new.reads.wanted c.loop-need.invariant.grows h.grows;
-      count = h.handed ∙ c.loop-need.invariant.count;
-      agrees = λ outside a. h.agrees outside (c.loop-need.invariant.agrees outside a);
+      all = asked_more c.args.handed.now c.loop-place.reads.wanted c.want_need.new.reads.wanted needs i need c.loop-place-test.true is c.loop-place.invariant.all h.grows h.all;
+      only = only_more c.args.handed.now c.args.reads.now.wanted c.loop-place.reads.wanted c.want_need.new.reads.wanted needs i need c.loop-place-test.true is c.loop-place.invariant.only h.only;
+      grows = grows_then c.args.reads.now.wanted c.loop-place.reads.wanted c.want_need.new.reads.wanted c.loop-place.invariant.grows h.grows;
+      count = h.handed ∙ c.loop-place.invariant.count;
+      named = named_more c.args.handed.now needs i need c.loop-place-test.true is c.loop-place.reads c.want_need.new.reads h.stored c.loop-place.invariant.named h.named;
+      stored = stored_then c.args.reads.now c.loop-place.reads c.want_need.new.reads c.loop-place.invariant.stored h.stored;
+      agrees = λ outside a. h.agrees outside (c.loop-place.invariant.agrees outside a);
     }
 
 pub returns-in_err-want_need-clause-only : goal.returns-in_err-want_need-clause-only
 returns-in_err-want_need-clause-only c =
     let needs = c.args.needs.now in
-    let i = c.loop-need.need-index in
-    only_more c.args.handed.now c.args.reads.now.wanted c.loop-need.reads.wanted c.want_need.new.reads.wanted needs i (need_at needs i) c.loop-need-test.true (need_is needs i c.loop-need-test.true) c.loop-need.invariant.only c.in_err-want_need.ensures.only
+    let i = c.loop-place.place in
+    only_more c.args.handed.now c.args.reads.now.wanted c.loop-place.reads.wanted c.want_need.new.reads.wanted needs i (need_at needs i) c.loop-place-test.true (need_is needs i c.loop-place-test.true) c.loop-place.invariant.only c.in_err-want_need.ensures.only
 
 pub returns-in_err-want_need-clause-agrees : goal.returns-in_err-want_need-clause-agrees
-returns-in_err-want_need-clause-agrees c = λ outside a. c.in_err-want_need.ensures.agrees outside (c.loop-need.invariant.agrees outside a)
+returns-in_err-want_need-clause-agrees c = λ outside a. c.in_err-want_need.ensures.agrees outside (c.loop-place.invariant.agrees outside a)
+
+pub returns-in_err-want_need-clause-stored : goal.returns-in_err-want_need-clause-stored
+returns-in_err-want_need-clause-stored c = stored_then c.args.reads.now c.loop-place.reads c.want_need.new.reads c.loop-place.invariant.stored c.in_err-want_need.ensures.stored
+
+pub returns-clause-named : goal.returns-clause-named
+returns-clause-named c = λ place need at none.
+    let inside : place < length c.args.needs.now = got_inside c.args.needs.now place need at in
+    let passed : place < c.loop-place.place = search rules in
+    c.loop-place.invariant.named place passed need at none

@@ -1,16 +1,20 @@
-use Rattle.std.proofs.Common.{◌≡◌, ℕ, ◌⊎◌, None, take}
+use Rattle.std.proofs.Common.{◌≡◌, ℕ, ◌⊎◌, ◌<◌, Some, None, take}
+use Rattle.std.specs.List.{slice_get}
 use Rattle.vx_steps.specs.declared.leaf_reads.LeafRead.{LeafRead}
 use Rattle.vx_steps.specs.Kept.{kept_at}
 use Rattle.vx_steps.specs.Needs.{Among}
+use Rattle.vx_steps.specs.ReadTable.{IsNamed, KeepsStored}
 use Rattle.vx_steps.specs.Agreement.{KeepsAgreeing}
 use Rattle.vx_steps.specs.Wants.{IsAsked, IsNeeded, Grows}
 use Rattle.vx_steps.proofs.needs.want_needs.Given as goal
 
-abbrev pub invariant-loop-need : goal.invariant-loop-need
-invariant-loop-need l = record {
-  all : (read : LeafRead) → Among read (take l.need-index l.needs) → kept_at l.handed read.leaf ≡ None → IsAsked l.reads.wanted read.segment;
+abbrev pub invariant-loop-place : goal.invariant-loop-place
+invariant-loop-place l = record {
+  all : (read : LeafRead) → Among read (take l.place l.needs) → kept_at l.handed read.leaf ≡ None → IsAsked l.reads.wanted read.segment;
   only : (segment : ℕ) → IsAsked l.reads.wanted segment → IsAsked l.fn.reads.wanted segment ⊎ IsNeeded l.needs l.handed segment;
   grows : Grows l.fn.reads.wanted l.reads.wanted;
   count : l.reads.handed ≡ l.fn.reads.handed;
+  named : (place : ℕ) → place < l.place → (need : LeafRead) → slice_get l.needs place ≡ Some need → kept_at l.handed need.leaf ≡ None → IsNamed l.reads.stored need.segment place;
+  stored : KeepsStored l.fn.reads l.reads;
   agrees : KeepsAgreeing l.fn.reads.wanted l.reads.wanted;
 }

@@ -1,4 +1,4 @@
-use Rattle.std.proofs.Common.{rules, ◌≡◌, ◌<◌, Global, Vec, length, refl, subst}
+use Rattle.std.proofs.Common.{rules, ◌≡◌, ◌<◌, Global, Vec, length, subst}
 use Rattle.std.specs.Prelude.{IfOk, IfErr, None}
 use Rattle.std.specs.Vec.{with_item}
 use Rattle.vx_plan.specs.Rules.{node_at}
@@ -6,10 +6,11 @@ use Rattle.vx_steps.specs.declared.jobs.ActiveSplit.{ActiveSplit}
 use Rattle.vx_steps.specs.declared.jobs.Progress.{Progress}
 use Rattle.vx_steps.specs.Delivered.{LacksNeed}
 use Rattle.vx_steps.specs.Needs.{AreLeaves}
+use Rattle.vx_steps.specs.Releasing.{IsServed}
 use Rattle.vx_steps.specs.Turns.{IsRefusal, ReadsFor}
 use Rattle.vx_steps.specs.Wants.{AreNeeds, IsNeededLeaf}
 use Rattle.vx_steps.specs.Wholes.{AddsOnly}
-use Rattle.vx_steps.proofs.Finishing.{split_inside, parts_of, split_rows, same_active, same_actives, good_tried, keeps_tried, output_up, held_up, cause_of_split}
+use Rattle.vx_steps.proofs.Finishing.{split_inside, parts_of, split_rows, same_active, same_actives, good_tried, keeps_tried, serves_at, output_up, held_up, cause_of_split}
 use Rattle.vx_steps.proofs.progress.finish_at.Goals as goal
 
 pub index-split-requires : goal.index-split-requires
@@ -41,7 +42,11 @@ returns-clause-good c =
     let progress = c.args.progress.now in
     let active : Vec ActiveSplit Global = with_item progress.active c.args.place (record { split = c.index_mut.result.now.split; needs = c.finish_split.new.needs }) in
     let same = same_actives progress.active.items c.args.place c.index_mut.result.now c.finish_split.new.needs c.index_mut.ensures.value c.finish_split.ensures.same in
-    good_tried c.args.table.now c.args.job.now progress active c.finish_split.new.leaves c.finish_split.new.wholes same c.finish_split.ensures.keeps c.finish_split.ensures.made c.finish_split.ensures.used c.requires.good
+    let parts = parts_of c.args.table.now c.args.job.now c.args.progress.now c.args.place c.index.result.now c.index-split.result.now c.requires.good c.requires.place c.index.ensures c.index-split.ensures in
+    let alike = same_active progress.active.items c.args.place c.index_mut.result.now c.index.result.now c.requires.place c.index_mut.ensures.value c.index.ensures in
+    let S : ActiveSplit → Type 0 = λ active. IsServed c.finish_split.new.leaves c.finish_split.new.reads active.needs in
+    let serves = serves_at c.args.table.now c.args.job.now progress active c.finish_split.new.reads c.finish_split.new.leaves c.finish_split.new.wholes same c.finish_split.ensures.keeps c.args.place c.index.result.now c.index-split.result.now parts c.is_last-last.result c.is_last-last.ensures c.finish_split.ensures.lets (subst S alike c.finish_split.ensures.served) c.requires.good in
+    good_tried c.args.table.now c.args.job.now progress active c.finish_split.new.reads c.finish_split.new.leaves c.finish_split.new.wholes same c.finish_split.ensures.wanted serves c.finish_split.ensures.keeps c.finish_split.ensures.made c.finish_split.ensures.used c.requires.good
 
 pub returns-clause-keeps : goal.returns-clause-keeps
 returns-clause-keeps c =
@@ -51,12 +56,12 @@ returns-clause-keeps c =
     let parts = parts_of c.args.table.now c.args.job.now c.args.progress.now c.args.place c.index.result.now c.index-split.result.now c.requires.good c.requires.place c.index.ensures c.index-split.ensures in
     let alike = same_active progress.active.items c.args.place c.index_mut.result.now c.index.result.now c.requires.place c.index_mut.ensures.value c.index.ensures in
     let N : ActiveSplit → Type 0 = λ active. AddsOnly (IsNeededLeaf active.needs) progress.leaves c.finish_split.new.leaves in
-    keeps_tried c.args.table.now c.args.job.now progress active c.finish_split.new.leaves c.finish_split.new.wholes same c.finish_split.ensures.keeps c.finish_split.ensures.made c.finish_split.ensures.used c.args.place c.index.result.now c.index-split.result.now parts (subst N alike c.finish_split.ensures.only) c.finish_split.ensures.asked
+    keeps_tried c.args.table.now c.args.job.now progress active c.finish_split.new.reads c.finish_split.new.leaves c.finish_split.new.wholes same c.finish_split.ensures.wanted c.finish_split.ensures.handed c.finish_split.ensures.keeps c.finish_split.ensures.made c.finish_split.ensures.used c.args.place c.index.result.now c.index-split.result.now parts (subst N alike c.finish_split.ensures.only) c.finish_split.ensures.asked
 
 pub returns-clause-output : goal.returns-clause-output
 returns-clause-output c =
     let progress = c.args.progress.now in
-    let new : Progress = record { next = progress.next; active = with_item progress.active c.args.place (record { split = c.index_mut.result.now.split; needs = c.finish_split.new.needs }); reads = progress.reads; leaves = c.finish_split.new.leaves; wholes = c.finish_split.new.wholes } in
+    let new : Progress = record { next = progress.next; active = with_item progress.active c.args.place (record { split = c.index_mut.result.now.split; needs = c.finish_split.new.needs }); reads = c.finish_split.new.reads; leaves = c.finish_split.new.leaves; wholes = c.finish_split.new.wholes } in
     let parts = parts_of c.args.table.now c.args.job.now c.args.progress.now c.args.place c.index.result.now c.index-split.result.now c.requires.good c.requires.place c.index.ensures c.index-split.ensures in
     output_up c.args.table.now c.args.job.now progress new c.args.place c.index.result.now c.index-split.result.now c.finish_split.result parts c.finish_split.ensures.output c.finish_split.ensures.leaves
 
@@ -71,9 +76,16 @@ returns-clause-held c =
 pub returns-clause-cause : goal.returns-clause-cause
 returns-clause-cause c =
     let progress = c.args.progress.now in
-    let new : Progress = record { next = progress.next; active = with_item progress.active c.args.place (record { split = c.index_mut.result.now.split; needs = c.finish_split.new.needs }); reads = progress.reads; leaves = c.finish_split.new.leaves; wholes = c.finish_split.new.wholes } in
+    let new : Progress = record { next = progress.next; active = with_item progress.active c.args.place (record { split = c.index_mut.result.now.split; needs = c.finish_split.new.needs }); reads = c.finish_split.new.reads; leaves = c.finish_split.new.leaves; wholes = c.finish_split.new.wholes } in
     let same = same_active progress.active.items c.args.place c.index_mut.result.now c.index.result.now c.requires.place c.index_mut.ensures.value c.index.ensures in
     let actives = same_actives progress.active.items c.args.place c.index_mut.result.now c.finish_split.new.needs c.index_mut.ensures.value c.finish_split.ensures.same in
     let parts = parts_of c.args.table.now c.args.job.now c.args.progress.now c.args.place c.index.result.now c.index-split.result.now c.requires.good c.requires.place c.index.ensures c.index-split.ensures in
     let P : ActiveSplit → Type 0 = λ active. IfErr c.finish_split.result (IsRefusal c.args.table.now c.args.job.now c.index-split.result.now active.needs progress.reads.wanted progress.leaves progress.wholes.made) in
-    cause_of_split c.args.table.now c.args.job.now progress new c.args.place c.index.result.now c.index-split.result.now c.finish_split.result parts refl actives (subst P same c.finish_split.ensures.cause) c.finish_split.ensures.left
+    cause_of_split c.args.table.now c.args.job.now progress new c.args.place c.index.result.now c.index-split.result.now c.finish_split.result parts c.finish_split.ensures.wanted actives (subst P same c.finish_split.ensures.cause) c.finish_split.ensures.left
+
+pub finish_split-requires-clause-served : goal.finish_split-requires-clause-served
+finish_split-requires-clause-served c =
+    let parts = parts_of c.args.table.now c.args.job.now c.args.progress.now c.args.place c.index.result.now c.index-split.result.now c.requires.good c.requires.place c.index.ensures c.index-split.ensures in
+    let same = same_active c.args.progress.now.active.items c.args.place c.index.result.now c.index_mut.result.now c.requires.place c.index.ensures c.index_mut.ensures.value in
+    let P : ActiveSplit → Type 0 = λ active. IsServed c.args.progress.now.leaves c.args.progress.now.reads active.needs in
+    subst P same parts.served

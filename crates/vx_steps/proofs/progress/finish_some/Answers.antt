@@ -17,6 +17,11 @@ returns-in-Ok-Some-clause-good c =
       apart_used = good.apart_used;
       uses = good.uses;
       actives = λ a m. good.actives a (among_removed c.finish_at.new.progress.active.items c.loop-place.place a (rw c.remove-active.ensures.items at m));
+      serves = record {
+        gone_late = good.serves.gone_late;
+        passed_late = good.serves.passed_late;
+        served = λ a m. good.serves.served a (among_removed c.finish_at.new.progress.active.items c.loop-place.place a (rw c.remove-active.ensures.items at m));
+      };
     }
 
 pub returns-in-Ok-Some-clause-told : goal.returns-in-Ok-Some-clause-told

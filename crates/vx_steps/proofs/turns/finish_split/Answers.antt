@@ -1,5 +1,8 @@
-use Rattle.std.proofs.Common.{inl, inr, ⊎_elim}
+use Rattle.std.proofs.Common.{inl, inr, Some, ⊎_elim}
 use Rattle.vx_rows.specs.SegmentLeaves.{leaves_of}
+use Rattle.vx_steps.specs.Delivered.{IsOf}
+use Rattle.vx_steps.specs.Held.{IsBy}
+use Rattle.vx_steps.proofs.Premises.{unless_by}
 use Rattle.vx_steps.proofs.Turning.{row_leaves, row_refusal}
 use Rattle.vx_steps.proofs.turns.finish_split.Goals as goal
 
@@ -22,12 +25,12 @@ returns-in-Ok-clause-output c = record {
 pub returns-in-Err-output_of-clause-cause : goal.returns-in-Err-output_of-clause-cause
 returns-in-Err-output_of-clause-cause c =
     row_refusal c.args.table.now c.args.job.now c.args.split.now c.args.needs.now c.args.reads.now.wanted c.args.leaves.now c.args.wholes.now.made c.in-Err-output_of.error
-    (λ outside is. c.in-Err-output_of.ensures.cause (leaves_of outside) (record { leaves_are = c.in-Ok-true.ensures.keeps.right outside is.bytes is.leaves_are; made_are = is.made_are }))
+    (λ outside is. c.in-Err-output_of.ensures.cause (leaves_of outside) (unless_by c.in-Err-output_of.error (IsOf c.args.table.now c.args.job.now.offset c.args.reads.now.wanted c.args.leaves.now c.args.wholes.now.made outside) (IsBy (record { nodes = c.args.table.now; leaves = c.decode.new.leaves; given = Some c.args.job.now.given; made = c.args.wholes.now.made; offset = c.args.job.now.offset }) (leaves_of outside)) (λ told. record { leaves_are = c.in-Ok-true.ensures.keeps.right outside told.bytes told.leaves_are; made_are = told.made_are }) is))
 
 pub returns-in-Err-output_of-clause-left : goal.returns-in-Err-output_of-clause-left
 returns-in-Err-output_of-clause-left c =
     row_leaves c.args.table.now c.args.job.now c.args.split.now c.args.reads.now.wanted c.args.leaves.now c.args.wholes.now.made c.output_of.new.wholes c.in-Err-output_of.error
-    (⊎_elim (λ there. inl there) (λ fails. inr (λ outside is. fails (leaves_of outside) (record { leaves_are = c.in-Ok-true.ensures.keeps.right outside is.bytes is.leaves_are; made_are = is.made_are }))) c.in-Err-output_of.ensures.left)
+    (⊎_elim (λ there. inl there) (λ fails. inr (λ outside is. fails (leaves_of outside) (unless_by c.in-Err-output_of.error (IsOf c.args.table.now c.args.job.now.offset c.args.reads.now.wanted c.args.leaves.now c.args.wholes.now.made outside) (IsBy (record { nodes = c.args.table.now; leaves = c.decode.new.leaves; given = Some c.args.job.now.given; made = c.args.wholes.now.made; offset = c.args.job.now.offset }) (leaves_of outside)) (λ told. record { leaves_are = c.in-Ok-true.ensures.keeps.right outside told.bytes told.leaves_are; made_are = told.made_are }) is))) c.in-Err-output_of.ensures.left)
 
 pub returns-in-Ok-clause-leaves : goal.returns-in-Ok-clause-leaves
 returns-in-Ok-clause-leaves c = λ read reads. c.in-Ok-true.ensures.all c.in-Ok-true.field-0-test read (c.requires.needs.all read reads)

@@ -1,8 +1,13 @@
-use Rattle.std.proofs.Common.{◌∙◌, List, subst}
+use Rattle.std.proofs.Common.{◌≡◌, ◌∙◌, List, true, sym, subst}
+use Rattle.std.specs.Prelude.{IfOk}
 use Rattle.vx_steps.specs.declared.leaf_reads.LeafRead.{LeafRead}
+use Rattle.vx_steps.specs.Kept.{IsKept}
+use Rattle.vx_steps.specs.Needs.{Among}
+use Rattle.vx_steps.specs.Releasing.{AreHeld}
 use Rattle.vx_steps.specs.Wants.{IsNeededLeaf}
 use Rattle.vx_steps.specs.Wholes.{AddsOnly}
 use Rattle.vx_steps.proofs.Decoding.{adds_then, keeps_then}
+use Rattle.vx_steps.proofs.Releasing.{held_kept, served_kept}
 use Rattle.vx_steps.proofs.leaves.NeededLeaves.decode.Goals as goal
 
 pub returns-clause-keeps : goal.returns-clause-keeps
@@ -11,15 +16,41 @@ returns-clause-keeps c = keeps_then c.args.table.now c.args.reads.now.wanted c.a
 pub returns-in_err-next-clause-only : goal.returns-in_err-next-clause-only
 returns-in_err-next-clause-only c =
     let N : List LeafRead → Type 0 = λ needs. AddsOnly (IsNeededLeaf needs) c.args.leaves.now c.decode_from.new.leaves in
-    subst N (c.deref.ensures.value ∙ c.self.view_is) c.in_err-next.ensures.only
+    subst N (c.deref-2.ensures.value ∙ c.self.view_is) c.in_err-next.ensures.only
 
 pub returns-then-next-len-clause-only : goal.returns-then-next-len-clause-only
 returns-then-next-len-clause-only c =
     let N : List LeafRead → Type 0 = λ needs. AddsOnly (IsNeededLeaf needs) c.args.leaves.now c.decode_from.new.leaves in
-    subst N (c.deref.ensures.value ∙ c.self.view_is) c.in_ok-next.ensures.only
+    subst N (c.deref-2.ensures.value ∙ c.self.view_is) c.in_ok-next.ensures.only
 
 pub returns-clause-only : goal.returns-clause-only
 returns-clause-only c =
     let N : List LeafRead → Type 0 = λ needs. AddsOnly (IsNeededLeaf needs) c.args.leaves.now c.decode_from.new.leaves in
     let M : List LeafRead → Type 0 = λ needs. AddsOnly (IsNeededLeaf needs) c.decode_from.new.leaves c.decode_needs.new.leaves in
-    adds_then (IsNeededLeaf c.args.self.now) c.args.leaves.now c.decode_from.new.leaves c.decode_needs.new.leaves (subst N (c.deref.ensures.value ∙ c.self.view_is) c.in_ok-next.ensures.only) (subst M (c.deref-2.ensures.value ∙ c.self.view_is) c.decode_needs.ensures.only)
+    adds_then (IsNeededLeaf c.args.self.now) c.args.leaves.now c.decode_from.new.leaves c.decode_needs.new.leaves (subst N (c.deref-2.ensures.value ∙ c.self.view_is) c.in_ok-next.ensures.only) (subst M (c.deref-3.ensures.value ∙ c.self.view_is) c.decode_needs.ensures.only)
+
+pub returns-clause-served : goal.returns-clause-served
+returns-clause-served c =
+    let grows = (keeps_then c.args.table.now c.args.reads.now.wanted c.args.leaves.now c.decode_from.new.leaves c.decode_needs.new.leaves c.in_ok-next.ensures.keeps c.decode_needs.ensures.keeps).grows in
+    served_kept c.args.leaves.now c.decode_needs.new.leaves c.args.reads.now c.args.self.now grows c.requires.served
+
+pub returns-in_err-next-clause-served : goal.returns-in_err-next-clause-served
+returns-in_err-next-clause-served c = served_kept c.args.leaves.now c.decode_from.new.leaves c.args.reads.now c.args.self.now c.in_err-next.ensures.keeps.grows c.requires.served
+
+pub returns-then-next-len-clause-served : goal.returns-then-next-len-clause-served
+returns-then-next-len-clause-served c = served_kept c.args.leaves.now c.decode_from.new.leaves c.args.reads.now c.args.self.now c.in_ok-next.ensures.keeps.grows c.requires.served
+
+pub returns-then-last-clause-only : goal.returns-then-last-clause-only
+returns-then-last-clause-only c =
+    let N : List LeafRead → Type 0 = λ needs. AddsOnly (IsNeededLeaf needs) c.args.leaves.now c.decode_last.new.leaves in
+    subst N (c.deref.ensures.value ∙ c.self.view_is) c.decode_last.ensures.only
+
+pub returns-then-last-clause-all : goal.returns-then-last-clause-all
+returns-then-last-clause-all c =
+    let N : List LeafRead → Type 0 = λ needs. IfOk c.decode_last.result (λ there. there ≡ true → (need : LeafRead) → Among need needs → IsKept c.decode_last.new.leaves need.leaf) in
+    subst N (c.deref.ensures.value ∙ c.self.view_is) c.decode_last.ensures.all
+
+pub decode_needs-requires-clause-held : goal.decode_needs-requires-clause-held
+decode_needs-requires-clause-held c =
+    let N : List LeafRead → Type 0 = λ needs. AreHeld c.decode_from.new.leaves c.args.reads.now.stored needs in
+    subst N (sym (c.deref-3.ensures.value ∙ c.self.view_is)) (λ need among gone. held_kept c.args.table.now c.args.reads.now.wanted c.args.leaves.now c.decode_from.new.leaves c.args.self.now c.args.reads.now.stored need c.in_ok-next.ensures.keeps among c.requires.served.held gone)

@@ -5,8 +5,8 @@ use Rattle.vx_steps.specs.ReadTableData.{wanted_data}
 use Rattle.vx_steps.proofs.WantedReads.{wanted_at, not_handed, only_place}
 use Rattle.vx_steps.proofs.reads.ReadTable.hand_out.Goals as goal
 
-pub returns : goal.returns
-returns c =
+pub returns-clause-turn : goal.returns-clause-turn
+returns-clause-turn c =
     let ws = c.self.inside.wanted.items in
     let handed = c.self.inside.handed in
     let inside : handed < length ws = grind (arith, common_steps, length-map, c.self.invariant.handed_inside) in
@@ -21,3 +21,6 @@ returns c =
       bounded = bounded;
       wanted = refl;
     })
+
+pub returns-clause-stored : goal.returns-clause-stored
+returns-clause-stored c = rw (← c.self.view_is) (record { named = λ segment n named. named; gone = λ segment gone. gone; passed = refl })
