@@ -71,7 +71,7 @@ distinct_none : {X : Type 0} → AreDistinct {X = X} []
 distinct_none {X} i j d less within = absurd (omega (arith, within))
 
 gains_nothing : (scan : FileScan) (source : SourceState) → Gains scan [] source source
-gains_nothing scan source = record { ranges = []; gained = sym (asked_nothing source.asked); reached = tt; are_reasons = tt; once_a_leaf = distinct_none }
+gains_nothing scan source = record { ranges = []; gained = sym (asked_nothing source.asked); reached = tt; are_reasons = tt; once_a_leaf = distinct_none; once_a_dictionary = distinct_none }
 
 each_gains_nothing : (scan : FileScan) (sources : List SourceState) → EachSourceBy (Gains scan) (no_reasons sources) sources sources
 unfolding no_reasons
@@ -90,6 +90,8 @@ lacks_memory limit scan sources = record {
     content = tt;
     count = tt;
     dtype = tt;
+    rows = tt;
+    faults = tt;
     asks = record { reasons = no_reasons sources; each = each_gains_nothing scan sources; once_a_chunk = no_chunk_asks sources };
     cause = inl refl;
     complete = λ file told valid quiet. refl;

@@ -28,13 +28,13 @@ use Rattle.vx_steps.specs.ScanData.{ScanData, IsScanOf}
 use Rattle.vx_steps.specs.Visits.{IsLeafRead}
 use Rattle.vx_steps.specs.Wholes.{IsThere, UsesGiven}
 use Rattle.vx_scan.specs.declared.errors.ScanError.{ScanError}
-use Rattle.vx_scan.specs.declared.errors.ScanError.TheVariants.{Memory}
+use Rattle.vx_scan.specs.declared.errors.ScanError.TheVariants.{ReadFault, Memory}
 use Rattle.vx_scan.specs.declared.outcomes.ChunkOutcome.{ChunkOutcome}
 use Rattle.vx_scan.specs.declared.outcomes.HandedOn.{HandedOn}
 use Rattle.vx_scan.specs.declared.outcomes.Ran.{Ran}
 use Rattle.vx_scan.specs.declared.plans.ScanPlans.{ScanPlans}
 use Rattle.vx_scan.specs.declared.runs.Finished.{Finished}
-use Rattle.vx_scan.specs.Asks.{AsksOnly, Lasts}
+use Rattle.vx_scan.specs.Asks.{AsksOnly, Lasts, TellsFaults}
 use Rattle.vx_scan.specs.ChunkRows.{given_to, ChunkVisits}
 use Rattle.vx_scan.specs.ChunkScans.{IsChunkScan}
 use Rattle.vx_scan.specs.Finished.{Finishes}
@@ -100,6 +100,11 @@ chunk_causes Told plans chosen given leaves made start scan before after (Ok (So
 chunk_causes Told plans chosen given leaves made start scan before after (Ok None) (Ok column) is claim none empty = tt
 chunk_causes Told plans chosen given leaves made start scan before after (Ok None) (Err error) is claim none same = rw same tt
 chunk_causes Told plans chosen given leaves made start scan before after (Err error) piece is claim cause same = rw same (chunk_cause Told plans chosen given leaves made start error before after is claim cause)
+
+-- a read fault of the run is the chunk's
+pub chunk_faults : (plans : ScanPlans) (before after : SourceState) (output : Result (Option ColumnData) ScanError) (piece : Result ColumnData ScanError) → PieceOf plans output piece → TellsFaults output before after → TellsFaults piece before after
+chunk_faults plans before after output piece gives (inl same) = inl same
+chunk_faults plans before after output piece gives (inr fault) = inr (subst (λ (one : Result (Option ColumnData) ScanError). PieceOf plans one piece) fault gives)
 
 pub chunk_there : (plans : ScanPlans) (chosen : SelectedRows) (given leaves made : List Kept) (start scan : ScanData) (before after : SourceState) (output : Result (Option ColumnData) ScanError) (piece : Result ColumnData ScanError) →
     IsChunkScan plans chosen given leaves made start → RunAnswer plans.locations.items plans.idle_limit start output scan before after → PieceOf plans output piece → IfOk piece (λ column. (n : ℕ) → ChunkAsks plans given chosen n → IsThere given scan.progress.wholes n)
@@ -178,6 +183,7 @@ runs_chunk plans chosen given fitting start finished outcome before after fits i
       };
       cause = chunk_causes (told_by plans before) plans chosen fitting [] [] start scan before after finished.output outcome.piece is (claim_told plans chosen fitting start before is) gives.answer piece;
       asks = asks_wanted plans chosen fitting [] [] start before after is gives.asks;
+      faults = chunk_faults plans before after finished.output outcome.piece piece gives.faults;
       lasts = gives.lasts;
       in_flight = done.in_flight;
     }
@@ -212,6 +218,7 @@ lacks_chunk plans chosen given outcome before after lacks none_used none_made_it
       };
       cause = rw lacks tt;
       asks = asks_nothing (IsWanted plans [] [] chosen) plans.locations.items before after clears.asked;
+      faults = inl clears.faults;
       lasts = lasts_cleared before after clears;
       in_flight = clears.in_flight;
     }
@@ -314,6 +321,7 @@ runs_on plans chosen handed leaves made start finished ran before after can fits
             (λ column have read past visits. leaf_on scan (data_of ran.handed.leaves.items) read.leaf keeps (read_behind plans chosen [] leaves made start scan read.leaf is gives.nodes gives.job past) (have read visits))
             (chunk_leaves plans chosen [] leaves made start scan before after finished.output ran.piece is gives.answer piece);
       };
+      faults = chunk_faults plans before after finished.output ran.piece piece gives.faults;
       lasts = gives.lasts;
       in_flight = done.in_flight;
     }
@@ -331,6 +339,7 @@ lacks_on plans chosen handed ran before after can lacks same clears = record {
     leaves_stay = λ leaf read kept. subst (λ (h : HandedOn). IsKept (data_of h.leaves.items) leaf) (sym same) kept;
     leaves_there = rw lacks tt;
   };
+  faults = inl clears.faults;
   lasts = lasts_cleared before after clears;
   in_flight = clears.in_flight;
 }

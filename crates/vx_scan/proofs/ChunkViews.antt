@@ -122,7 +122,7 @@ asks_wanted plans chosen given leaves made start before after is asks = record {
 pub chunk_cause : (Told : Claims) (plans : ScanPlans) (chosen : SelectedRows) (given leaves made : List Kept) (start : ScanData) (error : ScanError) (before after : SourceState) → IsChunkScan plans chosen given leaves made start → Claimable plans start before Told →
     RunCause plans.locations.items plans.idle_limit start error before after → Causes Told plans given chosen error before after
 chunk_cause Told plans chosen given leaves made start (errors.Unsupported list) before after is claim cause =
-    claim (λ bytes. ViewFinds (IsRowOf (number_of list)) (view_in plans given chosen)) (λ file told held. subst (ViewFinds (IsRowOf (number_of list))) (view_same plans chosen given leaves made start is) (cause file told held))
+    subst (ViewFinds (IsRowOf (number_of list))) (view_same plans chosen given leaves made start is) cause
 chunk_cause Told plans chosen given leaves made start (errors.NoLocation segment) before after is claim (read, lacks) =
     ((is_wanted plans chosen given leaves made start segment is read).reached, lacks)
 chunk_cause Told plans chosen given leaves made start errors.ReadFault before after is claim cause = cause

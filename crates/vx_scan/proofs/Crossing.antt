@@ -29,6 +29,7 @@ use Rattle.vx_base.specs.contracts.columns.Column as columns
 use Rattle.vx_base.specs.contracts.columns.Column.TheInside as inside_columns
 use Rattle.vx_expr.below.vx_operators.proofs.operators.ArithOp.TheSendSync as ariths
 use Rattle.vx_expr.below.vx_operators.proofs.operators.CompareOp.TheSendSync as compares
+use Rattle.vx_expr.proofs.found.Found.TheSendSync as found
 use Rattle.vx_expr.proofs.statistics.Statistics.TheSendSync as statistics
 use Rattle.vx_expr.proofs.expressions.NamedExprs.TheLaws.TheKnot.{crosses as exprs_cross}
 use Rattle.vx_expr.specs.contracts.expressions.Expr as exprs
@@ -86,7 +87,7 @@ sync_expr : IsSync exprs.the_row
 sync_expr = search (exprs_cross, crosses, sync_value, sync_value_field, sync_dtype, sync_dtype_field, texts.the_sync, compares.the_field_sync, ariths.the_field_sync, compares.the_sync, ariths.the_sync, sendable) depth 60
 
 sync_bound : IsSync bounds.the_row
-sync_bound = view_sync inside_bounds.the_row _ _ _ _ (declared_sync inside_bounds.the_type (sync_expr, (sync_dtype, (sync_dtype, tt))))
+sync_bound = view_sync inside_bounds.the_row _ _ _ _ (declared_sync inside_bounds.the_type (sync_expr, (sync_dtype, (sync_dtype, (vec.the_sync _ alloc.the_row impl.ghosts found.the_sync global.the_sync, tt)))))
 
 -- ---- plans
 

@@ -1,16 +1,17 @@
 -- What the workers did, one source after the other, is what the whole run gives.
-use Rattle.std.proofs.Common.{◌≡◌, ℕ, zero, suc, ◌<◌, ◌≤◌, ◌⊎◌, inl, inr, true, List, [], ◌∷◌, Some, None, length, map, refl, sym, ap, ◌∙◌, subst, arith}
+use Rattle.std.proofs.Common.{◌≡◌, ◌≢◌, ℕ, zero, suc, ◌<◌, ◌≤◌, ◌⊎◌, inl, inr, true, List, [], ◌∷◌, Some, None, length, map, refl, sym, ap, ◌∙◌, subst, arith}
 use Rattle.std.specs.Prelude.{Option, IfSome, slice_index_or, Bool}
-use Rattle.std.specs.List.{All, sum_by}
+use Rattle.std.specs.List.{All, AllByRecursion, sum_by}
 use Rattle.std.specs.List.Sorted.{IsNonDecreasingBy}
 use Rattle.std.proofs.lemmas.List.{length-map, get_or-map}
-use Rattle.std.proofs.lemmas.List.Elements.{All-head, All-tail, All-cons, All-nil}
+use Rattle.std.proofs.lemmas.List.Elements.{All-cons, All-nil}
 use Rattle.std.proofs.lemmas.List.Sums.{sum_by-cons}
+use Rattle.vx_base.specs.Masks.{Ascend}
 use Rattle.vx_base.specs.Sources.{SourceState}
 use Rattle.vx_claims.specs.declared.claims.Claims.{Claims}
 use Rattle.vx_claims.specs.Apart.{times, times_over, once_below}
 use Rattle.vx_claims.specs.Claims.{claimed, was_told}
-use Rattle.vx_claims.proofs.Numbers.{times_append, times_itself, times_other}
+use Rattle.vx_claims.proofs.Numbers.{times_append, times_itself, once_at_most}
 use Rattle.vx_claims.proofs.Wholes.{once_apart, each_whole}
 use Rattle.vx_rows.specs.SegmentLeaves.{leaves_of}
 use Rattle.vx_splits.specs.declared.selected_rows.SelectedRows.{SelectedRows}
@@ -19,107 +20,25 @@ use Rattle.vx_scan.specs.declared.lanes.Lane.{Lane}
 use Rattle.vx_scan.specs.declared.lanes.Piece.{Piece}
 use Rattle.vx_scan.specs.declared.outcomes.Outcome.{Outcome}
 use Rattle.vx_scan.specs.declared.plans.ScanPlans.{ScanPlans}
-use Rattle.vx_scan.specs.Executes.{FailsLowest, Executed, Finishes}
+use Rattle.vx_scan.specs.Executes.{FailsLowest, FaultsAtLast, StopsAtLast, Executed, Finishes}
 use Rattle.vx_scan.specs.Gathers.{IsAtMost, IsBelow, no_memory, IsFrom, claimed_times, done_times, IsOfLane}
-use Rattle.vx_scan.specs.Lent.{SomeSource, EachSourceBy, AllTell}
+use Rattle.vx_scan.specs.Lent.{EachSourceBy, SomeSourceBy, AllTell}
 use Rattle.vx_scan.specs.Plans.{bytes_of}
-use Rattle.vx_scan.specs.Workers.{HasDtype, IsPieceOf, numbers_of, Fails, RunsSource, Ends, Worked}
+use Rattle.vx_scan.specs.Workers.{HasDtype, HasItsRows, IsPieceOf, numbers_of, FailsLast, RunsSource, Ends, Worked}
 use Rattle.vx_scan.proofs.Ascending.{in_order_once}
+use Rattle.vx_scan.proofs.LaneEnds.{all_quiet, each_ascend, each_faults, each_stops}
+use Rattle.vx_scan.proofs.LaneFacts.{Each, all_by, done_less, over_lanes, pieces_below, told_end}
 
--- ---- facts of each lane
+-- ---- the whole run, one source after the other
 
--- what follows of each lane from what holds of it and its source
-pub all_by : (P : Lane → SourceState → SourceState → Type 0) (Q : Lane → Type 0) → ((lane : Lane) (before after : SourceState) → P lane before after → Q lane)
-    → (lanes : List Lane) (befores afters : List SourceState) → EachSourceBy P lanes befores afters → All Q lanes
-all_by P Q from [] [] [] each = All-nil Q
-all_by P Q from [] [] (after ∷ afters) each = absurd each
-all_by P Q from [] (before ∷ befores) afters each = absurd each
-all_by P Q from (lane ∷ lanes) [] afters each = absurd each
-all_by P Q from (lane ∷ lanes) (before ∷ befores) [] each = absurd each
-all_by P Q from (lane ∷ lanes) (before ∷ befores) (after ∷ afters) each = All-cons Q lane lanes (from lane before after each.0) (all_by P Q from lanes befores afters each.1)
-
-pub as_many_by : (P : Lane → SourceState → SourceState → Type 0) (lanes : List Lane) (befores afters : List SourceState) → EachSourceBy P lanes befores afters → length lanes ≡ length befores
-as_many_by P [] [] [] each = refl
-as_many_by P [] [] (after ∷ afters) each = absurd each
-as_many_by P [] (before ∷ befores) afters each = absurd each
-as_many_by P (lane ∷ lanes) [] afters each = absurd each
-as_many_by P (lane ∷ lanes) (before ∷ befores) [] each = absurd each
-as_many_by P (lane ∷ lanes) (before ∷ befores) (after ∷ afters) each = let rest = as_many_by P lanes befores afters each.1 in omega (arith, rest)
-
--- sums over lanes that agree on each
-sums_agree : (f g : Lane → ℕ) (lanes : List Lane) → All (λ lane. f lane ≡ g lane) lanes → sum_by f lanes ≡ sum_by g lanes
-sums_agree f g [] all = refl
-sums_agree f g (lane ∷ lanes) all =
-    let here = All-head (λ (one : Lane). f one ≡ g one) lane lanes all in
-    let rest = sums_agree f g lanes (All-tail (λ (one : Lane). f one ≡ g one) lane lanes all) in
-    let one = sum_by-cons f lane lanes in
-    let two = sum_by-cons g lane lanes in
-    omega (arith, here, rest, one, two)
-
-sums_less : (f g : Lane → ℕ) (lanes : List Lane) → All (λ lane. f lane ≤ g lane) lanes → sum_by f lanes ≤ sum_by g lanes
-sums_less f g [] all = omega arith
-sums_less f g (lane ∷ lanes) all =
-    let here = All-head (λ (one : Lane). f one ≤ g one) lane lanes all in
-    let rest = sums_less f g lanes (All-tail (λ (one : Lane). f one ≤ g one) lane lanes all) in
-    let one = sum_by-cons f lane lanes in
-    let two = sum_by-cons g lane lanes in
-    omega (arith, here, rest, one, two)
-
-over_lanes : (x : ℕ) (lanes : List Lane) → All (λ lane. lane.claimed.items ≡ claimed lane.seat) lanes → times_over x (map (λ lane. lane.claimed.items) lanes) ≡ sum_by (claimed_times x) lanes
-over_lanes x [] all = refl
-over_lanes x (lane ∷ lanes) all =
-    let here = ap (times x) (All-head (λ (one : Lane). one.claimed.items ≡ claimed one.seat) lane lanes all) in
-    let rest = over_lanes x lanes (All-tail (λ (one : Lane). one.claimed.items ≡ claimed one.seat) lane lanes all) in
-    let one = sum_by-cons (times x) lane.claimed.items (map (λ (other : Lane). other.claimed.items) lanes) in
-    let two = sum_by-cons (claimed_times x) lane lanes in
-    omega (arith, here, rest, one, two)
-
--- ---- the pieces of a lane
+-- no number is below want of memory
+not_lacking : (x : ℕ) (error : Option ChunkError) → IsBelow error x → error ≢ Some no_memory
+not_lacking x error below lacks = let none : x < 0 = subst (λ (one : Option ChunkError). IsBelow one x) lacks below in omega (arith, none)
 
 module _ (claims : Claims) (plans : ScanPlans) (chunks : List SelectedRows) where
-  done_claimed : (x : ℕ) (error : Option ChunkError) (numbers done : List ℕ) (told : Bool) (before after : SourceState) → Ends plans chunks error numbers done told before after → times x done ≤ times x numbers
-  done_claimed x None numbers done told before after ends = let same = ap (times x) ends.0 in omega (arith, same)
-  done_claimed x (Some error) numbers done told before after (inl stops) = let list = ap (times x) stops.last in let more = times_append x done (error.chunk ∷ []) in omega (arith, list, more)
-  done_claimed x (Some error) numbers done told before after (inr wants) = let same = ap (times x) wants.all in omega (arith, same)
-
-  done_below : (x : ℕ) (lowest error : Option ChunkError) (numbers done : List ℕ) (told : Bool) (before after : SourceState) → IsBelow lowest x → IsAtMost lowest error → Ends plans chunks error numbers done told before after → times x done ≡ times x numbers
-  done_below x lowest None numbers done told before after below most ends = ap (times x) (sym ends.0)
-  done_below x None (Some error) numbers done told before after below most ends = absurd most
-  done_below x (Some lowest) (Some error) numbers done told before after below most (inl stops) =
-      let list = ap (times x) stops.last in
-      let more = times_append x done (error.chunk ∷ []) in
-      let other = times_other x error.chunk [] (λ same. absurd (omega (arith, below, most, same))) in
-      omega (arith, list, more, other)
-  done_below x (Some lowest) (Some error) numbers done told before after below most (inr wants) = ap (times x) (sym wants.all)
-
-  lane_done : (x : ℕ) (lane : Lane) (before after : SourceState) → Worked claims plans chunks lane before after → done_times x lane ≤ claimed_times x lane
-  lane_done x lane before after worked =
-      let most = done_claimed x lane.error lane.claimed.items (numbers_of lane.pieces.items) (was_told lane.seat) before after worked.ends in
-      let list = ap (times x) worked.claimed in
-      omega (arith, most, list)
-
-  abbrev DoneBelow : ℕ → Option ChunkError → Lane → Type 0
-  DoneBelow x lowest lane = IsAtMost lowest lane.error → done_times x lane ≡ claimed_times x lane
-
-  lane_below : (x : ℕ) (lowest : Option ChunkError) → IsBelow lowest x → (lane : Lane) (before after : SourceState) → Worked claims plans chunks lane before after → DoneBelow x lowest lane
-  lane_below x lowest below lane before after worked most = done_below x lowest lane.error lane.claimed.items (numbers_of lane.pieces.items) (was_told lane.seat) before after below most worked.ends ∙ ap (times x) worked.claimed
-
-  told_end : (lane : Lane) (error : Option ChunkError) (before after : SourceState) → IsAtMost None error → Ends plans chunks error lane.claimed.items (numbers_of lane.pieces.items) (was_told lane.seat) before after → was_told lane.seat ≡ true
-  told_end lane None before after most ends = ends.1
-  told_end lane (Some error) before after most ends = absurd most
-
   -- ---- all sources
 
-  abbrev Each : List Lane → List SourceState → List SourceState → Type 0
-  Each lanes befores afters = EachSourceBy (Worked claims plans chunks) lanes befores afters
-
-  pieces_below : (x : ℕ) (lowest : Option ChunkError) (lanes : List Lane) (befores afters : List SourceState) → Each lanes befores afters → IsBelow lowest x → All (λ lane. IsAtMost lowest lane.error) lanes
-      → sum_by (done_times x) lanes ≡ sum_by (claimed_times x) lanes
-  pieces_below x lowest lanes befores afters each below most =
-      let all = all_by (Worked claims plans chunks) (DoneBelow x lowest) (lane_below x lowest below) lanes befores afters each in
-      sums_agree (done_times x) (claimed_times x) lanes (λ k d within. all k d within (most k d within))
-
-  each_source : (lanes : List Lane) (befores afters : List SourceState) → Each lanes befores afters → EachSourceBy (RunsSource plans chunks) (map (λ lane. lane.claimed.items) lanes) befores afters
+  each_source : (lanes : List Lane) (befores afters : List SourceState) → Each claims plans chunks lanes befores afters → EachSourceBy (RunsSource plans chunks) (map (λ lane. lane.claimed.items) lanes) befores afters
   each_source [] [] [] each = tt
   each_source [] [] (after ∷ afters) each = absurd each
   each_source [] (before ∷ befores) afters each = absurd each
@@ -130,7 +49,7 @@ module _ (claims : Claims) (plans : ScanPlans) (chunks : List SelectedRows) wher
   abbrev HasPieces : List ℕ → Lane → Type 0
   HasPieces file lane = All (IsPieceOf (leaves_of (bytes_of plans file)) plans chunks) lane.pieces.items
 
-  all_content : (file : List ℕ) (lanes : List Lane) (befores afters : List SourceState) → Each lanes befores afters → AllTell file befores → All (HasPieces file) lanes
+  all_content : (file : List ℕ) (lanes : List Lane) (befores afters : List SourceState) → Each claims plans chunks lanes befores afters → AllTell file befores → All (HasPieces file) lanes
   all_content file [] [] [] each tell = All-nil (HasPieces file)
   all_content file [] [] (after ∷ afters) each tell = absurd each
   all_content file [] (before ∷ befores) afters each tell = absurd each
@@ -140,10 +59,11 @@ module _ (claims : Claims) (plans : ScanPlans) (chunks : List SelectedRows) wher
 
   -- an error that one of the lanes has
   abbrev Found : ChunkError → List Lane → List SourceState → List SourceState → Type 0
-  Found error lanes befores afters = (error ≡ no_memory) ⊎ (SomeSource (Fails plans chunks error) befores afters × (1 ≤ sum_by (claimed_times error.chunk) lanes))
+  Found error lanes befores afters =
+      (error ≡ no_memory) ⊎ (SomeSourceBy (FailsLast plans chunks error) (map (λ lane. lane.claimed.items) lanes) befores afters × (1 ≤ sum_by (claimed_times error.chunk) lanes))
 
   lane_error : (error : ChunkError) (found : Option ChunkError) (numbers done : List ℕ) (told : Bool) (before after : SourceState) → Ends plans chunks found numbers done told before after → found ≡ Some error
-      → (error ≡ no_memory) ⊎ (Fails plans chunks error before after × (1 ≤ times error.chunk numbers))
+      → (error ≡ no_memory) ⊎ (FailsLast plans chunks error numbers before after × (1 ≤ times error.chunk numbers))
   lane_error error None numbers done told before after ends is = absurd cc
   lane_error error (Some one) numbers done told before after (inl stops) is =
       let same : one ≡ error = cc in
@@ -151,13 +71,14 @@ module _ (claims : Claims) (plans : ScanPlans) (chunks : List SelectedRows) wher
       let more = times_append one.chunk done (one.chunk ∷ []) in
       let here = times_itself one.chunk [] in
       let stands : 1 ≤ times one.chunk numbers = omega (arith, list, more, here) in
-      inr (subst (λ (e : ChunkError). Fails plans chunks e before after × (1 ≤ times e.chunk numbers)) same (stops.fails, stands))
+      let fails : FailsLast plans chunks one numbers before after = record { last = (done, stops.last); fails = stops.fails } in
+      inr (subst (λ (e : ChunkError). FailsLast plans chunks e numbers before after × (1 ≤ times e.chunk numbers)) same (fails, stands))
   lane_error error (Some one) numbers done told before after (inr wants) is =
       let same : one ≡ error = cc in
       inl (sym same ∙ (λ i. record { chunk = wants.chunk i; error = wants.memory i }))
 
   -- every lane's place
-  found_at : (error : ChunkError) (k : ℕ) (d : Lane) (lanes : List Lane) (befores afters : List SourceState) → Each lanes befores afters → k < length lanes → (slice_index_or lanes k d).error ≡ Some error → Found error lanes befores afters
+  found_at : (error : ChunkError) (k : ℕ) (d : Lane) (lanes : List Lane) (befores afters : List SourceState) → Each claims plans chunks lanes befores afters → k < length lanes → (slice_index_or lanes k d).error ≡ Some error → Found error lanes befores afters
   found_at error k d [] [] [] each within is = absurd (omega (arith, within))
   found_at error k d [] [] (after ∷ afters) each within is = absurd each
   found_at error k d [] (before ∷ befores) afters each within is = absurd each
@@ -165,7 +86,7 @@ module _ (claims : Claims) (plans : ScanPlans) (chunks : List SelectedRows) wher
   found_at error k d (lane ∷ lanes) (before ∷ befores) [] each within is = absurd each
   found_at error zero d (lane ∷ lanes) (before ∷ befores) (after ∷ afters) each within is = by_case (lane_error error lane.error lane.claimed.items (numbers_of lane.pieces.items) (was_told lane.seat) before after each.0.ends is)
     where
-      by_case : (error ≡ no_memory) ⊎ (Fails plans chunks error before after × (1 ≤ times error.chunk lane.claimed.items)) → Found error (lane ∷ lanes) (before ∷ befores) (after ∷ afters)
+      by_case : (error ≡ no_memory) ⊎ (FailsLast plans chunks error lane.claimed.items before after × (1 ≤ times error.chunk lane.claimed.items)) → Found error (lane ∷ lanes) (before ∷ befores) (after ∷ afters)
       by_case (inl memory) = inl memory
       by_case (inr fails) =
           let cons = sum_by-cons (claimed_times error.chunk) lane lanes in
@@ -181,7 +102,7 @@ module _ (claims : Claims) (plans : ScanPlans) (chunks : List SelectedRows) wher
           let some = fails.1 in
           inr (inr fails.0, omega (arith, cons, some))
 
-  found_from : (error : ChunkError) (lanes : List Lane) (befores afters : List SourceState) → Each lanes befores afters → IsFrom lanes (Some error) → Found error lanes befores afters
+  found_from : (error : ChunkError) (lanes : List Lane) (befores afters : List SourceState) → Each claims plans chunks lanes befores afters → IsFrom lanes (Some error) → Found error lanes befores afters
   found_from error lanes befores afters each (inl memory) = inl memory
   found_from error lanes befores afters each (inr any) = found_at error any.0 any.1 lanes befores afters each any.2 (ap (λ (lane : Lane). lane.error) any.3 ∙ any.4)
 
@@ -204,22 +125,36 @@ module _ (claims : Claims) (plans : ScanPlans) (chunks : List SelectedRows) wher
       let piece : Piece = slice_index_or pieces k d in
       subst P any.4.2 (here any.4.0 piece any.4.1)
 
-  pub executed : (outcome : Outcome) (lanes : List Lane) (befores afters : List SourceState) → 0 < length lanes → Each lanes befores afters → Finishes (length chunks) lanes outcome → Executed plans chunks outcome befores afters
+  pub executed : (outcome : Outcome) (lanes : List Lane) (befores afters : List SourceState) → 0 < length lanes → Each claims plans chunks lanes befores afters → Finishes (length chunks) lanes outcome → Executed plans chunks outcome befores afters
   executed outcome lanes befores afters some each finishes = record {
     apart = once_apart (length chunks) outcome.claimed.items (λ x. let same = over x in let once = finishes.once x in omega (arith, same, once));
     whole = λ none. each_whole (length chunks) outcome.claimed.items (λ x. over x ∙ whole none x);
+    ascend = subst (λ (lists : List (List ℕ)). AllByRecursion Ascend lists) (sym finishes.lists) (each_ascend claims plans chunks lanes befores afters each);
     claimed = λ x.
         let most = finishes.some_pieces x in
-        let less = sums_less (done_times x) (claimed_times x) lanes (all_by (Worked claims plans chunks) (λ lane. done_times x lane ≤ claimed_times x lane) (lane_done x) lanes befores afters each) in
+        let less = done_less claims plans chunks x lanes befores afters each in
         let same = over x in
         omega (arith, most, less, same);
     sorted = finishes.sorted;
     complete = λ none. in_order_once (length chunks) (numbers_of outcome.pieces.items) (numbers_in_order outcome.pieces.items finishes.sorted) (λ x.
-        finishes.pieces x (subst (λ (error : Option ChunkError). IsBelow error x) (sym none) tt)
-        ∙ pieces_below x None lanes befores afters each tt (at_none none) ∙ whole none x);
+        finishes.pieces (not_lacking x outcome.error (subst (λ (error : Option ChunkError). IsBelow error x) (sym none) tt)) x
+        ∙ pieces_below claims plans chunks x None lanes befores afters each tt (at_none none) ∙ whole none x);
     content = λ file tell. of_lanes (IsPieceOf (leaves_of (bytes_of plans file)) plans chunks) lanes outcome.pieces.items finishes.given (all_content file lanes befores afters each tell);
     dtype = of_lanes (HasDtype plans) lanes outcome.pieces.items finishes.given (all_by (Worked claims plans chunks) (λ lane. All (HasDtype plans) lane.pieces.items) (λ lane before after worked. worked.dtype) lanes befores afters each);
+    rows = of_lanes (HasItsRows chunks) lanes outcome.pieces.items finishes.given (all_by (Worked claims plans chunks) (λ lane. All (HasItsRows chunks) lane.pieces.items) (λ lane before after worked. worked.rows) lanes befores afters each);
     cause = cause_of outcome.error refl;
+    stops = λ enough. subst (λ (lists : List (List ℕ)). AllByRecursion (StopsAtLast outcome.pieces.items) lists) (sym finishes.lists) (each_stops claims plans chunks outcome.pieces.items lanes befores afters each (λ x some.
+        let same = finishes.pieces enough x in
+        let less = done_less claims plans chunks x lanes befores afters each in
+        let once = finishes.once x in
+        let one = once_at_most (length chunks) x in
+        omega (arith, some, same, less, once, one)));
+    faults = subst (λ (lists : List (List ℕ)). EachSourceBy (FaultsAtLast outcome.pieces.items) lists befores afters) (sym finishes.lists) (each_faults claims plans chunks outcome.pieces.items lanes befores afters each (λ x less.
+        let most = finishes.some_pieces x in
+        let once = finishes.once x in
+        let one = once_at_most (length chunks) x in
+        omega (arith, less, most, once, one)));
+    quiet = λ none. all_quiet claims plans chunks lanes befores afters each (at_none none);
     sources = subst (λ (lists : List (List ℕ)). EachSourceBy (RunsSource plans chunks) lists befores afters) (sym finishes.lists) (each_source lanes befores afters each);
     reruns = finishes.reruns;
   }
@@ -232,19 +167,19 @@ module _ (claims : Claims) (plans : ScanPlans) (chunks : List SelectedRows) wher
 
       whole : outcome.error ≡ None → (x : ℕ) → sum_by (claimed_times x) lanes ≡ once_below (length chunks) x
       whole none x =
-          let told = all_by (Worked claims plans chunks) (λ lane. IsAtMost None lane.error → was_told lane.seat ≡ true) (λ lane before after worked most. told_end lane lane.error before after most worked.ends) lanes befores afters each in
+          let told = all_by (Worked claims plans chunks) (λ lane. IsAtMost None lane.error → was_told lane.seat ≡ true) (λ lane before after worked most. told_end claims plans chunks lane lane.error before after most worked.ends) lanes befores afters each in
           let least = at_none none in
           finishes.whole some (λ k d within. told k d within (least k d within)) x
 
-      lowest_of : (error : ChunkError) → outcome.error ≡ Some error → Found error lanes befores afters → (error ≡ no_memory) ⊎ FailsLowest plans chunks error outcome.pieces.items befores afters
+      lowest_of : (error : ChunkError) → outcome.error ≡ Some error → Found error lanes befores afters → (error ≡ no_memory) ⊎ FailsLowest plans chunks error outcome.pieces.items outcome.claimed.items befores afters
       lowest_of error is (inl memory) = inl memory
       lowest_of error is (inr found) = inr record {
-        fails = found.0;
+        fails = subst (λ (lists : List (List ℕ)). SomeSourceBy (FailsLast plans chunks error) lists befores afters) (sym finishes.lists) found.0;
         lower = λ x less.
             let below = subst (λ (one : Option ChunkError). IsBelow one x) (sym is) less in
-            finishes.pieces x below ∙ pieces_below x outcome.error lanes befores afters each below finishes.lowest ∙ finishes.lower x error.chunk found.1 less;
+            finishes.pieces (not_lacking x outcome.error below) x ∙ pieces_below claims plans chunks x outcome.error lanes befores afters each below finishes.lowest ∙ finishes.lower x error.chunk found.1 less;
       }
 
-      cause_of : (error : Option ChunkError) → outcome.error ≡ error → IfSome error (λ one. (one ≡ no_memory) ⊎ FailsLowest plans chunks one outcome.pieces.items befores afters)
+      cause_of : (error : Option ChunkError) → outcome.error ≡ error → IfSome error (λ one. (one ≡ no_memory) ⊎ FailsLowest plans chunks one outcome.pieces.items outcome.claimed.items befores afters)
       cause_of None is = tt
       cause_of (Some error) is = lowest_of error is (found_from error lanes befores afters each (subst (IsFrom lanes) is finishes.from))

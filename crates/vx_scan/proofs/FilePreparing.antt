@@ -46,6 +46,7 @@ use Rattle.vx_scan.specs.Plans.{AreInOrder}
 use Rattle.vx_scan.specs.Preparing.{ArePlansOf, AreChunksOf, IsPlannedFor, IsProjectedBy, IsProjectedIn, LiesInside}
 use Rattle.vx_scan.specs.Builders.{new_building}
 use Rattle.vx_scan.specs.Settings.{building_of, new_settings, scan_by}
+use Rattle.vx_scan.proofs.ApartDictionaries.{good_apart}
 use Rattle.vx_scan.proofs.ProjectedPlans.{projected_plan, projection_plan_is}
 
 -- ---- the root of a file
@@ -153,6 +154,7 @@ planned_for p nodes old new child number good root_is typed bound holds projecte
       plan_is = projection_plan_is p old new child number (is_root p.expression.term) holds.plan_is projected;
       plan = λ offset. projected_plan (record p { offset = offset }) old new child number (is_root p.expression.term) refl (can_be_planned nodes (record p { offset = offset }) good root_is (subst IsSome (sym own) refl)) own holds.plan_is projected;
       numbers = numbers_all (is_root p.expression.term) p old new p.expression child number holds projected;
+      apart = good_apart nodes p good root_is;
     }
 
 -- from which number on rows are counted doesn't count for the plan
@@ -173,6 +175,7 @@ prepared_plans file settings plans planned locations ranges offset limit = recor
   offset = offset;
   numbers = planned.numbers;
   limit_is = limit;
+  apart = planned.apart;
 }
 
 -- ---- the chunks

@@ -4,72 +4,115 @@ use native.Mathlib.Decide.{ℕ_discrete}
 use mathlib.Core.Logic.{dite}
 use Rattle.std.specs.Prelude.{Option, IfSome, IsSomeAnd}
 use Rattle.std.specs.List.{slice_get, All, AllByRecursion, flat_map}
+use Rattle.std.proofs.lemmas.Bool.{cases_lt}
 use Rattle.std.proofs.lemmas.List.{length-map, map-append}
 use Rattle.std.proofs.lemmas.List.Elements.{All-nil, All-head, All-tail}
 use Rattle.std.proofs.lemmas.List.Sums.{sum_by-cons}
 use Rattle.vx_base.specs.Columns.{ColumnData}
+use Rattle.vx_base.specs.Masks.{true_count}
 use Rattle.vx_base.specs.Sources.{SourceState}
 use Rattle.vx_claims.specs.Apart.{times, times_over}
-use Rattle.vx_claims.proofs.Numbers.{times_append, times_itself, times_other}
+use Rattle.vx_claims.proofs.Numbers.{times_other}
 use Rattle.vx_rows.specs.Derivations.{Leaves}
 use Rattle.vx_rows.specs.Reads.{IsAmong}
 use Rattle.vx_rows.specs.SegmentLeaves.{leaves_of}
 use Rattle.vx_splits.specs.declared.selected_rows.SelectedRows.{SelectedRows}
 use Rattle.vx_scan.specs.declared.errors.ScanError.{ScanError}
-use Rattle.vx_scan.specs.declared.errors.ScanError.TheVariants.{Memory}
+use Rattle.vx_scan.specs.declared.errors.ScanError.TheVariants.{BadProjection, OffsetOverflow, OutOfRange, Unsupported, NoLocation, ReadFault, Stalled, BadSegment, BadCode, EvalFault, Memory}
 use Rattle.vx_scan.specs.declared.lanes.ChunkError.{ChunkError}
 use Rattle.vx_scan.specs.declared.lanes.Piece.{Piece}
 use Rattle.vx_scan.specs.declared.outcomes.Outcome.{Outcome}
 use Rattle.vx_scan.specs.declared.plans.ScanPlans.{ScanPlans}
 use Rattle.vx_scan.specs.Asks.{IsLeftClear, Lasts}
 use Rattle.vx_scan.specs.BatchColumns.{Told, TakesBatches}
-use Rattle.vx_scan.specs.Batches.{AreBatches, HasPiece, Share, reasons_in, AsksOver, LowestFailure, GivesBatches}
+use Rattle.vx_scan.specs.Batches.{AreBatches, FaultsFrom, HasPiece, HavePiecesButLast, Share, reasons_in, AsksOver, LowestFailure, GivesBatches}
 use Rattle.vx_scan.specs.ChunkRows.{IsPiece}
 use Rattle.vx_scan.specs.Fetched.{AreDistinct}
-use Rattle.vx_scan.specs.Executes.{stretch, FailsLowest, Executed, Executes}
+use Rattle.vx_scan.specs.Executes.{stretch, FailsLowest, FaultsAtLast, StopsAtLast, Executed, Executes}
 use Rattle.vx_scan.specs.Gathers.{no_memory}
-use Rattle.vx_scan.specs.Lent.{EachSource, SomeSource, EachSourceBy}
-use Rattle.vx_scan.specs.Outcomes.{Causes, told_by}
+use Rattle.vx_scan.specs.Lent.{EachSource, EachSourceBy, SomeSourceBy}
 use Rattle.vx_scan.specs.Plans.{bytes_of, projection_node}
 use Rattle.vx_scan.specs.Reasons.{Reason, chunk_and_segment}
-use Rattle.vx_scan.specs.Workers.{HasDtype, IsPieceOf, numbers_of, AsksReached, RunsSource, Fails}
+use Rattle.vx_scan.specs.Workers.{HasDtype, HasItsRows, IsPieceOf, numbers_of, IsLast, AsksReached, RunsSource, FailsLast}
 use Rattle.vx_scan.proofs.Distinct.{distinct_none, distinct_then, apart_from}
+use Rattle.vx_scan.proofs.LaneEnds.{among_stands}
+use Rattle.vx_scan.proofs.LentSources.{each_by}
 use Rattle.vx_scan.proofs.Sessions.{asked_nothing}
 
 -- ---- the batches
 
-module _ (leaves : Leaves) (plans : ScanPlans) (all : List SelectedRows) where
+each_weaker : {X : Type 0} (P Q : X → Type 0) → ((x : X) → P x → Q x) → (xs : List X) → AllByRecursion P xs → AllByRecursion Q xs
+each_weaker P Q from [] each = tt
+each_weaker P Q from (x ∷ xs) each = (from x each.0, each_weaker P Q from xs each.1)
+
+module _ (all : List SelectedRows) where
   -- these chunks are those from that place on
   abbrev StandFrom : ℕ → List SelectedRows → Type 0
   StandFrom first chunks = (i : ℕ) (chunk : SelectedRows) → slice_get chunks i ≡ Some chunk → slice_get all (first + i) ≡ Some chunk
 
+  stand_here : (first : ℕ) (chunk : SelectedRows) (chunks : List SelectedRows) → StandFrom first (chunk ∷ chunks) → slice_get all first ≡ Some chunk
+  stand_here first chunk chunks stand = let start : first + 0 ≡ first = omega arith in ap (slice_get all) (sym start) ∙ stand 0 chunk refl
+
+  stand_next : (first : ℕ) (chunk : SelectedRows) (chunks : List SelectedRows) → StandFrom first (chunk ∷ chunks) → StandFrom (suc first) chunks
+  stand_next first chunk chunks stand i other got = let next : suc first + i ≡ first + suc i = omega arith in ap (slice_get all) next ∙ stand (suc i) other got
+
+  rows_at : (number : ℕ) (chunk : SelectedRows) (piece : Piece) → piece.chunk ≡ number → slice_get all number ≡ Some chunk → HasItsRows all piece → length piece.column.values ≡ true_count chunk.mask
+  rows_at number chunk piece same here has =
+      subst (λ (one : Option SelectedRows). IsSomeAnd one (λ other. length piece.column.values ≡ true_count other.mask)) (ap (slice_get all) same ∙ here) has
+
+  rows_from : (first : ℕ) (chunks : List SelectedRows) (pieces : List Piece) → StandFrom first chunks → numbers_of pieces ≡ stretch first (length chunks) → All (HasItsRows all) pieces
+      → map (λ (batch : ColumnData). length batch.values) (map (λ (piece : Piece). piece.column) pieces) ≡ map (λ (chunk : SelectedRows). true_count chunk.mask) chunks
+  rows_from first [] [] stand numbers have = refl
+  rows_from first [] (piece ∷ pieces) stand numbers have = absurd cc
+  rows_from first (chunk ∷ chunks) [] stand numbers have = absurd cc
+  rows_from first (chunk ∷ chunks) (piece ∷ pieces) stand numbers have =
+      let same : piece.chunk ≡ first = cc in
+      let next : numbers_of pieces ≡ stretch (suc first) (length chunks) = cc in
+      let one = rows_at first chunk piece same (stand_here first chunk chunks stand) (All-head (HasItsRows all) piece pieces have) in
+      let rest = rows_from (suc first) chunks pieces (stand_next first chunk chunks stand) next (All-tail (HasItsRows all) piece pieces have) in
+      (λ k. one k ∷ rest k)
+
+module _ (leaves : Leaves) (plans : ScanPlans) (all : List SelectedRows) where
   piece_at : (number : ℕ) (chunk : SelectedRows) (piece : Piece) → piece.chunk ≡ number → slice_get all number ≡ Some chunk → IsPieceOf leaves plans all piece → IsPiece leaves plans [] chunk piece.column
   piece_at number chunk piece same here is =
       subst (λ (one : Option SelectedRows). IsSomeAnd one (λ other. IsPiece leaves plans [] other piece.column)) (ap (slice_get all) same ∙ here) is
 
-  batches_from : (first : ℕ) (chunks : List SelectedRows) (pieces : List Piece) → StandFrom first chunks → numbers_of pieces ≡ stretch first (length chunks) → All (IsPieceOf leaves plans all) pieces
+  batches_from : (first : ℕ) (chunks : List SelectedRows) (pieces : List Piece) → StandFrom all first chunks → numbers_of pieces ≡ stretch first (length chunks) → All (IsPieceOf leaves plans all) pieces
       → AreBatches leaves plans chunks (map (λ (piece : Piece). piece.column) pieces)
   batches_from first [] [] stand numbers are = tt
   batches_from first [] (piece ∷ pieces) stand numbers are = absurd cc
   batches_from first (chunk ∷ chunks) [] stand numbers are = absurd cc
   batches_from first (chunk ∷ chunks) (piece ∷ pieces) stand numbers are =
       let same : piece.chunk ≡ first = cc in
-      let rest : numbers_of pieces ≡ stretch (suc first) (length chunks) = cc in
-      let start : first + 0 ≡ first = omega arith in
-      let here : slice_get all first ≡ Some chunk = ap (slice_get all) (sym start) ∙ stand 0 chunk refl in (
-        piece_at first chunk piece same here (All-head (IsPieceOf leaves plans all) piece pieces are),
-        batches_from (suc first) chunks pieces (λ i other got. let next : suc first + i ≡ first + suc i = omega arith in ap (slice_get all) next ∙ stand (suc i) other got) rest
-            (All-tail (IsPieceOf leaves plans all) piece pieces are),
+      let rest : numbers_of pieces ≡ stretch (suc first) (length chunks) = cc in (
+        piece_at first chunk piece same (stand_here all first chunk chunks stand) (All-head (IsPieceOf leaves plans all) piece pieces are),
+        batches_from (suc first) chunks pieces (stand_next all first chunk chunks stand) rest (All-tail (IsPieceOf leaves plans all) piece pieces are),
       )
 
+  its_piece : (piece : Piece) (got : Option SelectedRows) → IsSomeAnd got (λ chunk. IsPiece leaves plans [] chunk piece.column) → IsSomeAnd got (HasPiece leaves plans)
+  its_piece piece None is = absurd is
+  its_piece piece (Some chunk) is = (piece.column, is)
+
   -- a chunk whose number stands among those of the pieces
-  has_piece : (number : ℕ) (chunk : SelectedRows) (pieces : List Piece) → slice_get all number ≡ Some chunk → 1 ≤ times number (numbers_of pieces) → All (IsPieceOf leaves plans all) pieces → HasPiece leaves plans chunk
-  has_piece number chunk [] here some are = absurd (omega (arith, some))
-  has_piece number chunk (piece ∷ pieces) here some are = dite (ℕ_discrete piece.chunk number)
-      (λ same. (piece.column, piece_at number chunk piece same here (All-head (IsPieceOf leaves plans all) piece pieces are)))
+  has_piece : (number : ℕ) (pieces : List Piece) → 1 ≤ times number (numbers_of pieces) → All (IsPieceOf leaves plans all) pieces → IsSomeAnd (slice_get all number) (HasPiece leaves plans)
+  has_piece number [] some are = absurd (omega (arith, some))
+  has_piece number (piece ∷ pieces) some are = dite (ℕ_discrete piece.chunk number)
+      (λ same.
+      subst (λ (n : ℕ). IsSomeAnd (slice_get all n) (HasPiece leaves plans)) same (its_piece piece (slice_get all piece.chunk) (All-head (IsPieceOf leaves plans all) piece pieces are)))
       (λ differs.
       let other = times_other number piece.chunk (numbers_of pieces) differs in
-      has_piece number chunk pieces here (omega (arith, other, some)) (All-tail (IsPieceOf leaves plans all) piece pieces are))
+      has_piece number pieces (omega (arith, other, some)) (All-tail (IsPieceOf leaves plans all) piece pieces are))
+
+  chunk_piece : (number : ℕ) (chunk : SelectedRows) (pieces : List Piece) → slice_get all number ≡ Some chunk → 1 ≤ times number (numbers_of pieces) → All (IsPieceOf leaves plans all) pieces → HasPiece leaves plans chunk
+  chunk_piece number chunk pieces here some are = subst (λ (got : Option SelectedRows). IsSomeAnd got (HasPiece leaves plans)) here (has_piece number pieces some are)
+
+  pieces_but_last : (pieces : List Piece) → All (IsPieceOf leaves plans all) pieces → (lists : List (List ℕ)) → AllByRecursion (StopsAtLast pieces) lists → AllByRecursion (HavePiecesButLast leaves plans all) lists
+  pieces_but_last pieces are lists stop =
+      each_weaker (StopsAtLast pieces) (HavePiecesButLast leaves plans all) (λ numbers stops x among. by_case x numbers (stops x among)) lists stop
+    where
+      by_case : (x : ℕ) (numbers : List ℕ) → (times x (numbers_of pieces) ≡ 1) ⊎ IsLast x numbers → IsSomeAnd (slice_get all x) (HasPiece leaves plans) ⊎ IsLast x numbers
+      by_case x numbers (inl one) = inl (has_piece x pieces (omega (arith, one)) are)
+      by_case x numbers (inr last) = inr last
 
 -- what holds of each of the first so many
 all_taken : (P : SelectedRows → Type 0) (k : ℕ) (xs : List SelectedRows) → ((i : ℕ) (x : SelectedRows) → i < k → slice_get xs i ≡ Some x → P x) → AllByRecursion P (take k xs)
@@ -85,21 +128,23 @@ all_dtypes : (plans : ScanPlans) (pieces : List Piece) → All (HasDtype plans) 
 all_dtypes plans [] are = tt
 all_dtypes plans (piece ∷ pieces) are = (All-head (HasDtype plans) piece pieces are, all_dtypes plans pieces (All-tail (HasDtype plans) piece pieces are))
 
+some_same : {one two : ChunkError} → Some one ≡ Some two → one ≡ two
+some_same is = cc
+
+is_memory : (error : ScanError) → (error ≡ Memory) ⊎ (error ≢ Memory)
+is_memory BadProjection = inr (λ same. cc)
+is_memory OffsetOverflow = inr (λ same. cc)
+is_memory OutOfRange = inr (λ same. cc)
+is_memory (Unsupported list) = inr (λ same. cc)
+is_memory (NoLocation segment) = inr (λ same. cc)
+is_memory ReadFault = inr (λ same. cc)
+is_memory Stalled = inr (λ same. cc)
+is_memory (BadSegment segment) = inr (λ same. cc)
+is_memory (BadCode code row) = inr (λ same. cc)
+is_memory (EvalFault row) = inr (λ same. cc)
+is_memory Memory = inl refl
+
 -- ---- what all sources were asked for
-
-among_stands : (x : ℕ) (numbers : List ℕ) → IsAmong x numbers → 1 ≤ times x numbers
-among_stands x [] among = absurd among
-among_stands x (n ∷ ns) (inl same) =
-    let here : times x (n ∷ ns) ≡ 1 + times x ns = ap (λ (m : ℕ). times x (m ∷ ns)) same ∙ times_itself x ns in
-    omega (arith, here)
-among_stands x (n ∷ ns) (inr among) =
-    let rest = among_stands x ns among in
-    let more : times x (n ∷ ns) ≡ times x (n ∷ []) + times x ns = times_append x (n ∷ []) ns in
-    omega (arith, rest, more)
-
-each_weaker : {X : Type 0} (P Q : X → Type 0) → ((x : X) → P x → Q x) → (xs : List X) → AllByRecursion P xs → AllByRecursion Q xs
-each_weaker P Q from [] each = tt
-each_weaker P Q from (x ∷ xs) each = (from x each.0, each_weaker P Q from xs each.1)
 
 each_then : {X : Type 0} (P : X → Type 0) (xs ys : List X) → AllByRecursion P xs → AllByRecursion P ys → AllByRecursion P (xs ++ ys)
 each_then P [] ys each others = others
@@ -174,38 +219,59 @@ module _ (plans : ScanPlans) (chunks : List SelectedRows) where
 
   -- ---- why there are none
 
-  -- on which chunk and for which cause it failed
-  abbrev FailsThere : ChunkError → List SourceState → List SourceState → Type 0
-  FailsThere error befores afters =
-      (chunk : SelectedRows) × (slice_get chunks error.chunk ≡ Some chunk) × SomeSource (λ before after. Causes (told_by plans before) plans [] chunk error.error before after) befores afters
-
-  fails_there : (error : ChunkError) (befores afters : List SourceState) → SomeSource (λ before after. Fails plans chunks error before after) befores afters → FailsThere error befores afters
-  fails_there error [] afters fails = absurd fails
-  fails_there error (before ∷ befores) [] fails = absurd fails
-  fails_there error (before ∷ befores) (after ∷ afters) (inl fails) = (fails.chunk, fails.here, inl fails.cause)
-  fails_there error (before ∷ befores) (after ∷ afters) (inr fails) = let rest = fails_there error befores afters fails in (rest.0, rest.1, inr rest.2)
+  -- on which chunk it failed
+  fails_there : (error : ChunkError) (lists : List (List ℕ)) (befores afters : List SourceState) → SomeSourceBy (FailsLast plans chunks error) lists befores afters → (chunk : SelectedRows) × (slice_get chunks error.chunk ≡ Some chunk)
+  fails_there error [] befores afters fails = absurd fails
+  fails_there error (list ∷ lists) [] afters fails = absurd fails
+  fails_there error (list ∷ lists) (before ∷ befores) [] fails = absurd fails
+  fails_there error (list ∷ lists) (before ∷ befores) (after ∷ afters) (inl fails) = (fails.fails.chunk, fails.fails.here)
+  fails_there error (list ∷ lists) (before ∷ befores) (after ∷ afters) (inr fails) = fails_there error lists befores afters fails
 
   module _ (outcome : Outcome) (befores afters : List SourceState) where
-    lowest_of : (error : ScanError) → Executed plans chunks outcome befores afters → (told : Told outcome error) → (told.failed ≡ no_memory) ⊎ FailsLowest plans chunks told.failed outcome.pieces.items befores afters
+    -- what has no piece isn't below the chunk that failed
+    faults_from : (place : ℕ) (list : List ℕ) (before after : SourceState) → ((x : ℕ) → x < place → times x (numbers_of outcome.pieces.items) ≡ 1) → FaultsAtLast outcome.pieces.items list before after → FaultsFrom place list before after
+    faults_from place list before after lower (inl same) = inl same
+    faults_from place list before after lower (inr (last, is, none)) = by_order (cases_lt last place)
+      where
+        by_order : (last < place) ⊎ (place ≤ last) → FaultsFrom place list before after
+        by_order (inl less) = let one = lower last less in absurd (omega (arith, one, none))
+        by_order (inr least) = inr (last, is, least)
+
+    lowest_of : (error : ScanError) → outcome.error ≢ Some no_memory → Executed plans chunks outcome befores afters → (told : Told outcome error) → (told.failed ≡ no_memory) ⊎ FailsLowest plans chunks told.failed outcome.pieces.items outcome.claimed.items befores afters
         → (error ≡ Memory) ⊎ LowestFailure plans chunks error befores afters
-    lowest_of error executed told (inl memory) = inl (sym told.why ∙ ap (λ (failed : ChunkError). failed.error) memory)
-    lowest_of error executed told (inr fails) =
-        let there = fails_there told.failed befores afters fails.fails in
+    lowest_of error enough executed told (inl memory) = inl (sym told.why ∙ ap (λ (failed : ChunkError). failed.error) memory)
+    lowest_of error enough executed told (inr fails) =
+        let there = fails_there told.failed outcome.claimed.items befores afters fails.fails in
         inr record {
           place = told.failed.chunk;
           chunk = there.0;
           here = there.1;
-          cause = subst (λ (one : ScanError). SomeSource (λ before after. Causes (told_by plans before) plans [] there.0 one before after) befores afters) told.why there.2;
+          claims = outcome.claimed.items;
+          apart = executed.apart;
+          ascend = executed.ascend;
+          all_before = λ x less. let one = fails.lower x less in let most = executed.claimed x in let once = executed.apart.once x in omega (arith, one, most, once);
+          ran = executed.sources;
+          faults = each_by (FaultsAtLast outcome.pieces.items) (FaultsFrom told.failed.chunk) (λ list before after at_last. faults_from told.failed.chunk list before after fails.lower at_last) outcome.claimed.items befores afters executed.faults;
+          cause = subst (λ (one : ScanError). SomeSourceBy (FailsLast plans chunks (record { chunk = told.failed.chunk; error = one })) outcome.claimed.items befores afters) told.why fails.fails;
           lower = λ file tell.
               all_taken (HasPiece (leaves_of (bytes_of plans file)) plans) told.failed.chunk chunks (λ i chunk less here.
               let one = fails.lower i less in
-              has_piece (leaves_of (bytes_of plans file)) plans chunks i chunk outcome.pieces.items here (omega (arith, one)) (executed.content file tell));
+              chunk_piece (leaves_of (bytes_of plans file)) plans chunks i chunk outcome.pieces.items here (omega (arith, one)) (executed.content file tell));
+          stops = λ file tell. pieces_but_last (leaves_of (bytes_of plans file)) plans chunks outcome.pieces.items (executed.content file tell) outcome.claimed.items (executed.stops enough);
         }
 
     cause_of : (error : ScanError) → Executed plans chunks outcome befores afters → TakesBatches outcome (Err error) → (error ≡ Memory) ⊎ LowestFailure plans chunks error befores afters
     cause_of error executed (inl memory) = inl memory
-    cause_of error executed (inr told) =
-        lowest_of error executed told (subst (λ (one : Option ChunkError). IfSome one (λ failed. (failed ≡ no_memory) ⊎ FailsLowest plans chunks failed outcome.pieces.items befores afters)) told.is executed.cause)
+    cause_of error executed (inr told) = by_memory (is_memory error)
+      where
+        -- want of memory outside of a run is want of memory
+        enough : error ≢ Memory → outcome.error ≢ Some no_memory
+        enough other lacks = let same : told.failed ≡ no_memory = some_same (sym told.is ∙ lacks) in other (sym told.why ∙ ap (λ (failed : ChunkError). failed.error) same)
+
+        by_memory : (error ≡ Memory) ⊎ (error ≢ Memory) → (error ≡ Memory) ⊎ LowestFailure plans chunks error befores afters
+        by_memory (inl memory) = inl memory
+        by_memory (inr other) =
+            lowest_of error (enough other) executed told (subst (λ (one : Option ChunkError). IfSome one (λ failed. (failed ≡ no_memory) ⊎ FailsLowest plans chunks failed outcome.pieces.items outcome.claimed.items befores afters)) told.is executed.cause)
 
     asks_of : Executed plans chunks outcome befores afters → AsksOver plans chunks befores afters
     asks_of executed =
@@ -222,6 +288,9 @@ module _ (plans : ScanPlans) (chunks : List SelectedRows) where
               (batches_from (leaves_of (bytes_of plans file)) plans chunks 0 chunks outcome.pieces.items (λ i chunk here. let at : 0 + i ≡ i = omega arith in ap (slice_get chunks) at ∙ here) numbers (executed.content file tell));
           count = ap length takes.1 ∙ length-map outcome.pieces.items (λ (piece : Piece). piece.column) ∙ sym (length-map outcome.pieces.items (λ (piece : Piece). piece.chunk)) ∙ ap length numbers ∙ length_stretch 0 (length chunks);
           dtype = subst (AllByRecursion (λ (batch : ColumnData). batch.dtype ≡ (projection_node plans).dtype)) (sym takes.1) (all_dtypes plans outcome.pieces.items executed.dtype);
+          rows = ap (map (λ (batch : ColumnData). length batch.values)) takes.1
+              ∙ rows_from chunks 0 chunks outcome.pieces.items (λ i chunk here. let at : 0 + i ≡ i = omega arith in ap (slice_get chunks) at ∙ here) numbers executed.rows;
+          faults = executed.quiet takes.0;
           asks = asks_of executed;
           cause = tt;
           lasts = each_from Lasts (λ list before after runs. runs.lasts) outcome.claimed.items befores afters executed.sources;
@@ -231,6 +300,8 @@ module _ (plans : ScanPlans) (chunks : List SelectedRows) where
       content = tt;
       count = tt;
       dtype = tt;
+      rows = tt;
+      faults = tt;
       asks = asks_of executed;
       cause = cause_of error executed takes;
       lasts = each_from Lasts (λ list before after runs. runs.lasts) outcome.claimed.items befores afters executed.sources;
@@ -254,6 +325,7 @@ module _ (plans : ScanPlans) (chunks : List SelectedRows) where
     asked = sym (asked_nothing source.asked);
     once_a_chunk = distinct_none;
     once_a_leaf = λ order together. distinct_none;
+    once_a_take = λ order together. distinct_none;
   }
 
   all_idle : (sources : List SourceState) → AsksShares (idle_shares sources) sources sources
@@ -273,9 +345,6 @@ module _ (plans : ScanPlans) (chunks : List SelectedRows) where
   idle_cause outcome error none (inr told) =
       let same : told.failed ≡ no_memory = some_same (sym told.is ∙ none) in
       sym told.why ∙ ap (λ (failed : ChunkError). failed.error) same
-    where
-      some_same : {one two : ChunkError} → Some one ≡ Some two → one ≡ two
-      some_same is = cc
 
   from_nothing : (outcome : Outcome) (sources : List SourceState) (result : Result (Vec ColumnData Global) ScanError) → outcome.error ≡ Some no_memory → TakesBatches outcome result → GivesBatches plans chunks result sources sources
   from_nothing outcome sources (Ok batches) none takes = let is : Some no_memory ≡ None = sym none ∙ takes.0 in absurd cc
@@ -283,6 +352,8 @@ module _ (plans : ScanPlans) (chunks : List SelectedRows) where
     content = tt;
     count = tt;
     dtype = tt;
+    rows = tt;
+    faults = tt;
     asks = record { shares = idle_shares sources; each = all_idle sources; once_a_chunk = idle_distinct sources };
     cause = inl (idle_cause outcome error none takes);
     lasts = each_idle Lasts (λ source. record { file = refl; faults = omega arith; idle = omega arith }) sources;

@@ -16,7 +16,7 @@ use Rattle.vx_scan.specs.declared.lanes.ChunkError.{ChunkError}
 use Rattle.vx_scan.specs.declared.lanes.Lane.{Lane}
 use Rattle.vx_scan.specs.declared.lanes.Piece.{Piece}
 use Rattle.vx_scan.specs.Workers.{numbers_of}
-use Rattle.vx_scan.specs.Gathers.{lower_of, IsAtMost, IsBelow, no_memory, IsFrom, claimed_times, done_times, IsOfLane, Gathers}
+use Rattle.vx_scan.specs.Gathers.{lower_of, IsAtMost, no_memory, IsFrom, claimed_times, done_times, IsOfLane, Gathers}
 
 -- ---- the lower error
 
@@ -44,10 +44,16 @@ at_most_over least None (Some other) one two = absurd two
 at_most_over None (Some error) (Some other) one two = absurd one
 at_most_over (Some least) (Some error) (Some other) one two = omega (arith, one, two)
 
-below_first : (least error : Option ChunkError) (x : ℕ) → IsAtMost least error → IsBelow least x → IsBelow error x
-below_first least None x most below = tt
-below_first None (Some error) x most below = absurd most
-below_first (Some least) (Some error) x most below = omega (arith, most, below)
+-- nothing takes the place of want of memory
+lower_kept : (one two : ChunkError) → one.chunk ≤ two.chunk → lower_of (Some one) (Some two) ≡ Some one
+lower_kept one two least = rw (le-ltb two.chunk one.chunk least) refl
+
+still_lacking : (error other : Option ChunkError) → error ≡ Some no_memory → lower_of error other ≡ Some no_memory
+still_lacking error other lacks = ap (λ (one : Option ChunkError). lower_of one other) lacks ∙ by_other other
+  where
+    by_other : (other : Option ChunkError) → lower_of (Some no_memory) other ≡ Some no_memory
+    by_other None = refl
+    by_other (Some two) = lower_kept no_memory two (omega arith)
 
 lower_is : (error other : Option ChunkError) → (lower_of error other ≡ error) ⊎ (lower_of error other ≡ other)
 lower_is None other = inr refl
@@ -123,8 +129,8 @@ takes_lane claims left lanes lane seat new lists pieces error gathers takes = re
   claimed = λ x. takes_claimed claims lanes lane seat new x (gathers.claimed x) takes;
   untold = takes_untold claims lanes lane seat new gathers.untold takes;
   all_lists = ap (λ (ls : List (List ℕ)). ls ++ lane.claimed.items ∷ []) gathers.all_lists ∙ sym (map-append (λ (one : Lane). one.claimed.items) lanes (lane ∷ []));
-  all_pieces = λ x below.
-      let before = gathers.all_pieces x (below_first (lower_of error lane.error) error x (at_most_first error lane.error) below) in
+  all_pieces = λ enough x.
+      let before = gathers.all_pieces (λ lacks. enough (still_lacking error lane.error lacks)) x in
       let push = sum_by_push (done_times x) lanes lane in
       let more = done_push x pieces lane in
       omega (arith, before, push, more);
@@ -152,7 +158,7 @@ loses_pieces claims left lanes lane seat new lists pieces error gathers takes = 
   claimed = λ x. takes_claimed claims lanes lane seat new x (gathers.claimed x) takes;
   untold = takes_untold claims lanes lane seat new gathers.untold takes;
   all_lists = ap (λ (ls : List (List ℕ)). ls ++ lane.claimed.items ∷ []) gathers.all_lists ∙ sym (map-append (λ (one : Lane). one.claimed.items) lanes (lane ∷ []));
-  all_pieces = λ x below. absurd (omega (arith, below));
+  all_pieces = λ enough x. absurd (enough refl);
   some_pieces = λ x.
       let before = gathers.some_pieces x in
       let push = sum_by_push (done_times x) lanes lane in

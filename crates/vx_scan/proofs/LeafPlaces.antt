@@ -11,11 +11,12 @@ use Rattle.vx_lower.specs.Projected.{Projection, kept_of}
 use Rattle.vx_lower.specs.RowIndex.{row_index_plan_from_by}
 use Rattle.vx_lower.specs.Sizes.{plan_size, plans_size, plan_validity_size}
 use Rattle.vx_plan.specs.Plans.{Plan, no_plan, concat_plan, eval_plan, filter_plan, pack_plan, take_plan, share_plan, list_plan, row_idx_plan, scan_plan, zoned_plan, Plans, no_plans, plan, PlanValidity, all_valid, valid_as, plan_head}
+use Rattle.vx_rows.specs.Reads.{Way, directly, through}
 use Rattle.vx_steps.specs.declared.leaf_reads.LeafRead.{LeafRead}
 use Rattle.vx_steps.specs.Leavings.{IsLeafOf}
 use Rattle.vx_steps.specs.Visits.{Visits, VisitsIn, VisitsField, VisitsValidity}
-use Rattle.vx_scan.specs.LeafRows.{ReadsAt}
 use Rattle.vx_scan.specs.PlanTexts.{held_tree, IsProjectionPlan, IsProjectionPlanBy}
+use Rattle.vx_scan.specs.Ways.{ReadsBy}
 
 -- ---- the numbers of a numbered plan's leaves
 
@@ -206,27 +207,41 @@ by_between false p q (n, is) =
 pub reads_between : (p : Projection) (q : Plan) → IsProjectionPlan p q → ReadsBetween q
 reads_between p q is = by_between (is_root p.expression.term) p q is
 
--- what the plan reads, the tree's plan reads at the same row
-over_read : (read : LeafRead) (root row_number : Bool) (n : ℕ) (a : Bound) (child : Plan) (row : ℕ) → ReadsAt read (row_index_plan_from_by root row_number n a child) row → ReadsAt read child row
-over_read read false false n a child row (inl v) = absurd v
-over_read read false false n a child row (inr (inl v)) = absurd v
-over_read read false false n a child row (inr (inr (inl v))) = absurd v
-over_read read false false n a child row (inr (inr (inr v))) = absurd v
-over_read read false true n a child row (inl v) = absurd v
-over_read read false true n a child row (inr v) = absurd v
-over_read read true false n a child row (inl v) = absurd v
-over_read read true false n a child row (inr v) = v
-over_read read true true n a child row (inl v) = absurd v
-over_read read true true n a child row (inr (inl v)) = absurd v
-over_read read true true n a child row (inr (inr (inl (inl v)))) = absurd v
-over_read read true true n a child row (inr (inr (inl (inr (inl v))))) = v
-over_read read true true n a child row (inr (inr (inl (inr (inr v))))) = absurd v
-over_read read true true n a child row (inr (inr (inr v))) = absurd v
+-- what the plan reads, the tree's plan reads at the same row, and that way
+over_read : (way : Way) (read : LeafRead) (root row_number : Bool) (n : ℕ) (a : Bound) (child : Plan) (row : ℕ) → ReadsBy way read (row_index_plan_from_by root row_number n a child) row → ReadsBy way read child row
+over_read directly read false false n a child row (inl v) = absurd v
+over_read directly read false false n a child row (inr (inl v)) = absurd v
+over_read directly read false false n a child row (inr (inr (inl v))) = absurd v
+over_read directly read false false n a child row (inr (inr (inr v))) = absurd v
+over_read directly read false true n a child row (inl v) = absurd v
+over_read directly read false true n a child row (inr v) = absurd v
+over_read directly read true false n a child row (inl v) = absurd v
+over_read directly read true false n a child row (inr v) = v
+over_read directly read true true n a child row (inl v) = absurd v
+over_read directly read true true n a child row (inr (inl v)) = absurd v
+over_read directly read true true n a child row (inr (inr (inl (inl v)))) = absurd v
+over_read directly read true true n a child row (inr (inr (inl (inr (inl v))))) = v
+over_read directly read true true n a child row (inr (inr (inl (inr (inr v))))) = absurd v
+over_read directly read true true n a child row (inr (inr (inr v))) = absurd v
+over_read (through take) read false false n a child row (inl v) = absurd v
+over_read (through take) read false false n a child row (inr (inl v)) = absurd v
+over_read (through take) read false false n a child row (inr (inr (inl v))) = absurd v
+over_read (through take) read false false n a child row (inr (inr (inr v))) = absurd v
+over_read (through take) read false true n a child row (inl v) = absurd v
+over_read (through take) read false true n a child row (inr v) = absurd v
+over_read (through take) read true false n a child row (inl v) = absurd v
+over_read (through take) read true false n a child row (inr v) = v
+over_read (through take) read true true n a child row (inl v) = absurd v
+over_read (through take) read true true n a child row (inr (inl v)) = absurd v
+over_read (through take) read true true n a child row (inr (inr (inl (inl v)))) = absurd v
+over_read (through take) read true true n a child row (inr (inr (inl (inr (inl v))))) = v
+over_read (through take) read true true n a child row (inr (inr (inl (inr (inr v))))) = absurd v
+over_read (through take) read true true n a child row (inr (inr (inr v))) = absurd v
 
-by_read : (read : LeafRead) (b : Bool) (p : Projection) (q : Plan) (row : ℕ) → IsProjectionPlanBy b p q → ReadsAt read q row → ReadsAt read (held_tree p) row
-by_read read true p q row is v = subst (λ (r : Plan). ReadsAt read r row) is v
-by_read read false p q row (n, is) v =
-    over_read read (uses_root p.expression.term) (uses_row_number p.expression.term) n p.expression (held_tree p) row (subst (λ (r : Plan). ReadsAt read r row) is v)
+by_read : (way : Way) (read : LeafRead) (b : Bool) (p : Projection) (q : Plan) (row : ℕ) → IsProjectionPlanBy b p q → ReadsBy way read q row → ReadsBy way read (held_tree p) row
+by_read way read true p q row is v = subst (λ (r : Plan). ReadsBy way read r row) is v
+by_read way read false p q row (n, is) v =
+    over_read way read (uses_root p.expression.term) (uses_row_number p.expression.term) n p.expression (held_tree p) row (subst (λ (r : Plan). ReadsBy way read r row) is v)
 
-pub tree_reads : (read : LeafRead) (p : Projection) (q : Plan) (row : ℕ) → IsProjectionPlan p q → ReadsAt read q row → ReadsAt read (held_tree p) row
-tree_reads read p q row is v = by_read read (is_root p.expression.term) p q row is v
+pub tree_reads : (way : Way) (read : LeafRead) (p : Projection) (q : Plan) (row : ℕ) → IsProjectionPlan p q → ReadsBy way read q row → ReadsBy way read (held_tree p) row
+tree_reads way read p q row is v = by_read way read (is_root p.expression.term) p q row is v

@@ -3,7 +3,7 @@ use Rattle.std.proofs.Common.{◌≡◌, ℕ, inl, inr, List, [], ◌∷◌, ◌
 use Rattle.std.specs.List.{flat_map}
 use Rattle.vx_base.specs.Sources.{SourceState}
 use Rattle.vx_scan.specs.Asks.{IsLeftClear, Lasts}
-use Rattle.vx_scan.specs.Lent.{EachSource, SomeSource, EachSourceBy, AllTell}
+use Rattle.vx_scan.specs.Lent.{EachSource, SomeSource, EachSourceBy, SomeSourceBy, AllTell}
 
 -- ---- from one relation to another
 
@@ -13,12 +13,6 @@ each_source P Q to [] (after ∷ afters) each = absurd each
 each_source P Q to (before ∷ befores) [] each = absurd each
 each_source P Q to (before ∷ befores) (after ∷ afters) each = (to before after each.0, each_source P Q to befores afters each.1)
 
-pub some_source : (P Q : SourceState → SourceState → Type 0) → ((before after : SourceState) → P before after → Q before after) → (befores afters : List SourceState) → SomeSource P befores afters → SomeSource Q befores afters
-some_source P Q to [] afters some = absurd some
-some_source P Q to (before ∷ befores) [] some = absurd some
-some_source P Q to (before ∷ befores) (after ∷ afters) (inl here) = inl (to before after here)
-some_source P Q to (before ∷ befores) (after ∷ afters) (inr later) = inr (some_source P Q to befores afters later)
-
 pub each_source_by : {X Y : Type 0} (f : X → Y) (P : X → SourceState → SourceState → Type 0) (Q : Y → SourceState → SourceState → Type 0) → ((x : X) (before after : SourceState) → P x before after → Q (f x) before after) → (xs : List X) (befores afters : List SourceState) → EachSourceBy P xs befores afters → EachSourceBy Q (map f xs) befores afters
 each_source_by f P Q to [] [] [] each = tt
 each_source_by f P Q to [] [] (after ∷ afters) each = absurd each
@@ -26,6 +20,21 @@ each_source_by f P Q to [] (before ∷ befores) afters each = absurd each
 each_source_by f P Q to (x ∷ xs) [] afters each = absurd each
 each_source_by f P Q to (x ∷ xs) (before ∷ befores) [] each = absurd each
 each_source_by f P Q to (x ∷ xs) (before ∷ befores) (after ∷ afters) each = (to x before after each.0, each_source_by f P Q to xs befores afters each.1)
+
+pub each_by : {X : Type 0} (P Q : X → SourceState → SourceState → Type 0) → ((x : X) (before after : SourceState) → P x before after → Q x before after) → (xs : List X) (befores afters : List SourceState) → EachSourceBy P xs befores afters → EachSourceBy Q xs befores afters
+each_by P Q to [] [] [] each = tt
+each_by P Q to [] [] (after ∷ afters) each = absurd each
+each_by P Q to [] (before ∷ befores) afters each = absurd each
+each_by P Q to (x ∷ xs) [] afters each = absurd each
+each_by P Q to (x ∷ xs) (before ∷ befores) [] each = absurd each
+each_by P Q to (x ∷ xs) (before ∷ befores) (after ∷ afters) each = (to x before after each.0, each_by P Q to xs befores afters each.1)
+
+pub some_by : {X : Type 0} (P Q : X → SourceState → SourceState → Type 0) → ((x : X) (before after : SourceState) → P x before after → Q x before after) → (xs : List X) (befores afters : List SourceState) → SomeSourceBy P xs befores afters → SomeSourceBy Q xs befores afters
+some_by P Q to [] befores afters some = absurd some
+some_by P Q to (x ∷ xs) [] afters some = absurd some
+some_by P Q to (x ∷ xs) (before ∷ befores) [] some = absurd some
+some_by P Q to (x ∷ xs) (before ∷ befores) (after ∷ afters) (inl here) = inl (to x before after here)
+some_by P Q to (x ∷ xs) (before ∷ befores) (after ∷ afters) (inr later) = inr (some_by P Q to xs befores afters later)
 
 -- without the list, where the relation doesn't ask for it
 pub each_without : {X : Type 0} (P : X → SourceState → SourceState → Type 0) (Q : SourceState → SourceState → Type 0) → ((x : X) (before after : SourceState) → P x before after → Q before after) → (xs : List X) (befores afters : List SourceState) → EachSourceBy P xs befores afters → EachSource Q befores afters
@@ -35,6 +44,13 @@ each_without P Q to [] (before ∷ befores) afters each = absurd each
 each_without P Q to (x ∷ xs) [] afters each = absurd each
 each_without P Q to (x ∷ xs) (before ∷ befores) [] each = absurd each
 each_without P Q to (x ∷ xs) (before ∷ befores) (after ∷ afters) each = (to x before after each.0, each_without P Q to xs befores afters each.1)
+
+pub some_without : {X : Type 0} (P : X → SourceState → SourceState → Type 0) (Q : SourceState → SourceState → Type 0) → ((x : X) (before after : SourceState) → P x before after → Q before after) → (xs : List X) (befores afters : List SourceState) → SomeSourceBy P xs befores afters → SomeSource Q befores afters
+some_without P Q to [] befores afters some = absurd some
+some_without P Q to (x ∷ xs) [] afters some = absurd some
+some_without P Q to (x ∷ xs) (before ∷ befores) [] some = absurd some
+some_without P Q to (x ∷ xs) (before ∷ befores) (after ∷ afters) (inl here) = inl (to x before after here)
+some_without P Q to (x ∷ xs) (before ∷ befores) (after ∷ afters) (inr later) = inr (some_without P Q to xs befores afters later)
 
 -- ---- one source, of which all holds
 

@@ -1,4 +1,6 @@
 mod Answered
+mod ApartDictionaries
+mod ApartTakes
 mod Ascending
 mod BeginningRows
 mod ChunkOutcomes
@@ -8,8 +10,10 @@ mod ChunkViews
 mod ClearedRuns
 mod Computing
 mod Continuing
+mod Counting
 mod Crossing
 mod Cutting
+mod DictionaryReasons
 mod Distinct
 mod Executing
 mod FewApart
@@ -20,12 +24,16 @@ mod GivenBatches
 mod Got
 mod Growing
 mod HandingOut
+mod Higher
 mod Joining
 mod LaneCrossing
+mod LaneEnds
+mod LaneFacts
 mod Lasting
 mod LeafPlaces
 mod LeafShapes
 pub mod LentSources
+mod LowestCauses
 mod NewReasons
 mod OneText
 mod Pieces
@@ -46,5 +54,9 @@ mod Sorting
 mod SoundParts
 mod Spreading
 mod Stepping
+mod Taken
+mod TakenReads
+mod UnsharedPlans
+mod Ways
 mod WeakerVisits
 mod Working

@@ -1,8 +1,9 @@
 -- The reasons for which a chunk asks, behind those of the chunks that ran before it.
 use Rattle.std.proofs.Common.{◌≡◌, ◌≢◌, ℕ, zero, suc, ◌+◌, ◌<◌, ◌≤◌, inl, inr, Bool, true, List, [], ◌∷◌, ◌++◌, Option, Some, None, length, map, refl, sym, ap, ◌∙◌, subst, arith}
 use Rattle.std.specs.Prelude.{if◌then◌else◌, max}
-use Rattle.std.specs.List.{slice_get, All, AllByRecursion}
+use Rattle.std.specs.List.{slice_get, flat_map, All, AllByRecursion}
 use Rattle.std.proofs.lemmas.Bool.{lt-ltb}
+use Rattle.std.proofs.lemmas.Grind.{flat_map-append}
 use Rattle.std.proofs.lemmas.List.{map-append}
 use Rattle.std.proofs.lemmas.List.Elements.{All-append, All-head, All-tail}
 use Rattle.vx_base.specs.Columns.{ColumnData}
@@ -11,12 +12,16 @@ use Rattle.vx_base.specs.declared.locations.SegmentLocation.{SegmentLocation}
 use Rattle.vx_claims.specs.Views.{above}
 use Rattle.vx_io.specs.Fetches.{asked_for}
 use Rattle.vx_plan.specs.Refs.{number_of}
-use Rattle.vx_rows.specs.Reads.{IsAmong}
+use Rattle.vx_rows.specs.Reads.{Way, through, IsAmong}
 use Rattle.vx_splits.specs.declared.selected_rows.SelectedRows.{SelectedRows}
 use Rattle.vx_steps.specs.Kept.{kept_at, IsKept}
+use Rattle.vx_steps.specs.declared.leaf_reads.LeafRead.{LeafRead}
+use Rattle.vx_steps.specs.Given.{given_for}
 use Rattle.vx_steps.specs.KeptData.{Kept}
 use Rattle.vx_steps.specs.Leavings.{IsLeafOf, RowReads}
+use Rattle.vx_steps.specs.Rows.{SomeRow}
 use Rattle.vx_steps.specs.Visits.{IsLeafRead}
+use Rattle.vx_steps.proofs.ReadVisits.{no_columns}
 use Rattle.vx_scan.specs.declared.plans.ScanPlans.{ScanPlans}
 use Rattle.vx_scan.specs.Asks.{AsksOnly}
 use Rattle.vx_scan.specs.ChunkRows.{given_to, ChunkReaches, ChunkVisits}
@@ -24,10 +29,13 @@ use Rattle.vx_scan.specs.Fetched.{AreDistinct, location_of}
 use Rattle.vx_scan.specs.LeafRows.{IsReadAt, LeavesLieTogether, row_behind}
 use Rattle.vx_scan.specs.Outcomes.{IsWanted}
 use Rattle.vx_scan.specs.Plans.{projection_plan, AreInOrder, FollowFrom, IsChunkOf}
-use Rattle.vx_scan.specs.Reasons.{Reason, leaf_of, read_for, segment_of, chunk_and_segment, IsReasonAmong}
+use Rattle.vx_scan.specs.Reasons.{Reason, leaf_of, read_for, segment_of, chunk_and_segment, take_and_segment, IsReasonAmong}
+use Rattle.vx_scan.specs.Ways.{ReadsBy}
 use Rattle.vx_scan.specs.Workers.{AsksReached}
 use Rattle.vx_scan.proofs.Distinct.{apart_from, distinct_by, distinct_then}
 use Rattle.vx_scan.proofs.Sessions.{asked_then}
+use Rattle.vx_scan.proofs.Taken.{distinct_taken, taken_apart}
+use Rattle.vx_scan.proofs.Ways.{read_visited, way_of}
 use Rattle.vx_scan.proofs.WeakerVisits.{leaf_read, same_read, weaker_visit}
 
 -- ---- chunks in order
@@ -116,10 +124,15 @@ pub record RunsNext (plans : ScanPlans) (chunks : List SelectedRows) (numbers : 
 
 -- ---- the reasons of a chunk
 
--- a selected row of the chunk reads the leaf, of which no column was handed in, and reaches the segment
+-- a selected row of the chunk reads the leaf that way
+abbrev ChunkReadsBy : ScanPlans → SelectedRows → Way → LeafRead → Type 0
+ChunkReadsBy plans chunk way read = SomeRow (ReadsBy way read (projection_plan plans)) chunk.scope.rows.start chunk.mask
+
+-- a selected row of the chunk reads the leaf that way, of which no column was handed in, and reaches the segment
 pub record IsNewReason (plans : ScanPlans) (place : ℕ) (handed : List Kept) (chunk : SelectedRows) (reason : Reason) : Type 0 where
   pub at : reason.chunk ≡ place
   pub reads : ChunkVisits (IsLeafRead (read_for reason)) plans [] chunk
+  pub by : ChunkReadsBy plans chunk reason.way (read_for reason)
   pub fresh : kept_at handed reason.leaf ≡ None
   pub reaches : ChunkReaches plans chunk reason.segment
 
@@ -133,65 +146,83 @@ new_reasons plans place handed chunk [] wanted = record { reasons = []; segments
 new_reasons plans place handed chunk (segment ∷ segments) wanted =
     let one : IsWanted plans [] handed chunk segment = All-head (IsWanted plans [] handed chunk) segment segments wanted in
     let rest : NewReasons plans place handed chunk segments = new_reasons plans place handed chunk segments (All-tail (IsWanted plans [] handed chunk) segment segments wanted) in
+    let read : LeafRead = record { leaf = one.leaf; segment = segment } in
+    let way : (way : Way) × ReadsBy way read (projection_plan plans) (chunk.scope.rows.start + one.visited.0) =
+    way_of read (given_for plans.table []) (projection_plan plans) (chunk.scope.rows.start + one.visited.0) one.visited.2 in
     record {
-      reasons = record { chunk = place; leaf = one.leaf; segment = segment } ∷ rest.reasons;
+      reasons = record { chunk = place; leaf = one.leaf; segment = segment; way = way.0 } ∷ rest.reasons;
       segments_are = ap (λ (ss : List ℕ). segment ∷ ss) rest.segments_are;
-      each = (record { at = refl; reads = one.visited; fresh = one.not_handed; reaches = one.reached }, rest.each);
+      each = (record { at = refl; reads = one.visited; by = (one.visited.0, one.visited.1, way.1); fresh = one.not_handed; reaches = one.reached }, rest.each);
     }
 
 new_among : (plans : ScanPlans) (chunks : List SelectedRows) (number : ℕ) (handed : List Kept) (chunk : SelectedRows) → slice_get chunks number ≡ Some chunk → (reason : Reason) → IsNewReason plans number handed chunk reason → IsReasonAmong plans chunks reason
 new_among plans chunks number handed chunk here reason is = record {
   chunk = chunk;
   here = ap (slice_get chunks) is.at ∙ here;
-  reads = is.reads;
+  reads = is.by;
   reaches = is.reaches;
 }
 
 -- a row of the chunk that reads the leaf, with nothing handed in
-record ReadsInside (plans : ScanPlans) (chunk : SelectedRows) (reason : Reason) : Type 0 where
+record ReadsInside (plans : ScanPlans) (chunk : SelectedRows) (leaf : ℕ) : Type 0 where
   row : ℕ
   behind : chunk.scope.rows.start ≤ row
   before : row < chunk.scope.rows.end
-  reads : RowReads plans.table (number_of plans.projection) row reason.leaf
+  reads : RowReads plans.table (number_of plans.projection) row leaf
 
-reads_inside : (plans : ScanPlans) (chunk : SelectedRows) (reason : Reason) → IsChunkOf plans chunk → ChunkVisits (IsLeafRead (read_for reason)) plans [] chunk → ReadsInside plans chunk reason
-reads_inside plans chunk reason is visits =
+reads_inside : (plans : ScanPlans) (chunk : SelectedRows) (read : LeafRead) → IsChunkOf plans chunk → ChunkVisits (IsLeafRead read) plans [] chunk → ReadsInside plans chunk read.leaf
+reads_inside plans chunk read is visits =
     let less : visits.0 < length chunk.mask = bit_inside chunk.mask visits.0 visits.1 in
     let size = is.mask in
     record {
       row = chunk.scope.rows.start + visits.0;
       behind = omega arith;
       before = omega (arith, less, size);
-      reads = weaker_visit (IsLeafRead (read_for reason)) (IsLeafOf reason.leaf) (leaf_read (read_for reason)) (given_to plans []) (projection_plan plans) (chunk.scope.rows.start + visits.0) visits.2;
+      reads = weaker_visit (IsLeafRead read) (IsLeafOf read.leaf) (leaf_read read) (given_to plans []) (projection_plan plans) (chunk.scope.rows.start + visits.0) visits.2;
     }
 
 -- ---- what came of the leaves that were asked for
 
 -- A row before this one reads the leaf; and if this row reads it, its column is handed on.
-pub record IsPast (plans : ScanPlans) (row : ℕ) (handed : List Kept) (reason : Reason) : Type 0 where
+pub record IsPast (plans : ScanPlans) (row : ℕ) (handed : List Kept) (leaf : ℕ) : Type 0 where
   pub at : ℕ
   pub before : at < row
-  pub reads : RowReads plans.table (number_of plans.projection) at reason.leaf
-  pub stays : IsReadAt plans row reason.leaf → IsKept handed reason.leaf
+  pub reads : RowReads plans.table (number_of plans.projection) at leaf
+  pub stays : IsReadAt plans row leaf → IsKept handed leaf
+
+-- some row reads the leaf through the take by which this one was read
+abbrev SharesTake : ScanPlans → Reason → LeafRead → Type 0
+SharesTake plans reason read = (take : ℕ) × (reason.way ≡ through take) × ((at : ℕ) × ReadsBy (through take) read (projection_plan plans) at)
+
+-- So it is with the leaf that was asked for, and with all that are read through its take.
+pub record IsPastReason (plans : ScanPlans) (row : ℕ) (handed : List Kept) (reason : Reason) : Type 0 where
+  pub own : IsPast plans row handed reason.leaf
+  pub others : (read : LeafRead) → SharesTake plans reason read → IsPast plans row handed read.leaf
 
 abbrev pub ArePast : ScanPlans → ℕ → List Kept → List Reason → Type 0
-ArePast plans row handed reasons = AllByRecursion (IsPast plans row handed) reasons
+ArePast plans row handed reasons = AllByRecursion (IsPastReason plans row handed) reasons
 
 none_kept : (columns : Option ColumnData) (column : ColumnData) → columns ≡ Some column → columns ≡ None → ⊥
 none_kept columns column at none = let both : Some column ≡ None = sym at ∙ none in cc
 
 -- a leaf that was asked for is not asked for by a later chunk
-not_again : (plans : ScanPlans) (row place : ℕ) (handed : List Kept) (chunk : SelectedRows) → IsChunkOf plans chunk → row ≤ chunk.scope.rows.start → LeavesLieTogether (projection_plan plans) → (old new : Reason) → IsPast plans row handed old → IsNewReason plans place handed chunk new → old.leaf ≢ new.leaf
-not_again plans row place handed chunk is behind together old new past fresh same =
-    let inside : ReadsInside plans chunk new = reads_inside plans chunk new is fresh.reads in
+not_again : (plans : ScanPlans) (row place : ℕ) (handed : List Kept) (chunk : SelectedRows) → IsChunkOf plans chunk → row ≤ chunk.scope.rows.start → LeavesLieTogether (projection_plan plans) → (leaf : ℕ) (new : Reason) → IsPast plans row handed leaf → IsNewReason plans place handed chunk new → leaf ≢ new.leaf
+not_again plans row place handed chunk is behind together leaf new past fresh same =
+    let inside : ReadsInside plans chunk new.leaf = reads_inside plans chunk (read_for new) is fresh.reads in
     let from = inside.behind in
     let to = inside.before in
     let end = is.inside in
     let low = past.before in
-    let last : RowReads plans.table (number_of plans.projection) inside.row old.leaf = subst (λ (leaf : ℕ). RowReads plans.table (number_of plans.projection) inside.row leaf) (sym same) inside.reads in
-    let here : RowReads plans.table (number_of plans.projection) row old.leaf = together.between old.leaf past.at row inside.row (omega (arith, low)) (omega (arith, behind, from)) past.reads last in
-    let kept : IsKept handed old.leaf = past.stays (omega (arith, behind, from, to, end), here) in
+    let last : RowReads plans.table (number_of plans.projection) inside.row leaf = subst (λ (n : ℕ). RowReads plans.table (number_of plans.projection) inside.row n) (sym same) inside.reads in
+    let here : RowReads plans.table (number_of plans.projection) row leaf = together.between leaf past.at row inside.row (omega (arith, low)) (omega (arith, behind, from)) past.reads last in
+    let kept : IsKept handed leaf = past.stays (omega (arith, behind, from, to, end), here) in
     none_kept (kept_at handed new.leaf) kept.0 (ap (kept_at handed) (sym same) ∙ kept.1) fresh.fresh
+
+-- and nothing is asked for through its take
+no_take_again : (plans : ScanPlans) (row place : ℕ) (handed : List Kept) (chunk : SelectedRows) → IsChunkOf plans chunk → row ≤ chunk.scope.rows.start → LeavesLieTogether (projection_plan plans) → (old new : Reason) (take : ℕ) → IsPastReason plans row handed old → IsNewReason plans place handed chunk new → old.way ≡ through take → new.way ≡ through take → ⊥
+no_take_again plans row place handed chunk is behind together old new take past fresh one two =
+    let v : ReadsBy (through take) (read_for new) (projection_plan plans) (chunk.scope.rows.start + fresh.by.0) = subst (λ (way : Way). ReadsBy way (read_for new) (projection_plan plans) (chunk.scope.rows.start + fresh.by.0)) two fresh.by.2 in
+    not_again plans row place handed chunk is behind together new.leaf new (past.others (read_for new) (take, one, (chunk.scope.rows.start + fresh.by.0, v))) fresh refl
 
 -- ---- the asks with those of one chunk more
 
@@ -236,8 +267,14 @@ asks_more plans chunks numbers row number chunk handed reasons before now after 
           subst AreDistinct (sym (map-append leaf_of reasons fresh.reasons))
           (distinct_then (map leaf_of reasons) (map leaf_of fresh.reasons) (asks.once_a_leaf order together)
           (distinct_by (IsNewReason plans number handed chunk) leaf_of segment_of (same_segment plans number handed chunk together) fresh.reasons fresh.each (subst AreDistinct (sym fresh.segments_are) more.asks.apart))
-          (apart_from (IsPast plans row handed) (IsNewReason plans number handed chunk) leaf_of
-          (not_again plans row number handed chunk next.is (next.behind order) together) reasons fresh.reasons (past order together) fresh.each));
+          (apart_from (IsPastReason plans row handed) (IsNewReason plans number handed chunk) leaf_of
+          (λ one two first second. not_again plans row number handed chunk next.is (next.behind order) together one.leaf two first.own second) reasons fresh.reasons (past order together) fresh.each));
+      once_a_take = λ order together.
+          subst AreDistinct (sym (flat_map-append take_and_segment reasons fresh.reasons))
+          (distinct_then (flat_map take_and_segment reasons) (flat_map take_and_segment fresh.reasons) (asks.once_a_take order together)
+          (distinct_taken fresh.reasons (subst AreDistinct (sym fresh.segments_are) more.asks.apart))
+          (taken_apart (IsPastReason plans row handed) (IsNewReason plans number handed chunk)
+          (no_take_again plans row number handed chunk next.is (next.behind order) together) reasons fresh.reasons (past order together) fresh.each));
     }
 
 -- ---- what comes of the leaves behind one chunk more
@@ -245,11 +282,11 @@ asks_more plans chunks numbers row number chunk handed reasons before now after 
 -- of the leaves that a chunk was handed and of those that it reads, each is handed on that the row behind it reads
 pub record HandsLeaves (plans : ScanPlans) (chunk : SelectedRows) (handed more : List Kept) : Type 0 where
   pub stay : (leaf : ℕ) → IsReadAt plans (row_behind chunk) leaf → IsKept handed leaf → IsKept more leaf
-  pub there : (reason : Reason) → IsReadAt plans (row_behind chunk) reason.leaf → ChunkVisits (IsLeafRead (read_for reason)) plans [] chunk → IsKept more reason.leaf
+  pub there : (read : LeafRead) → IsReadAt plans (row_behind chunk) read.leaf → ChunkVisits (IsLeafRead read) plans [] chunk → IsKept more read.leaf
 
-old_past : (plans : ScanPlans) (row : ℕ) (handed more : List Kept) (chunk : SelectedRows) → IsChunkOf plans chunk → row ≤ chunk.scope.rows.start → chunk.scope.rows.start < chunk.scope.rows.end → LeavesLieTogether (projection_plan plans) → HandsLeaves plans chunk handed more →
-    (reason : Reason) → IsPast plans row handed reason → IsPast plans chunk.scope.rows.end more reason
-old_past plans row handed more chunk is behind some together hands reason past =
+old_leaf : (plans : ScanPlans) (row : ℕ) (handed more : List Kept) (chunk : SelectedRows) → IsChunkOf plans chunk → row ≤ chunk.scope.rows.start → chunk.scope.rows.start < chunk.scope.rows.end → LeavesLieTogether (projection_plan plans) → HandsLeaves plans chunk handed more →
+    (leaf : ℕ) → IsPast plans row handed leaf → IsPast plans chunk.scope.rows.end more leaf
+old_leaf plans row handed more chunk is behind some together hands leaf past =
     let low = past.before in
     record {
       at = past.at;
@@ -257,24 +294,44 @@ old_past plans row handed more chunk is behind some together hands reason past =
       reads = past.reads;
       stays = λ read.
           let end = read.0 in
-          let here : RowReads plans.table (number_of plans.projection) row reason.leaf = together.between reason.leaf past.at row chunk.scope.rows.end (omega (arith, low)) (omega (arith, behind, some)) past.reads read.1 in
-          hands.stay reason.leaf (subst (λ (r : ℕ). IsReadAt plans r reason.leaf) (sym (behind_it chunk some)) read) (past.stays (omega (arith, end, behind, some), here));
+          let here : RowReads plans.table (number_of plans.projection) row leaf = together.between leaf past.at row chunk.scope.rows.end (omega (arith, low)) (omega (arith, behind, some)) past.reads read.1 in
+          hands.stay leaf (subst (λ (r : ℕ). IsReadAt plans r leaf) (sym (behind_it chunk some)) read) (past.stays (omega (arith, end, behind, some), here));
     }
 
-new_past : (plans : ScanPlans) (place : ℕ) (handed more : List Kept) (chunk : SelectedRows) → IsChunkOf plans chunk → chunk.scope.rows.start < chunk.scope.rows.end → HandsLeaves plans chunk handed more → (reason : Reason) → IsNewReason plans place handed chunk reason → IsPast plans chunk.scope.rows.end more reason
-new_past plans place handed more chunk is some hands reason fresh =
-    let inside : ReadsInside plans chunk reason = reads_inside plans chunk reason is fresh.reads in
+old_past : (plans : ScanPlans) (row : ℕ) (handed more : List Kept) (chunk : SelectedRows) → IsChunkOf plans chunk → row ≤ chunk.scope.rows.start → chunk.scope.rows.start < chunk.scope.rows.end → LeavesLieTogether (projection_plan plans) → HandsLeaves plans chunk handed more →
+    (reason : Reason) → IsPastReason plans row handed reason → IsPastReason plans chunk.scope.rows.end more reason
+old_past plans row handed more chunk is behind some together hands reason past = record {
+  own = old_leaf plans row handed more chunk is behind some together hands reason.leaf past.own;
+  others = λ read shares. old_leaf plans row handed more chunk is behind some together hands read.leaf (past.others read shares);
+}
+
+new_leaf : (plans : ScanPlans) (handed more : List Kept) (chunk : SelectedRows) → IsChunkOf plans chunk → chunk.scope.rows.start < chunk.scope.rows.end → HandsLeaves plans chunk handed more → (read : LeafRead) → ChunkVisits (IsLeafRead read) plans [] chunk → IsPast plans chunk.scope.rows.end more read.leaf
+new_leaf plans handed more chunk is some hands read visits =
+    let inside : ReadsInside plans chunk read.leaf = reads_inside plans chunk read is visits in
     record {
       at = inside.row;
       before = inside.before;
       reads = inside.reads;
-      stays = λ read. hands.there reason (subst (λ (r : ℕ). IsReadAt plans r reason.leaf) (sym (behind_it chunk some)) read) fresh.reads;
+      stays = λ later. hands.there read (subst (λ (r : ℕ). IsReadAt plans r read.leaf) (sym (behind_it chunk some)) later) visits;
     }
+
+-- what is read through the take of a new reason, the chunk reads
+read_beside : (plans : ScanPlans) (place : ℕ) (handed : List Kept) (chunk : SelectedRows) → LeavesLieTogether (projection_plan plans) → (reason : Reason) → IsNewReason plans place handed chunk reason → (read : LeafRead) → SharesTake plans reason read → ChunkVisits (IsLeafRead read) plans [] chunk
+read_beside plans place handed chunk together reason fresh read (take, is, (at, v)) =
+    let row : ℕ = chunk.scope.rows.start + fresh.by.0 in
+    let own : ReadsBy (through take) (read_for reason) (projection_plan plans) row = subst (λ (way : Way). ReadsBy way (read_for reason) (projection_plan plans) row) is fresh.by.2 in
+    (fresh.by.0, fresh.by.1, read_visited (through take) read (given_for plans.table []) (no_columns plans.table) (projection_plan plans) row (together.below take (read_for reason) read row at own v))
+
+new_past : (plans : ScanPlans) (place : ℕ) (handed more : List Kept) (chunk : SelectedRows) → IsChunkOf plans chunk → chunk.scope.rows.start < chunk.scope.rows.end → LeavesLieTogether (projection_plan plans) → HandsLeaves plans chunk handed more → (reason : Reason) → IsNewReason plans place handed chunk reason → IsPastReason plans chunk.scope.rows.end more reason
+new_past plans place handed more chunk is some together hands reason fresh = record {
+  own = new_leaf plans handed more chunk is some hands (read_for reason) fresh.reads;
+  others = λ read shares. new_leaf plans handed more chunk is some hands read (read_beside plans place handed chunk together reason fresh read shares);
+}
 
 pub past_more : (plans : ScanPlans) (chunks : List SelectedRows) (numbers : List ℕ) (row number : ℕ) (chunk : SelectedRows) (handed more : List Kept) (segments : List ℕ) (reasons : List Reason) → RunsNext plans chunks numbers row number chunk
     → HandsLeaves plans chunk handed more → (fresh : NewReasons plans number handed chunk segments) → AreInOrder chunks → LeavesLieTogether (projection_plan plans) → ArePast plans row handed reasons → ArePast plans chunk.scope.rows.end more (reasons ++ fresh.reasons)
 past_more plans chunks numbers row number chunk handed more segments reasons next hands fresh order together past =
     let some = has_rows 0 chunks number chunk order next.here in
-    each_then (IsPast plans chunk.scope.rows.end more) reasons fresh.reasons
-    (each_weaker (IsPast plans row handed) (IsPast plans chunk.scope.rows.end more) (old_past plans row handed more chunk next.is (next.behind order) some together hands) reasons past)
-    (each_weaker (IsNewReason plans number handed chunk) (IsPast plans chunk.scope.rows.end more) (new_past plans number handed more chunk next.is some hands) fresh.reasons fresh.each)
+    each_then (IsPastReason plans chunk.scope.rows.end more) reasons fresh.reasons
+    (each_weaker (IsPastReason plans row handed) (IsPastReason plans chunk.scope.rows.end more) (old_past plans row handed more chunk next.is (next.behind order) some together hands) reasons past)
+    (each_weaker (IsNewReason plans number handed chunk) (IsPastReason plans chunk.scope.rows.end more) (new_past plans number handed more chunk next.is some together hands) fresh.reasons fresh.each)

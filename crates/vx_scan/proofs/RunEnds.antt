@@ -1,5 +1,5 @@
 -- How a run of a scan over a session ends.
-use Rattle.std.proofs.Common.{◌≡◌, ℕ, zero, suc, ◌<◌, ◌≤◌, inl, inr, Bool, false, true, List, [], ◌∷◌, ◌++◌, Option, Some, None, Ok, Err, length, map, take, drop, refl, sym, ap, ◌∙◌, subst, arith, append_assoc}
+use Rattle.std.proofs.Common.{◌≡◌, ℕ, zero, suc, ◌<◌, ◌≤◌, ◌⊎◌, inl, inr, Bool, false, true, List, [], ◌∷◌, ◌++◌, Option, Some, None, Ok, Err, length, map, take, drop, refl, sym, ap, ◌∙◌, subst, arith, append_assoc}
 use Rattle.std.specs.Prelude.{if◌then◌else◌, ◌==◌, slice_get, slice_index_or}
 use Rattle.std.specs.List.{All}
 use Rattle.std.proofs.lemmas.List.{map-append, length-append}
@@ -13,14 +13,18 @@ use Rattle.vx_io.specs.declared.requests.IoRequest.{IoRequest}
 use Rattle.vx_io.specs.Fetches.{FetchedSome, asked_for, place_of}
 use Rattle.vx_io.specs.Session.{SessionState}
 use Rattle.vx_layout.specs.Rows.{segment_bytes}
+use Rattle.vx_plan.specs.declared.children.PlanRef.{PlanRef}
 use Rattle.vx_plan.specs.Nodes.{Node}
+use Rattle.vx_plan.specs.Refs.{number_of}
 use Rattle.vx_rows.specs.SegmentLeaves.{Bytes}
 use Rattle.vx_steps.specs.declared.errors.StepError.{StepError}
 use Rattle.vx_steps.specs.declared.errors.StepError.TheVariants as step_errors
 use Rattle.vx_steps.specs.declared.jobs.Job.{Job}
 use Rattle.vx_steps.specs.declared.splits.Split.{Split}
-use Rattle.vx_steps.specs.ScanData.{ScanData}
+use Rattle.vx_steps.specs.Agreement.{Agrees}
+use Rattle.vx_steps.specs.ScanData.{ScanData, IsScanOf}
 use Rattle.vx_steps.specs.Steps.{HasCauseIn, RefusesSplit}
+use Rattle.vx_steps.proofs.Premises.{unless_held}
 use Rattle.vx_steps.proofs.SplitVisits.{split_cause}
 use Rattle.vx_scan.specs.declared.adaptor_errors.AdaptorError.{AdaptorError}
 use Rattle.vx_scan.specs.declared.adaptor_errors.AdaptorError.TheVariants as errors
@@ -28,11 +32,11 @@ use Rattle.vx_scan.specs.declared.adaptors.State.TheVariants.{Waiting, Done}
 use Rattle.vx_scan.specs.declared.errors.ScanError.{ScanError}
 use Rattle.vx_scan.specs.declared.errors.ScanError.TheVariants as scan_errors
 use Rattle.vx_scan.specs.AdaptorData.{AdaptorData, reads_of}
-use Rattle.vx_scan.specs.Asks.{AsksOnly, Lasts}
+use Rattle.vx_scan.specs.Asks.{AsksOnly, KeepsFaults, Lasts, TellsFaults}
 use Rattle.vx_scan.specs.Computes.{Batches, StopCause, Stops, WhyYields, Yields}
 use Rattle.vx_scan.specs.Continues.{splits_left}
 use Rattle.vx_scan.specs.Fetched.{AreApart, location_of, segments_in}
-use Rattle.vx_scan.specs.Runs.{GivesOutput, IsReadByStart, IsStepCause, RunCause, RunGives, WhereScanned, scan_error}
+use Rattle.vx_scan.specs.Runs.{GivesOutput, IsListCause, IsReadByStart, IsStepCause, RunCause, RunGives, WhereScanned, scan_error}
 use Rattle.vx_scan.specs.Starts.{IsUnread, split_of}
 use Rattle.vx_scan.specs.Waits.{SendGives, WaitFails}
 use Rattle.vx_scan.proofs.Running.{KeptSoFar, ScanSoFar, all_taken, kept_then, only_split, so_far_then}
@@ -53,12 +57,18 @@ asks_so_far locations start before adaptor output state after run same = record 
 
 -- ---- what the scan keeps
 
+-- the error of a run is that of its answer
+told_of : (X : Type 0) (error : ScanError) (before after : SourceState) → KeepsFaults before after ⊎ (error ≡ scan_errors.ReadFault) → TellsFaults {X = X} (Err error) before after
+told_of X error before after (inl same) = inl same
+told_of X error before after (inr is) = inr (ap Err is)
+
 -- the answer, with what was asked and what lasts
-gives_with : (locations : List SegmentLocation) (limit : ℕ) (start scan : ScanData) (before after : SourceState) (error : ScanError) → KeptSoFar locations start before scan → RunCause locations limit start error before after → AsksOnly (IsReadByStart start) locations before after → Lasts before after →
+gives_with : (locations : List SegmentLocation) (limit : ℕ) (start scan : ScanData) (before after : SourceState) (error : ScanError) → KeptSoFar locations start before scan → RunCause locations limit start error before after → AsksOnly (IsReadByStart start) locations before after → Lasts before after → KeepsFaults before after ⊎ (error ≡ scan_errors.ReadFault) →
     RunGives locations limit start (Err error) scan before after
-gives_with locations limit start scan before after error kept cause asks lasts = record {
+gives_with locations limit start scan before after error kept cause asks lasts faults = record {
   answer = cause;
   asks = asks;
+  faults = told_of (Option ColumnData) error before after faults;
   nodes = kept.nodes;
   job = kept.job;
   told = kept.told;
@@ -92,6 +102,7 @@ run_returns locations limit start before adaptor next output state run yields do
     record {
       answer = answer (output_waits locations start before adaptor next output yields run.so_far);
       asks = asks_so_far locations start before adaptor output state state.source run refl;
+      faults = inl run.faults;
       nodes = kept.nodes;
       job = kept.job;
       told = kept.told;
@@ -125,15 +136,15 @@ pub run_stalls : (locations : List SegmentLocation) (limit : ℕ) (start : ScanD
     Running locations start before adaptor output state → WaitFails limit error state.source after → RunGives locations limit start (Err error) adaptor.scan before after
 run_stalls locations limit start before adaptor output state after scan_errors.ReadFault run (keeps, rose, idle) =
     gives_with locations limit start adaptor.scan before after scan_errors.ReadFault run.scan.kept (rose_after before state.source after run.faults rose) (asks_so_far locations start before adaptor output state after run keeps.asked)
-    (lasts_after before state.source after run.file run.faults run.idle keeps.file rose.kept idle)
+    (lasts_after before state.source after run.file run.faults run.idle keeps.file rose.kept idle) (inr refl)
 run_stalls locations limit start before adaptor output state after scan_errors.Stalled run (keeps, faults, waited) =
     gives_with locations limit start adaptor.scan before after scan_errors.Stalled run.scan.kept
     (record { kept = let p = waited.kept in let q = run.idle in omega (arith, p, q); raised = let p = waited.raised in let q = run.idle in omega (arith, p, q) })
     (asks_so_far locations start before adaptor output state after run keeps.asked)
-    (lasts_after before state.source after run.file run.faults run.idle keeps.file (omega (arith, faults)) waited.kept)
+    (lasts_after before state.source after run.file run.faults run.idle keeps.file (omega (arith, faults)) waited.kept) (inl (faults ∙ run.faults))
 run_stalls locations limit start before adaptor output state after scan_errors.Memory run (keeps, faults, idle) =
     gives_with locations limit start adaptor.scan before after scan_errors.Memory run.scan.kept tt (asks_so_far locations start before adaptor output state after run keeps.asked)
-    (lasts_after before state.source after run.file run.faults run.idle keeps.file (omega (arith, faults)) idle)
+    (lasts_after before state.source after run.file run.faults run.idle keeps.file (omega (arith, faults)) idle) (inl (faults ∙ run.faults))
 run_stalls locations limit start before adaptor output state after scan_errors.BadProjection run gives = absurd gives
 run_stalls locations limit start before adaptor output state after scan_errors.OffsetOverflow run gives = absurd gives
 run_stalls locations limit start before adaptor output state after scan_errors.OutOfRange run gives = absurd gives
@@ -194,11 +205,11 @@ pub run_unsent : (locations : List SegmentLocation) (limit : ℕ) (start : ScanD
 run_unsent locations limit start before batch adaptor next output state new scan_errors.ReadFault run batched (some, stays, rose) =
     gives_with locations limit start next.scan before new.source scan_errors.ReadFault (kept_then locations start before adaptor.scan next.scan run.scan.kept batched.scan.keeps) (rose_after before state.source new.source run.faults rose)
     (asks_some locations start before batch adaptor next output state new run batched some)
-    (lasts_after before state.source new.source run.file run.faults run.idle stays.file rose.kept (let p = stays.idle in omega (arith, p)))
+    (lasts_after before state.source new.source run.file run.faults run.idle stays.file rose.kept (let p = stays.idle in omega (arith, p))) (inr refl)
 run_unsent locations limit start before batch adaptor next output state new scan_errors.Memory run batched (some, stays, faults) =
     gives_with locations limit start next.scan before new.source scan_errors.Memory (kept_then locations start before adaptor.scan next.scan run.scan.kept batched.scan.keeps) tt
     (asks_some locations start before batch adaptor next output state new run batched some)
-    (lasts_after before state.source new.source run.file run.faults run.idle stays.file (omega (arith, faults)) (let p = stays.idle in omega (arith, p)))
+    (lasts_after before state.source new.source run.file run.faults run.idle stays.file (omega (arith, faults)) (let p = stays.idle in omega (arith, p))) (inl (faults ∙ run.faults))
 run_unsent locations limit start before batch adaptor next output state new scan_errors.Stalled run batched gives = absurd gives
 run_unsent locations limit start before batch adaptor next output state new scan_errors.BadProjection run batched gives = absurd gives
 run_unsent locations limit start before batch adaptor next output state new scan_errors.OffsetOverflow run batched gives = absurd gives
@@ -211,28 +222,42 @@ run_unsent locations limit start before batch adaptor next output state new (sca
 
 -- ---- refusals of the scan
 
+-- the cause of a refused step as one of the split with which the run begins
+cause_at : (start old new : ScanData) (locations : List SegmentLocation) (before : SourceState) (error : StepError) → IsUnread start → KeptSoFar locations start before old → (refuses : RefusesSplit old.nodes old.job old.progress new.progress error) → (bytes : Bytes) →
+    HasCauseIn old.nodes old.job new.progress.reads.wanted refuses.split bytes error → HasCauseIn start.nodes start.job new.progress.reads.wanted (split_of start) bytes error
+cause_at start old new locations before error unread kept refuses bytes cause =
+    let at : slice_get start.job.splits.items refuses.number ≡ Some refuses.split = ap (λ (j : Job). slice_get j.splits.items refuses.number) (sym kept.job) ∙ refuses.at in
+    let split : refuses.split ≡ split_of start = only_split start.job.splits.items (split_of start) refuses.split refuses.number unread.splits at in
+    subst (λ (s : Split). HasCauseIn start.nodes start.job new.progress.reads.wanted s bytes error) split
+    (subst (λ (j : Job). HasCauseIn start.nodes j new.progress.reads.wanted refuses.split bytes error) kept.job
+    (subst (λ (ns : List Node). HasCauseIn ns old.job new.progress.reads.wanted refuses.split bytes error) kept.nodes cause))
+
 -- a refused step has its cause in the split
 has_cause : (locations : List SegmentLocation) (start old new : ScanData) (before : SourceState) (error : StepError) → IsUnread start → KeptSoFar locations start before old → (refuses : RefusesSplit old.nodes old.job old.progress new.progress error) →
     WhereScanned locations start before (λ bytes. HasCauseIn start.nodes start.job new.progress.reads.wanted (split_of start) bytes error)
 has_cause locations start old new before error unread kept refuses file is held =
     let bytes : Bytes = segment_bytes file locations in
-    let at : slice_get start.job.splits.items refuses.number ≡ Some refuses.split = ap (λ (j : Job). slice_get j.splits.items refuses.number) (sym kept.job) ∙ refuses.at in
-    let split : refuses.split ≡ split_of start = only_split start.job.splits.items (split_of start) refuses.split refuses.number unread.splits at in
-    let cause : HasCauseIn old.nodes old.job new.progress.reads.wanted refuses.split bytes error = refuses.cause bytes (kept.told file is held) in
-    subst (λ (s : Split). HasCauseIn start.nodes start.job new.progress.reads.wanted s bytes error) split
-    (subst (λ (j : Job). HasCauseIn start.nodes j new.progress.reads.wanted refuses.split bytes error) kept.job
-    (subst (λ (ns : List Node). HasCauseIn ns old.job new.progress.reads.wanted refuses.split bytes error) kept.nodes cause))
+    cause_at start old new locations before error unread kept refuses bytes (refuses.cause bytes (unless_held error (IsScanOf old bytes) (kept.told file is held)))
+
+-- where it reads a list, whatever the bytes
+no_bytes : Bytes
+no_bytes segment = None
+
+is_list_cause : (locations : List SegmentLocation) (start old new : ScanData) (before : SourceState) (list : PlanRef) → IsUnread start → KeptSoFar locations start before old → RefusesSplit old.nodes old.job old.progress new.progress (step_errors.Unsupported list) → IsListCause start (number_of list)
+is_list_cause locations start old new before list unread kept refuses =
+    split_cause start.nodes unread.good start.job unread.known unread.typed new.progress.reads.wanted (split_of start) no_bytes (step_errors.Unsupported list) tt
+    (cause_at start old new locations before (step_errors.Unsupported list) unread kept refuses no_bytes (refuses.cause no_bytes tt))
 
 is_step_cause : (locations : List SegmentLocation) (start old new : ScanData) (before : SourceState) (error : StepError) → IsUnread start → KeptSoFar locations start before old → KeptSoFar locations start before new → RefusesSplit old.nodes old.job old.progress new.progress error →
     IsStepCause locations start before error
 is_step_cause locations start old new before error unread kept later refuses file is held =
     split_cause start.nodes unread.good start.job unread.known unread.typed new.progress.reads.wanted (split_of start) (segment_bytes file locations) error
-    (later.told file is held).bytes (has_cause locations start old new before error unread kept refuses file is held)
+    (unless_held error (Agrees new.progress.reads.wanted (segment_bytes file locations)) (later.told file is held).bytes) (has_cause locations start old new before error unread kept refuses file is held)
 
 stop_cause : (locations : List SegmentLocation) (limit : ℕ) (start old new : ScanData) (before now : SourceState) (error : AdaptorError) → IsUnread start → ScanSoFar locations start before old → KeptSoFar locations start before new → StopCause locations error old new → RunCause locations limit start (scan_error error) before now
 stop_cause locations limit start old new before now (errors.NoLocation segment) unread scan kept lacks =
     ((so_far_then locations start before old new scan lacks.scan).wanted segment (lacks.place, lacks.read), lacks.lacks)
-stop_cause locations limit start old new before now (errors.Step (step_errors.Unsupported list)) unread scan kept refuses = is_step_cause locations start old new before (step_errors.Unsupported list) unread scan.kept kept refuses.cause
+stop_cause locations limit start old new before now (errors.Step (step_errors.Unsupported list)) unread scan kept refuses = is_list_cause locations start old new before list unread scan.kept refuses.cause
 stop_cause locations limit start old new before now (errors.Step (step_errors.BadSegment segment)) unread scan kept refuses = is_step_cause locations start old new before (step_errors.BadSegment segment) unread scan.kept kept refuses.cause
 stop_cause locations limit start old new before now (errors.Step (step_errors.BadCode take row)) unread scan kept refuses = is_step_cause locations start old new before (step_errors.BadCode take row) unread scan.kept kept refuses.cause
 stop_cause locations limit start old new before now (errors.Step (step_errors.EvalFault row)) unread scan kept refuses = has_cause locations start old new before (step_errors.EvalFault row) unread scan.kept refuses.cause
@@ -247,4 +272,4 @@ run_stops locations limit start before adaptor next output state error run stops
     gives_with locations limit start next.scan before state.source (scan_error error) kept
     (stop_cause locations limit start adaptor.scan next.scan before state.source error run.unread run.scan kept stops.cause)
     (asks_so_far locations start before adaptor output state state.source run refl)
-    (record { file = run.file; faults = let p = run.faults in omega (arith, p); idle = run.idle })
+    (record { file = run.file; faults = let p = run.faults in omega (arith, p); idle = run.idle }) (inl run.faults)

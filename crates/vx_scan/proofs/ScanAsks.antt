@@ -6,33 +6,39 @@ use Rattle.std.proofs.lemmas.List.Elements.{All-head, All-tail}
 use Rattle.vx_base.specs.Sources.{SourceState, range_of}
 use Rattle.vx_base.specs.declared.locations.AskedRange.{AskedRange}
 use Rattle.vx_base.specs.declared.locations.SegmentLocation.{SegmentLocation}
-use Rattle.vx_lower.specs.Projected.{scan_reads}
+use Rattle.vx_lower.specs.Projected.{Projection, scan_reads}
+use Rattle.vx_plan.specs.PlanRows.{plan_reads}
 use Rattle.vx_plan.specs.Refs.{number_of}
-use Rattle.vx_rows.specs.Reads.{AnyOf, Finds, IsIn}
+use Rattle.vx_rows.specs.Reads.{Way, Read, AnyOf, Finds, FindsBy, IsIn}
+use Rattle.vx_rows.specs.Renumbered.{way_renumbered, read_renumbered}
 use Rattle.vx_splits.specs.declared.selected_rows.SelectedRows.{SelectedRows}
 use Rattle.vx_splits.specs.Trimmed.{chosen_rows}
 use Rattle.vx_steps.specs.declared.leaf_reads.LeafRead.{LeafRead}
-use Rattle.vx_steps.specs.Visits.{IsLeafRead}
+use Rattle.vx_steps.specs.Below.{HasNoShare}
+use Rattle.vx_steps.specs.Rows.{SomeRow}
 use Rattle.vx_scan.specs.declared.plans.ScanPlans.{ScanPlans}
 use Rattle.vx_scan.specs.Answer.{FileScan, row_count, scan_pieces, scan_rows, size_of}
 use Rattle.vx_scan.specs.Batches.{AsksOver, Share, reasons_in}
 use Rattle.vx_scan.specs.Causes.{ScanReaches}
-use Rattle.vx_scan.specs.ChunkRows.{given_to, ChunkVisits}
 use Rattle.vx_scan.specs.Fetched.{AllLocated, AreDistinct, location_of}
-use Rattle.vx_scan.specs.LeafRows.{LeavesLieTogether, ReadsAt, ScanReadsLeaf}
+use Rattle.vx_scan.specs.LeafRows.{LeavesLieTogether, ScanReadsLeaf}
 use Rattle.vx_scan.specs.Plans.{projection_plan}
 use Rattle.vx_scan.specs.PlanTexts.{held_tree}
-use Rattle.vx_scan.specs.Preparing.{ArePlansOf, LiesInside, AreChunksOf}
+use Rattle.vx_scan.specs.Preparing.{node_of, ArePlansOf, LiesInside, AreChunksOf}
 use Rattle.vx_scan.specs.Reasons.{Reason, read_for, segment_of, chunk_and_segment, IsReasonAmong}
-use Rattle.vx_scan.specs.Scanned.{AreReasonsFor, Gains, GainsOver, IsReasonFor, ReachesRange}
+use Rattle.vx_scan.specs.Scanned.{AreReasonsFor, Gains, GainsOver, IsReasonFor, ReachesRange, ScanReachesBy, way_in}
+use Rattle.vx_scan.specs.Ways.{ReadsBy}
 use Rattle.vx_scan.specs.Workers.{AsksReached}
 use Rattle.vx_scan.proofs.Answered.{pieces_join}
+use Rattle.vx_scan.proofs.DictionaryReasons.{once_a_dictionary}
 use Rattle.vx_scan.proofs.LeafPlaces.{reads_between, tree_reads}
 use Rattle.vx_scan.proofs.LeafShapes.{one_segment}
 use Rattle.vx_scan.proofs.LentSources.{each_source_by, joined_map}
-use Rattle.vx_scan.proofs.ScanCauses.{inside_at, reaches_of}
-use Rattle.vx_scan.proofs.ScanReads.{some_chosen}
-use Rattle.vx_scan.proofs.WeakerVisits.{same_read, weaker_visit}
+use Rattle.vx_scan.proofs.ScanCauses.{inside_at}
+use Rattle.vx_scan.proofs.ScanReads.{in_moved, some_chosen}
+use Rattle.vx_scan.proofs.TakenReads.{read_below}
+use Rattle.vx_scan.proofs.UnsharedPlans.{none_shared}
+use Rattle.vx_scan.proofs.Ways.{found_by}
 
 any_left : (P : ℕ → Type 0) (ones twos : List ℕ) → AnyOf P ones → AnyOf P (ones ++ twos)
 any_left P [] twos any = absurd any
@@ -61,14 +67,42 @@ piece_at [] place chunk at = absurd cc
 piece_at (one ∷ chunks) zero chunk at = let same : one ≡ chunk = cc in ap (λ (c : SelectedRows). Some (chosen_rows c)) same
 piece_at (one ∷ chunks) (suc place) chunk at = piece_at chunks place chunk at
 
--- a selected row of the chunk that reads a leaf is a row of its piece that does
-chunk_reads : (scan : FileScan) (limit : ℕ) (plans : ScanPlans) → ArePlansOf scan limit plans → (chunk : SelectedRows) → LiesInside (row_count scan) chunk → (read : LeafRead) → ChunkVisits (IsLeafRead read) plans [] chunk → ScanReadsLeaf scan.projection (chosen_rows chunk) read
-chunk_reads scan limit plans are chunk inside read visits =
-    some_chosen (ReadsAt read (held_tree scan.projection)) (row_count scan) chunk inside (
+-- what is come to by a way, by other numbers
+moved_by : (f : ℕ → ℕ) (way : Way) (segment : ℕ) (reads : List Read) → FindsBy way (IsIn segment) reads → FindsBy (way_renumbered f way) (IsIn segment) (map (read_renumbered f) reads)
+moved_by f way segment [] any = any
+moved_by f way segment (read ∷ reads) (inl here) = inl (ap (way_renumbered f) here.0, in_moved f segment read.found here.1)
+moved_by f way segment (read ∷ reads) (inr later) = inr (moved_by f way segment reads later)
+
+finds_any : (way : Way) (segment : ℕ) (reads : List Read) → FindsBy way (IsIn segment) reads → Finds (IsIn segment) reads
+finds_any way segment [] any = any
+finds_any way segment (read ∷ reads) (inl here) = inl here.1
+finds_any way segment (read ∷ reads) (inr later) = inr (finds_any way segment reads later)
+
+reaches_any : (way : Way) (p : Projection) (rows : List ℕ) (segment : ℕ) → ScanReachesBy way p rows segment → ScanReaches p rows segment
+reaches_any way p [] segment any = any
+reaches_any way p (row ∷ rows) segment (inl here) = inl (finds_any way segment (scan_reads p row) here)
+reaches_any way p (row ∷ rows) segment (inr later) = inr (reaches_any way p rows segment later)
+
+-- a selected row of the chunk that reads a leaf by some way is a row of its piece that does
+chunk_reads : (scan : FileScan) (limit : ℕ) (plans : ScanPlans) → ArePlansOf scan limit plans → (chunk : SelectedRows) → LiesInside (row_count scan) chunk → (way : Way) (read : LeafRead) → SomeRow (ReadsBy way read (projection_plan plans)) chunk.scope.rows.start chunk.mask → ScanReadsLeaf scan.projection (chosen_rows chunk) way read
+chunk_reads scan limit plans are chunk inside way read visits =
+    some_chosen (ReadsBy way read (held_tree scan.projection)) (row_count scan) chunk inside (
       visits.0,
       visits.1,
-      tree_reads read scan.projection (projection_plan plans) (chunk.scope.rows.start + visits.0) are.plan_is
-          (weaker_visit (IsLeafRead read) (IsLeafRead read) (same_read read) (given_to plans []) (projection_plan plans) (chunk.scope.rows.start + visits.0) visits.2),
+      tree_reads way read scan.projection (projection_plan plans) (chunk.scope.rows.start + visits.0) are.plan_is visits.2,
+    )
+
+-- and reaches the segment that way
+chunk_reaches : (scan : FileScan) (limit : ℕ) (plans : ScanPlans) → ArePlansOf scan limit plans → (chunk : SelectedRows) → LiesInside (row_count scan) chunk → (way : Way) (read : LeafRead) → SomeRow (ReadsBy way read (projection_plan plans)) chunk.scope.rows.start chunk.mask → ScanReachesBy (way_in scan.projection way) scan.projection (chosen_rows chunk) read.segment
+chunk_reaches scan limit plans are chunk inside way read visits =
+    let row : ℕ = chunk.scope.rows.start + visits.0 in
+    let p : Projection = scan.projection in
+    let shares : HasNoShare (projection_plan plans) = none_shared p (projection_plan plans) are.plan_is in
+    let found : FindsBy way (IsIn read.segment) (plan_reads p.offset (projection_plan plans) row) = found_by way read p.offset (projection_plan plans) row shares visits.2 in
+    some_chosen (λ row. FindsBy (way_in p way) (IsIn read.segment) (scan_reads p row)) (row_count scan) chunk inside (
+      visits.0,
+      visits.1,
+      subst (FindsBy (way_in p way) (IsIn read.segment)) (are.plan.reads row) (moved_by (node_of p) way read.segment (plan_reads p.offset (projection_plan plans) row) found),
     )
 
 reason_for : (scan : FileScan) (limit : ℕ) (plans : ScanPlans) → ArePlansOf scan limit plans → (chunks : List SelectedRows) → AreChunksOf scan chunks → (reason : Reason) → reason.segment < length plans.locations.items → IsReasonAmong plans chunks reason → IsReasonFor scan reason (range_of (location_of plans.locations.items reason.segment))
@@ -77,8 +111,8 @@ reason_for scan limit plans are chunks of_scan reason there is =
     record {
       rows = chosen_rows is.chunk;
       here = ap (λ (pieces : List (List ℕ)). slice_get pieces reason.chunk) (sym of_scan.pieces) ∙ piece_at chunks reason.chunk is.chunk is.here;
-      reads = chunk_reads scan limit plans are is.chunk inside (read_for reason) is.reads;
-      reaches = reaches_of scan limit plans are is.chunk inside reason.segment is.reaches;
+      reads = chunk_reads scan limit plans are is.chunk inside reason.way (read_for reason) is.reads;
+      reaches = chunk_reaches scan limit plans are is.chunk inside reason.way (read_for reason) is.reads;
       location = ap (λ (locations : List SegmentLocation). option_map range_of (slice_get locations reason.segment)) (sym are.locations) ∙ ap (option_map range_of) (place_there plans.locations.items reason.segment there);
     }
 
@@ -87,7 +121,8 @@ reason_reaches : (scan : FileScan) (reason : Reason) (range : AskedRange) → Is
 reason_reaches scan reason range is = record {
   segment = reason.segment;
   reaches = subst (λ (rows : List ℕ). ScanReaches scan.projection rows reason.segment) (pieces_join (size_of scan) (scan_rows scan))
-      (any_piece (λ row. Finds (IsIn reason.segment) (scan_reads scan.projection row)) (scan_pieces scan) reason.chunk is.rows is.here is.reaches);
+      (any_piece (λ row. Finds (IsIn reason.segment) (scan_reads scan.projection row)) (scan_pieces scan) reason.chunk is.rows is.here
+      (reaches_any (way_in scan.projection reason.way) scan.projection is.rows reason.segment is.reaches));
   location = is.location;
 }
 
@@ -112,6 +147,7 @@ lie_together : (scan : FileScan) (limit : ℕ) (plans : ScanPlans) → ArePlansO
 lie_together scan limit plans are = record {
   segment = one_segment plans.table are.good (number_of plans.projection) are.known;
   between = reads_between scan.projection (projection_plan plans) are.plan_is;
+  below = read_below plans.table are.good (number_of plans.projection) are.known;
 }
 
 pub gains_of : (scan : FileScan) (limit : ℕ) (plans : ScanPlans) → ArePlansOf scan limit plans → (chunks : List SelectedRows) → AreChunksOf scan chunks → (numbers : List ℕ) (reasons : List Reason) (before after : SourceState) → AsksReached plans chunks numbers reasons before after → Gains scan reasons before after
@@ -123,6 +159,7 @@ gains_of scan limit plans are chunks of_scan numbers reasons before after asks =
       reached = each_range scan reasons (ranges_for plans reasons) for_ranges;
       are_reasons = for_ranges;
       once_a_leaf = asks.once_a_leaf of_scan.ordered (lie_together scan limit plans are);
+      once_a_dictionary = once_a_dictionary scan are.apart reasons (ranges_for plans reasons) for_ranges (asks.once_a_take of_scan.ordered (lie_together scan limit plans are));
     }
 
 pub gains_over : (scan : FileScan) (limit : ℕ) (plans : ScanPlans) → ArePlansOf scan limit plans → (chunks : List SelectedRows) → AreChunksOf scan chunks → (befores afters : List SourceState) → AsksOver plans chunks befores afters → GainsOver scan befores afters

@@ -29,14 +29,13 @@ use Rattle.vx_scan.specs.declared.errors.ScanError.{ScanError}
 use Rattle.vx_scan.specs.declared.errors.ScanError.TheVariants.{BadProjection, OffsetOverflow, OutOfRange, Unsupported, NoLocation, ReadFault, Stalled, BadSegment, BadCode, EvalFault, Memory}
 use Rattle.vx_scan.specs.declared.plans.ScanPlans.{ScanPlans}
 use Rattle.vx_scan.specs.Answer.{FileScan, row_count, scan_pieces, IsAnswer, ArePieces}
-use Rattle.vx_scan.specs.Batches.{AreBatches, HasPiece, LowestFailure}
+use Rattle.vx_scan.specs.Batches.{AreBatches, HasPiece}
 use Rattle.vx_scan.specs.Causes.{ScanFinds, ScanReaches, ReadsTorn, ReadsBadCode, IsFaultAt, FaultsAt}
 use Rattle.vx_scan.specs.ChunkRows.{given_to, ChunkFinds, ChunkReaches, IsPiece}
 use Rattle.vx_scan.specs.Outcomes.{told_by, Causes}
 use Rattle.vx_scan.specs.Plans.{bytes_of, projection_plan}
 use Rattle.vx_scan.specs.Preparing.{node_of, ArePlansOf, LiesInside, AreChunksOf}
-use Rattle.vx_scan.specs.Scanned.{CausedBy, HasAnswer, LowestCause}
-use Rattle.vx_scan.proofs.LentSources.{some_source}
+use Rattle.vx_scan.specs.Scanned.{CausedBy, HasAnswer}
 use Rattle.vx_scan.proofs.ScanReads.{chunk_rows, some_chosen, chunk_finds, in_moved, torn_moved, row_moved, code_moved}
 
 -- ---- nothing is given
@@ -89,7 +88,7 @@ row_worth scan limit plans are bytes row =
     ∙ (ap (λ (offset : ℕ). plan_value (leaves_of bytes) offset (projection_plan plans) row) are.offset
     ∙ are.plan.values (leaves_of bytes) (give_fitting bytes) row)
 
-piece_answers : (scan : FileScan) (limit : ℕ) (plans : ScanPlans) → ArePlansOf scan limit plans → (bytes : Bytes) (chunk : SelectedRows) → LiesInside (row_count scan) chunk → (column : ColumnData) → IsPiece (leaves_of bytes) plans [] chunk column → IsAnswer (leaves_of bytes) scan.projection (chosen_rows chunk) column.values
+pub piece_answers : (scan : FileScan) (limit : ℕ) (plans : ScanPlans) → ArePlansOf scan limit plans → (bytes : Bytes) (chunk : SelectedRows) → LiesInside (row_count scan) chunk → (column : ColumnData) → IsPiece (leaves_of bytes) plans [] chunk column → IsAnswer (leaves_of bytes) scan.projection (chosen_rows chunk) column.values
 piece_answers scan limit plans are bytes chunk inside column piece =
     let leaves : Leaves = leaves_of bytes in
     ap (map (projected_at leaves scan.projection)) (sym (chunk_rows (row_count scan) chunk inside))
@@ -107,7 +106,7 @@ pieces_answer scan limit plans are bytes (chunk ∷ chunks) inside [] is = absur
 pieces_answer scan limit plans are bytes (chunk ∷ chunks) inside (batch ∷ batches) is =
     (piece_answers scan limit plans are bytes chunk inside.0 batch is.0, pieces_answer scan limit plans are bytes chunks inside.1 batches is.1)
 
-have_answers : (scan : FileScan) (limit : ℕ) (plans : ScanPlans) → ArePlansOf scan limit plans → (bytes : Bytes) (chunks : List SelectedRows) → AllByRecursion (LiesInside (row_count scan)) chunks → (k : ℕ) → AllByRecursion (HasPiece (leaves_of bytes) plans) (take k chunks) → AllByRecursion (HasAnswer (leaves_of bytes) scan.projection) (take k (map chosen_rows chunks))
+pub have_answers : (scan : FileScan) (limit : ℕ) (plans : ScanPlans) → ArePlansOf scan limit plans → (bytes : Bytes) (chunks : List SelectedRows) → AllByRecursion (LiesInside (row_count scan)) chunks → (k : ℕ) → AllByRecursion (HasPiece (leaves_of bytes) plans) (take k chunks) → AllByRecursion (HasAnswer (leaves_of bytes) scan.projection) (take k (map chosen_rows chunks))
 have_answers scan limit plans are bytes chunks inside zero have = tt
 have_answers scan limit plans are bytes [] inside (suc k) have = tt
 have_answers scan limit plans are bytes (chunk ∷ chunks) inside (suc k) have =
@@ -120,7 +119,7 @@ inside_at count [] k chunk inside at = absurd cc
 inside_at count (one ∷ chunks) zero chunk inside at = let e : one ≡ chunk = cc in subst (LiesInside count) e inside.0
 inside_at count (one ∷ chunks) (suc k) chunk inside at = inside_at count chunks k chunk inside.1 at
 
-rows_at : (chunks : List SelectedRows) (k : ℕ) (chunk : SelectedRows) → slice_get chunks k ≡ Some chunk → slice_get (map chosen_rows chunks) k ≡ Some (chosen_rows chunk)
+pub rows_at : (chunks : List SelectedRows) (k : ℕ) (chunk : SelectedRows) → slice_get chunks k ≡ Some chunk → slice_get (map chosen_rows chunks) k ≡ Some (chosen_rows chunk)
 rows_at [] k chunk at = absurd cc
 rows_at (one ∷ chunks) zero chunk at = let e : one ≡ chunk = cc in ap (λ (c : SelectedRows). Some (chosen_rows c)) e
 rows_at (one ∷ chunks) (suc k) chunk at = rows_at chunks k chunk at
@@ -135,12 +134,12 @@ faults_among leaves p at [] any = absurd any
 faults_among leaves p at (row ∷ rows) (inl here) = (inl here.0, subst (IsFaultAt leaves p) here.0 here.1)
 faults_among leaves p at (row ∷ rows) (inr later) = let rest = faults_among leaves p at rows later in (inr rest.0, rest.1)
 
-cause_of : (scan : FileScan) (limit : ℕ) (plans : ScanPlans) → ArePlansOf scan limit plans → (chunk : SelectedRows) → LiesInside (row_count scan) chunk → (error : ScanError) (before after : SourceState) → Causes (told_by plans before) plans [] chunk error before after → CausedBy scan limit (chosen_rows chunk) error before after
+pub cause_of : (scan : FileScan) (limit : ℕ) (plans : ScanPlans) → ArePlansOf scan limit plans → (chunk : SelectedRows) → LiesInside (row_count scan) chunk → (error : ScanError) (before after : SourceState) → Causes (told_by plans before) plans [] chunk error before after → CausedBy scan limit (chosen_rows chunk) error before after
 cause_of scan limit plans are chunk inside BadProjection before after cause = cause
 cause_of scan limit plans are chunk inside OffsetOverflow before after cause = cause
 cause_of scan limit plans are chunk inside OutOfRange before after cause = cause
-cause_of scan limit plans are chunk inside (Unsupported list) before after cause = λ file told.
-    finds_of scan limit plans are (IsRowOf (number_of list)) (IsRowOf (node_of scan.projection (number_of list))) (row_moved (node_of scan.projection) (number_of list)) chunk inside (cause file told)
+cause_of scan limit plans are chunk inside (Unsupported list) before after cause =
+    finds_of scan limit plans are (IsRowOf (number_of list)) (IsRowOf (node_of scan.projection (number_of list))) (row_moved (node_of scan.projection) (number_of list)) chunk inside cause
 cause_of scan limit plans are chunk inside (NoLocation segment) before after cause =
     let count : length plans.locations.items ≡ length scan.locations = ap length are.locations in
     (reaches_of scan limit plans are chunk inside segment cause.0, λ below. let lacks = cause.1 in omega (arith, count, below, lacks))
@@ -160,16 +159,3 @@ cause_of scan limit plans are chunk inside (EvalFault at) before after cause = �
     subst (λ (bytes : Bytes). FaultsAt (leaves_of bytes) scan.projection (chosen_rows chunk) at) (same_bytes scan limit plans are file)
     (faults_among leaves scan.projection at (chosen_rows chunk) some)
 cause_of scan limit plans are chunk inside Memory before after cause = tt
-
-pub lowest_of : (scan : FileScan) (limit : ℕ) (plans : ScanPlans) → ArePlansOf scan limit plans → (chunks : List SelectedRows) → AreChunksOf scan chunks → (error : ScanError) (befores afters : List SourceState) → LowestFailure plans chunks error befores afters → LowestCause scan limit error befores afters
-lowest_of scan limit plans are chunks of_scan error befores afters lowest = record {
-  place = lowest.place;
-  rows = chosen_rows lowest.chunk;
-  here = ap (λ (pieces : List (List ℕ)). slice_get pieces lowest.place) (sym of_scan.pieces) ∙ rows_at chunks lowest.place lowest.chunk lowest.here;
-  cause = some_source (λ before after. Causes (told_by plans before) plans [] lowest.chunk error before after) (CausedBy scan limit (chosen_rows lowest.chunk) error)
-      (cause_of scan limit plans are lowest.chunk (inside_at (row_count scan) chunks lowest.place lowest.chunk of_scan.inside lowest.here) error) befores afters lowest.cause;
-  lower = λ file told.
-      subst (λ (bytes : Bytes). AllByRecursion (HasAnswer (leaves_of bytes) scan.projection) (take lowest.place (scan_pieces scan))) (same_bytes scan limit plans are file)
-      (subst (λ (pieces : List (List ℕ)). AllByRecursion (HasAnswer (leaves_of (bytes_of plans file)) scan.projection) (take lowest.place pieces)) of_scan.pieces
-      (have_answers scan limit plans are (bytes_of plans file) chunks of_scan.inside lowest.place (lowest.lower file told)));
-}

@@ -24,10 +24,10 @@ use Rattle.vx_scan.specs.Causes.{ScanFinds, IsFaultAt}
 use Rattle.vx_scan.specs.Lent.{EachSource, AllTell}
 use Rattle.vx_scan.specs.Plans.{IsQuiet}
 use Rattle.vx_scan.specs.Preparing.{node_of}
-use Rattle.vx_scan.specs.Scanned.{CausedBy, LowestCause}
+use Rattle.vx_scan.specs.Scanned.{CausedBy, FailsPiece, LowestCause}
 use Rattle.vx_scan.specs.Valid.{IsValidScan}
 use Rattle.vx_scan.proofs.Answered.{pieces_join}
-use Rattle.vx_scan.proofs.LentSources.{by_one_source}
+use Rattle.vx_scan.proofs.LentSources.{by_one_source, some_without}
 
 -- ---- no read of it is amiss
 
@@ -126,7 +126,7 @@ only_memory scan limit file before after told quiet rows fine answered BadProjec
 only_memory scan limit file before after told quiet rows fine answered OffsetOverflow cause = absurd cause
 only_memory scan limit file before after told quiet rows fine answered OutOfRange cause = absurd cause
 only_memory scan limit file before after told quiet rows fine answered (Unsupported list) cause =
-    absurd (rows_fine (file_leaves file scan.locations) scan.projection (IsRowOf (node_of scan.projection (number_of list))) (row_amiss (file_leaves file scan.locations) (node_of scan.projection (number_of list))) rows fine (cause file told))
+    absurd (rows_fine (file_leaves file scan.locations) scan.projection (IsRowOf (node_of scan.projection (number_of list))) (row_amiss (file_leaves file scan.locations) (node_of scan.projection (number_of list))) rows fine cause)
 only_memory scan limit file before after told quiet rows fine answered (NoLocation segment) cause =
     absurd (rows_fine (file_leaves file scan.locations) scan.projection (IsIn segment) (unplaced_amiss file scan.locations segment cause.1) rows fine cause.0)
 only_memory scan limit file before after told quiet rows fine answered ReadFault cause = absurd (quiet.faults cause)
@@ -148,7 +148,7 @@ valid_memory scan limit error befores afters lowest file told valid quiet =
     (of_piece (λ row. FindsOnly (IsFine (file_leaves file scan.locations)) (scan_reads scan.projection row)) scan lowest.place lowest.rows lowest.here valid.fine)
     (of_piece (λ row. IsSome (projected_at (file_leaves file scan.locations) scan.projection row)) scan lowest.place lowest.rows lowest.here valid.answered)
     error cause)
-    befores afters lowest.cause told quiet
+    befores afters (some_without (FailsPiece scan limit lowest.place lowest.rows error) (CausedBy scan limit lowest.rows error) (λ numbers before after fails. fails.cause) lowest.claims befores afters lowest.cause) told quiet
 
 -- ---- it is not refused
 

@@ -4,6 +4,7 @@ use Rattle.std.specs.Result.{IsErrAnd}
 use Rattle.std.specs.List.{AllByRecursion}
 use Rattle.std.proofs.lemmas.List.{length-map}
 use Rattle.vx_base.specs.Columns.{ColumnData}
+use Rattle.vx_base.specs.Masks.{true_count}
 use Rattle.vx_base.specs.Sources.{SourceState}
 use Rattle.vx_plan.specs.Plans.{Head}
 use Rattle.vx_plan.specs.Refs.{number_of}
@@ -12,12 +13,14 @@ use Rattle.vx_layout.specs.Rows.{file_leaves}
 use Rattle.vx_rows.specs.SegmentLeaves.{Bytes, leaves_of}
 use Rattle.vx_splits.specs.declared.selected_rows.SelectedRows.{SelectedRows}
 use Rattle.vx_splits.specs.Trimmed.{chosen_rows}
+use Rattle.vx_steps.proofs.SelectedRows.{rows_count}
 use Rattle.vx_scan.specs.declared.errors.ScanError.{ScanError}
 use Rattle.vx_scan.specs.declared.errors.ScanError.TheVariants.{Memory}
 use Rattle.vx_scan.specs.declared.outcomes.Outcome.{Outcome}
 use Rattle.vx_scan.specs.declared.plans.ScanPlans.{ScanPlans}
 use Rattle.vx_scan.specs.declared.prepares.Prepared.{Prepared}
 use Rattle.vx_scan.specs.Answer.{FileScan, row_count, scan_rows, scan_pieces, ArePieces}
+use Rattle.vx_scan.specs.Asks.{KeepsFaults}
 use Rattle.vx_scan.specs.BatchColumns.{TakesBatches}
 use Rattle.vx_scan.specs.Batches.{LowestFailure, GivesBatches}
 use Rattle.vx_scan.specs.Beginning.{Refuses}
@@ -26,17 +29,19 @@ use Rattle.vx_scan.specs.Fetched.{AreDistinct}
 use Rattle.vx_scan.specs.Lent.{EachSource, AllTell}
 use Rattle.vx_scan.specs.Plans.{bytes_of, projection_node, IsQuiet}
 use Rattle.vx_scan.specs.Prepared.{IsPreparedFor}
-use Rattle.vx_scan.specs.Preparing.{ArePlansOf, AreChunksOf}
+use Rattle.vx_scan.specs.Preparing.{ArePlansOf, AreChunksOf, LiesInside}
 use Rattle.vx_scan.specs.Reasons.{Reason, chunk_and_segment}
 use Rattle.vx_scan.specs.Scanned.{Gains, GainsOver, LowestCause, AnswersScan}
 use Rattle.vx_scan.specs.Valid.{HasRows, IsValidScan}
 use Rattle.vx_scan.proofs.BeginningRows.{no_pieces}
 use Rattle.vx_scan.proofs.Distinct.{distinct_none}
 use Rattle.vx_scan.proofs.GivenBatches.{gives_batches}
-use Rattle.vx_scan.proofs.LentSources.{each_clear, each_lasts, each_same_by, for_each, joined_none}
+use Rattle.vx_scan.proofs.LentSources.{each_clear, each_lasts, each_same, each_same_by, for_each, joined_none}
+use Rattle.vx_scan.proofs.LowestCauses.{lowest_of}
 use Rattle.vx_scan.proofs.Sessions.{asked_nothing}
 use Rattle.vx_scan.proofs.ScanAsks.{gains_over}
-use Rattle.vx_scan.proofs.ScanCauses.{pieces_answer, same_bytes, lowest_of}
+use Rattle.vx_scan.proofs.ScanCauses.{pieces_answer, same_bytes}
+use Rattle.vx_scan.proofs.ScanReads.{chunk_rows}
 use Rattle.vx_scan.proofs.ScanValid.{valid_begins, valid_memory}
 
 projection_dtype : (scan : FileScan) (limit : ℕ) (plans : ScanPlans) → ArePlansOf scan limit plans → (projection_node plans).dtype ≡ scan.projection.expression.dtype
@@ -45,6 +50,14 @@ projection_dtype scan limit plans are = sym (ap (λ (head : Head). head.dtype) (
 each_dtype : (t u : _) → t ≡ u → (batches : List ColumnData) → AllByRecursion (λ (batch : ColumnData). batch.dtype ≡ t) batches → AllByRecursion (λ (batch : ColumnData). batch.dtype ≡ u) batches
 each_dtype t u same [] each = tt
 each_dtype t u same (batch ∷ batches) each = (each.0 ∙ same, each_dtype t u same batches each.1)
+
+-- as many rows are chosen as are true
+chosen_counts : (count : ℕ) (chunks : List SelectedRows) → AllByRecursion (LiesInside count) chunks → map (λ (chunk : SelectedRows). true_count chunk.mask) chunks ≡ map (λ (rows : List ℕ). length rows) (map chosen_rows chunks)
+chosen_counts count [] inside = refl
+chosen_counts count (chunk ∷ chunks) inside =
+    let one = sym (rows_count chunk.scope.rows.start chunk.mask) ∙ ap length (chunk_rows count chunk inside.0) in
+    let rest = chosen_counts count chunks inside.1 in
+    (λ k. one k ∷ rest k)
 
 lowest_or : (scan : FileScan) (limit : ℕ) (plans : ScanPlans) → ArePlansOf scan limit plans → (chunks : List SelectedRows) → AreChunksOf scan chunks → (error : ScanError) (befores afters : List SourceState) → (error ≡ Memory) ⊎ LowestFailure plans chunks error befores afters → (error ≡ Memory) ⊎ (Refuses scan error ⊎ LowestCause scan limit error befores afters)
 lowest_or scan limit plans are chunks of_scan error befores afters (inl memory) = inl memory
@@ -63,6 +76,8 @@ answers_scan scan limit plans are chunks of_scan (Ok batches) befores afters giv
       (pieces_answer scan limit plans are (bytes_of plans file) chunks of_scan.inside batches.items (gives.content file told)));
   count = gives.count ∙ (sym (length-map chunks chosen_rows) ∙ ap length of_scan.pieces);
   dtype = each_dtype (projection_node plans).dtype scan.projection.expression.dtype (projection_dtype scan limit plans are) batches.items gives.dtype;
+  rows = gives.rows ∙ (chosen_counts (row_count scan) chunks of_scan.inside ∙ ap (map (λ (rows : List ℕ). length rows)) of_scan.pieces);
+  faults = gives.faults;
   asks = gains_over scan limit plans are chunks of_scan befores afters gives.asks;
   cause = tt;
   complete = tt;
@@ -75,6 +90,8 @@ answers_scan scan limit plans are chunks of_scan (Err error) befores afters give
       content = tt;
       count = tt;
       dtype = tt;
+      rows = tt;
+      faults = tt;
       asks = gains_over scan limit plans are chunks of_scan befores afters gives.asks;
       cause = cause;
       complete = memory_or scan limit error befores afters cause;
@@ -97,6 +114,7 @@ gains_none scan source = record {
   reached = tt;
   are_reasons = tt;
   once_a_leaf = distinct_none;
+  once_a_dictionary = distinct_none;
 }
 
 pub none_gain : (scan : FileScan) (sources : List SourceState) → GainsOver scan sources sources
@@ -111,6 +129,8 @@ memory_answers scan limit error sources is = record {
   content = tt;
   count = tt;
   dtype = tt;
+  rows = tt;
+  faults = tt;
   asks = none_gain scan sources;
   cause = inl is;
   complete = λ file told valid quiet. is;
@@ -127,6 +147,8 @@ refused_answers scan limit error sources refuses = record {
   content = tt;
   count = tt;
   dtype = tt;
+  rows = tt;
+  faults = tt;
   asks = none_gain scan sources;
   cause = inr (inl refuses);
   complete = λ file told valid quiet. absurd (valid_begins (file_leaves file scan.locations) scan error valid refuses);
@@ -141,6 +163,8 @@ empty_answers scan limit batches sources none empty =
       content = λ file told. rw (pieces, empty) tt;
       count = ap length empty ∙ sym (ap length pieces);
       dtype = rw empty tt;
+      rows = ap (map (λ (batch : ColumnData). length batch.values)) empty ∙ sym (ap (map (λ (rows : List ℕ). length rows)) pieces);
+      faults = each_same KeepsFaults (λ source. refl) sources;
       asks = none_gain scan sources;
       cause = tt;
       complete = tt;

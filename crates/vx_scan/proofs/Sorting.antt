@@ -37,7 +37,7 @@ gathers_sorted claims left lanes seat lists old new error permutes gathers = rec
   claimed = gathers.claimed;
   untold = gathers.untold;
   all_lists = gathers.all_lists;
-  all_pieces = λ x below. times_permuted x old new permutes ∙ gathers.all_pieces x below;
+  all_pieces = λ enough x. times_permuted x old new permutes ∙ gathers.all_pieces enough x;
   some_pieces = λ x. let same = times_permuted x old new permutes in let most = gathers.some_pieces x in omega (arith, same, most);
   given = All-permutation (IsOfLane lanes) old new permutes gathers.given;
   lowest = gathers.lowest;
@@ -51,7 +51,7 @@ gathers_none claims left lanes seat lists old error gathers = record {
   claimed = gathers.claimed;
   untold = gathers.untold;
   all_lists = gathers.all_lists;
-  all_pieces = λ x below. absurd (omega (arith, below));
+  all_pieces = λ enough x. absurd (enough refl);
   some_pieces = λ x. omega arith;
   given = All-nil (IsOfLane lanes);
   lowest = λ k d within. no_memory_least (slice_index_or lanes k d).error;

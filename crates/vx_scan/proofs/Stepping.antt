@@ -12,6 +12,7 @@ use Rattle.vx_steps.specs.Jobs.{IsTold, KeepsColumns, KeepsTold, KeepsWholes}
 use Rattle.vx_steps.specs.ScanData.{ScanData, IsScanOf}
 use Rattle.vx_steps.specs.Steps.{GoesOn, IsSplitOutput, IsStepRefusal, LeavesSplit, RefusesSplit, TakesTurn, work_left}
 use Rattle.vx_steps.specs.Wants.{Grows}
+use Rattle.vx_steps.proofs.Premises.{unless_by}
 use Rattle.vx_scan.specs.declared.adaptor_errors.AdaptorError.{AdaptorError}
 use Rattle.vx_scan.specs.declared.adaptor_errors.AdaptorError.TheVariants as errors
 use Rattle.vx_scan.specs.Computes.{RefusesStep, StopCause}
@@ -69,7 +70,7 @@ left_before : (error : StepError) (old middle : ScanData) (after : ScanData) (sp
 left_before (steps.BadSegment segment) old middle after split keeps leaves = tt
 left_before steps.Memory old middle after split keeps leaves = tt
 left_before (steps.Unsupported list) old middle after split keeps (inl there) = inl there
-left_before (steps.Unsupported list) old middle after split keeps (inr inside) = inr (λ outside was. inside outside (told_at old middle outside keeps was))
+left_before (steps.Unsupported list) old middle after split keeps (inr inside) = inr (λ outside was. inside outside was)
 left_before (steps.BadCode take at) old middle after split keeps (inl there) = inl there
 left_before (steps.BadCode take at) old middle after split keeps (inr inside) = inr (λ outside was. inside outside (told_at old middle outside keeps was))
 left_before (steps.EvalFault at) old middle after split keeps (inl there) = inl there
@@ -84,7 +85,7 @@ refuses_before error old middle new keeps is =
       split = here.split;
       at = here.at;
       active = here.active;
-      cause = λ outside was. here.cause outside (told_at old middle outside keeps was);
+      cause = λ outside was. here.cause outside (unless_by error (IsScanOf old outside) (IsTold old.nodes old.job middle.progress outside) (told_at old middle outside keeps) was);
       left = left_before error old middle new here.split keeps here.left;
     }
 

@@ -1,9 +1,10 @@
 -- The chunks of one worker, one after another.
-use Rattle.std.proofs.Common.{◌≡◌, ℕ, ◌+◌, ◌<◌, ◌≤◌, inl, inr, List, [], ◌∷◌, ◌++◌, Some, None, Result, Ok, Err, length, refl, sym, ◌∙◌, subst, arith}
+use Rattle.std.proofs.Common.{◌≡◌, ℕ, ◌+◌, ◌<◌, ◌≤◌, ◌⊎◌, inl, inr, List, [], ◌∷◌, ◌++◌, Some, None, Result, Ok, Err, length, refl, sym, ◌∙◌, subst, arith}
 use Rattle.std.specs.Prelude.{IfOk, IfErr, IsSomeAnd, Option}
 use Rattle.std.specs.List.{slice_get, All}
 use Rattle.std.proofs.lemmas.List.Elements.{All-nil, All-push}
 use Rattle.vx_base.specs.Columns.{ColumnData}
+use Rattle.vx_base.specs.Masks.{Ascend, true_count}
 use Rattle.vx_base.specs.Sources.{SourceState, RoseBy}
 use Rattle.vx_claims.specs.declared.claims.Claims.{Claims}
 use Rattle.vx_claims.specs.Claims.{IsSeatOf, claimed, parts}
@@ -20,14 +21,15 @@ use Rattle.vx_scan.specs.declared.lanes.Piece.{Piece}
 use Rattle.vx_scan.specs.declared.outcomes.HandedOn.{HandedOn}
 use Rattle.vx_scan.specs.declared.outcomes.Ran.{Ran}
 use Rattle.vx_scan.specs.declared.plans.ScanPlans.{ScanPlans}
-use Rattle.vx_scan.specs.Asks.{IsLeftClear, Lasts}
+use Rattle.vx_scan.specs.Asks.{IsLeftClear, KeepsFaults, Lasts, TellsFaults}
 use Rattle.vx_scan.specs.ChunkRows.{ChunkVisits, IsPiece}
 use Rattle.vx_scan.specs.LeafRows.{IsReadAt, LeavesLieTogether, row_behind}
 use Rattle.vx_scan.specs.Outcomes.{data_of, told_by, told_on, CanHandOn, IsHandedBy, Causes, GivesPiece, RunsOn}
 use Rattle.vx_scan.specs.Plans.{bytes_of, projection_plan, AreInOrder, IsChunkOf}
-use Rattle.vx_scan.specs.Reasons.{Reason, read_for}
-use Rattle.vx_scan.specs.Workers.{numbers_of, AsksReached, Fails, HasDtype, IsPieceOf, RunsSource}
+use Rattle.vx_scan.specs.Reasons.{Reason}
+use Rattle.vx_scan.specs.Workers.{numbers_of, AsksReached, Fails, HasDtype, HasItsRows, IsPieceOf, RunsSource}
 use Rattle.vx_scan.proofs.Distinct.{distinct_none}
+use Rattle.vx_scan.proofs.Higher.{ascend_none, ascend_push}
 use Rattle.vx_scan.proofs.Lasting.{lasts_same, lasts_then}
 use Rattle.vx_scan.proofs.NewReasons.{ArePast, HandsLeaves, NewReasons, RunsNext, asks_more, lies_behind, new_reasons, past_more}
 use Rattle.vx_scan.proofs.Sessions.{asked_nothing}
@@ -46,6 +48,9 @@ LieBehind chunks number row = (n : ℕ) (chunk : SelectedRows) → number ≤ n 
 pub record RanSoFar (plans : ScanPlans) (chunks : List SelectedRows) (numbers : List ℕ) (pieces : List Piece) (handed : HandedOn) (before now : SourceState) : Type 0 where
   pub content : told_by plans before (λ bytes. All (IsPieceOf (leaves_of bytes) plans chunks) pieces)
   pub dtype : All (HasDtype plans) pieces
+  pub rows : All (HasItsRows chunks) pieces
+  pub ascend : Ascend numbers
+  pub faults : KeepsFaults before now
   pub can : CanHandOn plans handed
   pub handed_is : IsHanded plans handed before
   pub reasons : List Reason
@@ -75,6 +80,9 @@ pub ran_none : (plans : ScanPlans) (chunks : List SelectedRows) (numbers : List 
 ran_none plans chunks numbers pieces handed source no_leaves none_made no_numbers no_pieces = rw (no_numbers, no_pieces) (record {
   content = λ file told. All-nil (IsPieceOf (leaves_of (bytes_of plans file)) plans chunks);
   dtype = All-nil (HasDtype plans);
+  rows = All-nil (HasItsRows chunks);
+  ascend = ascend_none;
+  faults = refl;
   can = record {
     leaves = rw no_leaves (λ n column at. absurd cc);
     made = rw none_made (λ n column at. absurd cc);
@@ -92,6 +100,7 @@ ran_none plans chunks numbers pieces handed source no_leaves none_made no_number
     asked = sym (asked_nothing source.asked);
     once_a_chunk = distinct_none;
     once_a_leaf = λ order together. distinct_none;
+    once_a_take = λ order together. distinct_none;
   };
   row = 0;
   past = λ order together. tt;
@@ -106,9 +115,9 @@ told_before plans handed before now P lasts is claim = λ file told. claim file 
 
 -- ---- a chunk that gave its piece
 
-is_piece_of : (P : SelectedRows → Type 0) (got : Option SelectedRows) (chunk : SelectedRows) → got ≡ Some chunk → P chunk → IsSomeAnd got P
-is_piece_of P None chunk here is = absurd cc
-is_piece_of P (Some one) chunk here is = let same : one ≡ chunk = cc in subst P (sym same) is
+of_chunk : (P : SelectedRows → Type 0) (got : Option SelectedRows) (chunk : SelectedRows) → got ≡ Some chunk → P chunk → IsSomeAnd got P
+of_chunk P None chunk here is = absurd cc
+of_chunk P (Some one) chunk here is = let same : one ≡ chunk = cc in subst P (sym same) is
 
 piece_of : (P : ColumnData → Type 0) (piece : Result ColumnData ScanError) (column : ColumnData) → piece ≡ Ok column → IfOk piece P → P column
 piece_of P (Ok one) column is holds = subst (IfOk_of P) is holds
@@ -117,11 +126,17 @@ piece_of P (Ok one) column is holds = subst (IfOk_of P) is holds
     IfOk_of P result = IfOk result P
 piece_of P (Err error) column is holds = absurd cc
 
+-- and no call on the source failed
+faultless : (piece : Result ColumnData ScanError) (column : ColumnData) (now after : SourceState) → piece ≡ Ok column → TellsFaults piece now after → KeepsFaults now after
+faultless piece column now after is (inl same) = same
+faultless (Ok one) column now after is (inr fault) = absurd cc
+faultless (Err error) column now after is (inr fault) = absurd cc
+
 -- what a chunk hands on of leaves
 hands_leaves : (plans : ScanPlans) (chunk : SelectedRows) (handed : HandedOn) (ran : Ran) (column : ColumnData) (before after : SourceState) → RunsOn plans chunk handed ran before after → ran.piece ≡ Ok column → HandsLeaves plans chunk (data_of handed.leaves.items) (data_of ran.handed.leaves.items)
 hands_leaves plans chunk handed ran column before after runs piece_is =
     let there = piece_of (λ column. (read : LeafRead) → IsReadAt plans (row_behind chunk) read.leaf → ChunkVisits (IsLeafRead read) plans [] chunk → IsKept (data_of ran.handed.leaves.items) read.leaf) ran.piece column piece_is runs.more.leaves_there in
-    record { stay = runs.more.leaves_stay; there = λ reason past visits. there (read_for reason) past visits }
+    record { stay = runs.more.leaves_stay; there = there }
 
 -- the chunk that was claimed, behind those that ran
 next_chunk : (plans : ScanPlans) (chunks : List SelectedRows) (numbers : List ℕ) (number : ℕ) (chunk : SelectedRows) (pieces : List Piece) (handed : HandedOn) (before now : SourceState) → IsChunkOf plans chunk → slice_get chunks number ≡ Some chunk → above numbers ≤ number
@@ -146,9 +161,13 @@ ran_more plans chunks numbers number chunk handed ran column pieces before now a
     record {
       content = λ file told.
           All-push (IsPieceOf (leaves_of (bytes_of plans file)) plans chunks) pieces (record { chunk = number; column = column }) (so_far.content file told)
-          (is_piece_of (λ chunk. IsPiece (leaves_of (bytes_of plans file)) plans [] chunk column) (slice_get chunks number) chunk here
+          (of_chunk (λ chunk. IsPiece (leaves_of (bytes_of plans file)) plans [] chunk column) (slice_get chunks number) chunk here
           (told_before plans handed before now (λ bytes. IsPiece (leaves_of bytes) plans [] chunk column) so_far.lasts so_far.handed_is piece.values file told));
       dtype = All-push (HasDtype plans) pieces (record { chunk = number; column = column }) so_far.dtype piece.dtype;
+      rows = All-push (HasItsRows chunks) pieces (record { chunk = number; column = column }) so_far.rows
+          (of_chunk (λ (one : SelectedRows). length column.values ≡ true_count one.mask) (slice_get chunks number) chunk here piece.count);
+      ascend = ascend_push numbers number so_far.ascend later;
+      faults = faultless ran.piece column now after piece_is runs.faults ∙ so_far.faults;
       can = runs.more.can;
       handed_is = told_before plans handed before now (IsHandedBy plans ran.handed) so_far.lasts so_far.handed_is runs.more.by_file;
       reasons = so_far.reasons ++ fresh.reasons;
@@ -169,7 +188,7 @@ cause_before : (plans : ScanPlans) (handed : HandedOn) (chunk : SelectedRows) (e
 cause_before plans handed chunk BadProjection before now after lasts is cause = absurd cause
 cause_before plans handed chunk OffsetOverflow before now after lasts is cause = absurd cause
 cause_before plans handed chunk OutOfRange before now after lasts is cause = absurd cause
-cause_before plans handed chunk (Unsupported list) before now after lasts is cause = λ file told. cause file (lasts.file ∙ told) (is file told)
+cause_before plans handed chunk (Unsupported list) before now after lasts is cause = cause
 cause_before plans handed chunk (NoLocation segment) before now after lasts is cause = cause
 cause_before plans handed chunk ReadFault before now after lasts is cause = rose_by 1 before.faults now.faults after.faults lasts.faults cause
 cause_before plans handed chunk Stalled before now after lasts is cause = rose_by plans.idle_limit before.idle now.idle after.idle lasts.idle cause
@@ -185,11 +204,25 @@ error_of P (Err one) error is holds = subst (IfErr_of P) is holds
     IfErr_of : (ScanError → Type 0) → Result ColumnData ScanError → Type 0
     IfErr_of P result = IfErr result P
 
+-- the error of the chunk is that a read failed, where a call on the source failed
+faults_told : (piece : Result ColumnData ScanError) (error : ScanError) (before now after : SourceState) → KeepsFaults before now → piece ≡ Err error → TellsFaults piece now after → KeepsFaults before after ⊎ (error ≡ ReadFault)
+faults_told piece error before now after so_far is (inl same) = inl (same ∙ so_far)
+faults_told (Ok column) error before now after so_far is (inr fault) = absurd cc
+faults_told (Err one) error before now after so_far is (inr fault) =
+    let here : one ≡ error = cc in
+    let there : one ≡ ReadFault = cc in
+    inr (sym here ∙ there)
+
 pub fails_now : (plans : ScanPlans) (chunks : List SelectedRows) (numbers : List ℕ) (number : ℕ) (chunk : SelectedRows) (handed : HandedOn) (ran : Ran) (error : ScanError) (pieces : List Piece) (before now after : SourceState) → slice_get chunks number ≡ Some chunk
     → RanSoFar plans chunks numbers pieces handed before now → RunsOn plans chunk handed ran now after → ran.piece ≡ Err error → Fails plans chunks (record { chunk = number; error = error }) before after
 fails_now plans chunks numbers number chunk handed ran error pieces before now after here so_far runs error_is =
     let cause : Causes (told_on plans handed now) plans [] chunk error now after = error_of (λ error. Causes (told_on plans handed now) plans [] chunk error now after) ran.piece error error_is runs.cause in
-    record { chunk = chunk; here = here; cause = cause_before plans handed chunk error before now after so_far.lasts so_far.handed_is cause }
+    record {
+      chunk = chunk;
+      here = here;
+      cause = cause_before plans handed chunk error before now after so_far.lasts so_far.handed_is cause;
+      faults = faults_told ran.piece error before now after so_far.faults error_is runs.faults;
+    }
 
 -- ---- the source with one chunk more, whether that has a piece or failed
 

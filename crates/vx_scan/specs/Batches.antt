@@ -1,23 +1,25 @@
 -- What the chunks of a scan, run over all sources, give.
-use Rattle.std.specs.Prelude.{◌≡◌, ℕ, ◌⊎◌, List, [], ◌∷◌, length, map, take, Some, Result, IfOk, IfErr}
+use Rattle.std.specs.Prelude.{◌≡◌, ℕ, ◌<◌, ◌≤◌, ◌⊎◌, List, [], ◌∷◌, length, map, take, Some, IsSomeAnd, Result, IfOk, IfErr}
 use Rattle.std.specs.List.{slice_get, flat_map, AllByRecursion}
 use Rattle.std.specs.Global.{Vec}
 use Rattle.vx_base.specs.Columns.{ColumnData}
+use Rattle.vx_base.specs.Masks.{Ascend, true_count}
 use Rattle.vx_base.specs.Sources.{SourceState}
+use Rattle.vx_claims.specs.Apart.{times_over, AreApart}
 use Rattle.vx_rows.specs.Derivations.{Leaves}
+use Rattle.vx_rows.specs.Reads.{IsAmong}
 use Rattle.vx_rows.specs.SegmentLeaves.{leaves_of}
 use Rattle.vx_splits.specs.declared.selected_rows.SelectedRows.{SelectedRows}
 use Rattle.vx_scan.specs.declared.errors.ScanError.{ScanError}
 use Rattle.vx_scan.specs.declared.errors.ScanError.TheVariants.{Memory}
 use Rattle.vx_scan.specs.declared.plans.ScanPlans.{ScanPlans}
-use Rattle.vx_scan.specs.Asks.{IsLeftClear, Lasts}
+use Rattle.vx_scan.specs.Asks.{IsLeftClear, KeepsFaults, Lasts}
 use Rattle.vx_scan.specs.ChunkRows.{IsPiece}
 use Rattle.vx_scan.specs.Fetched.{AreDistinct}
-use Rattle.vx_scan.specs.Lent.{EachSource, SomeSource, EachSourceBy, WhereAllTell}
-use Rattle.vx_scan.specs.Outcomes.{Causes, told_by}
+use Rattle.vx_scan.specs.Lent.{EachSource, EachSourceBy, SomeSourceBy, WhereAllTell}
 use Rattle.vx_scan.specs.Plans.{bytes_of, projection_node}
 use Rattle.vx_scan.specs.Reasons.{Reason, chunk_and_segment}
-use Rattle.vx_scan.specs.Workers.{AsksReached}
+use Rattle.vx_scan.specs.Workers.{AsksReached, IsLast, FailsLast, RunsSource}
 
 -- each batch is the piece of its chunk
 abbrev pub AreBatches : Leaves → ScanPlans → List SelectedRows → List ColumnData → Type 0
@@ -29,7 +31,7 @@ AreBatches leaves plans chunks batches = ⊥
 abbrev pub HasPiece : Leaves → ScanPlans → SelectedRows → Type 0
 HasPiece leaves plans chunk = (column : ColumnData) × IsPiece leaves plans [] chunk column
 
--- What the sources are asked for by a worker each: the numbers of the chunks that it ran, and its reasons.
+-- What a worker asks its source for: the numbers of the chunks that it ran, and its reasons.
 pub record Share : Type 0 where
   pub numbers : List ℕ
   pub reasons : List Reason
@@ -44,19 +46,39 @@ pub record AsksOver (plans : ScanPlans) (chunks : List SelectedRows) (befores af
   pub each : EachSourceBy (λ (share : Share). AsksReached plans chunks share.numbers share.reasons) shares befores afters
   pub once_a_chunk : AreDistinct (map chunk_and_segment (flat_map reasons_in shares))
 
--- The lowest chunk that failed, and why; those before it have pieces.
+-- A call on the source failed only at the last of these chunks, which isn't before that place.
+abbrev pub FaultsFrom : ℕ → List ℕ → SourceState → SourceState → Type 0
+FaultsFrom place numbers before after = KeepsFaults before after ⊎ ((last : ℕ) × IsLast last numbers × (place ≤ last))
+
+-- each of these chunks has a piece, or is the last of them
+abbrev pub HavePiecesButLast : Leaves → ScanPlans → List SelectedRows → List ℕ → Type 0
+HavePiecesButLast leaves plans chunks numbers = (x : ℕ) → IsAmong x numbers → IsSomeAnd (slice_get chunks x) (HasPiece leaves plans) ⊎ IsLast x numbers
+
+-- The lowest chunk that failed, and why; those before it have pieces. The workers ran these chunks, in ascending order and
+-- each one time at most: all before it, and it was the last of the worker whose source is its cause. Each source was
+-- asked for the chunks of its worker, which have pieces, but for its last; and none failed at a chunk before it.
 pub record LowestFailure (plans : ScanPlans) (chunks : List SelectedRows) (error : ScanError) (befores afters : List SourceState) : Type 0 where
   pub place : ℕ
   pub chunk : SelectedRows
   pub here : slice_get chunks place ≡ Some chunk
-  pub cause : SomeSource (λ before after. Causes (told_by plans before) plans [] chunk error before after) befores afters
+  pub claims : List (List ℕ)
+  pub apart : AreApart (length chunks) claims
+  pub ascend : AllByRecursion Ascend claims
+  pub all_before : (x : ℕ) → x < place → times_over x claims ≡ 1
+  pub ran : EachSourceBy (RunsSource plans chunks) claims befores afters
+  pub faults : EachSourceBy (FaultsFrom place) claims befores afters
+  pub cause : SomeSourceBy (FailsLast plans chunks (record { chunk = place; error = error })) claims befores afters
   pub lower : WhereAllTell befores (λ file. AllByRecursion (HasPiece (leaves_of (bytes_of plans file)) plans) (take place chunks))
+  pub stops : WhereAllTell befores (λ file. AllByRecursion (HavePiecesButLast (leaves_of (bytes_of plans file)) plans chunks) claims)
 
 pub record GivesBatches (plans : ScanPlans) (chunks : List SelectedRows) (result : Result (Vec ColumnData) ScanError) (befores afters : List SourceState) : Type 0 where
   -- the batches are the chunks' pieces by the file, in order
   pub content : IfOk result (λ batches. WhereAllTell befores (λ file. AreBatches (leaves_of (bytes_of plans file)) plans chunks batches.items))
   pub count : IfOk result (λ batches. length batches.items ≡ length chunks)
   pub dtype : IfOk result (λ batches. AllByRecursion (λ (batch : ColumnData). batch.dtype ≡ (projection_node plans).dtype) batches.items)
+  -- each with as many rows as its chunk selects
+  pub rows : IfOk result (λ batches. map (λ (batch : ColumnData). length batch.values) batches.items ≡ map (λ (chunk : SelectedRows). true_count chunk.mask) chunks)
+  pub faults : IfOk result (λ batches. EachSource KeepsFaults befores afters)
   pub asks : AsksOver plans chunks befores afters
   -- the error is that of the lowest chunk that failed, with its cause
   pub cause : IfErr result (λ error. (error ≡ Memory) ⊎ LowestFailure plans chunks error befores afters)

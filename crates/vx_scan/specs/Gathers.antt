@@ -1,5 +1,5 @@
 -- The lanes before the fork, and what is gathered from them after the joins.
-use Rattle.std.specs.Prelude.{◌≡◌, ℕ, ◌+◌, ◌-◌, ◌<◌, ◌≤◌, false, nat_lt, if◌then◌else◌, ◌⊎◌, List, length, map, Option, Some, None}
+use Rattle.std.specs.Prelude.{◌≡◌, ℕ, ◌+◌, ◌-◌, ◌<◌, ◌≤◌, ◌≢◌, false, nat_lt, if◌then◌else◌, ◌⊎◌, List, length, map, Option, Some, None}
 use Rattle.std.specs.List.{All, Any, Contains, sum_by}
 use Rattle.vx_claims.specs.declared.claims.Claims.{Claims}
 use Rattle.vx_claims.specs.declared.claims.ClaimSeat.{ClaimSeat}
@@ -67,8 +67,8 @@ pub record Gathers (claims : Claims) (left : ℕ) (lanes : List Lane) (seat : Cl
   pub claimed : (x : ℕ) → times x (claimed seat) ≡ sum_by (claimed_times x) lanes
   pub untold : was_told seat ≡ false → All (λ (lane : Lane). was_told lane.seat ≡ false) lanes
   pub all_lists : lists ≡ map (λ (lane : Lane). lane.claimed.items) lanes
-  -- all pieces of chunks below the one that failed, and no others than the lanes'
-  pub all_pieces : (x : ℕ) → IsBelow error x → times x (numbers_of pieces) ≡ sum_by (done_times x) lanes
+  -- all pieces of the lanes, unless there was no memory for them, and no others
+  pub all_pieces : error ≢ Some no_memory → (x : ℕ) → times x (numbers_of pieces) ≡ sum_by (done_times x) lanes
   pub some_pieces : (x : ℕ) → times x (numbers_of pieces) ≤ sum_by (done_times x) lanes
   pub given : All (IsOfLane lanes) pieces
   pub lowest : All (λ (lane : Lane). IsAtMost error lane.error) lanes

@@ -3,7 +3,7 @@ use Rattle.std.specs.Prelude.{◌≡◌, ℕ, ◌<◌, ◌≤◌, List, [], ◌�
 use Rattle.vx_lower.specs.Projected.{Projection}
 use Rattle.vx_plan.specs.Plans.{Plan}
 use Rattle.vx_plan.specs.Refs.{number_of}
-use Rattle.vx_rows.specs.Reads.{AnyOf}
+use Rattle.vx_rows.specs.Reads.{Way, through, AnyOf}
 use Rattle.vx_splits.specs.declared.selected_rows.SelectedRows.{SelectedRows}
 use Rattle.vx_steps.specs.declared.leaf_reads.LeafRead.{LeafRead}
 use Rattle.vx_steps.specs.declared.splits.Split.{Split}
@@ -12,6 +12,7 @@ use Rattle.vx_steps.specs.Visits.{Visits, IsLeafRead}
 use Rattle.vx_scan.specs.declared.plans.ScanPlans.{ScanPlans}
 use Rattle.vx_scan.specs.PlanTexts.{held_tree}
 use Rattle.vx_scan.specs.Plans.{projection_node}
+use Rattle.vx_scan.specs.Ways.{ReadsBy}
 
 -- ---- of a plan
 
@@ -20,15 +21,17 @@ abbrev pub ReadsAt : LeafRead → Plan → ℕ → Type 0
 ReadsAt read p row = Visits (IsLeafRead read) None p row
 
 -- Each leaf stands at one place of the plan: all its reads are of one segment, and a row between two that read it
--- reads it as well.
+-- reads it as well. And a row that reads a leaf through a take reads each that any row reads through it.
 pub record LeavesLieTogether (p : Plan) : Type 0 where
   pub segment : (one other : LeafRead) (row at : ℕ) → ReadsAt one p row → ReadsAt other p at → one.leaf ≡ other.leaf → one.segment ≡ other.segment
   pub between : (leaf first row last : ℕ) → first ≤ row → row ≤ last
       → Visits (IsLeafOf leaf) None p first → Visits (IsLeafOf leaf) None p last → Visits (IsLeafOf leaf) None p row
+  pub below : (take : ℕ) (one other : LeafRead) (row at : ℕ) → ReadsBy (through take) one p row → ReadsBy (through take) other p at → ReadsBy (through take) other p row
 
--- some of the rows reads the leaf, which is numbered as the plan of the projection's tree numbers it
-abbrev pub ScanReadsLeaf : Projection → List ℕ → LeafRead → Type 0
-ScanReadsLeaf p rows read = AnyOf (ReadsAt read (held_tree p)) rows
+-- some of the rows reads the leaf that way; the leaf and the take are numbered as the plan of the projection's tree
+-- numbers them
+abbrev pub ScanReadsLeaf : Projection → List ℕ → Way → LeafRead → Type 0
+ScanReadsLeaf p rows way read = AnyOf (ReadsBy way read (held_tree p)) rows
 
 -- ---- of the plans of a scan
 

@@ -25,6 +25,13 @@ EachSourceBy P (x ∷ xs) [] afters = ⊥
 EachSourceBy P (x ∷ xs) (before ∷ befores) [] = ⊥
 EachSourceBy P (x ∷ xs) (before ∷ befores) (after ∷ afters) = P x before after × EachSourceBy P xs befores afters
 
+-- it holds of one of them and what the list has for it
+abbrev pub SomeSourceBy : {X : Type 0} → (X → SourceState → SourceState → Type 0) → List X → List SourceState → List SourceState → Type 0
+SomeSourceBy P [] befores afters = ⊥
+SomeSourceBy P (x ∷ xs) [] afters = ⊥
+SomeSourceBy P (x ∷ xs) (before ∷ befores) [] = ⊥
+SomeSourceBy P (x ∷ xs) (before ∷ befores) (after ∷ afters) = P x before after ⊎ SomeSourceBy P xs befores afters
+
 -- all sources tell this file
 abbrev pub AllTell : List ℕ → List SourceState → Type 0
 AllTell file sources = AllByRecursion (λ (source : SourceState). source.file ≡ Some file) sources

@@ -12,6 +12,7 @@ pub mod ChunkRows
 pub mod ChunkScans
 pub mod Computes
 pub mod Continues
+pub mod Counts
 pub mod Executes
 pub mod Fetched
 pub mod Finished
@@ -34,5 +35,6 @@ pub mod Settings
 pub mod Starts
 pub mod Valid
 pub mod Waits
+pub mod Ways
 pub mod WorkedScans
 pub mod Workers

@@ -19,7 +19,7 @@ use Rattle.vx_scan.specs.declared.outcomes.ChunkOutcome.{ChunkOutcome}
 use Rattle.vx_scan.specs.declared.outcomes.HandedOn.{HandedOn}
 use Rattle.vx_scan.specs.declared.outcomes.Ran.{Ran}
 use Rattle.vx_scan.specs.declared.plans.ScanPlans.{ScanPlans}
-use Rattle.vx_scan.specs.Asks.{AsksOnly, Lasts}
+use Rattle.vx_scan.specs.Asks.{AsksOnly, Lasts, TellsFaults}
 use Rattle.vx_scan.specs.ChunkRows.{ChunkReaches, ChunkVisits, ChunkFaultsAt, IsPiece, ChunkReadsBadCode, ChunkReadsList, ChunkReadsTorn}
 use Rattle.vx_scan.specs.LeafRows.{IsReadAt, row_behind}
 use Rattle.vx_scan.specs.Plans.{bytes_of, projection_node}
@@ -49,7 +49,7 @@ pub record GivesPiece (Told : Claims) (plans : ScanPlans) (given : List Kept) (c
 
 -- why a chunk has no piece
 abbrev pub Causes : Claims → ScanPlans → List Kept → SelectedRows → ScanError → SourceState → SourceState → Type 0
-Causes Told plans given chosen (Unsupported list) before after = Told (λ bytes. ChunkReadsList plans given chosen (number_of list))
+Causes Told plans given chosen (Unsupported list) before after = ChunkReadsList plans given chosen (number_of list)
 Causes Told plans given chosen (NoLocation segment) before after = ChunkReaches plans chosen segment × (length plans.locations.items ≤ segment)
 Causes Told plans given chosen ReadFault before after = Rose before.faults after.faults
 Causes Told plans given chosen Stalled before after = RoseBy plans.idle_limit before.idle after.idle
@@ -99,6 +99,8 @@ pub record RunsChunk (plans : ScanPlans) (chosen : SelectedRows) (given : List K
   pub cause : IfErr outcome.piece (λ error. Causes (told_by plans before) plans fitting chosen error before after)
   -- segments that the chunk's rows read were asked for, each once, and none that is read only for values that are given
   pub asks : AsksOnly (IsWanted plans fitting [] chosen) plans.locations.items before after
+  -- where a call on the source failed, that is the error
+  pub faults : TellsFaults outcome.piece before after
   pub lasts : Lasts before after
   pub in_flight : after.in_flight ≡ []
 
@@ -137,5 +139,7 @@ pub record RunsOn (plans : ScanPlans) (chosen : SelectedRows) (handed : HandedOn
   -- segments that the chunk's rows read by leaves that were not handed in were asked for, each once
   pub asks : AsksOnly (IsWanted plans [] (data_of handed.leaves.items) chosen) plans.locations.items before after
   pub more : HandsOnMore plans chosen handed ran before
+  -- where a call on the source failed, that is the error
+  pub faults : TellsFaults ran.piece before after
   pub lasts : Lasts before after
   pub in_flight : after.in_flight ≡ []

@@ -12,7 +12,7 @@ use Rattle.vx_lower.specs.PlannedOver.{IsPlannedOver}
 use Rattle.vx_lower.specs.Projected.{Projection, kept_of, projected_at, scan_reads}
 use Rattle.vx_plan.specs.Kinds.{HasKind, IsRowIdx}
 use Rattle.vx_plan.specs.Nodes.{Node}
-use Rattle.vx_plan.specs.Plans.{Plan, plan_head, plan_at}
+use Rattle.vx_plan.specs.Plans.{Plan, take_plan, share_plan, plan_head, plan_at}
 use Rattle.vx_plan.specs.PlanRows.{plan_value, plan_reads}
 use Rattle.vx_plan.specs.Refs.{number_of}
 use Rattle.vx_plan.specs.Rules.{node_at}
@@ -22,6 +22,7 @@ use Rattle.vx_rows.specs.Renumbered.{read_renumbered}
 use Rattle.vx_rows.specs.Whole.{GiveFitting}
 use Rattle.vx_splits.specs.declared.selected_rows.SelectedRows.{SelectedRows}
 use Rattle.vx_splits.specs.Trimmed.{chosen_rows}
+use Rattle.vx_steps.specs.Below.{StandsIn}
 use Rattle.vx_steps.specs.Given.{Handed}
 use Rattle.vx_steps.specs.Laws.{HandsNone}
 use Rattle.vx_steps.specs.Visits.{Visits, HasEvalFault}
@@ -29,13 +30,23 @@ use Rattle.vx_scan.specs.declared.plans.ScanPlans.{ScanPlans}
 use Rattle.vx_scan.specs.Answer.{FileScan, row_count, scan_pieces}
 use Rattle.vx_scan.specs.Causes.{IsFaultAt}
 use Rattle.vx_scan.specs.Plans.{AreInOrder}
-use Rattle.vx_scan.specs.PlanTexts.{IsProjectionPlan}
+use Rattle.vx_scan.specs.PlanTexts.{held_tree, IsProjectionPlan}
 
 -- ---- the plan
 
 -- the number of the node that a plan of the scan's table was lowered from
 abbrev pub node_of : Projection → ℕ → ℕ
 node_of p number = old_number 0 (lowered p.root (kept_of p)) number
+
+-- a take of that number, or a share
+abbrev pub IsTakeAs : ℕ → Plan → Type 0
+IsTakeAs n (take_plan head codes values) = head.number ≡ n
+IsTakeAs n (share_plan head child) = head.number ≡ n
+IsTakeAs n p = ⊥
+
+-- No two takes of the tree's plan were lowered from one dictionary.
+abbrev pub TakesAreApart : Projection → Type 0
+TakesAreApart p = (one other : ℕ) → StandsIn (IsTakeAs one) (held_tree p) → StandsIn (IsTakeAs other) (held_tree p) → node_of p one ≡ node_of p other → one ≡ other
 
 -- The plan is worth at each row what the projection is worth there, and reads what it reads, but for the numbers of
 -- dictionaries and lists. Where a row visits a row of an expression that is a fault, that is its own, and the projection
@@ -58,13 +69,14 @@ abbrev pub IsProjectedIn : List Node → List Node → Bound → ℕ → ℕ →
 IsProjectedIn old new a child number = IsProjectedBy (is_root a.term) old new a child number
 
 -- A good table with the plan of the projection as its last one. It is worth and reads what the projection does; what
--- numbers rows numbers all rows of the tree.
+-- numbers rows numbers all rows of the tree, and no two takes are of one dictionary.
 pub record IsPlannedFor (p : Projection) (table : List Node) (number : ℕ) : Type 0 where
   pub good : IsGoodTable table
   pub last : number + 1 ≡ length table
   pub plan_is : IsProjectionPlan p (plan_at table number)
   pub plan : (offset : ℕ) → IsPlanOf (record p { offset = offset }) (plan_at table number)
   pub numbers : (n : ℕ) → HasKind IsRowIdx table n → (node_at table n).rows ≡ (head_of p.root).rows
+  pub apart : TakesAreApart p
 
 -- What the chunks of the scan share: a good table with the plan of the projection, and where the segments lie.
 pub record ArePlansOf (scan : FileScan) (limit : ℕ) (plans : ScanPlans) : Type 0 where
@@ -78,6 +90,8 @@ pub record ArePlansOf (scan : FileScan) (limit : ℕ) (plans : ScanPlans) : Type
   -- what numbers rows numbers those of the file
   pub numbers : (n : ℕ) → HasKind IsRowIdx plans.table n → (node_at plans.table n).rows ≡ row_count scan
   pub limit_is : plans.idle_limit ≡ limit
+  -- no two takes of the tree's plan are of one dictionary
+  pub apart : TakesAreApart scan.projection
 
 -- ---- the chunks
 

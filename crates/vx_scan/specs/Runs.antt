@@ -6,22 +6,24 @@ use Rattle.vx_base.specs.Sources.{SourceState, Rose, RoseBy}
 use Rattle.vx_base.specs.declared.locations.SegmentLocation.{SegmentLocation}
 use Rattle.vx_layout.specs.Rows.{segment_bytes}
 use Rattle.vx_plan.specs.Plans.{plan_at}
+use Rattle.vx_plan.specs.Refs.{number_of}
 use Rattle.vx_plan.specs.Rules.{node_at}
 use Rattle.vx_rows.specs.SegmentLeaves.{Bytes, leaves_of}
 use Rattle.vx_steps.specs.declared.errors.StepError.{StepError}
 use Rattle.vx_steps.specs.declared.errors.StepError.TheVariants as step_errors
 use Rattle.vx_steps.specs.Given.{handed_by, row_value}
 use Rattle.vx_steps.specs.Jobs.{IsReadFor, KeepsColumns, KeepsWholes}
+use Rattle.vx_steps.specs.Laws.{IsRowOf}
 use Rattle.vx_steps.specs.Rows.{AreOf, rows_of}
 use Rattle.vx_steps.specs.ScanData.{ScanData, IsScanOf}
-use Rattle.vx_steps.specs.ScanLaws.{IsSplitCause}
+use Rattle.vx_steps.specs.ScanLaws.{IsSplitCause, SplitReads}
 use Rattle.vx_steps.specs.Turns.{AreLeavesKept, HasRowCause}
 use Rattle.vx_steps.specs.Wholes.{AreThere}
 use Rattle.vx_scan.specs.declared.adaptor_errors.AdaptorError.{AdaptorError}
 use Rattle.vx_scan.specs.declared.adaptor_errors.AdaptorError.TheVariants as errors
 use Rattle.vx_scan.specs.declared.errors.ScanError.{ScanError}
 use Rattle.vx_scan.specs.declared.errors.ScanError.TheVariants.{Unsupported, NoLocation, ReadFault, Stalled, BadSegment, BadCode, EvalFault, Memory}
-use Rattle.vx_scan.specs.Asks.{AsksOnly, Lasts}
+use Rattle.vx_scan.specs.Asks.{AsksOnly, Lasts, TellsFaults}
 use Rattle.vx_scan.specs.Starts.{split_of}
 
 -- the error of a run whose adaptor refused
@@ -59,7 +61,11 @@ GivesOutput locations start scan before None = true_count (split_of start).mask 
 abbrev pub IsStepCause : List SegmentLocation → ScanData → SourceState → StepError → Type 0
 IsStepCause locations start before error = WhereScanned locations start before (λ bytes. IsSplitCause start.nodes start.job (split_of start) bytes error)
 
--- and where that is an expression, it visits the row that is named
+-- a selected row of it reads a row of the list: the plan alone decides that
+abbrev pub IsListCause : ScanData → ℕ → Type 0
+IsListCause start list = SplitReads (IsRowOf list) start.nodes start.job (split_of start)
+
+-- and where the cause is an expression, it visits the row that is named
 abbrev pub IsFaultCause : List SegmentLocation → ScanData → SourceState → ℕ → Type 0
 IsFaultCause locations start before row =
     WhereScanned locations start before (λ bytes. HasRowCause start.nodes start.job (split_of start) bytes (step_errors.EvalFault row))
@@ -70,7 +76,7 @@ IsReadByStart start segment = IsReadFor start.nodes start.job start.progress.lea
 
 -- why a run of a scan has no output
 abbrev pub RunCause : List SegmentLocation → ℕ → ScanData → ScanError → SourceState → SourceState → Type 0
-RunCause locations limit start (Unsupported list) before after = IsStepCause locations start before (step_errors.Unsupported list)
+RunCause locations limit start (Unsupported list) before after = IsListCause start (number_of list)
 RunCause locations limit start (NoLocation segment) before after = IsReadByStart start segment × (length locations ≤ segment)
 RunCause locations limit start ReadFault before after = Rose before.faults after.faults
 RunCause locations limit start Stalled before after = RoseBy limit before.idle after.idle
@@ -87,6 +93,7 @@ RunAnswer locations limit start (Err error) scan before after = RunCause locatio
 pub record RunGives (locations : List SegmentLocation) (limit : ℕ) (start : ScanData) (result : Result (Option ColumnData) ScanError) (scan : ScanData) (before after : SourceState) : Type 0 where
   pub answer : RunAnswer locations limit start result scan before after
   pub asks : AsksOnly (IsReadByStart start) locations before after
+  pub faults : TellsFaults result before after
   -- the scan is still of the told file, and keeps the columns that it had
   pub nodes : scan.nodes ≡ start.nodes
   pub job : scan.job ≡ start.job

@@ -1,6 +1,7 @@
 -- What one worker gives.
-use Rattle.std.specs.Prelude.{◌≡◌, ℕ, ◌⊎◌, Bool, true, List, [], ◌∷◌, ◌++◌, map, Option, Some, None, IsSomeAnd}
-use Rattle.std.specs.List.{slice_get, All, AllByRecursion}
+use Rattle.std.specs.Prelude.{◌≡◌, ℕ, ◌⊎◌, Bool, true, List, [], ◌∷◌, ◌++◌, length, map, Option, Some, None, IsSomeAnd}
+use Rattle.std.specs.List.{slice_get, flat_map, All, AllByRecursion}
+use Rattle.vx_base.specs.Masks.{Ascend, true_count}
 use Rattle.vx_base.specs.Sources.{SourceState}
 use Rattle.vx_claims.specs.declared.claims.Claims.{Claims}
 use Rattle.vx_claims.specs.Claims.{IsSeatOf, IsFresh, claimed, parts, was_told}
@@ -9,18 +10,18 @@ use Rattle.vx_rows.specs.Derivations.{Leaves}
 use Rattle.vx_rows.specs.Reads.{IsAmong}
 use Rattle.vx_rows.specs.SegmentLeaves.{leaves_of}
 use Rattle.vx_splits.specs.declared.selected_rows.SelectedRows.{SelectedRows}
-use Rattle.vx_scan.specs.declared.errors.ScanError.TheVariants.{Memory}
+use Rattle.vx_scan.specs.declared.errors.ScanError.TheVariants.{ReadFault, Memory}
 use Rattle.vx_scan.specs.declared.lanes.ChunkError.{ChunkError}
 use Rattle.vx_scan.specs.declared.lanes.Lane.{Lane}
 use Rattle.vx_scan.specs.declared.lanes.Piece.{Piece}
 use Rattle.vx_scan.specs.declared.plans.ScanPlans.{ScanPlans}
-use Rattle.vx_scan.specs.Asks.{IsLeftClear, Lasts}
+use Rattle.vx_scan.specs.Asks.{IsLeftClear, KeepsFaults, Lasts}
 use Rattle.vx_scan.specs.ChunkRows.{IsPiece}
 use Rattle.vx_scan.specs.Fetched.{AllLocated, AreDistinct, location_of}
 use Rattle.vx_scan.specs.LeafRows.{LeavesLieTogether}
 use Rattle.vx_scan.specs.Outcomes.{Causes, told_by}
 use Rattle.vx_scan.specs.Plans.{projection_node, projection_plan, AreInOrder}
-use Rattle.vx_scan.specs.Reasons.{Reason, leaf_of, segment_of, chunk_and_segment, IsReasonAmong}
+use Rattle.vx_scan.specs.Reasons.{Reason, leaf_of, segment_of, chunk_and_segment, take_and_segment, IsReasonAmong}
 
 -- ---- the pieces
 
@@ -36,11 +37,16 @@ IsPieceOf leaves plans chunks piece = IsSomeAnd (slice_get chunks piece.chunk) (
 abbrev pub HasDtype : ScanPlans → Piece → Type 0
 HasDtype plans piece = piece.column.dtype ≡ (projection_node plans).dtype
 
+-- and as many rows as its chunk selects
+abbrev pub HasItsRows : List SelectedRows → Piece → Type 0
+HasItsRows chunks piece = IsSomeAnd (slice_get chunks piece.chunk) (λ chunk. length piece.column.values ≡ true_count chunk.mask)
+
 -- ---- the source
 
 -- The source was asked for the ranges of these reasons' segments, in this order, and for nothing else; each is the
 -- reason of one of the chunks with these numbers. No chunk has two reasons to ask for one segment; and where the chunks
--- are in order and the leaves of the plan lie together, no two reasons are of one leaf.
+-- are in order and the leaves of the plan lie together, no two reasons are of one leaf, and none of the takes has two
+-- reasons to ask for one segment.
 pub record AsksReached (plans : ScanPlans) (chunks : List SelectedRows) (numbers : List ℕ) (reasons : List Reason) (before after : SourceState) : Type 0 where
   pub are : AllByRecursion (IsReasonAmong plans chunks) reasons
   pub own : AllByRecursion (λ (reason : Reason). IsAmong reason.chunk numbers) reasons
@@ -48,6 +54,7 @@ pub record AsksReached (plans : ScanPlans) (chunks : List SelectedRows) (numbers
   pub asked : after.asked ≡ asked_for (map (location_of plans.locations.items) (map segment_of reasons)) before.asked
   pub once_a_chunk : AreDistinct (map chunk_and_segment reasons)
   pub once_a_leaf : AreInOrder chunks → LeavesLieTogether (projection_plan plans) → AreDistinct (map leaf_of reasons)
+  pub once_a_take : AreInOrder chunks → LeavesLieTogether (projection_plan plans) → AreDistinct (flat_map take_and_segment reasons)
 
 -- What the worker of a source did to it: each ask is for a chunk that it claimed.
 pub record RunsSource (plans : ScanPlans) (chunks : List SelectedRows) (numbers : List ℕ) (before after : SourceState) : Type 0 where
@@ -58,11 +65,21 @@ pub record RunsSource (plans : ScanPlans) (chunks : List SelectedRows) (numbers 
 
 -- ---- how it ends
 
--- The chunk of that number failed, with its cause.
+-- the last of these numbers
+abbrev pub IsLast : ℕ → List ℕ → Type 0
+IsLast last numbers = (earlier : List ℕ) × (numbers ≡ earlier ++ last ∷ [])
+
+-- The chunk of that number failed, with its cause. Where a call on the source failed, the error is that a read failed.
 pub record Fails (plans : ScanPlans) (chunks : List SelectedRows) (error : ChunkError) (before after : SourceState) : Type 0 where
   pub chunk : SelectedRows
   pub here : slice_get chunks error.chunk ≡ Some chunk
   pub cause : Causes (told_by plans before) plans [] chunk error.error before after
+  pub faults : KeepsFaults before after ⊎ (error.error ≡ ReadFault)
+
+-- It is the last chunk that the worker of the source claimed, and failed there.
+pub record FailsLast (plans : ScanPlans) (chunks : List SelectedRows) (error : ChunkError) (numbers : List ℕ) (before after : SourceState) : Type 0 where
+  pub last : IsLast error.chunk numbers
+  pub fails : Fails plans chunks error before after
 
 -- The last chunk that was claimed failed, and those before it are done.
 pub record StopsAt (plans : ScanPlans) (chunks : List SelectedRows) (error : ChunkError) (numbers done : List ℕ) (before after : SourceState) : Type 0 where
@@ -93,8 +110,11 @@ pub record Worked (claims : Claims) (plans : ScanPlans) (chunks : List SelectedR
   pub own : IsSeatOf claims lane.seat
   pub parts : parts lane.seat ≡ 1
   pub claimed : lane.claimed.items ≡ claimed lane.seat
+  pub ascend : Ascend lane.claimed.items
   -- each piece is its chunk's by the file
   pub content : told_by plans before (λ bytes. All (IsPieceOf (leaves_of bytes) plans chunks) lane.pieces.items)
   pub dtype : All (HasDtype plans) lane.pieces.items
+  pub rows : All (HasItsRows chunks) lane.pieces.items
   pub runs : RunsSource plans chunks lane.claimed.items before after
+  pub faults : KeepsFaults before after ⊎ IsSomeAnd lane.error (λ error. error.error ≡ ReadFault)
   pub ends : Ends plans chunks lane.error lane.claimed.items (numbers_of lane.pieces.items) (was_told lane.seat) before after

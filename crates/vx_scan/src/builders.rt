@@ -153,9 +153,9 @@ impl ScanBuilder {
     }
 
     /// Runs the scan over the sources, with a worker for each: the projection at the scan's rows, a column for each chunk
-    /// with a row of the scan, in the order of the file. Each worker claims chunks and runs them on its own source; a
-    /// further one stops after a chunk that fails, and the lowest chunk that failed tells the error. It returns once all
-    /// workers are done.
+    /// with a row of the scan, in the order of the file. Each worker claims chunks and runs them on its own source; each
+    /// stops at a chunk that fails, and the lowest chunk that failed tells the error. It returns once all workers are
+    /// done.
     pub fn into_batches<R: Threads + Sync, S: SegmentSource + Send>(
         self,
         rt: &R,

@@ -88,7 +88,7 @@ pub fn run_chunk<S: SegmentSource>(
     }
 }
 
-/// Runs a chunk with what earlier chunks of the source handed on, and hands on what the later ones can use. Whatever it
+/// Runs a chunk with what earlier chunks of the worker handed on, and hands on what the later ones can use. Whatever it
 /// answers, nothing is in flight at the source afterwards.
 pub(crate) fn run_on<S: SegmentSource>(
     alloc: Global,

@@ -1,5 +1,6 @@
 //! The laws of what scans answer. Each is the contract of a function that does nothing.
 
+ghost use Rattle.vx_scan.specs.Counts.{AsksAreCounted};
 ghost use Rattle.vx_scan.specs.Laws.{AnswerIsOne, ValidScanIsAnswered, ValidScanBegins, FaultyReadIsNoAnswer, FaultIsNoAnswer, PiecesJoin, PiecesAnswer, PlanTextIsOne};
 
 /// A valid scan is not refused before it begins, and has an answer; no scan has two. There is none where a row has a
@@ -21,4 +22,10 @@ pub fn pieces_are_the_answer()
 /// The plan of a projection has one text, whatever table it stands in.
 pub fn plans_have_one_text()
     ensures { PlanTextIsOne }
+{}
+
+/// A source is asked for one range at most as often as pairs of a chunk and a segment reach it directly, and pairs of an
+/// outermost dictionary and a segment through values.
+pub fn asks_are_counted()
+    ensures { AsksAreCounted }
 {}

@@ -10,8 +10,8 @@
 //! - Whole values by plan: [`Book`], and [`ValueCache`], which keeps one under a lock.
 //! - The plan of a projection as a text: [`plan_text`].
 //! - Why there are no rows: [`ScanError`].
-//! - The laws of answers: [`scans_have_answers`], [`pieces_are_the_answer`]; of texts: [`plans_have_one_text`]; by hand:
-//!   [`answers_by_hand`], [`faults_by_hand`], [`pieces_by_hand`].
+//! - The laws of answers: [`scans_have_answers`], [`pieces_are_the_answer`]; of asks: [`asks_are_counted`]; of texts:
+//!   [`plans_have_one_text`]; by hand: [`answers_by_hand`], [`faults_by_hand`], [`pieces_by_hand`].
 #![tactic(auto)]
 
 mod adaptor_errors;
@@ -51,7 +51,7 @@ pub use errors::ScanError;
 pub use executes::execute;
 pub use files::ScanFile;
 pub use lanes::{ChunkError, Piece};
-pub use laws::{pieces_are_the_answer, plans_have_one_text, scans_have_answers};
+pub use laws::{asks_are_counted, pieces_are_the_answer, plans_have_one_text, scans_have_answers};
 pub use outcomes::{ChunkOutcome, Outcome, Rerun};
 pub use plan_texts::plan_text;
 pub use plans::ScanPlans;

@@ -5,7 +5,8 @@ use Rattle.vx_claims.specs.Claims.{IsSeatOf, parts}
 use Rattle.vx_scan.specs.declared.lanes.Lane.{Lane}
 use Rattle.vx_scan.specs.Executes.{Finishes}
 use Rattle.vx_scan.specs.Workers.{Worked}
-use Rattle.vx_scan.proofs.Executing.{all_by, as_many_by, executed}
+use Rattle.vx_scan.proofs.Executing.{executed}
+use Rattle.vx_scan.proofs.LaneFacts.{all_by, as_many_by}
 use Rattle.vx_scan.proofs.executes.execute.Goals as goal
 
 pub finish-requires : goal.finish-requires

@@ -6,6 +6,7 @@ use Rattle.vx_scan.specs.declared.lanes.Piece.{Piece}
 use Rattle.vx_scan.specs.Plans.{IsChunkOf}
 use Rattle.vx_scan.specs.Workers.{numbers_of}
 use Rattle.vx_scan.proofs.Got.{each_got, got_at}
+use Rattle.vx_scan.proofs.Higher.{ascend_push}
 use Rattle.vx_scan.proofs.Working.{fails_now, ran_more, ran_none, source_more}
 use Rattle.vx_scan.proofs.workers.work.Goals as goal
 
@@ -36,18 +37,22 @@ returns-in-Err g c =
     let here : slice_get c.args.chunks.now number ≡ Some c.index-chunks-number.result = got_at c.args.chunks.now number c.index-chunks-number.result (search rules) c.index-chunks-number.is in
     let one : IsChunkOf c.args.plans.now c.index-chunks-number.result = each_got (IsChunkOf c.args.plans.now) c.args.chunks.now number c.index-chunks-number.result here c.requires.chunks in
     let later : above c.working.lane.claimed.items ≤ number = subst (λ (ns : List ℕ). above ns ≤ number) (sym c.working.invariant.claimed) c.in-Some.ensures.gives.behind in
+    let fails = fails_now c.args.plans.now c.args.chunks.now c.working.lane.claimed.items number c.index-chunks-number.result c.working.handed c.run_on-piece.result c.in-Err.error c.working.lane.pieces.items
+    (g.S.SegmentSource.state c.args.source.now) (g.S.SegmentSource.state c.working.source) (g.S.SegmentSource.state c.run_on-piece.new.source) here c.working.invariant.ran c.run_on-piece.ensures c.in-Err.is in
     record {
       own = c.in-Some.ensures.seat;
       parts = search rules;
       claimed = numbers ∙ ap (λ (ns : List ℕ). ns ++ number ∷ []) c.working.invariant.claimed ∙ sym c.in-Some.ensures.gives.claimed;
+      ascend = rw numbers (ascend_push c.working.lane.claimed.items number c.working.invariant.ran.ascend later);
       content = rw pieces c.working.invariant.ran.content;
       dtype = rw pieces c.working.invariant.ran.dtype;
+      rows = rw pieces c.working.invariant.ran.rows;
       runs = rw numbers (source_more c.args.plans.now c.args.chunks.now c.working.lane.claimed.items number c.index-chunks-number.result c.working.handed c.run_on-piece.result c.working.lane.pieces.items
           (g.S.SegmentSource.state c.args.source.now) (g.S.SegmentSource.state c.working.source) (g.S.SegmentSource.state c.run_on-piece.new.source) one here later c.working.invariant.ran c.run_on-piece.ensures);
+      faults = fails.faults;
       ends = inl record {
         last = numbers ∙ ap (λ (ns : List ℕ). ns ++ number ∷ []) c.working.invariant.done ∙ ap (λ (ps : List Piece). numbers_of ps ++ number ∷ []) (sym pieces);
-        fails = fails_now c.args.plans.now c.args.chunks.now c.working.lane.claimed.items number c.index-chunks-number.result c.working.handed c.run_on-piece.result c.in-Err.error c.working.lane.pieces.items
-            (g.S.SegmentSource.state c.args.source.now) (g.S.SegmentSource.state c.working.source) (g.S.SegmentSource.state c.run_on-piece.new.source) here c.working.invariant.ran c.run_on-piece.ensures c.in-Err.is;
+        fails = fails;
       };
     }
 

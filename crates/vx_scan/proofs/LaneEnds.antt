@@ -1,0 +1,137 @@
+-- How the workers of all lanes end: each stops at the first of its chunks that fails, and where a call on its source fails.
+use Rattle.std.proofs.Common.{◌≡◌, ℕ, ◌+◌, ◌<◌, ◌≤◌, ◌⊎◌, inl, inr, List, [], ◌∷◌, ◌++◌, Some, None, map, sym, ap, ◌∙◌, arith}
+use native.Mathlib.Decide.{ℕ_discrete}
+use mathlib.Core.Logic.{dite}
+use Rattle.std.specs.Prelude.{Bool, IsSomeAnd, Option}
+use Rattle.std.specs.List.{All, AllByRecursion, sum_by}
+use Rattle.std.proofs.lemmas.List.Elements.{All-head, All-tail}
+use Rattle.std.proofs.lemmas.List.Sums.{sum_by-cons}
+use Rattle.vx_base.specs.Masks.{Ascend}
+use Rattle.vx_base.specs.Sources.{SourceState}
+use Rattle.vx_claims.specs.declared.claims.Claims.{Claims}
+use Rattle.vx_claims.specs.Apart.{times}
+use Rattle.vx_claims.specs.Claims.{was_told}
+use Rattle.vx_claims.proofs.Numbers.{times_append, times_itself, times_other}
+use Rattle.vx_rows.specs.Reads.{IsAmong}
+use Rattle.vx_splits.specs.declared.selected_rows.SelectedRows.{SelectedRows}
+use Rattle.vx_scan.specs.declared.errors.ScanError.TheVariants.{ReadFault, Memory}
+use Rattle.vx_scan.specs.declared.lanes.ChunkError.{ChunkError}
+use Rattle.vx_scan.specs.declared.lanes.Lane.{Lane}
+use Rattle.vx_scan.specs.declared.lanes.Piece.{Piece}
+use Rattle.vx_scan.specs.declared.plans.ScanPlans.{ScanPlans}
+use Rattle.vx_scan.specs.Asks.{KeepsFaults}
+use Rattle.vx_scan.specs.Executes.{FaultsAtLast, StopsAtLast}
+use Rattle.vx_scan.specs.Gathers.{IsAtMost, claimed_times, done_times}
+use Rattle.vx_scan.specs.Lent.{EachSource, EachSourceBy}
+use Rattle.vx_scan.specs.Workers.{numbers_of, Ends, IsLast, Worked}
+use Rattle.vx_scan.proofs.LaneFacts.{Each, done_less, lane_done}
+
+pub among_stands : (x : ℕ) (numbers : List ℕ) → IsAmong x numbers → 1 ≤ times x numbers
+among_stands x [] among = absurd among
+among_stands x (n ∷ ns) (inl same) =
+    let here : times x (n ∷ ns) ≡ 1 + times x ns = ap (λ (m : ℕ). times x (m ∷ ns)) same ∙ times_itself x ns in
+    omega (arith, here)
+among_stands x (n ∷ ns) (inr among) =
+    let rest = among_stands x ns among in
+    let more : times x (n ∷ ns) ≡ times x (n ∷ []) + times x ns = times_append x (n ∷ []) ns in
+    omega (arith, rest, more)
+
+-- whether an error is that a read failed
+abbrev FailedToRead : Option ChunkError → Type 0
+FailedToRead error = IsSomeAnd error (λ one. one.error ≡ ReadFault)
+
+module _ (claims : Claims) (plans : ScanPlans) (chunks : List SelectedRows) where
+  -- ---- each lane's numbers ascend
+
+  pub each_ascend : (lanes : List Lane) (befores afters : List SourceState) → Each claims plans chunks lanes befores afters → AllByRecursion Ascend (map (λ lane. lane.claimed.items) lanes)
+  each_ascend [] befores afters each = tt
+  each_ascend (lane ∷ lanes) [] afters each = absurd each
+  each_ascend (lane ∷ lanes) (before ∷ befores) [] each = absurd each
+  each_ascend (lane ∷ lanes) (before ∷ befores) (after ∷ afters) each = (each.0.ascend, each_ascend lanes befores afters each.1)
+
+  -- ---- each stops at a chunk that fails
+
+  done_or_last : (x : ℕ) (error : Option ChunkError) (numbers done : List ℕ) (told : Bool) (before after : SourceState) → Ends plans chunks error numbers done told before after → 1 ≤ times x numbers → (1 ≤ times x done) ⊎ IsLast x numbers
+  done_or_last x None numbers done told before after ends some = let same = ap (times x) ends.0 in inl (omega (arith, same, some))
+  done_or_last x (Some error) numbers done told before after (inl stops) some = dite (ℕ_discrete error.chunk x)
+      (λ same. inr (done, stops.last ∙ ap (λ (n : ℕ). done ++ n ∷ []) same))
+      (λ differs.
+      let list = ap (times x) stops.last in
+      let more = times_append x done (error.chunk ∷ []) in
+      let other = times_other x error.chunk [] differs in
+      inl (omega (arith, some, list, more, other)))
+  done_or_last x (Some error) numbers done told before after (inr wants) some = let same = ap (times x) wants.all in inl (omega (arith, same, some))
+
+  -- what is done by one of the lanes has its piece
+  pub each_stops : (pieces : List Piece) (lanes : List Lane) (befores afters : List SourceState) → Each claims plans chunks lanes befores afters → ((x : ℕ) → 1 ≤ sum_by (done_times x) lanes → times x (numbers_of pieces) ≡ 1)
+      → AllByRecursion (StopsAtLast pieces) (map (λ lane. lane.claimed.items) lanes)
+  each_stops pieces [] befores afters each given = tt
+  each_stops pieces (lane ∷ lanes) [] afters each given = absurd each
+  each_stops pieces (lane ∷ lanes) (before ∷ befores) [] each given = absurd each
+  each_stops pieces (lane ∷ lanes) (before ∷ befores) (after ∷ afters) each given = (
+    (λ x among. by_case x (done_or_last x lane.error lane.claimed.items (numbers_of lane.pieces.items) (was_told lane.seat) before after each.0.ends (among_stands x lane.claimed.items among))),
+    each_stops pieces lanes befores afters each.1 (λ x some. let cons = sum_by-cons (done_times x) lane lanes in given x (omega (arith, cons, some))),
+  )
+    where
+      by_case : (x : ℕ) → (1 ≤ times x (numbers_of lane.pieces.items)) ⊎ IsLast x lane.claimed.items → (times x (numbers_of pieces) ≡ 1) ⊎ IsLast x lane.claimed.items
+      by_case x (inl some) = let cons = sum_by-cons (done_times x) lane lanes in inl (given x (omega (arith, cons, some)))
+      by_case x (inr last) = inr last
+
+  -- ---- and where a call on its source fails
+
+  -- the last chunk was claimed and isn't done
+  abbrev LeavesLast : List ℕ → List ℕ → Type 0
+  LeavesLast numbers done = (last : ℕ) × IsLast last numbers × (times last numbers ≡ times last done + 1)
+
+  lane_faults : (error : Option ChunkError) (numbers done : List ℕ) (told : Bool) (before after : SourceState) → Ends plans chunks error numbers done told before after → KeepsFaults before after ⊎ FailedToRead error → KeepsFaults before after ⊎ LeavesLast numbers done
+  lane_faults error numbers done told before after ends (inl same) = inl same
+  lane_faults None numbers done told before after ends (inr fault) = absurd fault
+  lane_faults (Some error) numbers done told before after (inl stops) (inr fault) =
+      let list = ap (times error.chunk) stops.last in
+      let more = times_append error.chunk done (error.chunk ∷ []) in
+      let one = times_itself error.chunk [] in
+      inr (error.chunk, (done, stops.last), omega (arith, list, more, one))
+  lane_faults (Some error) numbers done told before after (inr wants) (inr fault) = absurd (let both : Memory ≡ ReadFault = sym wants.memory ∙ fault in cc)
+
+  -- what a lane claimed and none has done has no piece
+  pub each_faults : (pieces : List Piece) (lanes : List Lane) (befores afters : List SourceState) → Each claims plans chunks lanes befores afters → ((x : ℕ) → sum_by (done_times x) lanes < sum_by (claimed_times x) lanes → times x (numbers_of pieces) ≡ 0)
+      → EachSourceBy (FaultsAtLast pieces) (map (λ lane. lane.claimed.items) lanes) befores afters
+  each_faults pieces [] [] [] each lacking = tt
+  each_faults pieces [] [] (after ∷ afters) each lacking = absurd each
+  each_faults pieces [] (before ∷ befores) afters each lacking = absurd each
+  each_faults pieces (lane ∷ lanes) [] afters each lacking = absurd each
+  each_faults pieces (lane ∷ lanes) (before ∷ befores) [] each lacking = absurd each
+  each_faults pieces (lane ∷ lanes) (before ∷ befores) (after ∷ afters) each lacking = (
+    by_case (lane_faults lane.error lane.claimed.items (numbers_of lane.pieces.items) (was_told lane.seat) before after each.0.ends each.0.faults),
+    each_faults pieces lanes befores afters each.1 (λ x less.
+        let done = sum_by-cons (done_times x) lane lanes in
+        let all = sum_by-cons (claimed_times x) lane lanes in
+        let here = lane_done claims plans chunks x lane before after each.0 in
+        lacking x (omega (arith, less, done, all, here))),
+  )
+    where
+      by_case : KeepsFaults before after ⊎ LeavesLast lane.claimed.items (numbers_of lane.pieces.items) → FaultsAtLast pieces lane.claimed.items before after
+      by_case (inl same) = inl same
+      by_case (inr (last, is, more)) =
+          let done = sum_by-cons (done_times last) lane lanes in
+          let all = sum_by-cons (claimed_times last) lane lanes in
+          let list = ap (times last) each.0.claimed in
+          let rest = done_less claims plans chunks last lanes befores afters each.1 in
+          inr (last, is, lacking last (omega (arith, more, done, all, list, rest)))
+
+  -- no call failed where no lane has an error
+  none_failed : (error : Option ChunkError) (before after : SourceState) → IsAtMost None error → KeepsFaults before after ⊎ FailedToRead error → KeepsFaults before after
+  none_failed error before after most (inl same) = same
+  none_failed None before after most (inr fault) = absurd fault
+  none_failed (Some error) before after most (inr fault) = absurd most
+
+  pub all_quiet : (lanes : List Lane) (befores afters : List SourceState) → Each claims plans chunks lanes befores afters → All (λ lane. IsAtMost None lane.error) lanes → EachSource KeepsFaults befores afters
+  all_quiet [] [] [] each none = tt
+  all_quiet [] [] (after ∷ afters) each none = absurd each
+  all_quiet [] (before ∷ befores) afters each none = absurd each
+  all_quiet (lane ∷ lanes) [] afters each none = absurd each
+  all_quiet (lane ∷ lanes) (before ∷ befores) [] each none = absurd each
+  all_quiet (lane ∷ lanes) (before ∷ befores) (after ∷ afters) each none = (
+    none_failed lane.error before after (All-head (λ (one : Lane). IsAtMost None one.error) lane lanes none) each.0.faults,
+    all_quiet lanes befores afters each.1 (All-tail (λ (one : Lane). IsAtMost None one.error) lane lanes none),
+  )
