@@ -1,13 +1,18 @@
 //! Stories of an adaptor: what it gives and takes, step by step.
 
+ghost use Rattle.std.specs.Prelude.{◌≡◌, ◌<◌, ◌≤◌, ◌-◌, ◌^◌, length};
+ghost use Rattle.vx_plan.specs.Refs.{number_of};
+
 use crate::answers::{write_column, write_error};
 use crate::commands::Desk;
 use crate::files::{bytes_of, places_of};
 use crate::splits::splits_of;
 use crate::trees::{lowered, tree_of};
 use std::alloc::{AllocError, Global};
+use vx_base::SegmentLocation;
 use vx_io::{IoRequest, IoRequestId, IoTarget};
 use vx_layout::LayoutTree;
+use vx_lower::Lowered;
 use vx_scan::{AdaptorError, AdaptorStep, ScanAdaptor, ScanError, State};
 use vx_steps::{Scan, StepError};
 
@@ -33,6 +38,18 @@ fn write_fetches(batch: &[IoRequest], out: &mut String) -> Result<(), AllocError
     out.push(';')
 }
 
+/// Appends what a step of the adaptor gives.
+fn write_given(alloc: Global, step: &AdaptorStep, out: &mut String) -> Result<(), AllocError> {
+    match step {
+        AdaptorStep::Yield => out.push_str(" yield;"),
+        AdaptorStep::NeedsIo(batch) => write_fetches(batch.as_slice(), out),
+        AdaptorStep::Piece(column) => {
+            out.push_str(" piece")?;
+            write_column(alloc, column, out)
+        }
+    }
+}
+
 /// Appends the next step of the adaptor.
 fn write_step(
     alloc: Global,
@@ -40,12 +57,7 @@ fn write_step(
     out: &mut String,
 ) -> Result<(), AllocError> {
     match adaptor.compute() {
-        Ok(AdaptorStep::Yield) => out.push_str(" yield;"),
-        Ok(AdaptorStep::NeedsIo(batch)) => write_fetches(&batch, out),
-        Ok(AdaptorStep::Piece(column)) => {
-            out.push_str(" piece")?;
-            write_column(alloc, &column, out)
-        }
+        Ok(step) => write_given(alloc, &step, out),
         Err(error) => write_error(refusal(error), out),
     }
 }
@@ -87,7 +99,43 @@ fn write_story(
     Ok(())
 }
 
+/// Appends the story of an adaptor of the scan.
+fn write_scanned(
+    alloc: Global,
+    scan: Scan<'_>,
+    locations: &[SegmentLocation],
+    story: &str,
+    out: &mut String,
+) -> Result<(), AllocError>
+    requires few { length locations.now ≤ 2 ^ 32 - 1 }
+    requires fresh { scan.progress.reads.handed ≡ 0 }
+{
+    let mut adaptor = ScanAdaptor::new(alloc, scan, locations);
+    write_story(alloc, &mut adaptor, story, out)
+}
+
 /// Appends the story of an adaptor of a scan of splits; behind `2 of ` so many of them may be active at once.
+fn write_planned(
+    alloc: Global,
+    plans: &Lowered,
+    locations: &[SegmentLocation],
+    words: &str,
+    out: &mut String,
+) -> Result<(), AllocError>
+    requires root { number_of plans.now.root < length plans.now.table }
+    requires few { length locations.now ≤ 2 ^ 32 - 1 }
+{
+    let (words, story) = words.split_once(" | ").unwrap_or((words, ""));
+    let (active, words) = words.split_once(" of ").unwrap_or(("1", words));
+    let active = active.parse::<usize>().unwrap_or(1);
+    let splits = splits_of(alloc, words)?;
+    match Scan::try_new(alloc, &plans.table, plans.root, splits) {
+        Ok(scan) => write_scanned(alloc, scan.with_max_active(active), locations, story, out),
+        Err(_) => out.push_str(" out of range;"),
+    }
+}
+
+/// Appends the story of an adaptor over the tree, whose segments lie at these places.
 fn write_told(
     alloc: Global,
     tree: &LayoutTree,
@@ -95,19 +143,9 @@ fn write_told(
     words: &str,
     out: &mut String,
 ) -> Result<(), AllocError> {
-    let (words, story) = words.split_once(" | ").unwrap_or((words, ""));
-    let (active, words) = words.split_once(" of ").unwrap_or(("1", words));
-    let plans = lowered(alloc, tree)?;
     let locations = places_of(alloc, places)?;
-    let splits = splits_of(alloc, words)?;
-    match Scan::try_new(alloc, &plans.table, plans.root, splits) {
-        Ok(scan) => {
-            let scan = scan.with_max_active(active.parse::<usize>().unwrap_or(1));
-            let mut adaptor = ScanAdaptor::new(alloc, scan, &locations);
-            write_story(alloc, &mut adaptor, story, out)
-        }
-        Err(_) => out.push_str(" out of range;"),
-    }
+    let plans = lowered(alloc, tree)?;
+    write_planned(alloc, &plans, &locations, words, out)
 }
 
 /// Appends the story of an adaptor over the tree.

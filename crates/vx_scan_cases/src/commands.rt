@@ -19,35 +19,40 @@ pub(crate) struct Desk<'a> {
     pub(crate) limit: u64,
 }
 
-/// Appends the answer to a line.
-fn write_answer<'a, R: AllocGlobal + Threads + Sync>(
-    rt: &R,
-    desk: &mut Desk<'a>,
-    line: &'a str,
-    out: &mut String,
-) -> Result<(), AllocError> {
-    let alloc = rt.alloc();
-    let (command, words) = line.split_once(' ').unwrap_or((line, ""));
+/// Keeps what a line says of the file.
+fn set<'a>(desk: &mut Desk<'a>, command: &str, words: &'a str) {
     match command {
+        "tree" => desk.nodes = words,
         "at" => desk.places = words,
         "file" => desk.bytes = words,
         "script" => desk.script = words,
         "limit" => desk.limit = words.parse::<u64>().unwrap_or(0),
-        "tree" => {
-            desk.nodes = words;
-            write_tree(alloc, words, out)?;
-        }
-        "dtype" => write_dtype(alloc, *desk, out)?,
-        "scan" => write_scan(rt, *desk, out)?,
-        "select" => write_selected(rt, *desk, words, out)?,
-        "chunk" => write_chunk(alloc, *desk, words, out)?,
-        "prepare" => write_prepared(alloc, *desk, words, out)?,
-        "execute" => write_executed(rt, *desk, words, out)?,
-        "book" => write_book(alloc, words, out)?,
-        "adaptor" => write_adaptor(alloc, *desk, words, out)?,
-        _ => out.push_str(" no command")?,
+        _ => {}
     }
-    Ok(())
+}
+
+/// Appends the answer to a line.
+fn write_answer<R: AllocGlobal + Threads + Sync>(
+    rt: &R,
+    desk: Desk<'_>,
+    command: &str,
+    words: &str,
+    out: &mut String,
+) -> Result<(), AllocError> {
+    let alloc = rt.alloc();
+    match command {
+        "at" | "file" | "script" | "limit" => Ok(()),
+        "tree" => write_tree(alloc, words, out),
+        "dtype" => write_dtype(alloc, desk, out),
+        "scan" => write_scan(rt, desk, out),
+        "select" => write_selected(rt, desk, words, out),
+        "chunk" => write_chunk(alloc, desk, words, out),
+        "prepare" => write_prepared(alloc, desk, words, out),
+        "execute" => write_executed(rt, desk, words, out),
+        "book" => write_book(alloc, words, out),
+        "adaptor" => write_adaptor(alloc, desk, words, out),
+        _ => out.push_str(" no command"),
+    }
 }
 
 /// Appends each line with its answer.
@@ -67,7 +72,9 @@ pub(crate) fn write_lines<R: AllocGlobal + Threads + Sync>(
         out.push_str(line)?;
         if !line.is_empty() && !line.starts_with("# ") {
             out.push_str(" =>")?;
-            write_answer(rt, &mut desk, line, out)?;
+            let (command, words) = line.split_once(' ').unwrap_or((line, ""));
+            set(&mut desk, command, words);
+            write_answer(rt, desk, command, words, out)?;
         }
         out.push('\n')?;
     }

@@ -5,6 +5,7 @@
 
 mod adaptors;
 mod answers;
+mod builders;
 mod chunks;
 mod commands;
 mod files;

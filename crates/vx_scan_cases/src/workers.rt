@@ -1,31 +1,26 @@
 //! Scans that are prepared, and run by a worker for each of several sources; books of whole values.
 
-ghost use Rattle.std.specs.Prelude.{◌≤◌, ◌-◌, ◌^◌, length, IfOk, IfSome};
 ghost use Rattle.vx_scan.specs.Executes.{CanRun};
 ghost use Rattle.vx_scan.specs.Plans.{ArePlans};
 
 use crate::answers::{write_column, write_error};
-use crate::chunks::push_given;
+use crate::builders::set_of;
+use crate::chunks::value_of;
 use crate::commands::Desk;
-use crate::files::{places_of, source_of};
-use crate::scans::set;
-use crate::trees::tree_of;
+use crate::files::source_of;
 use std::alloc::{AllocError, Global};
 use std::thread::Threads;
 use vx_base::ScriptSource;
 use vx_plan::PlanRef;
-use vx_scan::{Book, Outcome, Prepared, ScanBuilder, ScanFile, ValueCache, execute};
+use vx_scan::{Book, Outcome, Prepared, ValueCache, execute};
+use vx_steps::KeptValue;
 
-/// The builder of a scan of the file with these settings.
-fn builder_of(alloc: Global, desk: Desk<'_>, words: &str) -> Result<Option<ScanBuilder>, AllocError>
-    ensures { IfOk result (λ made. IfSome made (λ builder. length builder.locations ≤ 2 ^ 32 - 1)) }
-{
-    let Some(layout) = tree_of(alloc, desk.nodes)? else {
-        return Ok(None);
-    };
-    let locations = places_of(alloc, desk.places)?;
-    let builder = ScanBuilder::new(alloc, ScanFile { layout, locations })?;
-    set(alloc, builder, words)
+/// Appends the chunks of a prepared scan.
+fn write_chunks(prepared: &Prepared, out: &mut String) -> Result<(), AllocError> {
+    for chunk in &prepared.chunks {
+        write!(out, " {:?};", chunk.scope.rows)?;
+    }
+    write!(out, " in order: {}", prepared.ordered)
 }
 
 /// Appends the chunks of a scan that is prepared, or why it is refused.
@@ -35,17 +30,12 @@ pub(crate) fn write_prepared(
     words: &str,
     out: &mut String,
 ) -> Result<(), AllocError> {
-    let Some(builder) = builder_of(alloc, desk, words)? else {
-        return out.push_str(" not set;");
-    };
-    match builder.prepare(alloc) {
-        Ok(prepared) => {
-            for chunk in &prepared.chunks {
-                write!(out, " {:?};", chunk.scope.rows)?;
-            }
-            write!(out, " in order: {}", prepared.ordered)
-        }
-        Err(error) => write_error(error, out),
+    match set_of(alloc, desk, words) {
+        Some(builder) => match builder.prepare(alloc) {
+            Ok(prepared) => write_chunks(&prepared, out),
+            Err(error) => write_error(error, out),
+        },
+        None => out.push_str(" not set;"),
     }
 }
 
@@ -70,30 +60,17 @@ fn write_outcome(alloc: Global, outcome: &Outcome, out: &mut String) -> Result<(
     }
 }
 
-/// Appends what a prepared scan gives over so many sources.
-pub(crate) fn write_executed<R: AllocGlobal + Threads + Sync>(
-    rt: &R,
-    desk: Desk<'_>,
-    words: &str,
-    out: &mut String,
-) -> Result<(), AllocError> {
-    let alloc = rt.alloc();
-    let (count, words) = words.split_once(' ').unwrap_or((words, ""));
-    let Some(builder) = builder_of(alloc, desk, words)? else {
-        return out.push_str(" not set;");
-    };
-    let mut sources: Vec<ScriptSource> = Vec::new(alloc);
-    for _source in 0..count.parse::<u64>().unwrap_or(1).clamp(1, 64) {
+/// Sources of the file, so many, and one at least.
+fn sources_of(alloc: Global, desk: Desk<'_>, count: u64) -> Result<Vec<ScriptSource>, AllocError> {
+    let mut sources = Vec::new(alloc);
+    for _source in 0..count.clamp(1, 64) {
         sources.push(source_of(alloc, desk.bytes, desk.script)?)?;
     }
-    match builder.prepare(alloc) {
-        Ok(prepared) => run(rt, &prepared, sources.as_mut_slice(), out),
-        Err(error) => write_error(error, out),
-    }
+    Ok(sources)
 }
 
-/// Runs a prepared scan.
-fn run<R: AllocGlobal + Threads + Sync>(
+/// Runs a prepared scan over the sources.
+fn write_run<R: AllocGlobal + Threads + Sync>(
     rt: &R,
     prepared: &Prepared,
     sources: &mut [ScriptSource],
@@ -118,6 +95,53 @@ fn run<R: AllocGlobal + Threads + Sync>(
     write_outcome(alloc, &outcome, out)
 }
 
+/// Runs a prepared scan over so many sources of the file.
+fn write_over<R: AllocGlobal + Threads + Sync>(
+    rt: &R,
+    desk: Desk<'_>,
+    prepared: &Prepared,
+    count: u64,
+    out: &mut String,
+) -> Result<(), AllocError>
+    requires plans { ArePlans prepared.now.plans }
+    requires chunks { CanRun prepared.now.plans prepared.now.chunks.items }
+{
+    let mut sources = sources_of(rt.alloc(), desk, count)?;
+    write_run(rt, prepared, sources.as_mut_slice(), out)
+}
+
+/// Appends what a prepared scan gives over so many sources.
+pub(crate) fn write_executed<R: AllocGlobal + Threads + Sync>(
+    rt: &R,
+    desk: Desk<'_>,
+    words: &str,
+    out: &mut String,
+) -> Result<(), AllocError> {
+    let alloc = rt.alloc();
+    let (count, words) = words.split_once(' ').unwrap_or((words, ""));
+    let count = count.parse::<u64>().unwrap_or(1);
+    match set_of(alloc, desk, words) {
+        Some(builder) => match builder.prepare(alloc) {
+            Ok(prepared) => write_over(rt, desk, &prepared, count, out),
+            Err(error) => write_error(error, out),
+        },
+        None => out.push_str(" not set;"),
+    }
+}
+
+/// Appends the whole value that a book has for a plan.
+fn write_value(
+    alloc: Global,
+    book: &mut Book,
+    node: PlanRef,
+    out: &mut String,
+) -> Result<(), AllocError> {
+    match book.get(node)? {
+        Some(column) => write_column(alloc, &column, out),
+        None => out.push_str(" none;"),
+    }
+}
+
 /// Appends what a step on a book gives: `insert 3 u8: 7` or `get 3`.
 fn write_step(
     alloc: Global,
@@ -125,19 +149,14 @@ fn write_step(
     step: &str,
     out: &mut String,
 ) -> Result<(), AllocError> {
-    let (command, rest) = step.split_once(' ').unwrap_or((step, ""));
+    let (command, number) = step.split_once(' ').unwrap_or((step, ""));
     if command == "get" {
-        let node = PlanRef(rest.parse::<u32>().unwrap_or(0));
-        return match book.get(node)? {
-            Some(column) => write_column(alloc, &column, out),
-            None => out.push_str(" none;"),
-        };
+        let node = PlanRef(number.parse::<u32>().unwrap_or(0));
+        return write_value(alloc, book, node, out);
     }
-    let mut given = Vec::new(alloc);
-    push_given(alloc, step, &mut given)?;
-    match given.pop() {
-        Some(value) => {
-            let kept = book.insert(value.node, value.column)?;
+    match value_of(alloc, step) {
+        Some(KeptValue { node, column }) => {
+            let kept = book.insert(node, column)?;
             write_column(alloc, &kept, out)
         }
         None => Ok(()),

@@ -1,0 +1,81 @@
+//! The builder of a scan of the file, and its settings as words.
+
+ghost use Rattle.std.specs.Prelude.{◌≤◌, ◌-◌, ◌^◌, length, IfOk, IfSome};
+
+use crate::commands::Desk;
+use crate::files::{numbers_of, places_of};
+use crate::trees::{tree_of, type_of};
+use std::alloc::{AllocError, Global};
+use std::ops::Range;
+use vx_base::DType;
+use vx_expr::{BindError, BoundExpression, Expr, bind};
+use vx_layout::LayoutTree;
+use vx_scan::{ScanBuilder, ScanFile};
+use vx_splits::StrictSorted;
+
+/// The builder of a scan of the tree, whose segments lie at these places.
+fn scan_of(alloc: Global, layout: LayoutTree, places: &str) -> Result<ScanBuilder, AllocError>
+    ensures { IfOk result (λ builder. length builder.locations ≤ 2 ^ 32 - 1) }
+{
+    let locations = places_of(alloc, places)?;
+    ScanBuilder::new(alloc, ScanFile { layout, locations })
+}
+
+/// The builder of a scan of the whole file; none where its nodes are no tree.
+pub(crate) fn builder_of(alloc: Global, desk: Desk<'_>) -> Result<Option<ScanBuilder>, AllocError>
+    ensures { IfOk result (λ made. IfSome made (λ builder. length builder.locations ≤ 2 ^ 32 - 1)) }
+{
+    match tree_of(alloc, desk.nodes)? {
+        Some(layout) => Ok(Some(scan_of(alloc, layout, desk.places)?)),
+        None => Ok(None),
+    }
+}
+
+/// The row's number for `row`, the root for `root`, and for any other word the root of that dtype.
+fn projection_of(alloc: Global, dtype: &DType, word: &str) -> Result<BoundExpression, BindError> {
+    match word {
+        "row" => bind(alloc, &Expr::RowIdx, dtype),
+        "root" => bind(alloc, &Expr::Root, dtype),
+        other => bind(alloc, &Expr::Root, &type_of(alloc, other)),
+    }
+}
+
+/// The scan of the file with the projection of that word; none where there is no tree, or it can't be bound.
+fn projected(alloc: Global, desk: Desk<'_>, word: &str) -> Option<ScanBuilder>
+    ensures { IfSome result (λ builder. length builder.locations ≤ 2 ^ 32 - 1) }
+{
+    let layout = tree_of(alloc, desk.nodes).ok()??;
+    let projection = projection_of(alloc, layout.dtype(), word).ok()?;
+    let builder = scan_of(alloc, layout, desk.places).ok()?;
+    Some(builder.with_projection(projection))
+}
+
+/// The numbers of rows that are written so; none where they don't ascend.
+fn indices_of(alloc: Global, words: &str) -> Option<StrictSorted> {
+    StrictSorted::try_new(numbers_of(alloc, words).ok()?).ok()
+}
+
+/// The range that is written so, as `1..4`.
+fn range_of(words: &str) -> Range<u64> {
+    let (start, end) = words.split_once("..").unwrap_or((words, ""));
+    start.parse::<u64>().unwrap_or(0)..end.parse::<u64>().unwrap_or(0)
+}
+
+/// The scan of the file with settings that are written so: `1..4 0,3 7 row` is of the rows 0 and 3 in a range, counted
+/// from 7, and projects their numbers. None where there is no tree, or they can't be set.
+pub(crate) fn set_of(alloc: Global, desk: Desk<'_>, words: &str) -> Option<ScanBuilder>
+    ensures { IfSome result (λ builder. length builder.locations ≤ 2 ^ 32 - 1) }
+{
+    let (range, words) = words.split_once(' ').unwrap_or((words, ""));
+    let (indices, words) = words.split_once(' ').unwrap_or((words, ""));
+    let (offset, root) = words.split_once(' ').unwrap_or((words, ""));
+    let offset = offset.parse::<u64>().unwrap_or(0);
+    let rows = indices_of(alloc, indices)?;
+    let builder = projected(alloc, desk, root)?
+        .with_ordered(false)
+        .with_concurrency(2)
+        .with_row_range(range_of(range))
+        .with_row_indices(rows)
+        .with_row_offset(offset);
+    Some(builder)
+}
