@@ -11,7 +11,27 @@ use vx_base::{Column, Script, ScriptSource};
 use vx_scan::{ScanBuilder, ScanError, ScanFile};
 use vx_splits::StrictSorted;
 
-/// As many sources of the bytes, of which the last one fails at the requests of these numbers.
+/// The script of the last source: at which requests it fails, and at how many polls of each ticket it finds nothing.
+fn last_script(alloc: Global, options: &str) -> Option<Script> {
+    Some(Script {
+        fail_requests: list(alloc, options, "request_fails")?,
+        fail_polls: Vec::new(alloc),
+        waits: list(alloc, options, "waits")?,
+        order: Vec::new(alloc),
+    })
+}
+
+/// The script of a source that answers at once.
+fn plain_script(alloc: Global) -> Script {
+    Script {
+        fail_requests: Vec::new(alloc),
+        fail_polls: Vec::new(alloc),
+        waits: Vec::new(alloc),
+        order: Vec::new(alloc),
+    }
+}
+
+/// As many sources of the bytes, of which the last one keeps to the script of the options.
 fn sources_of(
     alloc: Global,
     bytes: &[u8],
@@ -20,16 +40,10 @@ fn sources_of(
 ) -> Option<Vec<ScriptSource>> {
     let mut sources = Vec::new(alloc);
     for place in 0..count {
-        let fails = if place + 1 == count {
-            list(alloc, options, "request_fails")?
+        let script = if place + 1 == count {
+            last_script(alloc, options)?
         } else {
-            Vec::new(alloc)
-        };
-        let script = Script {
-            fail_requests: fails,
-            fail_polls: Vec::new(alloc),
-            waits: Vec::new(alloc),
-            order: Vec::new(alloc),
+            plain_script(alloc)
         };
         let bytes = bytes.to_vec(alloc).ok()?;
         sources.push(ScriptSource::new(alloc, bytes, script)).ok()?;
@@ -96,8 +110,8 @@ fn asked_ranges(alloc: Global, sources: &[ScriptSource]) -> Option<usize> {
     Some(asked.len())
 }
 
-/// Scans rows of the demo's file, and says them, and what was asked for. Where the last source fails, it says whether the
-/// rows are there and that source did not fail, or a read failed.
+/// Scans rows of the demo's file, and says them, and what was asked for. Where the last source fails or stalls, it says
+/// whether the rows are there and that source did neither, or that a read failed or stalled.
 pub(crate) fn demo_rows<R: AllocGlobal + Threads + Sync>(rt: &R, options: &str) -> Option<String> {
     let alloc = rt.alloc();
     let rows = number(options, "rows", 0) as u64;
@@ -113,21 +127,26 @@ pub(crate) fn demo_rows<R: AllocGlobal + Threads + Sync>(rt: &R, options: &str) 
     let batches = match batches_of(rt, alloc, file, options, sources.as_mut_slice())? {
         Ok(batches) => batches,
         Err(ScanError::ReadFault) => return String::from_str(alloc, "rows or a read fault").ok(),
+        Err(ScanError::Stalled) => return String::from_str(alloc, "rows or a stall").ok(),
         Err(error) => return format!(in alloc; "{error}").ok(),
     };
     let lines = lines_of(alloc, &batches).ok()?;
+    let last = sources.last()?;
     if option(options, "request_fails").is_some() {
-        return rows_or_fault(alloc, options, &lines, sources.last()?.faults());
+        return rows_or(alloc, options, &lines, "a read fault", last.faults());
+    }
+    if option(options, "waits").is_some() {
+        return rows_or(alloc, options, &lines, "a stall", last.idle());
     }
     let asked = asked_ranges(alloc, &sources)?;
     let count = batches.len();
     format!(in alloc; "{count} batches, asked {asked} of {segments}, {lines:?}").ok()
 }
 
-/// What is said of rows over a source that would have failed.
-fn rows_or_fault(alloc: Global, options: &str, lines: &String, faults: u64) -> Option<String> {
-    if faults == 0 && lines.lines().count() == number(options, "count", 0) {
-        return String::from_str(alloc, "rows or a read fault").ok();
+/// What is said of rows over a source that would have failed or stalled, where its count did not rise.
+fn rows_or(alloc: Global, options: &str, lines: &String, other: &str, rose: u64) -> Option<String> {
+    if rose == 0 && lines.lines().count() == number(options, "count", 0) {
+        return format!(in alloc; "rows or {other}").ok();
     }
-    format!(in alloc; "neither, {faults} faults, {lines:?}").ok()
+    format!(in alloc; "neither, {rose} times, {lines:?}").ok()
 }
