@@ -1,7 +1,7 @@
 //! Columns that are made of several columns: one behind the other, values that are looked up by their
 //! codes, and structs of parts.
 
-ghost use Rattle.std.specs.Prelude.{◌≡◌, ◌++◌, length, map, IfOk, OnOk};
+ghost use Rattle.std.specs.Prelude.{◌≡◌, ◌++◌, [], ◌∷◌, length, map, IfOk, OnOk, MatchResult};
 ghost use Rattle.std.specs.List.{AllByRecursion, flat_map, range_with_len};
 ghost use Rattle.std.specs.Option.{ForSome};
 ghost use Rattle.vx_base.specs.Data.{struct_type};
@@ -9,7 +9,7 @@ ghost use Rattle.vx_base.specs.Fits.{Fits, nullability_of};
 ghost use Rattle.vx_base.specs.ColumnCalls.{IsUnsigned, IsCodeBelow, value_at, nullable_where, ArePartsOf, nullability_with, is_valid, packed_at, IsFitting};
 ghost use Rattle.vx_base.specs.Views.{data_type};
 ghost use Rattle.vx_packed.specs.LookUps.{code_places};
-ghost use Rattle.vx_packed.specs.PackedColumns.{bare_column};
+ghost use Rattle.vx_packed.specs.PackedColumns.{bare_column, IsColumn};
 
 use crate::columns::Column;
 use std::alloc::{AllocError, Global};
@@ -24,6 +24,33 @@ fn rows_in(parts: &[Column]) -> usize {
         rows = rows.saturating_add(part.len() as usize);
     }
     rows
+}
+
+/// The only one of the columns; the columns, where there are none or more.
+fn only_of(parts: Vec<Column>) -> Result<Column, Vec<Column>>
+    ensures { MatchResult result (λ part. parts.items ≡ part ∷ []) (λ same. same.items ≡ parts.items) }
+{
+    let mut parts = parts;
+    if parts.len() != 1 {
+        return Err(parts);
+    }
+    match parts.pop() {
+        Some(part) => Ok(part),
+        None => unreachable!(),
+    }
+}
+
+/// The rows of all parts, one part after another.
+fn joined_rows(alloc: Global, dtype: &DType, parts: Vec<Column>) -> Result<Part, AllocError>
+    requires { AllByRecursion (λ part. part.dtype ≡ data_type dtype.now) parts.items }
+    ensures column { IfOk result (λ rows. IsColumn (data_type dtype.now) rows) }
+    ensures values { IfOk result (λ rows. rows.values ≡ flat_map (λ part. part.values) parts.items) }
+{
+    let mut joined = Part::with_room(alloc, dtype, rows_in(&parts))?;
+    for part in parts {
+        joined = part.append_to(alloc, joined)?;
+    }
+    Ok(joined)
 }
 
 /// The dtype of values that are looked up: it takes nulls also where the codes do.
@@ -47,7 +74,7 @@ fn rows_alone(alloc: Global, part: Column) -> Result<Part, AllocError>
     Ok(rows)
 }
 
-/// The rows of each part. It moves those that are packed.
+/// The rows of each part. It moves those that are packed and not shared.
 fn all_rows_alone(alloc: Global, parts: Vec<Column>) -> Result<Vec<Part>, AllocError>
     ensures rows { IfOk result (λ rows. rows.items ≡ map bare_column parts.items) }
     ensures fit { OnOk result (AllByRecursion IsFitting parts.items) }
@@ -87,31 +114,31 @@ fn valid_rows(alloc: Global, validity: Option<Mask>, rows: u64) -> Result<Mask, 
 }
 
 impl Column {
-    /// The rows of this column, and those of another of the same dtype behind them. It moves both.
-    fn append(self, alloc: Global, other: Column) -> Result<Column, AllocError>
-        requires { other.dtype ≡ self.dtype }
-        ensures dtype { IfOk result (λ column. column.dtype ≡ self.dtype) }
-        ensures values { IfOk result (λ column. column.values ≡ self.values ++ other.values) }
+    /// The rows of a part that a column of the same dtype can have, and copies of this column's behind them.
+    fn append_to(&self, alloc: Global, part: Part) -> Result<Part, AllocError>
+        requires { IsColumn self.now.dtype part }
+        ensures column { IfOk result (λ made. IsColumn self.now.dtype made) }
+        ensures values { IfOk result (λ made. made.values ≡ part.values ++ self.now.values) }
     {
-        let dtype = self.dtype().copy(alloc)?;
-        let ones = self.into_part(alloc)?;
-        let others = other.into_part(alloc)?;
-        let part = ones.append(alloc, others)?;
-        Ok(Column::of_part(dtype, part))
+        let rows = self.rows();
+        let made = rows.append_to(alloc, part)?;
+        Ok(made)
     }
 
-    /// The values of all parts, one part after another. It moves them into memory that it takes once.
+    /// The values of all parts, one part after another. It copies them into memory that it takes once; one part alone
+    /// is given as it is.
     pub fn concat(alloc: Global, dtype: DType, parts: Vec<Column>) -> Result<Column, AllocError>
         requires { AllByRecursion (λ part. part.dtype ≡ data_type dtype) parts.items }
         ensures dtype { IfOk result (λ column. column.dtype ≡ data_type dtype) }
         ensures values { IfOk result (λ column. column.values ≡ flat_map (λ part. part.values) parts.items) }
     {
-        let rows = Part::with_room(alloc, &dtype, rows_in(&parts))?;
-        let mut joined = Column::of_part(dtype, rows);
-        for part in parts {
-            joined = joined.append(alloc, part)?;
+        match only_of(parts) {
+            Ok(part) => Ok(part),
+            Err(parts) => {
+                let rows = joined_rows(alloc, &dtype, parts)?;
+                Ok(Column::of_part(dtype, rows))
+            }
         }
-        Ok(joined)
     }
 
     /// The values at the codes: a code gives the value at it, and a null gives null. The dtype is that

@@ -31,7 +31,7 @@ impl Column {
         Ok(Column::of_part(dtype, part))
     }
 
-    /// The rows of a range.
+    /// The rows of a range. All rows of a column that shares them are shared again, and none is copied.
     pub fn slice(&self, alloc: Global, rows: Range<u64>) -> Result<Column, AllocError>
         requires forwards { rows.start ≤ rows.end }
         requires inside { rows.end ≤ length self.now.values }
@@ -86,7 +86,7 @@ impl Column {
         Ok(mask)
     }
 
-    /// The same column in memory of its own.
+    /// The same column in memory of its own, but for rows that are shared: those are shared again.
     #[tactic(auto, using(vx_packed::proofs::PackedRows::same_column))]
     pub fn copy(&self, alloc: Global) -> Result<Column, AllocError>
         ensures { IfOk result (λ column. column ≡ self.now) }

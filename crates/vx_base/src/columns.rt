@@ -11,7 +11,7 @@ ghost use Rattle.vx_base.specs.ValueViews.{datum};
 ghost use Rattle.vx_packed.specs.Cells.{cell_datum};
 ghost use Rattle.vx_packed.specs.PackedColumns.{IsColumn};
 
-use crate::stored_rows::Rows;
+use crate::stored_rows::{Laid, Rows};
 use std::alloc::{AllocError, Global};
 use std::marker::Model;
 use thiserror::Error;
@@ -95,18 +95,29 @@ impl Column {
         &self.rows
     }
 
-    /// What the rows hold, where they are packed one by one; None where they lie in runs. It takes no memory.
+    /// What the rows hold, where they are packed one by one, shared or not; None where they lie in runs. It takes no
+    /// memory.
     pub fn part(&self) -> Option<&Part>
         ensures values { IfSome result (λ part. part.now.values ≡ self.now.values) }
         ensures column { IfSome result (λ part. IsColumn self.now.dtype part.now) }
     {
-        match &self.rows {
-            Rows::Plain(part) => Some(part),
-            Rows::Runs(_) => None,
+        match self.rows.laid() {
+            Laid::Packed(part) => Some(part),
+            Laid::Runs(_) => None,
         }
     }
 
-    /// What the rows hold, alone and packed. It moves what is packed already.
+    /// The same column, whose rows other columns can share from now on: where they are packed, `copy` and a `slice` of
+    /// all rows copy no row. It moves the rows, and takes memory for a handle on them; runs stay what they are.
+    pub fn share(self, alloc: Global) -> Result<Column, AllocError>
+        ensures { IfOk result (λ column. column ≡ self) }
+    {
+        let Column { dtype, rows } = self;
+        let rows = rows.share(alloc)?;
+        Ok(Column { dtype, rows })
+    }
+
+    /// What the rows hold, alone and packed. It moves what is packed already, unless it is shared.
     pub(crate) fn into_part(self, alloc: Global) -> Result<Part, AllocError>
         ensures values { IfOk result (λ part. part.values ≡ self.values) }
         ensures column { IfOk result (λ part. IsColumn self.dtype part) }

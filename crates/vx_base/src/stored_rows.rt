@@ -1,20 +1,23 @@
-//! The rows of a column: packed one by one, or in runs. Runs stay runs through ranges and masks, and are spread
-//! for the calls that go over packed rows.
+//! The rows of a column: packed one by one, the column's own or shared with other columns, or in runs. Runs stay runs
+//! through ranges and masks, and are spread for the calls that go over packed rows. Nothing is ever written to rows
+//! that are shared: what is asked of them is answered as of packed rows, and a range of all of them is another handle.
 
 ghost use Rattle.std.specs.Prelude.{◌≡◌, ◌-◌, ◌<◌, ◌≤◌, ◌↔◌, ◌++◌, Some, length, map, slice_get, IsTrue, IfOk, OnOk};
+ghost use Rattle.std.specs.Arc.{arc_value};
 ghost use Rattle.std.specs.List.{AllByRecursion};
 ghost use Rattle.vx_base.specs.ColumnCalls.{IsBool, IsUnsigned};
 ghost use Rattle.vx_base.specs.Leaf.{IsLeaf, slot_bytes};
 ghost use Rattle.vx_base.specs.Segment.{IsShort, is_value, truth_in};
-ghost use Rattle.vx_base.specs.StoredRows.{row_data};
+ghost use Rattle.vx_base.specs.StoredRows.{row_data, laid_data};
 ghost use Rattle.vx_base.specs.ValueViews.{datum};
 ghost use Rattle.vx_packed.specs.Cells.{cell_datum};
 ghost use Rattle.vx_packed.specs.LookUps.{code_places};
-ghost use Rattle.vx_packed.specs.PartRows.{sliced, filtered, picked_at};
+ghost use Rattle.vx_packed.specs.PartRows.{sliced, filtered, joined, picked_at};
 
 use crate::run_rows::Runs;
 use std::alloc::{AllocError, Global};
 use std::ops::Range;
+use std::sync::Arc;
 use vx_packed::{Cell, Part};
 use vx_types::Value;
 use vx_words::Mask;
@@ -22,18 +25,88 @@ use vx_words::Mask;
 /// The rows of a column.
 #[derive(Drop)]
 pub(crate) enum Rows {
+    /// Packed, and this column's alone.
     Plain(Part),
+    /// Packed, and perhaps other columns' too.
+    Shared(Arc<Part, Global>),
+    /// In runs.
     Runs(Runs),
 }
 
+/// How rows lie, whoever has them: packed, or in runs.
+#[derive(Clone, Copy)]
+pub(crate) enum Laid<'a> {
+    Packed(&'a Part),
+    Runs(&'a Runs),
+}
+
+/// The rows of a range of shared ones: another handle on them where it is all of them, which takes no memory, and else
+/// copies.
+#[tactic(auto, using(crate::proofs::SharedRows::whole_sliced))]
+fn range_of_shared(
+    alloc: Global,
+    part: &Arc<Part, Global>,
+    rows: Range<usize>,
+) -> Result<Rows, AllocError>
+    requires forwards { rows.start ≤ rows.end }
+    requires inside { rows.end ≤ length (arc_value part.now).values }
+    ensures { IfOk result (λ made. row_data made ≡ sliced rows.start rows.end (arc_value part.now)) }
+{
+    if rows.end - rows.start == part.len() {
+        let handle = Arc::try_clone(part)?;
+        return Ok(Rows::Shared(handle));
+    }
+    let copied = part.slice(alloc, rows)?;
+    Ok(Rows::Plain(copied))
+}
+
+/// Shared rows alone: the rows themselves where this is the last handle on them, and else copies.
+#[tactic(auto, using(crate::proofs::SharedRows::whole_sliced))]
+fn unshared(alloc: Global, part: Arc<Part, Global>) -> Result<Part, AllocError>
+    ensures { IfOk result (λ rows. rows ≡ arc_value part) }
+{
+    match Arc::try_unwrap(part) {
+        Ok(rows) => Ok(rows),
+        Err(part) => {
+            let rows = part.slice(alloc, 0..part.len())?;
+            Ok(rows)
+        }
+    }
+}
+
 impl Rows {
+    /// How the rows lie. It takes no memory.
+    pub(crate) fn laid(&self) -> Laid<'_>
+        ensures { laid_data result ≡ row_data self.now }
+    {
+        match self {
+            Rows::Plain(part) => Laid::Packed(part),
+            Rows::Shared(part) => Laid::Packed(part),
+            Rows::Runs(runs) => Laid::Runs(runs),
+        }
+    }
+
+    /// The same rows, so that other columns can share them. It moves packed rows behind a handle, which takes memory
+    /// for the handle alone; runs stay what they are.
+    pub(crate) fn share(self, alloc: Global) -> Result<Rows, AllocError>
+        ensures { IfOk result (λ rows. row_data rows ≡ row_data self) }
+    {
+        match self {
+            Rows::Plain(part) => {
+                let handle = Arc::new(alloc, part)?;
+                Ok(Rows::Shared(handle))
+            }
+            rows => Ok(rows),
+        }
+    }
+
     /// How many rows there are.
     pub(crate) fn len(&self) -> usize
         ensures { result ≡ length (row_data self.now).values }
     {
-        match self {
-            Rows::Plain(part) => part.len(),
-            Rows::Runs(runs) => runs.len(),
+        match self.laid() {
+            Laid::Packed(part) => part.len(),
+            Laid::Runs(runs) => runs.len(),
         }
     }
 
@@ -41,9 +114,9 @@ impl Rows {
     pub(crate) fn validity(&self) -> &Mask
         ensures { result.now ≡ map is_value (row_data self.now).values }
     {
-        match self {
-            Rows::Plain(part) => part.validity(),
-            Rows::Runs(runs) => runs.validity(),
+        match self.laid() {
+            Laid::Packed(part) => part.validity(),
+            Laid::Runs(runs) => runs.validity(),
         }
     }
 
@@ -54,9 +127,9 @@ impl Rows {
         ensures there { result.1 < length result.0.now.values }
         ensures value { slice_get (row_data self.now).values row ≡ slice_get result.0.now.values result.1 }
     {
-        match self {
-            Rows::Plain(part) => (part, row),
-            Rows::Runs(runs) => runs.value_of(row),
+        match self.laid() {
+            Laid::Packed(part) => (part, row),
+            Laid::Runs(runs) => runs.value_of(row),
         }
     }
 
@@ -79,16 +152,23 @@ impl Rows {
         Ok(value)
     }
 
-    /// The rows of a range.
+    /// The rows of a range. All rows of shared ones are another handle on them, which takes no memory.
     pub(crate) fn slice(&self, alloc: Global, rows: Range<usize>) -> Result<Rows, AllocError>
         requires forwards { rows.start ≤ rows.end }
         requires inside { rows.end ≤ length (row_data self.now).values }
         ensures { IfOk result (λ made. row_data made ≡ sliced rows.start rows.end (row_data self.now)) }
     {
-        Ok(match self {
-            Rows::Plain(part) => Rows::Plain(part.slice(alloc, rows)?),
-            Rows::Runs(runs) => Rows::Runs(runs.slice(alloc, rows)?),
-        })
+        match self {
+            Rows::Plain(part) => {
+                let copied = part.slice(alloc, rows)?;
+                Ok(Rows::Plain(copied))
+            }
+            Rows::Shared(part) => range_of_shared(alloc, part, rows),
+            Rows::Runs(runs) => {
+                let copied = runs.slice(alloc, rows)?;
+                Ok(Rows::Runs(copied))
+            }
+        }
     }
 
     /// The rows that the mask chooses.
@@ -96,9 +176,9 @@ impl Rows {
         requires { length mask.now ≡ length (row_data self.now).values }
         ensures { IfOk result (λ made. row_data made ≡ filtered mask.now (row_data self.now)) }
     {
-        Ok(match self {
-            Rows::Plain(part) => Rows::Plain(part.filter(alloc, mask)?),
-            Rows::Runs(runs) => Rows::Runs(runs.filter(alloc, mask)?),
+        Ok(match self.laid() {
+            Laid::Packed(part) => Rows::Plain(part.filter(alloc, mask)?),
+            Laid::Runs(runs) => Rows::Runs(runs.filter(alloc, mask)?),
         })
     }
 
@@ -114,9 +194,9 @@ impl Rows {
         requires masked { length mask.now ≡ rows.end - rows.start }
         ensures { IfOk result (λ made. row_data made ≡ filtered mask.now (sliced rows.start rows.end (row_data self.now))) }
     {
-        Ok(match self {
-            Rows::Plain(part) => Rows::Plain(part.filter_range(alloc, rows, mask)?),
-            Rows::Runs(runs) => Rows::Runs(runs.slice(alloc, rows)?.filter(alloc, mask)?),
+        Ok(match self.laid() {
+            Laid::Packed(part) => Rows::Plain(part.filter_range(alloc, rows, mask)?),
+            Laid::Runs(runs) => Rows::Runs(runs.slice(alloc, rows)?.filter(alloc, mask)?),
         })
     }
 
@@ -124,9 +204,9 @@ impl Rows {
     pub(crate) fn take(&self, alloc: Global, places: &[usize]) -> Result<Part, AllocError>
         ensures { IfOk result (λ part. part ≡ picked_at places.now (row_data self.now)) }
     {
-        match self {
-            Rows::Plain(part) => part.take(alloc, places),
-            Rows::Runs(runs) => runs.spread(alloc)?.take(alloc, places),
+        match self.laid() {
+            Laid::Packed(part) => part.take(alloc, places),
+            Laid::Runs(runs) => runs.spread(alloc)?.take(alloc, places),
         }
     }
 
@@ -135,9 +215,9 @@ impl Rows {
         requires { IsUnsigned (row_data self.now).dtype }
         ensures { IfOk result (λ places. places.items ≡ code_places past (row_data self.now).values) }
     {
-        match self {
-            Rows::Plain(part) => part.places(alloc, past),
-            Rows::Runs(runs) => runs.spread(alloc)?.places(alloc, past),
+        match self.laid() {
+            Laid::Packed(part) => part.places(alloc, past),
+            Laid::Runs(runs) => runs.spread(alloc)?.places(alloc, past),
         }
     }
 
@@ -146,9 +226,9 @@ impl Rows {
         requires { IsBool (row_data self.now).dtype }
         ensures { IfOk result (λ mask. mask ≡ map truth_in (row_data self.now).values) }
     {
-        match self {
-            Rows::Plain(part) => part.truth(alloc),
-            Rows::Runs(runs) => runs.spread(alloc)?.truth(alloc),
+        match self.laid() {
+            Laid::Packed(part) => part.truth(alloc),
+            Laid::Runs(runs) => runs.spread(alloc)?.truth(alloc),
         }
     }
 
@@ -158,27 +238,42 @@ impl Rows {
         requires short { AllByRecursion IsShort (row_data self.now).values }
         ensures { OnOk result (bytes.new.items ≡ bytes.old.items ++ slot_bytes (row_data self.now).dtype (row_data self.now).values) }
     {
-        match self {
-            Rows::Plain(part) => part.write_slots(bytes),
-            Rows::Runs(runs) => runs.spread(alloc)?.write_slots(bytes),
+        match self.laid() {
+            Laid::Packed(part) => part.write_slots(bytes),
+            Laid::Runs(runs) => runs.spread(alloc)?.write_slots(bytes),
         }
     }
 
     /// How many bytes a segment of a leaf has at most, or the most that a `usize` holds; of runs, a guess.
     pub(crate) fn size(&self) -> usize {
-        match self {
-            Rows::Plain(part) => part.size(),
-            Rows::Runs(runs) => runs.len(),
+        match self.laid() {
+            Laid::Packed(part) => part.size(),
+            Laid::Runs(runs) => runs.len(),
         }
     }
 
-    /// All rows, each with a value of its own. It moves what lies so already.
+    /// All rows, each with a value of its own. It moves what lies so already, and isn't shared.
     pub(crate) fn into_part(self, alloc: Global) -> Result<Part, AllocError>
         ensures { IfOk result (λ part. part ≡ row_data self) }
     {
         match self {
             Rows::Plain(part) => Ok(part),
+            Rows::Shared(part) => unshared(alloc, part),
             Rows::Runs(runs) => runs.spread(alloc),
+        }
+    }
+
+    /// The rows of a part of the same sort, and copies of these behind them.
+    pub(crate) fn append_to(&self, alloc: Global, part: Part) -> Result<Part, AllocError>
+        requires { (row_data self.now).dtype ≡ part.dtype }
+        ensures { IfOk result (λ made. made ≡ joined part (row_data self.now)) }
+    {
+        match self.laid() {
+            Laid::Packed(more) => part.append(alloc, more),
+            Laid::Runs(runs) => {
+                let more = runs.spread(alloc)?;
+                part.append(alloc, &more)
+            }
         }
     }
 
@@ -217,8 +312,8 @@ impl Rows {
         requires { (row_data other.now).dtype ≡ (row_data self.now).dtype }
         ensures { IsTrue result ↔ ((row_data self.now).values ≡ (row_data other.now).values) }
     {
-        match (self, other) {
-            (Rows::Plain(ones), Rows::Plain(others)) => ones.same(others),
+        match (self.laid(), other.laid()) {
+            (Laid::Packed(ones), Laid::Packed(others)) => ones.same(others),
             _ => self.same_rows(other),
         }
     }

@@ -137,11 +137,11 @@ impl Numbers {
         of_each_kind!(self, numbers => numbers.get(row))
     }
 
-    /// Moves other numbers of the same kind behind these.
-    pub fn append(&mut self, other: Numbers) -> Result<(), AllocError>
-        requires { kind_in other ≡ kind_in self.old }
+    /// Copies other numbers of the same kind behind these. It takes no memory where there is room for them.
+    pub fn append(&mut self, other: &Numbers) -> Result<(), AllocError>
+        requires { kind_in other.now ≡ kind_in self.old }
         ensures kind { OnOk result (kind_in self.new ≡ kind_in self.old) }
-        ensures numbers { OnOk result (numbers_in self.new ≡ numbers_in self.old ++ numbers_in other) }
+        ensures numbers { OnOk result (numbers_in self.new ≡ numbers_in self.old ++ numbers_in other.now) }
     {
         match (self, other) {
             (Numbers::U8(numbers), Numbers::U8(other)) => numbers.append(other),

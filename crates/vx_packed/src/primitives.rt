@@ -120,12 +120,11 @@ impl<T: Kind> Primitive<T> {
         Ok(Primitive { numbers })
     }
 
-    /// Moves other numbers behind these.
-    pub fn append(&mut self, other: Primitive<T>) -> Result<(), AllocError>
-        ensures { OnOk result (self.new ≡ self.old ++ other) }
+    /// Copies other numbers behind these. It takes no memory where there is room for them.
+    pub fn append(&mut self, other: &Primitive<T>) -> Result<(), AllocError>
+        ensures { OnOk result (self.new ≡ self.old ++ other.now) }
     {
-        let mut moved = other.numbers;
-        self.numbers.append(&mut moved)
+        self.numbers.extend_from_slice(other.as_slice())
     }
 
     /// The number of a row, counted from 0. It takes no memory.

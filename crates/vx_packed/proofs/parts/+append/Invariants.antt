@@ -15,4 +15,4 @@ abbrev pub decreases-Parts::append : goal.decreases-Parts::append
 decreases-Parts::append l = 3 * members_size l.self.members + 3
 
 abbrev pub invariant-Parts::append-loop-one : goal.invariant-Parts::append-loop-one
-invariant-Parts::append-loop-one l = AreJoining l.rows l.fn.self l.fn.other l.parts.items (into_iter_items l.one-iterator) (into_iter_items l.others)
+invariant-Parts::append-loop-one l = AreJoining l.rows l.fn.self l.fn.other l.parts.items (into_iter_items l.one-iterator) l.others
