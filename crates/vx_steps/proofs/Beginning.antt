@@ -18,6 +18,7 @@ use Rattle.vx_steps.specs.Releasing.{ServesAll}
 use Rattle.vx_steps.specs.Splits.{IsInside}
 use Rattle.vx_steps.specs.Wholes.{UsesGiven}
 use Rattle.vx_steps.proofs.Apart.{apart_empty}
+use Rattle.vx_steps.proofs.Releasing.{serves_handed}
 
 pub typed_none : (nodes : List Node) (kept : List Kept) → kept ≡ [] → AreTyped nodes kept
 typed_none nodes kept none = subst (AreTyped nodes) (sym none) (λ n column at. absurd cc)
@@ -36,7 +37,7 @@ actives_none : (nodes : List Node) (job : Job) (progress : Progress) → progres
 actives_none nodes job progress none active among = absurd (subst (λ (actives : List ActiveSplit). Among active actives) none among)
 
 -- Before the first step a scan is good whatever is handed in, where that is typed and the numbers of rows fit.
-pub good_unstarted : (nodes : List Node) (job : Job) (progress : Progress) → IsUnstarted progress → job.plan < length nodes → AllByRecursion (IsInside (node_at nodes job.plan).rows) job.splits.items → FitsOffset nodes job.offset → AreTyped nodes job.given → AreTyped nodes progress.leaves → AreTyped nodes progress.wholes.made → AreApart progress.wholes.made → ServesAll job progress → IsGood nodes job progress
+pub good_unstarted : (nodes : List Node) (job : Job) (progress : Progress) → IsUnstarted progress → job.plan < length nodes → AllByRecursion (IsInside (node_at nodes job.plan).rows) job.splits.items → FitsOffset nodes job.offset → AreTyped nodes job.given → AreTyped nodes progress.leaves → AreTyped nodes progress.wholes.made → AreApart progress.wholes.made → ServesAll nodes job progress → IsGood nodes job progress
 good_unstarted nodes job progress unstarted known inside fits given leaves made apart serves = record {
   known = known;
   inside = inside;
@@ -54,23 +55,23 @@ good_unstarted nodes job progress unstarted known inside fits given leaves made 
 pub good_with_given : (nodes : List Node) (job new : Job) (progress : Progress) (given : List Kept) → IsUnstarted progress → IsGood nodes job progress → AreTyped nodes given → new ≡ record { plan = job.plan; splits = job.splits; given = given; max_active = job.max_active; offset = job.offset } → IsGood nodes new progress
 good_with_given nodes job new progress given unstarted good typed is =
     subst (λ (j : Job). IsGood nodes j progress) (sym is)
-    (good_unstarted nodes (record { plan = job.plan; splits = job.splits; given = given; max_active = job.max_active; offset = job.offset }) progress unstarted good.known good.inside good.fits typed good.typed_leaves good.typed_made good.apart_made (record { gone_late = good.serves.gone_late; passed_late = good.serves.passed_late; served = good.serves.served }))
+    (good_unstarted nodes (record { plan = job.plan; splits = job.splits; given = given; max_active = job.max_active; offset = job.offset }) progress unstarted good.known good.inside good.fits typed good.typed_leaves good.typed_made good.apart_made (record { gone_late = good.serves.gone_late; passed_late = good.serves.passed_late; served = good.serves.served; active_after = good.serves.active_after; gone_after = good.serves.gone_after }))
 
 pub good_with_offset : (nodes : List Node) (job : Job) (progress : Progress) (offset : ℕ) → IsUnstarted progress → FitsOffset nodes offset → IsGood nodes job progress → IsGood nodes (record { plan = job.plan; splits = job.splits; given = job.given; max_active = job.max_active; offset = offset }) progress
 good_with_offset nodes job progress offset unstarted fits good =
-    good_unstarted nodes (record { plan = job.plan; splits = job.splits; given = job.given; max_active = job.max_active; offset = offset }) progress unstarted good.known good.inside fits good.typed_given good.typed_leaves good.typed_made good.apart_made (record { gone_late = good.serves.gone_late; passed_late = good.serves.passed_late; served = good.serves.served })
+    good_unstarted nodes (record { plan = job.plan; splits = job.splits; given = job.given; max_active = job.max_active; offset = offset }) progress unstarted good.known good.inside fits good.typed_given good.typed_leaves good.typed_made good.apart_made (record { gone_late = good.serves.gone_late; passed_late = good.serves.passed_late; served = good.serves.served; active_after = good.serves.active_after; gone_after = good.serves.gone_after })
 
 pub good_with_leaves : (nodes : List Node) (job : Job) (progress new : Progress) (leaves : List Kept) → IsUnstarted progress → IsGood nodes job progress → AreTyped nodes leaves → new ≡ record { next = progress.next; active = progress.active; reads = progress.reads; leaves = leaves; wholes = progress.wholes } → IsGood nodes job new
 good_with_leaves nodes job progress new leaves unstarted good typed is =
     let still : IsUnstarted (record { next = progress.next; active = progress.active; reads = progress.reads; leaves = leaves; wholes = progress.wholes }) = record { next = unstarted.next; active = unstarted.active; wanted = unstarted.wanted; used = unstarted.used } in
     subst (λ (p : Progress). IsGood nodes job p) (sym is)
-    (good_unstarted nodes job (record { next = progress.next; active = progress.active; reads = progress.reads; leaves = leaves; wholes = progress.wholes }) still good.known good.inside good.fits good.typed_given typed good.typed_made good.apart_made (record { gone_late = good.serves.gone_late; passed_late = good.serves.passed_late; served = λ a m. absurd (subst (λ (xs : List ActiveSplit). Among a xs) unstarted.active m) }))
+    (good_unstarted nodes job (record { next = progress.next; active = progress.active; reads = progress.reads; leaves = leaves; wholes = progress.wholes }) still good.known good.inside good.fits good.typed_given typed good.typed_made good.apart_made (serves_handed nodes job progress leaves unstarted.next good.serves))
 
 pub good_with_made : (nodes : List Node) (job : Job) (progress new : Progress) (made : List Kept) → IsUnstarted progress → IsGood nodes job progress → AreTyped nodes made → AreApart made → new ≡ record { next = progress.next; active = progress.active; reads = progress.reads; leaves = progress.leaves; wholes = record { made = made; used = progress.wholes.used } } → IsGood nodes job new
 good_with_made nodes job progress new made unstarted good typed apart is =
     let still : IsUnstarted (record { next = progress.next; active = progress.active; reads = progress.reads; leaves = progress.leaves; wholes = record { made = made; used = progress.wholes.used } }) = record { next = unstarted.next; active = unstarted.active; wanted = unstarted.wanted; used = unstarted.used } in
     subst (λ (p : Progress). IsGood nodes job p) (sym is)
-    (good_unstarted nodes job (record { next = progress.next; active = progress.active; reads = progress.reads; leaves = progress.leaves; wholes = record { made = made; used = progress.wholes.used } }) still good.known good.inside good.fits good.typed_given good.typed_leaves typed apart (record { gone_late = good.serves.gone_late; passed_late = good.serves.passed_late; served = good.serves.served }))
+    (good_unstarted nodes job (record { next = progress.next; active = progress.active; reads = progress.reads; leaves = progress.leaves; wholes = record { made = made; used = progress.wholes.used } }) still good.known good.inside good.fits good.typed_given good.typed_leaves typed apart (record { gone_late = good.serves.gone_late; passed_late = good.serves.passed_late; served = good.serves.served; active_after = good.serves.active_after; gone_after = good.serves.gone_after }))
 
 -- And it is that of any outside whose leaves and whole values were handed in.
 pub told_unstarted : (nodes : List Node) (job : Job) (progress : Progress) (outside : Bytes) → IsUnstarted progress → HaveLeaves nodes progress.leaves (leaves_of outside) → AreMade nodes job.offset progress.wholes.made (leaves_of outside) → IsTold nodes job progress outside

@@ -134,12 +134,15 @@ table_certifies : (nodes : List Node) → IsGoodTable nodes → (used : List Kep
 table_certifies nodes good used leaves offset made q (inl gap) = subst (Certifies leaves (given_for nodes used) offset) gap tt
 table_certifies nodes good used leaves offset made q (inr (m, less, is)) = subst (Certifies leaves (given_for nodes used) offset) is (plan_certifies nodes good used leaves offset m less made)
 
-pub certified_serve : (nodes : List Node) → IsGoodTable nodes → (used : List Kept) (leaves : Leaves) (offset n row : ℕ) → n < length nodes → row < (node_at nodes n).rows → AreMade nodes offset used leaves → row_value leaves (handed_by nodes (Some used)) offset (plan_at nodes n) row ≡ plan_value leaves offset (plan_at nodes n) row
-certified_serve nodes good used leaves offset n row there less made =
+-- what is handed in for a row of a plan of the table are the values that it would read
+pub row_certified : (nodes : List Node) → IsGoodTable nodes → (used : List Kept) (leaves : Leaves) (offset n row : ℕ) → n < length nodes → row < (node_at nodes n).rows → AreMade nodes offset used leaves → AreCertified leaves (given_for nodes used) (plan_derivation offset (plan_at nodes n) row)
+row_certified nodes good used leaves offset n row there less made =
     let p : Plan = plan_at nodes n in
     let rows : (plan_head p).rows ≡ (node_at nodes n).rows = ap (λ (head : Head). head.rows) (head_in_table nodes good n there) in
-    certified leaves (given_for nodes used) (plan_derivation offset p row)
-    (certify leaves (given_for nodes used) offset p row (rows_fit nodes good n there) (below_rows row (node_at nodes n).rows (plan_head p).rows rows less) (λ q s. table_certifies nodes good used leaves offset made q (stands_of_table (λ r. r ≡ q) nodes good n there s)))
+    certify leaves (given_for nodes used) offset p row (rows_fit nodes good n there) (below_rows row (node_at nodes n).rows (plan_head p).rows rows less) (λ q s. table_certifies nodes good used leaves offset made q (stands_of_table (λ r. r ≡ q) nodes good n there s))
+
+pub certified_serve : (nodes : List Node) → IsGoodTable nodes → (used : List Kept) (leaves : Leaves) (offset n row : ℕ) → n < length nodes → row < (node_at nodes n).rows → AreMade nodes offset used leaves → row_value leaves (handed_by nodes (Some used)) offset (plan_at nodes n) row ≡ plan_value leaves offset (plan_at nodes n) row
+certified_serve nodes good used leaves offset n row there less made = certified leaves (given_for nodes used) (plan_derivation offset (plan_at nodes n) row) (row_certified nodes good used leaves offset n row there less made)
 
 pub certified_columns : (nodes : List Node) → IsGoodTable nodes → (given : List Kept) (wholes : Wholes) (leaves : Leaves) (offset n start : ℕ) (bits : List Bool) (values : List Datum) → n < length nodes → start + length bits ≤ (node_at nodes n).rows → AreServed nodes given wholes n start bits → AreMade nodes offset wholes.used leaves →
     AreOf (row_value leaves (handed_by nodes (Some given)) offset (plan_at nodes n)) (rows_of start bits) values → AreOf (plan_value leaves offset (plan_at nodes n)) (rows_of start bits) values

@@ -54,7 +54,7 @@ kept_cases old node column none n found at = by_old (kept_at old n) refl
 same_segment : (a b : ℕ) → kinds.SegmentScan a ≡ kinds.SegmentScan b → a ≡ b
 same_segment a b e = cc
 
-one_segment : (nodes : List Node) (n a b : ℕ) → n < length nodes → HasShape nodes n (shapes.Leaf a) → HasShape nodes n (shapes.Leaf b) → a ≡ b
+pub one_segment : (nodes : List Node) (n a b : ℕ) → n < length nodes → HasShape nodes n (shapes.Leaf a) → HasShape nodes n (shapes.Leaf b) → a ≡ b
 one_segment nodes n a b known one other = same_segment a b (sym (shape_there nodes n (shapes.Leaf a) known one).kind_is ∙ (shape_there nodes n (shapes.Leaf b) known other).kind_is)
 
 pub decoded_keeps : (nodes : List Node) (wanted : List Wanted) (old : List Kept) (need : LeafRead) (bytes : List ℕ) (column : ColumnData) → need.leaf < length nodes → HasShape nodes need.leaf (shapes.Leaf need.segment) → kept_at old need.leaf ≡ None → bytes_of wanted need.segment ≡ Some bytes →

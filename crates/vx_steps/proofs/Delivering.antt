@@ -24,7 +24,7 @@ good_delivered nodes job old read bytes reads delivers stored good = record {
   apart_used = good.apart_used;
   uses = good.uses;
   actives = λ a m. active_delivered a (good.actives a m);
-  serves = serves_stored job old reads stored good.serves;
+  serves = serves_stored nodes job old reads stored good.serves;
 }
   where
     active_delivered : (a : ActiveSplit) → IsActive nodes job old.leaves old.reads.wanted a → IsActive nodes job old.leaves reads.wanted a

@@ -27,9 +27,9 @@ use Rattle.vx_steps.specs.ReadTableData.{Wanted, ReadsData}
 use Rattle.vx_steps.specs.ReadTable.{bytes_of, HandsOut, StandsAt}
 use Rattle.vx_steps.specs.Agreement.{Agrees}
 use Rattle.vx_steps.specs.Delivered.{KeepsLeaves, LacksNeed}
-use Rattle.vx_steps.specs.Releasing.{IsServed, ServesAll}
+use Rattle.vx_steps.specs.Releasing.{IsServed, LetsSpentGo, ServesAll}
 use Rattle.vx_steps.specs.Splits.{IsInside}
-use Rattle.vx_steps.specs.Turns.{AreLeavesKept, HasNeedCause, IsOutput, IsRefusal, LeavesWholes, ReadsFor}
+use Rattle.vx_steps.specs.Turns.{AreLeavesKept, HasNeedCause, IsOutput, IsRefusal, LeavesLeaves, LeavesWholes, ReadsFor}
 use Rattle.vx_steps.specs.Jobs.{numbers_from, number_of_active, left_of, IsActive, AddsLeaves, IsAskedBy, IsAskedFor, IsGood, IsLast, IsLeafFor, IsTold, IsWantedBy, KeepsTold, KeepsWholes, KeepsWholesFor, OnlyKeeps, Starts, WantsFor, WantsOnly}
 use Rattle.vx_steps.specs.Steps.{GivesOutput, GoesOn, HandsRead, HasCauseIn, HasSplitCause, HoldsAll, TakesTurn, work_left, IsActiveOutput, IsHeldAt, IsHeldUp, IsMissing, IsStepRefusal}
 use Rattle.std.proofs.lemmas.List.{set-get_or}
@@ -38,14 +38,9 @@ use Rattle.std.proofs.lemmas.Option.{slice_get-map}
 use Rattle.vx_steps.proofs.Decoding.{adds_then, not_kept_before}
 use Rattle.vx_steps.proofs.Keeping.{got_inside, same_got}
 use Rattle.vx_steps.proofs.Premises.{unless_by}
-use Rattle.vx_steps.proofs.Releasing.{among_at, none_before, serves_tried}
+use Rattle.vx_steps.proofs.Releasing.{among_at, got_among, none_before, serves_tried}
 use Rattle.vx_steps.proofs.Starting.{got_at}
 use Rattle.vx_steps.proofs.Turning.{leaves_before}
-
-pub got_among : {X : Type 0} (xs : List X) (i : ℕ) (x : X) → slice_get xs i ≡ Some x → Among x xs
-got_among [] i x h = cc
-got_among (y ∷ xs) zero x h = inl cc
-got_among (y ∷ xs) (suc i) x h = inr (got_among xs i x h)
 
 -- the number of an active split is one of theirs
 pub number_among : (actives : List ActiveSplit) (place : ℕ) (active : ActiveSplit) → slice_get actives place ≡ Some active → Among active.split (map number_of_active actives)
@@ -113,7 +108,7 @@ same_actives xs place a needs is same =
     ∙ ap (set xs place) is
     ∙ set-get_or xs place a
 
-pub good_tried : (nodes : List Node) (job : Job) (old : Progress) (active : Vec ActiveSplit Global) (reads : ReadsData) (leaves : List Kept) (wholes : Wholes) → active.items ≡ old.active.items → reads.wanted ≡ old.reads.wanted → ServesAll job (record { next = old.next; active = active; reads = reads; leaves = leaves; wholes = wholes }) → KeepsLeaves nodes old.reads.wanted old.leaves leaves → KeepsValues nodes leaves job.offset old.wholes.made wholes.made → UsesGiven job.given old.wholes.used wholes.used → IsGood nodes job old →
+pub good_tried : (nodes : List Node) (job : Job) (old : Progress) (active : Vec ActiveSplit Global) (reads : ReadsData) (leaves : List Kept) (wholes : Wholes) → active.items ≡ old.active.items → reads.wanted ≡ old.reads.wanted → ServesAll nodes job (record { next = old.next; active = active; reads = reads; leaves = leaves; wholes = wholes }) → KeepsLeaves nodes old.reads.wanted old.leaves leaves → KeepsValues nodes leaves job.offset old.wholes.made wholes.made → UsesGiven job.given old.wholes.used wholes.used → IsGood nodes job old →
     IsGood nodes job (record { next = old.next; active = active; reads = reads; leaves = leaves; wholes = wholes })
 good_tried nodes job old active reads leaves wholes same wanted serves keeps values uses good = record {
   known = good.known;
@@ -138,11 +133,11 @@ good_tried nodes job old active reads leaves wholes same wanted serves keeps val
       asked = λ need among none. subst (λ (ws : List Wanted). IsAsked ws need.segment) (sym wanted) (is.asked need among (not_kept_before nodes old.reads.wanted old.leaves leaves keeps need.leaf none));
     }
 
--- what is let go while a split is tried serves none of its needs, and no other split is active
+-- what is let go while a split is tried serves no need of it, nor of another active split
 pub serves_at : (nodes : List Node) (job : Job) (old : Progress) (actives : Vec ActiveSplit Global) (reads : ReadsData) (leaves : List Kept) (wholes : Wholes) → actives.items ≡ old.active.items → KeepsLeaves nodes old.reads.wanted old.leaves leaves → (place : ℕ) (active : ActiveSplit) (split : Split) → HasParts nodes job old place active split →
-    (last : Bool) → (last ≡ true → IsLast job old) → (last ≡ false → reads ≡ old.reads) → IsServed leaves reads active.needs → IsGood nodes job old → ServesAll job (record { next = old.next; active = actives; reads = reads; leaves = leaves; wholes = wholes })
+    (last : Bool) → (last ≡ true → IsLast job old) → (last ≡ false → LetsSpentGo nodes leaves old.reads reads) → IsServed leaves reads active.needs → IsGood nodes job old → ServesAll nodes job (record { next = old.next; active = actives; reads = reads; leaves = leaves; wholes = wholes })
 serves_at nodes job old actives reads leaves wholes same keeps place active split parts last is_last lets served good =
-    serves_tried job old actives reads leaves wholes same keeps.grows place active parts.active_at last is_last lets served good.serves
+    serves_tried nodes job old actives reads leaves wholes same keeps.grows (λ b m. (good.actives b m).are_leaves) place active parts.active_at last is_last lets served good.serves
 
 -- a split that is tried keeps what lies outside
 pub keeps_tried : (nodes : List Node) (job : Job) (old : Progress) (actives : Vec ActiveSplit Global) (reads : ReadsData) (leaves : List Kept) (wholes : Wholes) → actives.items ≡ old.active.items → reads.wanted ≡ old.reads.wanted → reads.handed ≡ old.reads.handed → KeepsLeaves nodes old.reads.wanted old.leaves leaves → KeepsValues nodes leaves job.offset old.wholes.made wholes.made → UsesGiven job.given old.wholes.used wholes.used →
@@ -204,15 +199,16 @@ held_up nodes job old place active split (Ok None) parts waiting = λ e a at.
 held_up nodes job old place active split (Err error) parts waiting = tt
 
 pub cause_of_split : (nodes : List Node) (job : Job) (old new : Progress) (place : ℕ) (active : ActiveSplit) (split : Split) (result : Result (Option ColumnData) StepError) → HasParts nodes job old place active split → new.reads.wanted ≡ old.reads.wanted → new.active.items ≡ old.active.items →
-    IfErr result (IsRefusal nodes job split active.needs old.reads.wanted old.leaves old.wholes.made) → IfErr result (LeavesWholes nodes job split old.reads.wanted old.leaves old.wholes.made new.wholes) → IfErr result (IsStepRefusal nodes job old new)
-cause_of_split nodes job old new place active split (Ok output) parts same actives cause left = tt
-cause_of_split nodes job old new place active split (Err error) parts same actives cause left = inr (record {
+    IfErr result (IsRefusal nodes job split active.needs old.reads.wanted old.leaves old.wholes.made) → IfErr result (LeavesWholes nodes job split old.reads.wanted old.leaves old.wholes.made new.wholes) → IfErr result (LeavesLeaves nodes job split new.leaves) → IfErr result (IsStepRefusal nodes job old new)
+cause_of_split nodes job old new place active split (Ok output) parts same actives cause left leaves = tt
+cause_of_split nodes job old new place active split (Err error) parts same actives cause left leaves = inr (record {
   number = active.split;
   active = subst (λ (xs : List ActiveSplit). Among active.split (map number_of_active xs)) (sym actives) (number_among old.active.items place active parts.active_at);
   split = split;
   at = parts.split_at;
   cause = subst (λ (ws : List Wanted). HasSplitCause nodes job old ws split error) (sym same) (λ outside is. by outside error (cause outside is));
   left = left;
+  leaves = leaves;
 })
   where
     by : (outside : Bytes) (error : StepError) → HasNeedCause nodes job split active.needs old.reads.wanted outside error → HasCauseIn nodes job old.reads.wanted split outside error
@@ -401,6 +397,7 @@ refusal_before nodes job old mid new error keeps (inr r) = inr (record {
   at = r.at;
   cause = λ outside is. r.cause outside (unless_by error (IsTold nodes job old outside) (IsTold nodes job mid outside) (keeps outside) is);
   left = leaves_before nodes job r.split old.reads.wanted mid.reads.wanted old.leaves mid.leaves old.wholes.made mid.wholes.made new.wholes error keeps r.left;
+  leaves = r.leaves;
 })
 
 -- ---- a step

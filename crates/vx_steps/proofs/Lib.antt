@@ -1,6 +1,9 @@
 pub mod Agreeing
 pub mod Apart
+pub mod AskedKnown
+pub mod AskedPlans
 pub mod Beginning
+pub mod CertifiedCauses
 pub mod CertifiedValues
 pub mod ChunkRows
 pub mod Chunking
@@ -8,13 +11,17 @@ pub mod CodeVisits
 pub mod ComputedChunks
 pub mod ComputedRows
 pub mod Decoding
+pub mod EachOnce
 pub mod Delivering
 pub mod Fields
 pub mod Finishing
+pub mod FreeVisits
 pub mod HandedRows
+pub mod HeldBytes
 pub mod Indexing
 pub mod Keeping
 pub mod LeavingRows
+pub mod Marking
 pub mod MaskRanges
 pub mod Needing
 pub mod Offering
@@ -41,6 +48,7 @@ pub mod VisitedReads
 pub mod Visiting
 pub mod WantedReads
 pub mod WholeAsking
+pub mod WholeCauses
 pub mod WholeFaults
 pub mod WholeMaking
 pub mod WholeRows

@@ -12,11 +12,12 @@ use Rattle.vx_plan.specs.Nodes.{Node}
 use Rattle.vx_steps.specs.Delivered.{KeepsLeaves}
 use Rattle.vx_steps.specs.Jobs.{IsLast, KeepsColumns}
 use Rattle.vx_steps.specs.Kept.{kept_at, IsKept}
+use Rattle.vx_steps.specs.Lone.{IsLeafOver, IsLone}
 use Rattle.vx_steps.specs.KeptData.{Kept}
-use Rattle.vx_steps.specs.Needs.{Among}
-use Rattle.vx_steps.specs.ReadTable.{IsGone, IsNamed, KeepsStored, Passes}
+use Rattle.vx_steps.specs.Needs.{Among, AreLeaves}
+use Rattle.vx_steps.specs.ReadTable.{IsGone, IsNamed, KeepsStored, LetsGo, Passes}
 use Rattle.vx_steps.specs.ReadTableData.{ReadsData, Stored, Wanted}
-use Rattle.vx_steps.specs.Releasing.{AreHeld, AreNamed, IsServed, ServesAll}
+use Rattle.vx_steps.specs.Releasing.{AreHeld, AreNamed, IsServed, IsSpent, LetsSpentGo, ServesAll}
 use Rattle.vx_steps.proofs.Needing.{among_pushed}
 
 some_same : {X : Type 0} (a b : X) → Some a ≡ Some b → a ≡ b
@@ -35,6 +36,11 @@ among_at (y ∷ xs) x (inl e) = (0, omega arith, ap Some e)
 among_at (y ∷ xs) x (inr h) =
     let at = among_at xs x h in
     (suc at.0, omega arith, at.2)
+
+pub got_among : {X : Type 0} (xs : List X) (i : ℕ) (x : X) → slice_get xs i ≡ Some x → Among x xs
+got_among [] i x h = cc
+got_among (y ∷ xs) zero x h = inl cc
+got_among (y ∷ xs) (suc i) x h = inr (got_among xs i x h)
 
 pub stored_then : (old mid new : ReadsData) → KeepsStored old mid → KeepsStored mid new → KeepsStored old new
 stored_then old mid new first second = record {
@@ -69,6 +75,56 @@ held_kept nodes wanted old new needs stored need keeps among held gone =
     let k = held need among gone in
     (k.0, keeps.grows need.leaf k.0 k.1)
 
+-- ---- what is let go while leaves are decoded
+
+pub leaf_among : (nodes : List Node) (needs : List LeafRead) (need : LeafRead) → AreLeaves nodes needs → Among need needs → IsLeafOver nodes need.segment need.leaf
+leaf_among nodes [] need are among = absurd among
+leaf_among nodes (n ∷ needs) need are (inl e) =
+    let P : LeafRead → Type 0 = λ x. IsLeafOver nodes x.segment x.leaf in
+    let own = are.0 in
+    subst P e own.1
+leaf_among nodes (n ∷ needs) need are (inr m) = leaf_among nodes needs need are.1 m
+
+spent_kept : (nodes : List Node) (old new : List Kept) (segment : ℕ) → KeepsColumns old new → IsSpent nodes old segment → IsSpent nodes new segment
+spent_kept nodes old new segment keeps spent n leaf =
+    let k = spent n leaf in
+    (k.0, keeps n k.0 k.1)
+
+pub lets_none : (nodes : List Node) (leaves : List Kept) (reads : ReadsData) → LetsSpentGo nodes leaves reads reads
+lets_none nodes leaves reads = record { wanted = refl; handed = refl; passed = refl; named = λ segment n named. named; gone = λ segment gone. inl gone }
+
+pub lets_then : (nodes : List Node) (kept new : List Kept) (first mid last : ReadsData) → KeepsColumns kept new → LetsSpentGo nodes kept first mid → LetsSpentGo nodes new mid last → LetsSpentGo nodes new first last
+lets_then nodes kept new first mid last keeps before after = record {
+  wanted = after.wanted ∙ before.wanted;
+  handed = after.handed ∙ before.handed;
+  passed = after.passed ∙ before.passed;
+  named = λ segment n named. after.named segment n (before.named segment n named);
+  gone = λ segment gone. ⊎_elim (λ (g : IsGone mid.stored segment). ⊎_elim (λ (h : IsGone first.stored segment). inl h) (λ (spent : IsSpent nodes kept segment). inr (spent_kept nodes kept new segment keeps spent)) (before.gone segment g)) (λ (spent : IsSpent nodes new segment). inr spent) (after.gone segment gone);
+}
+
+-- the bytes of a segment that one leaf alone is over, which is kept
+pub lets_lone : (nodes : List Node) (leaves : List Kept) (old new : ReadsData) (segment n : ℕ) → IsLone nodes segment → IsLeafOver nodes segment n → IsKept leaves n → LetsGo segment old new → LetsSpentGo nodes leaves old new
+lets_lone nodes leaves old new segment n lone here kept lets = record {
+  wanted = lets.wanted;
+  handed = lets.handed;
+  passed = lets.passed;
+  named = lets.named;
+  gone = λ s gone. ⊎_elim (λ (g : IsGone old.stored s). inl g) (λ (e : segment ≡ s). inr (subst (IsSpent nodes leaves) e spent)) (lets.gone s gone);
+}
+  where
+    spent : IsSpent nodes leaves segment
+    spent m leaf = subst (IsKept leaves) (lone n m here leaf) kept
+
+-- where bytes are gone, a need's leaf is kept
+pub held_let : (nodes : List Node) (old new : List Kept) (before after : ReadsData) (needs : List LeafRead) → AreLeaves nodes needs → KeepsColumns old new → LetsSpentGo nodes new before after → AreHeld old before.stored needs → AreHeld new after.stored needs
+held_let nodes old new before after needs are keeps lets held need among gone =
+    ⊎_elim
+    (λ (g : IsGone before.stored need.segment).
+    let k = held need among g in
+    (k.0, keeps need.leaf k.0 k.1))
+    (λ (spent : IsSpent nodes new need.segment). spent need.leaf (leaf_among nodes needs need are among))
+    (lets.gone need.segment gone)
+
 -- ---- one split
 
 -- more leaves are kept
@@ -81,6 +137,16 @@ served_kept old new reads needs keeps is = record {
       let k = is.passed place need less at in
       (k.0, keeps need.leaf k.0 k.1);
   named = λ place need at none. is.named place need at (none_before old new need.leaf keeps none);
+}
+
+-- and only bytes were let go of which each leaf is kept
+pub served_let : (nodes : List Node) (old new : List Kept) (before after : ReadsData) (needs : List LeafRead) → AreLeaves nodes needs → KeepsColumns old new → LetsSpentGo nodes new before after → IsServed old before needs → IsServed new after needs
+served_let nodes old new before after needs are keeps lets is = record {
+  held = held_let nodes old new before after needs are keeps lets is.held;
+  passed = λ place need less at.
+      let k = is.passed place need (subst (λ (n : ℕ). place < n) lets.passed less) at in
+      (k.0, keeps need.leaf k.0 k.1);
+  named = λ place need at none. lets.named need.segment place (is.named place need at (none_before old new need.leaf keeps none));
 }
 
 -- nothing was let go
@@ -132,73 +198,93 @@ only_one (z ∷ []) zero x y one at (inr h) = absurd h
 only_one (z ∷ []) (suc i) x y one at among = absurd cc
 only_one (z ∷ w ∷ zs) i x y one at among = absurd (omega arith)
 
--- One of them was tried. Bytes were let go only if no split is left to be started, and it is the only one.
-pub serves_tried : (job : Job) (old : Progress) (active : Vec ActiveSplit Global) (reads : ReadsData) (leaves : List Kept) (wholes : Wholes) → active.items ≡ old.active.items → KeepsColumns old.leaves leaves → (place : ℕ) (a : ActiveSplit) → slice_get old.active.items place ≡ Some a →
-    (last : Bool) → (last ≡ true → IsLast job old) → (last ≡ false → reads ≡ old.reads) → IsServed leaves reads a.needs → ServesAll job old → ServesAll job (record { next = old.next; active = active; reads = reads; leaves = leaves; wholes = wholes })
-serves_tried job old active reads leaves wholes same keeps place a at true is_last lets served serves =
+-- One of them was tried. Unless no split is left to be started, and it is the only one, bytes were let go only of which
+-- each leaf is kept.
+pub serves_tried : (nodes : List Node) (job : Job) (old : Progress) (active : Vec ActiveSplit Global) (reads : ReadsData) (leaves : List Kept) (wholes : Wholes) → active.items ≡ old.active.items → KeepsColumns old.leaves leaves → ((b : ActiveSplit) → Among b old.active.items → AreLeaves nodes b.needs) → (place : ℕ) (a : ActiveSplit) → slice_get old.active.items place ≡ Some a →
+    (last : Bool) → (last ≡ true → IsLast job old) → (last ≡ false → LetsSpentGo nodes leaves old.reads reads) → IsServed leaves reads a.needs → ServesAll nodes job old → ServesAll nodes job (record { next = old.next; active = active; reads = reads; leaves = leaves; wholes = wholes })
+serves_tried nodes job old active reads leaves wholes same keeps are place a at true is_last lets served serves =
     let is = is_last refl in
     let S : ActiveSplit → Type 0 = λ b. IsServed leaves reads b.needs in
     record {
-      gone_late = λ segment gone. is.0;
+      gone_late = λ segment gone. inl is.0;
       passed_late = λ some. is.0;
       served = λ b m. subst S (only_one old.active.items place a b is.1 at (subst (λ (xs : List ActiveSplit). Among b xs) same m)) served;
+      active_after = λ b m. serves.active_after b (subst (λ (xs : List ActiveSplit). Among b xs) same m);
+      gone_after = λ segment gone. serves.active_after a (got_among old.active.items place a at);
     }
-serves_tried job old active reads leaves wholes same keeps place a at false is_last lets served serves =
-    let S : ReadsData → Type 0 = λ r. ServesAll job (record { next = old.next; active = active; reads = r; leaves = leaves; wholes = wholes }) in
-    let as_before : S old.reads = record {
-      gone_late = serves.gone_late;
-      passed_late = serves.passed_late;
-      served = λ b m. served_kept old.leaves leaves old.reads b.needs keeps (serves.served b (subst (λ (xs : List ActiveSplit). Among b xs) same m));
-    } in
-    subst S (sym (lets refl)) as_before
+serves_tried nodes job old active reads leaves wholes same keeps are place a at false is_last lets served serves =
+    let only = lets refl in
+    record {
+      gone_late = λ segment gone. ⊎_elim
+          (λ (g : IsGone old.reads.stored segment). ⊎_elim (λ (e : old.next ≡ length job.splits.items). inl e) (λ (spent : IsSpent nodes old.leaves segment). inr (spent_kept nodes old.leaves leaves segment keeps spent)) (serves.gone_late segment g))
+          (λ (spent : IsSpent nodes leaves segment). inr spent)
+          (only.gone segment gone);
+      passed_late = λ some. serves.passed_late (subst (λ (n : ℕ). 0 < n) only.passed some);
+      served = λ b m.
+          let among = subst (λ (xs : List ActiveSplit). Among b xs) same m in
+          served_let nodes old.leaves leaves old.reads reads b.needs (are b among) keeps only (serves.served b among);
+      active_after = λ b m. serves.active_after b (subst (λ (xs : List ActiveSplit). Among b xs) same m);
+      gone_after = λ segment gone. serves.active_after a (got_among old.active.items place a at);
+    }
 
-pub serves_stored : (job : Job) (old : Progress) (reads : ReadsData) → KeepsStored old.reads reads → ServesAll job old → ServesAll job (record { next = old.next; active = old.active; reads = reads; leaves = old.leaves; wholes = old.wholes })
-serves_stored job old reads keeps serves = record {
+pub serves_stored : (nodes : List Node) (job : Job) (old : Progress) (reads : ReadsData) → KeepsStored old.reads reads → ServesAll nodes job old → ServesAll nodes job (record { next = old.next; active = old.active; reads = reads; leaves = old.leaves; wholes = old.wholes })
+serves_stored nodes job old reads keeps serves = record {
   gone_late = λ segment gone. serves.gone_late segment (keeps.gone segment gone);
   passed_late = λ some. serves.passed_late (subst (λ (n : ℕ). 0 < n) keeps.passed some);
   served = λ a m. served_stored old.leaves old.reads reads a.needs keeps (serves.served a m);
+  active_after = serves.active_after;
+  gone_after = λ segment gone. serves.gone_after segment (keeps.gone segment gone);
 }
 
--- while a split is left to be started, nothing was let go or passed
 not_late : (job : Job) (next : ℕ) → next < length job.splits.items → next ≡ length job.splits.items → ⊥
 not_late job next less e = omega arith
 
+-- while a split is left to be started, each leaf over a segment whose bytes are gone is kept
+spent_late : (nodes : List Node) (job : Job) (old : Progress) → old.next < length job.splits.items → ServesAll nodes job old → (segment : ℕ) → IsGone old.reads.stored segment → IsSpent nodes old.leaves segment
+spent_late nodes job old less serves segment gone = ⊎_elim (λ (e : old.next ≡ length job.splits.items). absurd (not_late job old.next less e)) (λ (spent : IsSpent nodes old.leaves segment). spent) (serves.gone_late segment gone)
+
 -- the next split is passed by
-pub serves_next : (job : Job) (old : Progress) → old.next < length job.splits.items → ServesAll job old → ServesAll job (record { next = old.next + 1; active = old.active; reads = old.reads; leaves = old.leaves; wholes = old.wholes })
-serves_next job old less serves = record {
-  gone_late = λ segment gone. absurd (not_late job old.next less (serves.gone_late segment gone));
+pub serves_next : (nodes : List Node) (job : Job) (old : Progress) → old.next < length job.splits.items → ServesAll nodes job old → ServesAll nodes job (record { next = old.next + 1; active = old.active; reads = old.reads; leaves = old.leaves; wholes = old.wholes })
+serves_next nodes job old less serves = record {
+  gone_late = λ segment gone. inr (spent_late nodes job old less serves segment gone);
   passed_late = λ some. absurd (not_late job old.next less (serves.passed_late some));
   served = serves.served;
+  active_after = λ a m. omega arith;
+  gone_after = λ segment gone. omega arith;
 }
 
 -- or started
-pub serves_pushed : (job : Job) (old : Progress) (actives : Vec ActiveSplit Global) (a : ActiveSplit) (reads : ReadsData) → old.next < length job.splits.items → KeepsStored old.reads reads → AreNamed old.leaves a.needs reads.stored → actives.items ≡ old.active.items ++ a ∷ [] → ServesAll job old →
-    ServesAll job (record { next = old.next + 1; active = actives; reads = reads; leaves = old.leaves; wholes = old.wholes })
-serves_pushed job old actives a reads less keeps named more serves = record {
-  gone_late = λ segment gone. absurd (none_gone segment gone);
+pub serves_pushed : (nodes : List Node) (job : Job) (old : Progress) (actives : Vec ActiveSplit Global) (a : ActiveSplit) (reads : ReadsData) → old.next < length job.splits.items → KeepsStored old.reads reads → AreLeaves nodes a.needs → AreNamed old.leaves a.needs reads.stored → actives.items ≡ old.active.items ++ a ∷ [] → ServesAll nodes job old →
+    ServesAll nodes job (record { next = old.next + 1; active = actives; reads = reads; leaves = old.leaves; wholes = old.wholes })
+serves_pushed nodes job old actives a reads less keeps are named more serves = record {
+  gone_late = λ segment gone. inr (spent segment gone);
   passed_late = λ some. absurd (none_passed some);
   served = λ b m. ⊎_elim
       (λ (h : Among b old.active.items). served_stored old.leaves old.reads reads b.needs keeps (serves.served b h))
-      (λ (e : a ≡ b). subst S e (record { held = λ need among gone. absurd (none_gone need.segment gone); passed = λ place need before at. absurd (none_passed (omega arith)); named = named }))
+      (λ (e : a ≡ b). subst S e (record { held = λ need among gone. spent need.segment gone need.leaf (leaf_among nodes a.needs need are among); passed = λ place need before at. absurd (none_passed (omega arith)); named = named }))
       (among_pushed b a old.active.items (subst (λ (xs : List ActiveSplit). Among b xs) more m));
+  active_after = λ b m. omega arith;
+  gone_after = λ segment gone. omega arith;
 }
   where
     S : ActiveSplit → Type 0
     S b = IsServed old.leaves reads b.needs
 
-    none_gone : (segment : ℕ) → IsGone reads.stored segment → ⊥
-    none_gone segment gone = not_late job old.next less (serves.gone_late segment (keeps.gone segment gone))
+    spent : (segment : ℕ) → IsGone reads.stored segment → IsSpent nodes old.leaves segment
+    spent segment gone = spent_late nodes job old less serves segment (keeps.gone segment gone)
 
     none_passed : 0 < reads.passed → ⊥
     none_passed some = not_late job old.next less (serves.passed_late (subst (λ (n : ℕ). 0 < n) keeps.passed some))
 
--- before the first step there is nothing to let go
-pub serves_new : (job : Job) (progress : Progress) → progress.reads.stored ≡ [] → progress.reads.passed ≡ 0 → progress.active.items ≡ [] → ServesAll job progress
-serves_new job progress stored passed active = record {
-  gone_late = λ segment gone. absurd (none segment (subst (λ (xs : List Stored). IsGone xs segment) stored gone));
-  passed_late = λ some. absurd (omega arith);
-  served = λ a m. absurd (subst (λ (xs : List ActiveSplit). Among a xs) active m);
+-- before the first step there is nothing to let go, whatever columns of leaves are handed in
+pub serves_handed : (nodes : List Node) (job : Job) (progress : Progress) (leaves : List Kept) → progress.next ≡ 0 → ServesAll nodes job progress → ServesAll nodes job (record { next = progress.next; active = progress.active; reads = progress.reads; leaves = leaves; wholes = progress.wholes })
+serves_handed nodes job progress leaves first serves = record {
+  gone_late = λ segment gone. absurd (not_after (serves.gone_after segment gone));
+  passed_late = serves.passed_late;
+  served = λ a m. absurd (not_after (serves.active_after a m));
+  active_after = serves.active_after;
+  gone_after = serves.gone_after;
 }
   where
-    none : (segment : ℕ) → IsGone [] segment → ⊥
-    none segment (place, s, at, is, gone) = cc
+    not_after : 0 < progress.next → ⊥
+    not_after after = omega arith

@@ -93,7 +93,7 @@ good_wanted nodes job old reads grows stored good = record {
   apart_used = good.apart_used;
   uses = good.uses;
   actives = λ a m. active_grows nodes job old.leaves old.reads.wanted reads.wanted a grows (good.actives a m);
-  serves = serves_stored job old reads stored good.serves;
+  serves = serves_stored nodes job old reads stored good.serves;
 }
 
 pub starts_none : (nodes : List Node) (job : Job) (progress : Progress) → Starts nodes job progress progress
@@ -137,5 +137,5 @@ good_max nodes job progress count good = record {
   actives = λ a m.
       let is = good.actives a m in
       record { split = is.split; at = is.at; needs = is.needs; are_leaves = is.are_leaves; asked = is.asked };
-  serves = record { gone_late = good.serves.gone_late; passed_late = good.serves.passed_late; served = good.serves.served };
+  serves = record { gone_late = good.serves.gone_late; passed_late = good.serves.passed_late; served = good.serves.served; active_after = good.serves.active_after; gone_after = good.serves.gone_after };
 }

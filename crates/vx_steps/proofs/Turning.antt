@@ -11,7 +11,7 @@ use Rattle.vx_steps.specs.Computed.{UnlessList}
 use Rattle.vx_steps.specs.Delivered.{IsOf, SomeTornCause}
 use Rattle.vx_steps.specs.KeptData.{Kept}
 use Rattle.vx_steps.specs.ReadTableData.{Wanted}
-use Rattle.vx_steps.specs.Turns.{FailsInWholes, HasNeedCause, HasRowCause, IsRefusal, LeavesWholes}
+use Rattle.vx_steps.specs.Turns.{AreLeavesKept, FailsInWholes, HasNeedCause, HasRowCause, IsRefusal, LeavesLeaves, LeavesWholes}
 use Rattle.vx_steps.specs.Wholes.{AddsAsked, AreThere, KeepsValues, UsesGiven}
 use Rattle.vx_steps.specs.declared.wholes.Wholes.{Wholes}
 use Rattle.vx_steps.proofs.Premises.{unless_by}
@@ -72,3 +72,11 @@ leaves_before nodes job split wanted mid_wanted leaves mid_leaves made mid_made 
 leaves_before nodes job split wanted mid_wanted leaves mid_leaves made mid_made after (BadCode take row) keeps left = fails_before nodes job split wanted mid_wanted leaves mid_leaves made mid_made after (BadCode take row) keeps left
 leaves_before nodes job split wanted mid_wanted leaves mid_leaves made mid_made after (EvalFault row) keeps left = fails_before nodes job split wanted mid_wanted leaves mid_leaves made mid_made after (EvalFault row) keeps left
 leaves_before nodes job split wanted mid_wanted leaves mid_leaves made mid_made after Memory keeps left = tt
+
+-- a refusal that comes once all leaves are there leaves them
+pub leaves_left : (nodes : List Node) (job : Job) (split : Split) (leaves : List Kept) (error : StepError) → AreLeavesKept nodes job split leaves → LeavesLeaves nodes job split leaves error
+leaves_left nodes job split leaves (BadSegment segment) kept = tt
+leaves_left nodes job split leaves (Unsupported list) kept = kept
+leaves_left nodes job split leaves (BadCode take row) kept = kept
+leaves_left nodes job split leaves (EvalFault row) kept = kept
+leaves_left nodes job split leaves Memory kept = tt

@@ -82,7 +82,7 @@ match_none true A B a b h = a h
 match_none false A B a b h = b h
 
 mutual
-  none_inside : (m : ℕ) (p : Plan) (row : ℕ) → Visits (IsWholeRead m) None p row → ⊥
+  pub none_inside : (m : ℕ) (p : Plan) (row : ℕ) → Visits (IsWholeRead m) None p row → ⊥
   none_inside m (no_plan head) row v = v
   none_inside m (concat_plan head children) row (inl v) = v
   none_inside m (concat_plan head children) row (inr v) = none_inside_in m children row v

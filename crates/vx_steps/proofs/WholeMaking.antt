@@ -100,7 +100,7 @@ record IsWholeAs (nodes : List Node) (offset number whole : ℕ) : Type 0 where
   rows : (node_at nodes number).rows ≡ (node_at nodes whole).rows
   values : (by : Leaves) → whole_value by offset (plan_at nodes number) ≡ whole_value by offset (plan_at nodes whole)
 
-shape_known : (nodes : List Node) (n : ℕ) (shape : Shape) → HasShape nodes n shape → n < length nodes
+pub shape_known : (nodes : List Node) (n : ℕ) (shape : Shape) → HasShape nodes n shape → n < length nodes
 shape_known nodes n shape has = by nodes n has
   where
     by : (ns : List Node) (m : ℕ) → IsSomeAnd (slice_get ns m) (λ node. ShapeOf nodes n node shape) → m < length ns

@@ -61,7 +61,7 @@ pub record IsGood (nodes : List Node) (job : Job) (progress : Progress) : Type 0
   pub apart_used : AreApart progress.wholes.used
   pub uses : UsesGiven job.given [] progress.wholes.used
   pub actives : (active : ActiveSplit) → Among active progress.active.items → IsActive nodes job progress.leaves progress.reads.wanted active
-  pub serves : ServesAll job progress
+  pub serves : ServesAll nodes job progress
 
 -- no split was started, no segment is wanted, and no value that was handed in was used
 pub record IsUnstarted (progress : Progress) : Type 0 where

@@ -1,5 +1,7 @@
 pub mod Agreement
+pub mod Asked
 pub mod Below
+pub mod CauseLaws
 pub mod Chunks
 pub mod Computed
 pub mod Delivered
@@ -11,6 +13,7 @@ pub mod Kept
 pub mod KeptData
 pub mod Laws
 pub mod Leavings
+pub mod Lone
 pub mod Needs
 pub mod Offers
 pub mod Places

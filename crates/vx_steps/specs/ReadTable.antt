@@ -72,3 +72,26 @@ pub record Passes (segment count : ℕ) (old new : ReadsData) : Type 0 where
   pub passed : new.passed ≡ count
   pub named : (segment n : ℕ) → IsNamed old.stored segment n → IsNamed new.stored segment n
   pub gone : (s : ℕ) → IsGone new.stored s → IsGone old.stored s ⊎ ((segment ≡ s) × ((n : ℕ) → IsNamed old.stored s n → n < count))
+
+-- Only bytes of the segment were let go.
+pub record LetsGo (segment : ℕ) (old new : ReadsData) : Type 0 where
+  pub wanted : new.wanted ≡ old.wanted
+  pub handed : new.handed ≡ old.handed
+  pub passed : new.passed ≡ old.passed
+  pub named : (s n : ℕ) → IsNamed old.stored s n → IsNamed new.stored s n
+  pub gone : (s : ℕ) → IsGone new.stored s → IsGone old.stored s ⊎ (segment ≡ s)
+
+-- how many bytes came, if they came
+abbrev pub byte_count : Option (List ℕ) → ℕ
+byte_count None = 0
+byte_count (Some bytes) = length bytes
+
+-- how many bytes of a wanted segment are in memory
+abbrev pub bytes_held : Wanted → Stored → ℕ
+bytes_held w s = if s.gone then 0 else byte_count w.bytes
+
+-- how many bytes of the wanted segments are in memory: those that came and were not let go
+abbrev pub held_bytes : List Wanted → List Stored → ℕ
+held_bytes [] stored = 0
+held_bytes (w ∷ wanted) [] = 0
+held_bytes (w ∷ wanted) (s ∷ stored) = bytes_held w s + held_bytes wanted stored

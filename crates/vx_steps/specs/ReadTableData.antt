@@ -1,5 +1,5 @@
 -- The reads of a scan as plain data.
-use Rattle.std.specs.Prelude.{ℕ, Bool, true, false, List, Option, Some, None}
+use Rattle.std.specs.Prelude.{ℕ, Bool, true, false, List, length, Option, Some, None}
 use Rattle.vx_steps.specs.declared.reads.SegmentBytes.{SegmentBytes}
 use Rattle.vx_steps.specs.declared.reads.SegmentBytes.TheVariants.{NotYet, Came, LetGo}
 use Rattle.vx_steps.specs.declared.reads.WantedSegment.{WantedSegment}
@@ -33,6 +33,12 @@ abbrev pub is_gone : SegmentBytes → Bool
 is_gone NotYet = false
 is_gone (Came bytes) = false
 is_gone (LetGo bytes) = true
+
+-- how many bytes are in memory
+abbrev pub count_held : SegmentBytes → ℕ
+count_held NotYet = 0
+count_held (Came bytes) = length bytes.items
+count_held (LetGo bytes) = 0
 
 abbrev pub wanted_data : WantedSegment → Wanted
 wanted_data w = record { segment = w.segment; bytes = bytes_in w.bytes }

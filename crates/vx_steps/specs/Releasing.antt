@@ -1,12 +1,14 @@
 -- Which delivered bytes may be gone from memory: those that no split decodes any more.
-use Rattle.std.specs.Prelude.{◌≡◌, ℕ, ◌<◌, List, Some, None, length}
+use Rattle.std.specs.Prelude.{◌≡◌, ℕ, ◌<◌, ◌⊎◌, List, Some, None, length}
 use Rattle.std.specs.List.{slice_get}
+use Rattle.vx_plan.specs.Nodes.{Node}
 use Rattle.vx_steps.specs.declared.jobs.ActiveSplit.{ActiveSplit}
 use Rattle.vx_steps.specs.declared.jobs.Job.{Job}
 use Rattle.vx_steps.specs.declared.jobs.Progress.{Progress}
 use Rattle.vx_steps.specs.declared.leaf_reads.LeafRead.{LeafRead}
 use Rattle.vx_steps.specs.Kept.{kept_at, IsKept}
 use Rattle.vx_steps.specs.KeptData.{Kept}
+use Rattle.vx_steps.specs.Lone.{IsLeafOver}
 use Rattle.vx_steps.specs.Needs.{Among}
 use Rattle.vx_steps.specs.ReadTable.{IsGone, IsNamed}
 use Rattle.vx_steps.specs.ReadTableData.{ReadsData, Stored}
@@ -29,8 +31,23 @@ pub record IsServed (leaves : List Kept) (reads : ReadsData) (needs : List LeafR
   pub passed : ArePassed leaves reads.passed needs
   pub named : AreNamed leaves needs reads.stored
 
--- Nothing is let go or passed while a split is left to be started, and the needs of each active split are served.
-pub record ServesAll (job : Job) (progress : Progress) : Type 0 where
-  pub gone_late : (segment : ℕ) → IsGone progress.reads.stored segment → progress.next ≡ length job.splits.items
+-- each leaf of the table over the segment is kept
+abbrev pub IsSpent : List Node → List Kept → ℕ → Type 0
+IsSpent nodes leaves segment = (n : ℕ) → IsLeafOver nodes segment n → IsKept leaves n
+
+-- Only bytes of segments were let go each of whose leaves is kept.
+pub record LetsSpentGo (nodes : List Node) (leaves : List Kept) (old new : ReadsData) : Type 0 where
+  pub wanted : new.wanted ≡ old.wanted
+  pub handed : new.handed ≡ old.handed
+  pub passed : new.passed ≡ old.passed
+  pub named : (segment n : ℕ) → IsNamed old.stored segment n → IsNamed new.stored segment n
+  pub gone : (segment : ℕ) → IsGone new.stored segment → IsGone old.stored segment ⊎ IsSpent nodes leaves segment
+
+-- While a split is left to be started nothing is passed, and only bytes of segments are gone each of whose leaves is kept.
+-- The needs of each active split are served. Before a split was started none is active, and no bytes are gone.
+pub record ServesAll (nodes : List Node) (job : Job) (progress : Progress) : Type 0 where
+  pub gone_late : (segment : ℕ) → IsGone progress.reads.stored segment → (progress.next ≡ length job.splits.items) ⊎ IsSpent nodes progress.leaves segment
   pub passed_late : 0 < progress.reads.passed → progress.next ≡ length job.splits.items
   pub served : (active : ActiveSplit) → Among active progress.active.items → IsServed progress.leaves progress.reads active.needs
+  pub active_after : (active : ActiveSplit) → Among active progress.active.items → 0 < progress.next
+  pub gone_after : (segment : ℕ) → IsGone progress.reads.stored segment → 0 < progress.next

@@ -23,7 +23,7 @@ use Rattle.vx_steps.specs.KeptData.{Kept}
 use Rattle.vx_steps.specs.Needs.{Among}
 use Rattle.vx_steps.specs.ReadTable.{StandsAt}
 use Rattle.vx_steps.specs.ReadTableData.{Wanted}
-use Rattle.vx_steps.specs.Turns.{AreLeavesKept, HasRowCause, IsOutput, LeavesWholes, ReadsFor}
+use Rattle.vx_steps.specs.Turns.{AreLeavesKept, HasRowCause, IsOutput, LeavesLeaves, LeavesWholes, ReadsFor}
 
 -- the column of a split, by whatever lies outside of which the scan is
 abbrev pub IsSplitOutput : List Node → Job → Progress → Wholes → Split → ColumnData → Type 0
@@ -55,6 +55,7 @@ pub record RefusesSplit (nodes : List Node) (job : Job) (old new : Progress) (er
   pub at : slice_get job.splits.items number ≡ Some split
   pub cause : HasSplitCause nodes job old new.reads.wanted split error
   pub left : LeavesSplit nodes job old new.wholes split error
+  pub leaves : LeavesLeaves nodes job split new.leaves error
 
 -- there is no memory left, or an active split has the cause of the refusal
 abbrev pub IsStepRefusal : List Node → Job → Progress → Progress → StepError → Type 0

@@ -1,13 +1,16 @@
 //! What a scan is to do, and how far it is.
 
 ghost use Rattle.std.specs.Prelude.{◌≡◌, []};
+ghost use Rattle.vx_steps.specs.Lone.{AreLone};
 
 use crate::kept::KeptColumns;
 use crate::leaves::NeededLeaves;
+use crate::lone::LoneSegments;
 use crate::reads::ReadTable;
 use crate::splits::Split;
 use crate::wholes::Wholes;
 use std::alloc::{AllocError, Global};
+use vx_plan::PlanTable;
 
 /// What a scan is to do: the plan, the splits of its rows, the whole values that are handed in, how many splits may be
 /// active, and what is added to the numbers of rows.
@@ -106,11 +109,32 @@ impl Progress {
 }
 
 /// Indexes what was handed in, so that none of it is looked through. Where memory is wanting, all is as before.
-pub(crate) fn index_handed(job: &mut Job, progress: &mut Progress) -> Result<(), AllocError>
+fn index_handed(job: &mut Job, progress: &mut Progress) -> Result<(), AllocError>
     ensures job { job.new ≡ job.old }
     ensures progress { progress.new ≡ progress.old }
 {
     job.given.index()?;
     progress.leaves.index()?;
     progress.wholes.made.index()
+}
+
+/// Indexes what was handed in, and finds the segments that one leaf alone is over, if there is a split after the first:
+/// their bytes can go before it. Where memory is wanting, all is as before.
+pub(crate) fn make_ready(
+    alloc: Global,
+    table: &PlanTable,
+    job: &mut Job,
+    lone: &mut LoneSegments,
+    progress: &mut Progress,
+) -> Result<(), AllocError>
+    requires { AreLone table.now lone.old }
+    ensures lone { AreLone table.now lone.new }
+    ensures job { job.new ≡ job.old }
+    ensures progress { progress.new ≡ progress.old }
+{
+    index_handed(job, progress)?;
+    if job.splits.len() < 2 {
+        return Ok(());
+    }
+    lone.find(alloc, table)
 }

@@ -1,6 +1,7 @@
 //! The laws of a scan: what it visits is what the plan reads, and what it used serves in place of what was handed in.
 //! Each is the contract of a function that does nothing.
 
+ghost use Rattle.vx_steps.specs.CauseLaws.{LeafIsVisitedFree, ListIsVisitedFree, LeafIsSelectedFree, ListIsSelectedFree, CertifiedCauseIsFree, InsideCauseIsFree, FreeCausesAreSame, WholeCauseIsCause, WholeLeafIsVisited};
 ghost use Rattle.vx_steps.specs.GivenLaws.{ServedStays, UsedServe, UsedGiveValues, UsedGiveColumns, CertifiedServe, CertifiedGiveColumns};
 ghost use Rattle.vx_steps.specs.Laws.{LeafVisitIsRead, LeafVisitIsPlanRead, ReadIsLeafVisit, PlanReadIsLeafVisit, NoColumnsHandNone, SelectedVisitIsRead, SelectedReadIsVisit, ListVisitIsRead, ReadIsListVisit, TypedGivenFits, BadCodeIsRead, ReadIsBadCode, EvalFaultIsWorkedOut, SelectedLeafIsRead, CauseIsRead, OutermostTakeIsAsked, TakesAreThere, NoShareInTable, EvalFaultIsOutside};
 ghost use Rattle.vx_steps.specs.ScanLaws.{WantedIsRead, SplitCauseIsRead};
@@ -80,4 +81,30 @@ pub fn used_values_serve()
     ensures columns { UsedGiveColumns }
     ensures certified { CertifiedServe }
     ensures certified_columns { CertifiedGiveColumns }
+{}
+
+/// Whatever whole values are handed in, a leaf or a list that a row visits with them it visits where nothing is handed
+/// in; and so do selected rows.
+pub fn visits_are_free()
+    ensures leaves { LeafIsVisitedFree }
+    ensures lists { ListIsVisitedFree }
+    ensures selected_leaves { LeafIsSelectedFree }
+    ensures selected_lists { ListIsSelectedFree }
+{}
+
+/// The cause of a refusal is one where nothing is handed in: where each column that was handed in is the whole values
+/// of its plan; and, whatever was handed in, where it lies inside whole values. In what way nothing is handed in, be it
+/// no columns or inside whole values, makes no difference.
+pub fn causes_are_free()
+    ensures certified { CertifiedCauseIsFree }
+    ensures inside { InsideCauseIsFree }
+    ensures same { FreeCausesAreSame }
+{}
+
+/// Where selected rows ask for whole values, a cause that some rows of these have, the selected rows have; and a leaf
+/// that some of them visit, the selected rows visit. Whole values of a take go by the plan of the values, which may be
+/// a share; those of a share by the share, and they are those of its child.
+pub fn whole_causes_are_causes()
+    ensures causes { WholeCauseIsCause }
+    ensures leaves { WholeLeafIsVisited }
 {}

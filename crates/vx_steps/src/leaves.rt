@@ -8,14 +8,16 @@ ghost use Rattle.vx_steps.specs.declared.leaf_reads.LeafRead.{LeafRead};
 ghost use Rattle.vx_steps.specs.Delivered.{KeepsLeaves, LacksNeed, HasTornCause, SomeTornCause};
 ghost use Rattle.vx_steps.specs.Kept.{kept_at, IsKept};
 ghost use Rattle.vx_steps.specs.Needs.{Among, AreLeaves};
+ghost use Rattle.vx_steps.specs.Lone.{AreLone};
 ghost use Rattle.vx_steps.specs.ReadTable.{IsGone, bytes_of};
-ghost use Rattle.vx_steps.specs.Releasing.{AreHeld, IsServed};
+ghost use Rattle.vx_steps.specs.Releasing.{AreHeld, IsServed, LetsSpentGo};
 ghost use Rattle.vx_steps.specs.Wants.{IsNeededLeaf};
 ghost use Rattle.vx_steps.specs.Wholes.{AddsOnly};
 
 use crate::errors::StepError;
 use crate::kept::KeptColumns;
 use crate::leaf_reads::LeafRead;
+use crate::lone::LoneSegments;
 use crate::reads::ReadTable;
 use std::alloc::Global;
 use std::marker::Model;
@@ -53,29 +55,67 @@ fn decode_need(
         Err(DecodeError::BadSegment) => return Err(StepError::BadSegment(need.segment)),
         Err(DecodeError::Memory) => return Err(StepError::Memory),
     };
-    leaves.keep(need.leaf, column)?;
+    leaves.keep_shared(alloc, need.leaf, column)?;
+    Ok(true)
+}
+
+/// Decodes a needed leaf, unless its column is kept already, and says whether its column is there. The bytes of its
+/// segment are let go where no other leaf is over it: nothing is decoded from them any more.
+fn decode_alone(
+    alloc: Global,
+    table: &PlanTable,
+    lone: &LoneSegments,
+    need: LeafRead,
+    reads: &mut ReadTable,
+    leaves: &mut KeptColumns,
+) -> Result<bool, StepError>
+    requires known { need.leaf < length table.now }
+    requires leaf { HasShape table.now need.leaf (Leaf need.segment) }
+    requires held { IsGone reads.old.stored need.segment → IsKept leaves.old need.leaf }
+    requires lone { AreLone table.now lone.now }
+    ensures keeps { KeepsLeaves table.now reads.old.wanted leaves.old leaves.new }
+    ensures only { AddsOnly (λ n. need.leaf ≡ n) leaves.old leaves.new }
+    ensures lets { LetsSpentGo table.now leaves.new reads.old reads.new }
+    ensures there { IfOk result (λ there. MatchBool there (IsKept leaves.new need.leaf) ((kept_at leaves.old need.leaf ≡ None) × (bytes_of reads.old.wanted need.segment ≡ None))) }
+    ensures torn { IfErr result (HasTornCause table.now reads.old.wanted need) }
+{
+    if leaves.find(need.leaf).is_some() {
+        return Ok(true);
+    }
+    match decode_need(alloc, table, need, reads, leaves) {
+        Ok(true) => {}
+        Ok(false) => return Ok(false),
+        Err(error) => return Err(error),
+    }
+    if !lone.has(need.segment) {
+        return Ok(true);
+    }
+    reads.let_go(need.segment);
     Ok(true)
 }
 
 /// Decodes the needed leaves from a place on, and gives the place of the first whose column isn't there, which is past
-/// the last where there is none.
+/// the last where there is none. The bytes of segments are let go that no other leaf is over.
 fn decode_from(
     alloc: Global,
     table: &PlanTable,
+    lone: &LoneSegments,
     needs: &[LeafRead],
     first: usize,
-    reads: &ReadTable,
+    reads: &mut ReadTable,
     leaves: &mut KeptColumns,
 ) -> Result<usize, StepError>
     requires known { AreLeaves table.now needs.now }
-    requires held { AreHeld leaves.old reads.now.stored needs.now }
-    ensures keeps { KeepsLeaves table.now reads.now.wanted leaves.old leaves.new }
+    requires held { AreHeld leaves.old reads.old.stored needs.now }
+    requires lone { AreLone table.now lone.now }
+    ensures keeps { KeepsLeaves table.now reads.old.wanted leaves.old leaves.new }
     ensures only { AddsOnly (IsNeededLeaf needs.now) leaves.old leaves.new }
-    ensures missing { IfOk result (λ place. place < length needs.now → LacksNeed reads.now.wanted leaves.old needs.now) }
-    ensures torn { IfErr result (SomeTornCause table.now reads.now.wanted needs.now) }
+    ensures lets { LetsSpentGo table.now leaves.new reads.old reads.new }
+    ensures missing { IfOk result (λ place. place < length needs.now → LacksNeed reads.old.wanted leaves.old needs.now) }
+    ensures torn { IfErr result (SomeTornCause table.now reads.old.wanted needs.now) }
 {
     for place in first..needs.len() {
-        match decode_need(alloc, table, needs[place], reads, leaves) {
+        match decode_alone(alloc, table, lone, needs[place], reads, leaves) {
             Ok(true) => {}
             Ok(false) => return Ok(place),
             Err(error) => return Err(error),
@@ -166,23 +206,25 @@ impl NeededLeaves {
     }
 
     /// Decodes the leaves, and says whether all their columns are there. A try goes on where the last one stopped, and
-    /// looks all of them up once that came to the end. In the last split, while no other is active, the bytes of a segment
-    /// are let go once its leaves are decoded.
+    /// looks all of them up once that came to the end. The bytes of a segment that one leaf alone is over are let go once
+    /// it is decoded; in the last split, while no other is active, those of any once the leaves that it needs are.
     pub(crate) fn decode(
         &mut self,
         alloc: Global,
         table: &PlanTable,
+        lone: &LoneSegments,
         last: bool,
         reads: &mut ReadTable,
         leaves: &mut KeptColumns,
     ) -> Result<bool, StepError>
         requires known { AreLeaves table.now self.old }
         requires served { IsServed leaves.old reads.old self.old }
+        requires lone { AreLone table.now lone.now }
         ensures same { self.new ≡ self.old }
         ensures served { IsServed leaves.new reads.new self.old }
         ensures wanted { reads.new.wanted ≡ reads.old.wanted }
         ensures handed { reads.new.handed ≡ reads.old.handed }
-        ensures lets { last ≡ false → reads.new ≡ reads.old }
+        ensures lets { last ≡ false → LetsSpentGo table.now leaves.new reads.old reads.new }
         ensures keeps { KeepsLeaves table.now reads.old.wanted leaves.old leaves.new }
         ensures only { AddsOnly (IsNeededLeaf self.old) leaves.old leaves.new }
         ensures all { IfOk result (λ there. there ≡ true → (need : LeafRead) → Among need self.old → IsKept leaves.new need.leaf) }
@@ -192,7 +234,7 @@ impl NeededLeaves {
         if last {
             return decode_last(alloc, table, &self.reads, reads, leaves);
         }
-        let next = decode_from(alloc, table, &self.reads, self.next, reads, leaves)?;
+        let next = decode_from(alloc, table, lone, &self.reads, self.next, reads, leaves)?;
         if next < self.reads.len() {
             self.next = next;
             return Ok(false);

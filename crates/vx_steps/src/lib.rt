@@ -2,6 +2,7 @@
 //! columns of the splits of the plan's rows.
 #![tactic(auto)]
 
+mod asked;
 mod chunks;
 mod computing;
 mod errors;
@@ -11,6 +12,7 @@ mod laws;
 mod leaf_reads;
 mod leaves;
 mod leavings;
+mod lone;
 mod needs;
 mod offers;
 mod outputs;
@@ -23,11 +25,13 @@ mod splits;
 mod turns;
 mod wholes;
 
+pub use asked::asked_wholes;
 pub use errors::{DeliverError, StepError};
 pub use kept::KeptValue;
 pub use laws::{
-    bad_codes_are_read, causes_are_read, outermost_takes_are_asked, selected_visits_are_reads,
-    splits_are_read, visits_are_reads,
+    bad_codes_are_read, causes_are_free, causes_are_read, outermost_takes_are_asked,
+    selected_visits_are_reads, splits_are_read, visits_are_free, visits_are_reads,
+    whole_causes_are_causes,
 };
 pub use leavings::ScanKept;
 pub use progress::Turn;

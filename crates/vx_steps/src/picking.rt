@@ -32,7 +32,8 @@ pub(crate) fn selects_none(mask: &Mask) -> bool
     mask.first().is_none()
 }
 
-/// The selected rows of a column, from the first row of their range on.
+/// The selected rows of a column, from the first row of their range on. Where these are all rows of a column that shares
+/// them, none is copied.
 pub(crate) fn picked(
     alloc: Global,
     column: &Column,
@@ -53,7 +54,8 @@ pub(crate) fn picked(
 }
 
 /// The rows of a column that a range of a mask selects, from the first row of that range on. Where the whole mask is
-/// known to select each row, no mask is made of the range.
+/// known to select each row, no mask is made of the range, and no row copied where these are all rows of a column that
+/// shares them.
 pub(crate) fn picked_range(
     alloc: Global,
     column: &Column,

@@ -1,10 +1,10 @@
 //! The reads of a scan: which segments it wants, which of them it has handed out, and what came.
 
-ghost use Rattle.std.specs.Prelude.{◌≡◌, ◌⊎◌, [], length, Some, None, OnOk, OnErr, MatchOption};
+ghost use Rattle.std.specs.Prelude.{◌≡◌, ◌⊎◌, ◌-◌, ◌^◌, [], length, min, Some, None, OnOk, OnErr, MatchOption};
 ghost use Rattle.std.specs.Bool.{MatchBool};
 ghost use Rattle.std.specs.Option.{is_some};
-ghost use Rattle.vx_steps.specs.ReadTable.{IsWanted, HandsOut, IsGone, IsNamed, IsOutstanding, Delivers, KeepsStored, Passes, bytes_of};
-ghost use Rattle.vx_steps.specs.ReadTableData.{bytes_in};
+ghost use Rattle.vx_steps.specs.ReadTable.{IsWanted, HandsOut, IsGone, IsNamed, IsOutstanding, Delivers, KeepsStored, LetsGo, Passes, bytes_of, held_bytes};
+ghost use Rattle.vx_steps.specs.ReadTableData.{bytes_in, count_held};
 
 use std::alloc::{AllocError, Global};
 use std::collections::BTreeMap;
@@ -43,6 +43,17 @@ impl SegmentBytes {
         }
     }
 
+    /// How many bytes are in memory.
+    fn held(&self) -> u64
+        ensures { result ≡ count_held self.now }
+    {
+        match self {
+            SegmentBytes::NotYet => 0,
+            SegmentBytes::Came(bytes) => bytes.len() as u64,
+            SegmentBytes::LetGo(_) => 0,
+        }
+    }
+
     /// Lets the bytes go, if they came.
     fn let_go(&mut self)
         ensures { bytes_in self.new ≡ bytes_in self.old }
@@ -65,8 +76,9 @@ pub(crate) struct WantedSegment {
 }
 
 /// The segments that a scan wants, each once, in the order in which they are handed out. A read's number
-/// is its segment's place. Once the last split is the only active one, the bytes of a segment are let go when its last
-/// need is passed: `passed` counts the needs whose columns are there.
+/// is its segment's place. The bytes of a segment that one leaf alone is over are let go when that leaf is decoded, and
+/// those of any other, once the last split is the only active one, when its last need is passed: `passed` counts the
+/// needs whose columns are there.
 #[derive(Drop)]
 pub(crate) struct ReadTable {
     wanted: Vec<WantedSegment>,
@@ -197,5 +209,26 @@ impl ReadTable {
                 self.wanted[place].bytes.let_go();
             }
         }
+    }
+
+    /// Lets the bytes of a segment go, if they came.
+    pub(crate) fn let_go(&mut self, segment: u32)
+        ensures { LetsGo segment self.old self.new }
+    {
+        if let Some(found) = self.places.get(&segment) {
+            let place = *found;
+            self.wanted[place].bytes.let_go();
+        }
+    }
+
+    /// How many bytes of segments are in memory; at most the greatest number that there is.
+    pub(crate) fn held_bytes(&self) -> u64
+        ensures { result ≡ min (held_bytes self.now.wanted self.now.stored) (2 ^ 64 - 1) }
+    {
+        let mut held: u64 = 0;
+        for wanted in &self.wanted {
+            held = held.saturating_add(wanted.bytes.held());
+        }
+        held
     }
 }

@@ -1,6 +1,6 @@
 //! The scan: it asks for segments, and gives the columns of its splits.
 
-ghost use Rattle.std.specs.Prelude.{◌≡◌, ◌<◌, [], length, map, true, false, Ok, IfOk, IfErr, IsErr, IsOk, MatchResult};
+ghost use Rattle.std.specs.Prelude.{◌≡◌, ◌<◌, ◌-◌, ◌^◌, [], length, map, min, true, false, Ok, IfOk, IfErr, IsErr, IsOk, MatchResult};
 ghost use Rattle.std.specs.List.{AllByRecursion};
 ghost use Rattle.vx_plan.specs.Refs.{number_of};
 ghost use Rattle.vx_plan.specs.Rules.{node_at};
@@ -10,7 +10,7 @@ ghost use Rattle.vx_steps.specs.Jobs.{AddsLeaves, IsUnstarted, KeepsBound, Keeps
 ghost use Rattle.vx_steps.specs.Kept.{kept_data, AreApart};
 ghost use Rattle.vx_steps.specs.Leavings.{IsReadBehind};
 ghost use Rattle.vx_steps.specs.Offers.{IsForLeaf, IsForPlan, Keeps};
-ghost use Rattle.vx_steps.specs.ReadTable.{IsOutstanding};
+ghost use Rattle.vx_steps.specs.ReadTable.{IsOutstanding, held_bytes};
 ghost use Rattle.vx_steps.specs.ScanData.{IsNew, IsOfHanded, StaysTold, TakesBytes};
 ghost use Rattle.vx_steps.specs.Splits.{IsInside};
 ghost use Rattle.vx_steps.specs.Steps.{active_in, GoesOn, IsStepRefusal, TakesTurn, work_left};
@@ -21,6 +21,7 @@ use crate::errors::{DeliverError, StepError};
 use crate::jobs::{Job, Progress};
 use crate::kept::{KeptColumns, KeptValue};
 use crate::leavings::{ScanKept, leaves_behind};
+use crate::lone::LoneSegments;
 use crate::offers::{for_leaves, for_plans};
 use crate::progress::{Turn, next_turn};
 use crate::reads::ReadId;
@@ -36,6 +37,7 @@ pub struct Scan<'a> {
     alloc: Global,
     table: &'a PlanTable,
     job: Job,
+    lone: LoneSegments,
     progress: Progress,
     refused: bool,
 }
@@ -51,10 +53,11 @@ impl<'a> Model for Scan<'a> {
     ghost coded = { Prim.hlevel (codes, coded_nodes, coded_kept_list) };
 
     ghost use Rattle.vx_steps.specs.Jobs.{IsGood};
+    ghost use Rattle.vx_steps.specs.Lone.{AreLone};
 
     ghost view = { λ a. record { nodes = a.table.now; job = a.job; progress = a.progress; refused = a.refused } };
 
-    ghost invariant = { λ a. IsGood a.table.now a.job a.progress };
+    ghost invariant = { λ a. IsGood a.table.now a.job a.progress × AreLone a.table.now a.lone };
 }
 
 impl<'a> Scan<'a> {
@@ -75,6 +78,7 @@ impl<'a> Scan<'a> {
             alloc,
             table,
             job: Job::new(alloc, plan.0, splits),
+            lone: LoneSegments::new(alloc),
             progress: Progress::new(alloc),
             refused: false,
         })
@@ -157,6 +161,14 @@ impl<'a> Scan<'a> {
             return Err(DeliverError::UnknownRead);
         }
         Ok(())
+    }
+
+    /// How many bytes of segments the scan holds: those that were delivered and not let go yet. Columns don't count. It
+    /// takes no memory, and goes over the segments that are wanted.
+    pub fn held_bytes(&self) -> u64
+        ensures { result ≡ min (held_bytes self.now.progress.reads.wanted self.now.progress.reads.stored) (2 ^ 64 - 1) }
+    {
+        self.progress.reads.held_bytes()
     }
 
     /// The values that were handed in and used, each once.
@@ -263,7 +275,13 @@ impl<'a> Scan<'a> {
         if self.refused {
             return Ok(Turn::Done);
         }
-        match next_turn(self.alloc, self.table, &mut self.job, &mut self.progress) {
+        match next_turn(
+            self.alloc,
+            self.table,
+            &mut self.job,
+            &mut self.lone,
+            &mut self.progress,
+        ) {
             Ok(turn) => Ok(turn),
             Err(error) => {
                 self.refused = true;

@@ -7,10 +7,11 @@ ghost use Rattle.vx_steps.specs.Agreement.{KeepsAgreeing};
 ghost use Rattle.vx_steps.specs.Delivered.{KeepsLeaves, LacksNeed};
 ghost use Rattle.vx_steps.specs.Held.{AreTyped, FitsOffset};
 ghost use Rattle.vx_steps.specs.Kept.{kept_at};
+ghost use Rattle.vx_steps.specs.Lone.{AreLone};
 ghost use Rattle.vx_steps.specs.Needs.{Among, AreLeaves};
 ghost use Rattle.vx_steps.specs.ReadTable.{KeepsStored};
-ghost use Rattle.vx_steps.specs.Releasing.{AreNamed, IsServed};
-ghost use Rattle.vx_steps.specs.Turns.{AreLeavesKept, IsOutput, IsRefusal, LeavesWholes, ReadsFor};
+ghost use Rattle.vx_steps.specs.Releasing.{AreNamed, IsServed, LetsSpentGo};
+ghost use Rattle.vx_steps.specs.Turns.{AreLeavesKept, IsOutput, IsRefusal, LeavesLeaves, LeavesWholes, ReadsFor};
 ghost use Rattle.vx_steps.specs.Wants.{AreNeeds, Grows, IsAsked, IsNeeded, IsNeededLeaf};
 ghost use Rattle.vx_steps.specs.Wholes.{AddsAsked, AddsOnly, KeepsValues, UsesGiven};
 
@@ -19,6 +20,7 @@ use crate::jobs::Job;
 use crate::kept::KeptColumns;
 use crate::leaf_reads::LeafRead;
 use crate::leaves::NeededLeaves;
+use crate::lone::LoneSegments;
 use crate::needs::{needs_of, want_needs};
 use crate::outputs::output_of;
 use crate::reads::ReadTable;
@@ -61,13 +63,14 @@ pub(crate) fn start_split(
     Ok(needs)
 }
 
-/// Finishes a split: its column, once all leaves that it needs were delivered, and None before. Bytes are let go only in
-/// the last split, while no other is active.
+/// Finishes a split: its column, once all leaves that it needs were delivered, and None before. Unless it is the last
+/// split, while no other is active, only bytes of segments are let go each of whose leaves is kept.
 pub(crate) fn finish_split(
     alloc: Global,
     table: &PlanTable,
     job: &Job,
     split: &Split,
+    lone: &LoneSegments,
     last: bool,
     needs: &mut NeededLeaves,
     reads: &mut ReadTable,
@@ -83,11 +86,12 @@ pub(crate) fn finish_split(
     requires typed_given { AreTyped table.now job.now.given }
     requires typed_made { AreTyped table.now wholes.old.made }
     requires served { IsServed leaves.old reads.old needs.old }
+    requires lone { AreLone table.now lone.now }
     ensures same { needs.new ≡ needs.old }
     ensures served { IsServed leaves.new reads.new needs.old }
     ensures wanted { reads.new.wanted ≡ reads.old.wanted }
     ensures handed { reads.new.handed ≡ reads.old.handed }
-    ensures lets { last ≡ false → reads.new ≡ reads.old }
+    ensures lets { last ≡ false → LetsSpentGo table.now leaves.new reads.old reads.new }
     ensures keeps { KeepsLeaves table.now reads.old.wanted leaves.old leaves.new }
     ensures only { AddsOnly (IsNeededLeaf needs.old) leaves.old leaves.new }
     ensures made { KeepsValues table.now leaves.new job.now.offset wholes.old.made wholes.new.made }
@@ -98,8 +102,9 @@ pub(crate) fn finish_split(
     ensures waiting { IfOk result (λ output. output ≡ None → LacksNeed reads.old.wanted leaves.old needs.old) }
     ensures cause { IfErr result (IsRefusal table.now job.now split.now needs.old reads.old.wanted leaves.old wholes.old.made) }
     ensures left { IfErr result (LeavesWholes table.now job.now split.now reads.old.wanted leaves.old wholes.old.made wholes.new) }
+    ensures left_leaves { IfErr result (LeavesLeaves table.now job.now split.now leaves.new) }
 {
-    match needs.decode(alloc, table, last, reads, leaves) {
+    match needs.decode(alloc, table, lone, last, reads, leaves) {
         Ok(true) => {}
         Ok(false) => return Ok(None),
         Err(error) => return Err(error),

@@ -104,7 +104,7 @@ fn ready_whole(
     }
     match whole_of_plan(alloc, grounds.sources(wholes), plan) {
         Ok(column) => {
-            wholes.made.keep(number, column)?;
+            wholes.made.keep_shared(alloc, number, column)?;
             Ok(())
         }
         Err(error) => Err(error),
@@ -237,7 +237,7 @@ fn ready_chunks(
 }
 
 /// Whether no row of the plan asks for whole values, since there is no plan below it.
-fn asks_none(table: &PlanTable, plan: u32) -> bool
+pub(crate) fn asks_none(table: &PlanTable, plan: u32) -> bool
     requires { plan < length table.now }
     ensures { IsTrue result → AsksNone table.now plan }
 {

@@ -7,8 +7,8 @@ use Rattle.vx_steps.proofs.Releasing.{not_kept}
 use Rattle.vx_steps.proofs.WholeMaking.{none_more, one_only}
 use Rattle.vx_steps.proofs.leaves.decode_need.Goals as goal
 
-pub returns-in_err-keep-clause-keeps : goal.returns-in_err-keep-clause-keeps
-returns-in_err-keep-clause-keeps c = rw c.in_err-keep.ensures.as_before (keeps_none c.args.table.now c.args.reads.now.wanted c.args.leaves.now)
+pub returns-in_err-keep_shared-clause-keeps : goal.returns-in_err-keep_shared-clause-keeps
+returns-in_err-keep_shared-clause-keeps c = rw c.in_err-keep_shared.ensures.as_before (keeps_none c.args.table.now c.args.reads.now.wanted c.args.leaves.now)
 
 pub returns-clause-keeps : goal.returns-clause-keeps
 returns-clause-keeps c =
@@ -17,21 +17,21 @@ returns-clause-keeps c =
     let column = c.in-Ok.column in
     let none = none_kept c.find.result (kept_at c.args.leaves.now need.leaf) c.find.ensures (sym c.if-is_some.ensures) in
     let read = rw (c.dtype.ensures, c.row_count.ensures) at c.in-Ok.ensures.read in
-    rw c.in_ok-keep.ensures.kept (decoded_keeps nodes c.args.reads.now.wanted c.args.leaves.now need c.in-Some.bytes.now column c.requires.known c.requires.leaf none c.in-Some.ensures (c.in-Ok.ensures.dtype ∙ c.dtype.ensures) (c.in-Ok.ensures.spelled.count ∙ c.row_count.ensures) read)
+    rw c.in_ok-keep_shared.ensures.kept (decoded_keeps nodes c.args.reads.now.wanted c.args.leaves.now need c.in-Some.bytes.now column c.requires.known c.requires.leaf none c.in-Some.ensures (c.in-Ok.ensures.dtype ∙ c.dtype.ensures) (c.in-Ok.ensures.spelled.count ∙ c.row_count.ensures) read)
 
 pub returns-clause-there : goal.returns-clause-there
 returns-clause-there c =
     let none = none_kept c.find.result (kept_at c.args.leaves.now c.args.need.leaf) c.find.ensures (sym c.if-is_some.ensures) in
-    rw c.in_ok-keep.ensures.kept (kept_here c.args.leaves.now c.args.need.leaf c.in-Ok.column none)
+    rw c.in_ok-keep_shared.ensures.kept (kept_here c.args.leaves.now c.args.need.leaf c.in-Ok.column none)
 
 pub decode-requires : goal.decode-requires
 decode-requires c = record { leaf = rw c.dtype.ensures (leaf_plan c.args.table.now c.args.need.leaf c.args.need.segment c.requires.known c.requires.leaf).leaf }
 
-pub returns-in_err-keep-clause-only : goal.returns-in_err-keep-clause-only
-returns-in_err-keep-clause-only c = none_more (λ n. c.args.need.leaf ≡ n) c.args.leaves.now c.keep.new.self c.in_err-keep.ensures.as_before
+pub returns-in_err-keep_shared-clause-only : goal.returns-in_err-keep_shared-clause-only
+returns-in_err-keep_shared-clause-only c = none_more (λ n. c.args.need.leaf ≡ n) c.args.leaves.now c.keep_shared.new.self c.in_err-keep_shared.ensures.as_before
 
 pub returns-clause-only : goal.returns-clause-only
-returns-clause-only c = one_only c.args.leaves.now c.keep.new.self c.args.need.leaf c.in-Ok.column c.in_ok-keep.ensures.kept
+returns-clause-only c = one_only c.args.leaves.now c.keep_shared.new.self c.args.need.leaf c.in-Ok.column c.in_ok-keep_shared.ensures.kept
 
 pub returns-in-None-clause-there : goal.returns-in-None-clause-there
 returns-in-None-clause-there c =

@@ -142,8 +142,8 @@ returns-in-Ok-None-clause-grows c = subst (λ (ws : List Wanted). Grows c.args.p
 pub returns-in-Err-clause-grows : goal.returns-in-Err-clause-grows
 returns-in-Err-clause-grows c = subst (λ (ws : List Wanted). Grows c.args.progress.now.reads.wanted ws) (sym (c.in-Err.ensures.wanted ∙ ap (λ r. r.wanted) c.in_default.ensures.turn.1)) c.in_ok-start_splits.ensures.grows
 
-pub finish_some-requires : goal.finish_some-requires
-finish_some-requires c =
+pub finish_some-requires-clause-good : goal.finish_some-requires-clause-good
+finish_some-requires-clause-good c =
     let started = c.start_splits.new.progress in
     let P : ReadsData → Type 0 = λ reads. IsGood c.args.table.now c.args.job.now (record { next = started.next; active = started.active; reads = reads; leaves = started.leaves; wholes = started.wholes }) in
     subst P (sym c.in_default.ensures.turn.1) c.in_ok-start_splits.ensures.good

@@ -81,7 +81,7 @@ returns-clause-cause c =
     let actives = same_actives progress.active.items c.args.place c.index_mut.result.now c.finish_split.new.needs c.index_mut.ensures.value c.finish_split.ensures.same in
     let parts = parts_of c.args.table.now c.args.job.now c.args.progress.now c.args.place c.index.result.now c.index-split.result.now c.requires.good c.requires.place c.index.ensures c.index-split.ensures in
     let P : ActiveSplit → Type 0 = λ active. IfErr c.finish_split.result (IsRefusal c.args.table.now c.args.job.now c.index-split.result.now active.needs progress.reads.wanted progress.leaves progress.wholes.made) in
-    cause_of_split c.args.table.now c.args.job.now progress new c.args.place c.index.result.now c.index-split.result.now c.finish_split.result parts c.finish_split.ensures.wanted actives (subst P same c.finish_split.ensures.cause) c.finish_split.ensures.left
+    cause_of_split c.args.table.now c.args.job.now progress new c.args.place c.index.result.now c.index-split.result.now c.finish_split.result parts c.finish_split.ensures.wanted actives (subst P same c.finish_split.ensures.cause) c.finish_split.ensures.left c.finish_split.ensures.left_leaves
 
 pub finish_split-requires-clause-served : goal.finish_split-requires-clause-served
 finish_split-requires-clause-served c =

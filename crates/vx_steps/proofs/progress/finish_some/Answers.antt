@@ -21,6 +21,8 @@ returns-in-Ok-Some-clause-good c =
         gone_late = good.serves.gone_late;
         passed_late = good.serves.passed_late;
         served = λ a m. good.serves.served a (among_removed c.finish_at.new.progress.active.items c.loop-place.place a (rw c.remove-active.ensures.items at m));
+        active_after = λ a m. good.serves.active_after a (among_removed c.finish_at.new.progress.active.items c.loop-place.place a (rw c.remove-active.ensures.items at m));
+        gone_after = good.serves.gone_after;
       };
     }
 

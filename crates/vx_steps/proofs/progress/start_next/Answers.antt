@@ -1,9 +1,9 @@
-use Rattle.std.proofs.Common.{◌≡◌, ◌+◌, ◌==◌, ◌++◌, false, List, map, drop, refl, sym, subst, arith}
+use Rattle.std.proofs.Common.{◌≡◌, ◌+◌, ◌<◌, ◌==◌, ◌++◌, false, List, map, drop, refl, sym, subst, arith}
 use Rattle.std.proofs.lemmas.Grind.{common_steps}
 use Rattle.vx_base.specs.Masks.{true_count}
 use Rattle.vx_steps.specs.declared.jobs.ActiveSplit.{ActiveSplit}
 use Rattle.vx_steps.specs.declared.leaf_reads.LeafRead.{LeafRead}
-use Rattle.vx_steps.specs.Needs.{Among, AreAmong}
+use Rattle.vx_steps.specs.Needs.{Among, AreAmong, AreLeaves}
 use Rattle.vx_steps.specs.Releasing.{AreNamed, IsServed}
 use Rattle.vx_steps.specs.Jobs.{IsActive, number_of_active, numbers_from}
 use Rattle.vx_steps.proofs.Agreeing.{of_wanted}
@@ -23,7 +23,8 @@ returns-in_err-push-clause-good c =
     let same : c.push.new.self.items ≡ c.args.progress.now.active.items = grind (arith, common_steps) in
     let P : List ActiveSplit → Type 0 = λ actives. (a : ActiveSplit) → Among a actives → IsActive c.args.table.now c.args.job.now c.args.progress.now.leaves c.start_split.new.reads.wanted a in
     let S : List ActiveSplit → Type 0 = λ actives. (a : ActiveSplit) → Among a actives → IsServed c.args.progress.now.leaves c.start_split.new.reads a.needs in
-    record { known = good.known; inside = good.inside; fits = good.fits; typed_given = good.typed_given; typed_leaves = good.typed_leaves; typed_made = good.typed_made; apart_made = good.apart_made; apart_used = good.apart_used; uses = good.uses; actives = subst P (sym same) good.actives; serves = record { gone_late = good.serves.gone_late; passed_late = good.serves.passed_late; served = subst S (sym same) good.serves.served } }
+    let F : List ActiveSplit → Type 0 = λ actives. (a : ActiveSplit) → Among a actives → 0 < c.args.progress.now.next in
+    record { known = good.known; inside = good.inside; fits = good.fits; typed_given = good.typed_given; typed_leaves = good.typed_leaves; typed_made = good.typed_made; apart_made = good.apart_made; apart_used = good.apart_used; uses = good.uses; actives = subst P (sym same) good.actives; serves = record { gone_late = good.serves.gone_late; passed_late = good.serves.passed_late; served = subst S (sym same) good.serves.served; active_after = subst F (sym same) good.serves.active_after; gone_after = good.serves.gone_after } }
 
 pub returns-in_err-push-clause-told : goal.returns-in_err-push-clause-told
 returns-in_err-push-clause-told c = of_wanted c.args.table.now c.args.job.now.offset c.args.progress.now.reads.wanted c.start_split.new.reads.wanted c.args.progress.now.leaves c.args.progress.now.wholes.made c.in_ok-needs.ensures.agrees
@@ -43,7 +44,7 @@ returns-clause-good c =
     let P : List ActiveSplit → Type 0 = λ actives. (a : ActiveSplit) → Among a actives → IsActive c.args.table.now c.args.job.now c.args.progress.now.leaves c.start_split.new.reads.wanted a in
     let good = c.requires.good in
     let N : List LeafRead → Type 0 = λ needs. AreNamed c.args.progress.now.leaves needs c.start_split.new.reads.stored in
-    record { known = good.known; inside = good.inside; fits = good.fits; typed_given = good.typed_given; typed_leaves = good.typed_leaves; typed_made = good.typed_made; apart_made = good.apart_made; apart_used = good.apart_used; uses = good.uses; actives = subst P (sym c.in_ok-push.ensures.items) (actives_more c.args.table.now c.args.job.now c.args.progress.now.leaves c.args.progress.now.reads.wanted c.start_split.new.reads.wanted c.args.progress.now.active.items active c.in_ok-needs.ensures.grows good.actives is); serves = serves_pushed c.args.job.now c.args.progress.now c.push.new.self active c.start_split.new.reads c.requires.left c.in_ok-needs.ensures.stored (subst N (sym c.of.ensures) c.in_ok-needs.ensures.named) c.in_ok-push.ensures.items good.serves }
+    record { known = good.known; inside = good.inside; fits = good.fits; typed_given = good.typed_given; typed_leaves = good.typed_leaves; typed_made = good.typed_made; apart_made = good.apart_made; apart_used = good.apart_used; uses = good.uses; actives = subst P (sym c.in_ok-push.ensures.items) (actives_more c.args.table.now c.args.job.now c.args.progress.now.leaves c.args.progress.now.reads.wanted c.start_split.new.reads.wanted c.args.progress.now.active.items active c.in_ok-needs.ensures.grows good.actives is); serves = serves_pushed c.args.table.now c.args.job.now c.args.progress.now c.push.new.self active c.start_split.new.reads c.requires.left c.in_ok-needs.ensures.stored (subst (AreLeaves c.args.table.now) (sym c.of.ensures) c.in_ok-needs.ensures.leaves) (subst N (sym c.of.ensures) c.in_ok-needs.ensures.named) c.in_ok-push.ensures.items good.serves }
 
 pub returns-clause-starts : goal.returns-clause-starts
 returns-clause-starts c =
@@ -69,4 +70,4 @@ returns-clause-starts c =
 pub returns-then-true_count-eq0-clause-good : goal.returns-then-true_count-eq0-clause-good
 returns-then-true_count-eq0-clause-good c =
     let good = c.requires.good in
-    record { known = good.known; inside = good.inside; fits = good.fits; typed_given = good.typed_given; typed_leaves = good.typed_leaves; typed_made = good.typed_made; apart_made = good.apart_made; apart_used = good.apart_used; uses = good.uses; actives = good.actives; serves = serves_next c.args.job.now c.args.progress.now c.requires.left good.serves }
+    record { known = good.known; inside = good.inside; fits = good.fits; typed_given = good.typed_given; typed_leaves = good.typed_leaves; typed_made = good.typed_made; apart_made = good.apart_made; apart_used = good.apart_used; uses = good.uses; actives = good.actives; serves = serves_next c.args.table.now c.args.job.now c.args.progress.now c.requires.left good.serves }

@@ -3,7 +3,7 @@ use Rattle.vx_rows.specs.SegmentLeaves.{leaves_of}
 use Rattle.vx_steps.specs.Delivered.{IsOf}
 use Rattle.vx_steps.specs.Held.{IsBy}
 use Rattle.vx_steps.proofs.Premises.{unless_by}
-use Rattle.vx_steps.proofs.Turning.{row_leaves, row_refusal}
+use Rattle.vx_steps.proofs.Turning.{leaves_left, row_leaves, row_refusal}
 use Rattle.vx_steps.proofs.turns.finish_split.Goals as goal
 
 pub output_of-requires : goal.output_of-requires
@@ -34,3 +34,7 @@ returns-in-Err-output_of-clause-left c =
 
 pub returns-in-Ok-clause-leaves : goal.returns-in-Ok-clause-leaves
 returns-in-Ok-clause-leaves c = λ read reads. c.in-Ok-true.ensures.all c.in-Ok-true.field-0-test read (c.requires.needs.all read reads)
+
+pub returns-in-Err-output_of-clause-left_leaves : goal.returns-in-Err-output_of-clause-left_leaves
+returns-in-Err-output_of-clause-left_leaves c =
+    leaves_left c.args.table.now c.args.job.now c.args.split.now c.decode.new.leaves c.in-Err-output_of.error (λ read reads. c.in-Ok-true.ensures.all c.in-Ok-true.field-0-test read (c.requires.needs.all read reads))

@@ -1,17 +1,21 @@
 use Rattle.std.proofs.Common.{◌≡◌, ◌∙◌, List, true, sym, subst}
 use Rattle.std.specs.Prelude.{IfOk}
+use Rattle.vx_steps.specs.Delivered.{KeepsLeaves}
 use Rattle.vx_steps.specs.declared.leaf_reads.LeafRead.{LeafRead}
 use Rattle.vx_steps.specs.Kept.{IsKept}
 use Rattle.vx_steps.specs.Needs.{Among}
+use Rattle.vx_steps.specs.ReadTableData.{Wanted}
 use Rattle.vx_steps.specs.Releasing.{AreHeld}
 use Rattle.vx_steps.specs.Wants.{IsNeededLeaf}
 use Rattle.vx_steps.specs.Wholes.{AddsOnly}
 use Rattle.vx_steps.proofs.Decoding.{adds_then, keeps_then}
-use Rattle.vx_steps.proofs.Releasing.{held_kept, served_kept}
+use Rattle.vx_steps.proofs.Releasing.{held_let, lets_none, lets_then, served_kept, served_let}
 use Rattle.vx_steps.proofs.leaves.NeededLeaves.decode.Goals as goal
 
 pub returns-clause-keeps : goal.returns-clause-keeps
-returns-clause-keeps c = keeps_then c.args.table.now c.args.reads.now.wanted c.args.leaves.now c.decode_from.new.leaves c.decode_needs.new.leaves c.in_ok-next.ensures.keeps c.decode_needs.ensures.keeps
+returns-clause-keeps c =
+    let K : List Wanted → Type 0 = λ ws. KeepsLeaves c.args.table.now ws c.decode_from.new.leaves c.decode_needs.new.leaves in
+    keeps_then c.args.table.now c.args.reads.now.wanted c.args.leaves.now c.decode_from.new.leaves c.decode_needs.new.leaves c.in_ok-next.ensures.keeps (subst K c.in_ok-next.ensures.lets.wanted c.decode_needs.ensures.keeps)
 
 pub returns-in_err-next-clause-only : goal.returns-in_err-next-clause-only
 returns-in_err-next-clause-only c =
@@ -29,16 +33,19 @@ returns-clause-only c =
     let M : List LeafRead → Type 0 = λ needs. AddsOnly (IsNeededLeaf needs) c.decode_from.new.leaves c.decode_needs.new.leaves in
     adds_then (IsNeededLeaf c.args.self.now) c.args.leaves.now c.decode_from.new.leaves c.decode_needs.new.leaves (subst N (c.deref-2.ensures.value ∙ c.self.view_is) c.in_ok-next.ensures.only) (subst M (c.deref-3.ensures.value ∙ c.self.view_is) c.decode_needs.ensures.only)
 
+pub returns-clause-lets : goal.returns-clause-lets
+returns-clause-lets c = λ _. lets_then c.args.table.now c.decode_from.new.leaves c.decode_needs.new.leaves c.args.reads.now c.decode_from.new.reads c.decode_from.new.reads c.decode_needs.ensures.keeps.grows c.in_ok-next.ensures.lets (lets_none c.args.table.now c.decode_needs.new.leaves c.decode_from.new.reads)
+
 pub returns-clause-served : goal.returns-clause-served
 returns-clause-served c =
-    let grows = (keeps_then c.args.table.now c.args.reads.now.wanted c.args.leaves.now c.decode_from.new.leaves c.decode_needs.new.leaves c.in_ok-next.ensures.keeps c.decode_needs.ensures.keeps).grows in
-    served_kept c.args.leaves.now c.decode_needs.new.leaves c.args.reads.now c.args.self.now grows c.requires.served
+    served_kept c.decode_from.new.leaves c.decode_needs.new.leaves c.decode_from.new.reads c.args.self.now c.decode_needs.ensures.keeps.grows
+    (served_let c.args.table.now c.args.leaves.now c.decode_from.new.leaves c.args.reads.now c.decode_from.new.reads c.args.self.now c.requires.known c.in_ok-next.ensures.keeps.grows c.in_ok-next.ensures.lets c.requires.served)
 
 pub returns-in_err-next-clause-served : goal.returns-in_err-next-clause-served
-returns-in_err-next-clause-served c = served_kept c.args.leaves.now c.decode_from.new.leaves c.args.reads.now c.args.self.now c.in_err-next.ensures.keeps.grows c.requires.served
+returns-in_err-next-clause-served c = served_let c.args.table.now c.args.leaves.now c.decode_from.new.leaves c.args.reads.now c.decode_from.new.reads c.args.self.now c.requires.known c.in_err-next.ensures.keeps.grows c.in_err-next.ensures.lets c.requires.served
 
 pub returns-then-next-len-clause-served : goal.returns-then-next-len-clause-served
-returns-then-next-len-clause-served c = served_kept c.args.leaves.now c.decode_from.new.leaves c.args.reads.now c.args.self.now c.in_ok-next.ensures.keeps.grows c.requires.served
+returns-then-next-len-clause-served c = served_let c.args.table.now c.args.leaves.now c.decode_from.new.leaves c.args.reads.now c.decode_from.new.reads c.args.self.now c.requires.known c.in_ok-next.ensures.keeps.grows c.in_ok-next.ensures.lets c.requires.served
 
 pub returns-then-last-clause-only : goal.returns-then-last-clause-only
 returns-then-last-clause-only c =
@@ -52,5 +59,5 @@ returns-then-last-clause-all c =
 
 pub decode_needs-requires-clause-held : goal.decode_needs-requires-clause-held
 decode_needs-requires-clause-held c =
-    let N : List LeafRead → Type 0 = λ needs. AreHeld c.decode_from.new.leaves c.args.reads.now.stored needs in
-    subst N (sym (c.deref-3.ensures.value ∙ c.self.view_is)) (λ need among gone. held_kept c.args.table.now c.args.reads.now.wanted c.args.leaves.now c.decode_from.new.leaves c.args.self.now c.args.reads.now.stored need c.in_ok-next.ensures.keeps among c.requires.served.held gone)
+    let N : List LeafRead → Type 0 = λ needs. AreHeld c.decode_from.new.leaves c.decode_from.new.reads.stored needs in
+    subst N (sym (c.deref-3.ensures.value ∙ c.self.view_is)) (held_let c.args.table.now c.args.leaves.now c.decode_from.new.leaves c.args.reads.now c.decode_from.new.reads c.args.self.now c.requires.known c.in_ok-next.ensures.keeps.grows c.in_ok-next.ensures.lets c.requires.served.held)

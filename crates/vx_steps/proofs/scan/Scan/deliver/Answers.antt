@@ -9,10 +9,10 @@ pub invariant_of-self : goal.invariant_of-self
 invariant_of-self c =
     let inside = c.self.inside in
     let P : ReadsData → Type 0 = λ reads. IsGood inside.table.now inside.job (record { next = inside.progress.next; active = inside.progress.active; reads = reads; leaves = inside.progress.leaves; wholes = inside.progress.wholes }) in
-    subst P (sym c.if-not-deliver.ensures.turn.1) c.self.invariant
+    (subst P (sym c.if-not-deliver.ensures.turn.1) c.self.invariant.0, c.self.invariant.1)
 
 pub invariant_of-self-2 : goal.invariant_of-self-2
-invariant_of-self-2 c = good_delivered c.self.inside.table.now c.self.inside.job c.self.inside.progress c.args.read c.args.bytes.items c.deliver.new.self c.if-not-deliver.ensures.turn c.if-not-deliver.ensures.stored c.self.invariant
+invariant_of-self-2 c = (good_delivered c.self.inside.table.now c.self.inside.job c.self.inside.progress c.args.read c.args.bytes.items c.deliver.new.self c.if-not-deliver.ensures.turn c.if-not-deliver.ensures.stored c.self.invariant.0, c.self.invariant.1)
 
 pub returns : goal.returns
 returns c =

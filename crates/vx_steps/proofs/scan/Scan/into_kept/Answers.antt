@@ -17,25 +17,25 @@ pub returns-clause-typed_leaves : goal.returns-clause-typed_leaves
 returns-clause-typed_leaves c =
     let inside = c.self.inside in
     let P : ScanData → Type 0 = λ scan. AreTyped scan.nodes (map kept_data c.leaves_behind.result.items) in
-    subst P c.self.view_is (typed_those inside.table.now (IsReadBehind inside.table.now inside.job) inside.progress.leaves (map kept_data c.leaves_behind.result.items) c.leaves_behind.ensures c.self.invariant.typed_leaves)
+    subst P c.self.view_is (typed_those inside.table.now (IsReadBehind inside.table.now inside.job) inside.progress.leaves (map kept_data c.leaves_behind.result.items) c.leaves_behind.ensures c.self.invariant.0.typed_leaves)
 
 pub returns-clause-typed_used : goal.returns-clause-typed_used
 returns-clause-typed_used c =
     let P : ScanData → Type 0 = λ scan. AreTyped scan.nodes scan.progress.wholes.used in
     let inside = c.self.inside in
-    subst P c.self.view_is (used_typed inside.table.now inside.job.given inside.progress.wholes.used c.self.invariant.uses c.self.invariant.typed_given)
+    subst P c.self.view_is (used_typed inside.table.now inside.job.given inside.progress.wholes.used c.self.invariant.0.uses c.self.invariant.0.typed_given)
 
 pub returns-clause-typed_made : goal.returns-clause-typed_made
 returns-clause-typed_made c =
     let P : ScanData → Type 0 = λ scan. AreTyped scan.nodes scan.progress.wholes.made in
-    subst P c.self.view_is c.self.invariant.typed_made
+    subst P c.self.view_is c.self.invariant.0.typed_made
 
 pub returns-clause-apart_used : goal.returns-clause-apart_used
 returns-clause-apart_used c =
     let P : ScanData → Type 0 = λ scan. AreApart scan.progress.wholes.used in
-    subst P c.self.view_is c.self.invariant.apart_used
+    subst P c.self.view_is c.self.invariant.0.apart_used
 
 pub returns-clause-apart_made : goal.returns-clause-apart_made
 returns-clause-apart_made c =
     let P : ScanData → Type 0 = λ scan. AreApart scan.progress.wholes.made in
-    subst P c.self.view_is c.self.invariant.apart_made
+    subst P c.self.view_is c.self.invariant.0.apart_made

@@ -16,4 +16,4 @@ pub returns-clause-typed : goal.returns-clause-typed
 returns-clause-typed c =
     let inside = c.self.inside in
     let P : ScanData → Type 0 = λ scan. AreTyped scan.nodes (map kept_data c.leaves_behind.result.items) in
-    subst P c.self.view_is (typed_those inside.table.now (IsReadBehind inside.table.now inside.job) inside.progress.leaves (map kept_data c.leaves_behind.result.items) c.leaves_behind.ensures c.self.invariant.typed_leaves)
+    subst P c.self.view_is (typed_those inside.table.now (IsReadBehind inside.table.now inside.job) inside.progress.leaves (map kept_data c.leaves_behind.result.items) c.leaves_behind.ensures c.self.invariant.0.typed_leaves)

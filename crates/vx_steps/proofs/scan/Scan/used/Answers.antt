@@ -9,9 +9,9 @@ pub returns-clause-typed : goal.returns-clause-typed
 returns-clause-typed c =
     let P : ScanData → Type 0 = λ scan. AreTyped scan.nodes scan.progress.wholes.used in
     let inside = c.self.inside in
-    subst P c.self.view_is (used_typed inside.table.now inside.job.given inside.progress.wholes.used c.self.invariant.uses c.self.invariant.typed_given)
+    subst P c.self.view_is (used_typed inside.table.now inside.job.given inside.progress.wholes.used c.self.invariant.0.uses c.self.invariant.0.typed_given)
 
 pub returns-clause-apart : goal.returns-clause-apart
 returns-clause-apart c =
     let P : ScanData → Type 0 = λ scan. AreApart scan.progress.wholes.used in
-    subst P c.self.view_is c.self.invariant.apart_used
+    subst P c.self.view_is c.self.invariant.0.apart_used

@@ -13,4 +13,4 @@ invariant_of-self c =
     let nodes = c.self.inside.table.now in
     let P : ScanData → Type 0 = λ scan. IsUnstarted scan.progress in
     let typed = typed_kept nodes (IsForPlan nodes) (λ k is. is) (map kept_data c.args.given.items) (map kept_data c.for_plans.result.items) c.for_plans.ensures in
-    good_with_given nodes c.self.inside.job c.hand_in.new.self c.self.inside.progress c.of-given.result (subst P (sym c.self.view_is) c.requires) c.self.invariant (subst (AreTyped nodes) (sym c.of-given.ensures) typed) c.hand_in.ensures
+    (good_with_given nodes c.self.inside.job c.hand_in.new.self c.self.inside.progress c.of-given.result (subst P (sym c.self.view_is) c.requires) c.self.invariant.0 (subst (AreTyped nodes) (sym c.of-given.ensures) typed) c.hand_in.ensures, c.self.invariant.1)

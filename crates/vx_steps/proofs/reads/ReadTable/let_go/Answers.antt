@@ -1,0 +1,44 @@
+use Rattle.std.proofs.Common.{◌≡◌, ℕ, ◌<◌, ◌≤◌, List, inl, inr, ⊎_elim, length, map, refl, sym, ap, ◌∙◌, subst, true, arith}
+use Rattle.std.proofs.lemmas.Grind.{common_steps}
+use Rattle.std.specs.Prelude.{Option}
+use Rattle.vx_steps.specs.declared.reads.WantedSegment.{WantedSegment}
+use Rattle.vx_steps.specs.ReadTable.{AreReads, IsGone}
+use Rattle.vx_steps.specs.ReadTableData.{Wanted, is_gone, stored_data, wanted_data}
+use Rattle.vx_steps.proofs.WantedReads.{changed_gone, changed_named, item_at, place_inside, same_set, stands_is, wanted_at}
+use Rattle.vx_steps.proofs.reads.ReadTable.let_go.Goals as goal
+
+pub index_mut-requires : goal.index_mut-requires
+index_mut-requires c =
+    let inside : c.in-Some.found.now < length c.self.inside.wanted.items = place_inside c.self.inside.places c.self.inside.wanted.items c.self.inside.handed c.self.invariant c.args.segment c.in-Some.found.now (sym c.in-Some.ensures.value) in
+    grind (arith, common_steps)
+
+pub invariant_of-self : goal.invariant_of-self
+invariant_of-self c =
+    let ws = c.self.inside.wanted.items in
+    let place = c.in-Some.found.now in
+    let w = c.index_mut.result.now in
+    let v : WantedSegment = record { segment = w.segment; bytes = c.let_go.new.self; last = w.last } in
+    let inside : place < length ws = place_inside c.self.inside.places ws c.self.inside.handed c.self.invariant c.args.segment place (sym c.in-Some.ensures.value) in
+    let P : List Wanted → Type 0 = λ wanted. AreReads c.self.inside.places wanted c.self.inside.handed in
+    subst P (sym (same_set wanted_data ws place v w (item_at ws place w inside c.index_mut.ensures.value) (ap (λ (b : Option (List ℕ)). record { segment = w.segment; bytes = b }) c.let_go.ensures))) c.self.invariant
+
+pub returns-in-Some : goal.returns-in-Some
+returns-in-Some c =
+    let ws = c.self.inside.wanted.items in
+    let place = c.in-Some.found.now in
+    let w = c.index_mut.result.now in
+    let v : WantedSegment = record { segment = w.segment; bytes = c.let_go.new.self; last = w.last } in
+    let inside : place < length ws = place_inside c.self.inside.places ws c.self.inside.handed c.self.invariant c.args.segment place (sym c.in-Some.ensures.value) in
+    let at = item_at ws place w inside c.index_mut.ensures.value in
+    let own : w.last ≤ w.last = omega arith in
+    let is : w.segment ≡ c.args.segment = stands_is (map wanted_data ws) c.args.segment place (wanted_data w) (wanted_at ws place w inside c.index_mut.ensures.value) (c.self.invariant.stands c.args.segment place (sym c.in-Some.ensures.value)) in
+    rw (← c.self.view_is) (record {
+      wanted = same_set wanted_data ws place v w at (ap (λ (b : Option (List ℕ)). record { segment = w.segment; bytes = b }) c.let_go.ensures);
+      handed = refl;
+      passed = refl;
+      named = λ segment n named. changed_named ws place v w at refl own segment n named;
+      gone = λ s gone. ⊎_elim
+          (λ (g : IsGone (map stored_data ws) s). inl g)
+          (λ (e : (w.segment ≡ s) × (is_gone c.let_go.new.self ≡ true)). inr (sym is ∙ e.0))
+          (changed_gone ws place v w at s gone);
+    })
