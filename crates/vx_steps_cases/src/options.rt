@@ -29,6 +29,8 @@ pub(crate) struct Options {
     pub(crate) queue: Vec<u64>,
     /// The numbers of the reads that are delivered after the end.
     pub(crate) late: Vec<u64>,
+    /// Whether it is told how many bytes of segments the scan holds.
+    pub(crate) tells_held: bool,
     pub(crate) given: Vec<KeptValue>,
     pub(crate) leaves: Vec<KeptValue>,
 }
@@ -77,6 +79,7 @@ fn set_option(alloc: Global, options: &mut Options, text: &str) -> Result<(), Al
         "offset" => options.offset = words.parse::<u64>().unwrap_or(0),
         "order" => return set_order(options, words),
         "late" => return push_numbers(words, &mut options.late),
+        "held" => options.tells_held = true,
         "given" => return push_column(alloc, words, &mut options.given),
         _ => return push_column(alloc, words, &mut options.leaves),
     }
@@ -105,6 +108,7 @@ pub(crate) fn options_of(
         order: Order::Forward,
         queue: Vec::new(alloc),
         late: Vec::new(alloc),
+        tells_held: false,
         given: Vec::new(alloc),
         leaves,
     };

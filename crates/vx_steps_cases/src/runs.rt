@@ -14,6 +14,7 @@ pub(crate) struct Run<'a> {
     pub(crate) order: Order,
     pub(crate) reads: Vec<ReadRequest>,
     pub(crate) queue: Vec<u64>,
+    pub(crate) tells_held: bool,
 }
 
 /// The bytes of a segment, the last that were put there; none where there are none.
@@ -34,6 +35,14 @@ fn segment_of(reads: &[ReadRequest], number: u64) -> u32 {
     }
 }
 
+/// Appends how many bytes of segments the scan holds, where that is asked.
+fn write_held(run: &Run<'_>, out: &mut String) -> Result<(), AllocError> {
+    if !run.tells_held {
+        return Ok(());
+    }
+    write!(out, " held {};", run.scan.held_bytes())
+}
+
 /// Delivers a read.
 fn deliver(
     alloc: Global,
@@ -42,10 +51,10 @@ fn deliver(
     out: &mut String,
 ) -> Result<(), AllocError> {
     let bytes = bytes_of(alloc, run.file, segment_of(&run.reads, number))?;
-    match run.scan.deliver(ReadId(number), bytes) {
-        Ok(()) => Ok(()),
-        Err(_) => { write!(out, " unknown {number};") }
+    if run.scan.deliver(ReadId(number), bytes).is_err() {
+        write!(out, " unknown {number};")?;
     }
+    write_held(run, out)
 }
 
 /// The next read that is to be delivered.
@@ -104,13 +113,16 @@ fn take_turn(
         Turn::Output(split, column) => {
             write!(out, " out {split}")?;
             write_column(alloc, &column, out)?;
+            write_held(run, out)?;
         }
         Turn::Waiting => {
             out.push_str(" waiting;")?;
+            write_held(run, out)?;
             return deliver_next(alloc, run, out);
         }
         Turn::Done => {
             out.push_str(" done;")?;
+            write_held(run, out)?;
             return Ok(false);
         }
     }
@@ -123,6 +135,7 @@ fn take_step(alloc: Global, run: &mut Run<'_>, out: &mut String) -> Result<bool,
         Ok(turn) => take_turn(alloc, run, turn, out),
         Err(error) => {
             write_refusal(error, out)?;
+            write_held(run, out)?;
             Ok(true)
         }
     }

@@ -55,6 +55,7 @@ fn write_turns<'a>(
         order,
         queue,
         late,
+        tells_held,
         given,
         leaves,
         ..
@@ -69,6 +70,7 @@ fn write_turns<'a>(
         order,
         reads: Vec::new(alloc),
         queue,
+        tells_held,
     };
     write_run(alloc, &mut run, &late, out)?;
     let Run { scan, .. } = run;
