@@ -62,9 +62,9 @@ begins plans chosen splits scan made are good one new is told =
 
 -- ---- with what is handed in
 
-given_literal : (plans : ScanPlans) (chosen : SelectedRows) (given fitting : List Kept) (scan : ScanData) → IsChunkScan plans chosen [] [] [] scan → Keeps (IsForPlan scan.nodes) given fitting → StaysTold scan (record scan { job = record scan.job { given = fitting } }) →
-    IsChunkScan plans chosen fitting [] [] (record scan { job = record scan.job { given = fitting } })
-given_literal plans chosen given fitting scan is keeps told = record {
+given_literal : (plans : ScanPlans) (chosen : SelectedRows) (given fitting leaves made : List Kept) (scan : ScanData) → IsChunkScan plans chosen [] leaves made scan → Keeps (IsForPlan scan.nodes) given fitting → StaysTold scan (record scan { job = record scan.job { given = fitting } }) →
+    IsChunkScan plans chosen fitting leaves made (record scan { job = record scan.job { given = fitting } })
+given_literal plans chosen given fitting leaves made scan is keeps told = record {
   nodes = is.nodes;
   plan = is.plan;
   offset = is.offset;
@@ -86,10 +86,10 @@ given_literal plans chosen given fitting scan is keeps told = record {
   handed = is.handed;
 }
 
-pub with_given : (plans : ScanPlans) (chosen : SelectedRows) (given fitting : List Kept) (scan more : ScanData) → IsChunkScan plans chosen [] [] [] scan → Keeps (IsForPlan scan.nodes) given fitting →
-    more ≡ record scan { job = record scan.job { given = fitting } } → StaysTold scan more → IsChunkScan plans chosen fitting [] [] more
-with_given plans chosen given fitting scan more is keeps same told =
-    subst (IsChunkScan plans chosen fitting [] []) (sym same) (given_literal plans chosen given fitting scan is keeps (subst (StaysTold scan) same told))
+pub with_given : (plans : ScanPlans) (chosen : SelectedRows) (given fitting leaves made : List Kept) (scan more : ScanData) → IsChunkScan plans chosen [] leaves made scan → Keeps (IsForPlan scan.nodes) given fitting →
+    more ≡ record scan { job = record scan.job { given = fitting } } → StaysTold scan more → IsChunkScan plans chosen fitting leaves made more
+with_given plans chosen given fitting leaves made scan more is keeps same told =
+    subst (IsChunkScan plans chosen fitting leaves made) (sym same) (given_literal plans chosen given fitting leaves made scan is keeps (subst (StaysTold scan) same told))
 
 handed_literal : (plans : ScanPlans) (chosen : SelectedRows) (leaves made : List Kept) (scan : ScanData) → IsChunkScan plans chosen [] [] [] scan → IsOfHanded (record scan { progress = record scan.progress { leaves = leaves; wholes = record scan.progress.wholes { made = made } } }) →
     IsChunkScan plans chosen [] leaves made (record scan { progress = record scan.progress { leaves = leaves; wholes = record scan.progress.wholes { made = made } } })

@@ -1,5 +1,5 @@
 -- What a run of a chunk's scan gives, as the chunk's rows read it.
-use Rattle.std.proofs.Common.{◌≡◌, ℕ, Bool, List, Some, sym, ap, ◌∙◌, subst}
+use Rattle.std.proofs.Common.{◌≡◌, ℕ, ◌⊎◌, inl, inr, Bool, List, Some, sym, ap, ◌∙◌, subst}
 use Rattle.std.proofs.lemmas.List.Elements.{All-weaker}
 use Rattle.vx_base.specs.Columns.{ColumnData}
 use Rattle.vx_base.specs.Masks.{true_count}
@@ -12,6 +12,7 @@ use Rattle.vx_plan.specs.Rules.{node_at}
 use Rattle.vx_rows.specs.Reads.{Found}
 use Rattle.vx_rows.specs.SegmentLeaves.{Bytes, leaves_of}
 use Rattle.vx_splits.specs.declared.selected_rows.SelectedRows.{SelectedRows}
+use Rattle.vx_steps.specs.declared.errors.StepError.{StepError}
 use Rattle.vx_steps.specs.declared.leaf_reads.LeafRead.{LeafRead}
 use Rattle.vx_steps.specs.declared.splits.Split.{Split}
 use Rattle.vx_steps.specs.Given.{handed_by, row_value}
@@ -22,17 +23,17 @@ use Rattle.vx_steps.specs.Rows.{AreOf, rows_of}
 use Rattle.vx_steps.specs.ScanData.{ScanData, IsScanOf}
 use Rattle.vx_steps.specs.ScanLaws.{IsTornIn}
 use Rattle.vx_steps.specs.Visits.{HasEvalFault, IsLeafRead, IsWholeRead, SomeVisit, Test}
-use Rattle.vx_steps.specs.Wholes.{IsThere}
+use Rattle.vx_steps.specs.Wholes.{HasInsideCause, IsThere}
 use Rattle.vx_steps.proofs.ReadVisits.{selected_read}
 use Rattle.vx_scan.specs.declared.errors.ScanError.{ScanError}
 use Rattle.vx_scan.specs.declared.errors.ScanError.TheVariants as errors
 use Rattle.vx_scan.specs.declared.plans.ScanPlans.{ScanPlans}
 use Rattle.vx_scan.specs.Asks.{AsksOnly}
-use Rattle.vx_scan.specs.ChunkRows.{ChunkVisits, IsPiece}
+use Rattle.vx_scan.specs.ChunkRows.{ChunkFailsInside, ChunkVisits, IsPiece}
 use Rattle.vx_scan.specs.ChunkScans.{IsChunkScan}
 use Rattle.vx_scan.specs.Outcomes.{Causes, ChunkAsks, Claims, GivesPiece, IsWanted}
 use Rattle.vx_scan.specs.Plans.{bytes_of}
-use Rattle.vx_scan.specs.Runs.{GivesSplit, IsReadByStart, RunCause}
+use Rattle.vx_scan.specs.Runs.{GivesSplit, IsReadByStart, LeavesFault, RunCause}
 use Rattle.vx_scan.specs.Starts.{split_of}
 use Rattle.vx_scan.proofs.Running.{only_split}
 
@@ -92,6 +93,16 @@ pub read_there : (plans : ScanPlans) (chosen : SelectedRows) (given leaves made 
     GivesSplit plans.locations.items start scan before column → (read : LeafRead) → ChunkVisits (IsLeafRead read) plans given chosen → IsKept scan.progress.leaves read.leaf
 read_there plans chosen given leaves made start scan before column is gave read visits =
     gave.leaves read (subst (ViewVisits (IsLeafRead read)) (sym (view_same plans chosen given leaves made start is)) visits)
+
+-- what a fault of rows leaves, by what the chunk's rows ask for
+pub fault_left : (Told : Claims) (plans : ScanPlans) (chosen : SelectedRows) (given leaves made : List Kept) (start scan : ScanData) (before : SourceState) (fault : StepError) → IsChunkScan plans chosen given leaves made start → Claimable plans start before Told → LeavesFault plans.locations.items start scan before fault →
+    ((n : ℕ) → ChunkAsks plans given chosen n → IsThere given scan.progress.wholes n) ⊎ Told (λ bytes. ChunkFailsInside (leaves_of bytes) plans given chosen fault)
+fault_left Told plans chosen given leaves made start scan before fault is claim (inl there) =
+    inl (λ n asks. subst (λ (g : List Kept). IsThere g scan.progress.wholes n) is.given_is (there n (subst (ViewVisits (IsWholeRead n)) (sym (view_same plans chosen given leaves made start is)) asks)))
+fault_left Told plans chosen given leaves made start scan before fault is claim (inr inside) =
+    inr (claim (λ bytes. ChunkFailsInside (leaves_of bytes) plans given chosen fault) (λ file told held.
+    subst (λ (v : View). HasInsideCause (leaves_of (bytes_of plans file)) (handed_by v.nodes (Some v.given)) v.offset (plan_at v.nodes v.plan) v.first v.mask fault)
+    (view_same plans chosen given leaves made start is) (inside file told held)))
 
 -- ---- what is wanted
 

@@ -42,6 +42,7 @@ asks_between P locations before after asks = record { segments = asks.segments; 
 gives_between : (locations : List SegmentLocation) (limit : ℕ) (start : ScanData) (result : Result (Option ColumnData) ScanError) (scan : ScanData) (before after : SourceState) → RunGives locations limit start result scan (record before { in_flight = [] }) after → RunGives locations limit start result scan before (record after { in_flight = [] })
 gives_between locations limit start result scan before after gives = record {
   answer = answer_between locations limit start result scan before after gives.answer;
+  left = gives.left;
   asks = asks_between (IsReadByStart start) locations before after gives.asks;
   faults = gives.faults;
   nodes = gives.nodes;

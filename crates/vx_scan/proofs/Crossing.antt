@@ -54,6 +54,9 @@ sync_dtype = search (dtypes_cross, crosses, nullable.the_sync, kinds.the_sync, t
 send_part : IsSend parts.the_row
 send_part = search (parts_cross, crosses, masks.the_send, numbers.the_send, packed_texts.the_send, sendable) depth 60
 
+sync_part : IsSync parts.the_row
+sync_part = search (parts_cross, crosses, masks.the_sync, numbers.the_sync, packed_texts.the_sync, sendable) depth 60
+
 send_runs : IsSend runs.the_row
 send_runs = view_send inside_runs.the_row _ _ _ _ (declared_send inside_runs.the_type (
   masks.the_send,
@@ -67,7 +70,13 @@ send_runs = view_send inside_runs.the_row _ _ _ _ (declared_send inside_runs.the
 ))
 
 send_rows : IsSend stored.the_row
-send_rows = variants_send stored.enum ((as_row_send (row_field _) send_part, tt), ((send_runs, tt), tt))
+send_rows = variants_send stored.enum (
+  (as_row_send (row_field _) send_part, tt),
+  (
+    (arc.the_send parts.the_row alloc.the_row impl.ghosts send_part global.the_send sync_part global.the_sync heap.the_frees, tt),
+    ((send_runs, tt), tt),
+  ),
+)
 
 pub send_column : IsSend columns.the_row
 send_column = view_send inside_columns.the_row _ _ _ _ (declared_send inside_columns.the_type (send_dtype, (send_rows, tt)))

@@ -23,6 +23,7 @@ mod Fitting
 mod GivenBatches
 mod Got
 mod Growing
+mod HandedRuns
 mod HandingOut
 mod Higher
 mod Joining
@@ -59,4 +60,5 @@ mod TakenReads
 mod UnsharedPlans
 mod Ways
 mod WeakerVisits
+mod WholeRuns
 mod Working

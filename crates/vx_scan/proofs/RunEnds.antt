@@ -1,6 +1,6 @@
 -- How a run of a scan over a session ends.
-use Rattle.std.proofs.Common.{◌≡◌, ℕ, zero, suc, ◌<◌, ◌≤◌, ◌⊎◌, inl, inr, Bool, false, true, List, [], ◌∷◌, ◌++◌, Option, Some, None, Ok, Err, length, map, take, drop, refl, sym, ap, ◌∙◌, subst, arith, append_assoc}
-use Rattle.std.specs.Prelude.{if◌then◌else◌, ◌==◌, slice_get, slice_index_or}
+use Rattle.std.proofs.Common.{◌≡◌, ℕ, zero, suc, ◌<◌, ◌≤◌, ◌⊎◌, inl, inr, ⊎_elim, Bool, false, true, List, [], ◌∷◌, ◌++◌, Option, Some, None, Ok, Err, length, map, take, drop, refl, sym, ap, ◌∙◌, subst, arith, append_assoc}
+use Rattle.std.specs.Prelude.{if◌then◌else◌, ◌==◌, slice_get, slice_index_or, IfSome}
 use Rattle.std.specs.List.{All}
 use Rattle.std.proofs.lemmas.List.{map-append, length-append}
 use Rattle.std.proofs.lemmas.List.Elements.{All-append, All-tail, All-take}
@@ -15,15 +15,20 @@ use Rattle.vx_io.specs.Session.{SessionState}
 use Rattle.vx_layout.specs.Rows.{segment_bytes}
 use Rattle.vx_plan.specs.declared.children.PlanRef.{PlanRef}
 use Rattle.vx_plan.specs.Nodes.{Node}
+use Rattle.vx_plan.specs.Plans.{plan_at}
 use Rattle.vx_plan.specs.Refs.{number_of}
-use Rattle.vx_rows.specs.SegmentLeaves.{Bytes}
+use Rattle.vx_rows.specs.SegmentLeaves.{Bytes, leaves_of}
 use Rattle.vx_steps.specs.declared.errors.StepError.{StepError}
 use Rattle.vx_steps.specs.declared.errors.StepError.TheVariants as step_errors
 use Rattle.vx_steps.specs.declared.jobs.Job.{Job}
 use Rattle.vx_steps.specs.declared.splits.Split.{Split}
+use Rattle.vx_steps.specs.declared.wholes.Wholes.{Wholes}
 use Rattle.vx_steps.specs.Agreement.{Agrees}
+use Rattle.vx_steps.specs.Given.{handed_by}
 use Rattle.vx_steps.specs.ScanData.{ScanData, IsScanOf}
 use Rattle.vx_steps.specs.Steps.{HasCauseIn, RefusesSplit}
+use Rattle.vx_steps.specs.Turns.{FailsInWholes}
+use Rattle.vx_steps.specs.Wholes.{AreThere, HasInsideCause}
 use Rattle.vx_steps.proofs.Premises.{unless_held}
 use Rattle.vx_steps.proofs.SplitVisits.{split_cause}
 use Rattle.vx_scan.specs.declared.adaptor_errors.AdaptorError.{AdaptorError}
@@ -36,7 +41,7 @@ use Rattle.vx_scan.specs.Asks.{AsksOnly, KeepsFaults, Lasts, TellsFaults}
 use Rattle.vx_scan.specs.Computes.{Batches, StopCause, Stops, WhyYields, Yields}
 use Rattle.vx_scan.specs.Continues.{splits_left}
 use Rattle.vx_scan.specs.Fetched.{AreApart, location_of, segments_in}
-use Rattle.vx_scan.specs.Runs.{GivesOutput, IsListCause, IsReadByStart, IsStepCause, RunCause, RunGives, WhereScanned, scan_error}
+use Rattle.vx_scan.specs.Runs.{GivesOutput, IsListCause, IsReadByStart, IsStepCause, LeavesFault, RunCause, RunGives, WhereScanned, row_fault, scan_error}
 use Rattle.vx_scan.specs.Starts.{IsUnread, split_of}
 use Rattle.vx_scan.specs.Waits.{SendGives, WaitFails}
 use Rattle.vx_scan.proofs.Running.{KeptSoFar, ScanSoFar, all_taken, kept_then, only_split, so_far_then}
@@ -63,10 +68,11 @@ told_of X error before after (inl same) = inl same
 told_of X error before after (inr is) = inr (ap Err is)
 
 -- the answer, with what was asked and what lasts
-gives_with : (locations : List SegmentLocation) (limit : ℕ) (start scan : ScanData) (before after : SourceState) (error : ScanError) → KeptSoFar locations start before scan → RunCause locations limit start error before after → AsksOnly (IsReadByStart start) locations before after → Lasts before after → KeepsFaults before after ⊎ (error ≡ scan_errors.ReadFault) →
+gives_with : (locations : List SegmentLocation) (limit : ℕ) (start scan : ScanData) (before after : SourceState) (error : ScanError) → KeptSoFar locations start before scan → RunCause locations limit start error before after → IfSome (row_fault error) (LeavesFault locations start scan before) → AsksOnly (IsReadByStart start) locations before after → Lasts before after → KeepsFaults before after ⊎ (error ≡ scan_errors.ReadFault) →
     RunGives locations limit start (Err error) scan before after
-gives_with locations limit start scan before after error kept cause asks lasts faults = record {
+gives_with locations limit start scan before after error kept cause left asks lasts faults = record {
   answer = cause;
+  left = left;
   asks = asks;
   faults = told_of (Option ColumnData) error before after faults;
   nodes = kept.nodes;
@@ -101,6 +107,7 @@ run_returns locations limit start before adaptor next output state run yields do
     let kept = kept_then locations start before adaptor.scan next.scan run.scan.kept yields.scan.keeps in
     record {
       answer = answer (output_waits locations start before adaptor next output yields run.so_far);
+      left = tt;
       asks = asks_so_far locations start before adaptor output state state.source run refl;
       faults = inl run.faults;
       nodes = kept.nodes;
@@ -135,15 +142,15 @@ run_returns locations limit start before adaptor next output state run yields do
 pub run_stalls : (locations : List SegmentLocation) (limit : ℕ) (start : ScanData) (before : SourceState) (adaptor : AdaptorData) (output : Option ColumnData) (state : SessionState) (after : SourceState) (error : ScanError) →
     Running locations start before adaptor output state → WaitFails limit error state.source after → RunGives locations limit start (Err error) adaptor.scan before after
 run_stalls locations limit start before adaptor output state after scan_errors.ReadFault run (keeps, rose, idle) =
-    gives_with locations limit start adaptor.scan before after scan_errors.ReadFault run.scan.kept (rose_after before state.source after run.faults rose) (asks_so_far locations start before adaptor output state after run keeps.asked)
+    gives_with locations limit start adaptor.scan before after scan_errors.ReadFault run.scan.kept (rose_after before state.source after run.faults rose) tt (asks_so_far locations start before adaptor output state after run keeps.asked)
     (lasts_after before state.source after run.file run.faults run.idle keeps.file rose.kept idle) (inr refl)
 run_stalls locations limit start before adaptor output state after scan_errors.Stalled run (keeps, faults, waited) =
     gives_with locations limit start adaptor.scan before after scan_errors.Stalled run.scan.kept
-    (record { kept = let p = waited.kept in let q = run.idle in omega (arith, p, q); raised = let p = waited.raised in let q = run.idle in omega (arith, p, q) })
+    (record { kept = let p = waited.kept in let q = run.idle in omega (arith, p, q); raised = let p = waited.raised in let q = run.idle in omega (arith, p, q) }) tt
     (asks_so_far locations start before adaptor output state after run keeps.asked)
     (lasts_after before state.source after run.file run.faults run.idle keeps.file (omega (arith, faults)) waited.kept) (inl (faults ∙ run.faults))
 run_stalls locations limit start before adaptor output state after scan_errors.Memory run (keeps, faults, idle) =
-    gives_with locations limit start adaptor.scan before after scan_errors.Memory run.scan.kept tt (asks_so_far locations start before adaptor output state after run keeps.asked)
+    gives_with locations limit start adaptor.scan before after scan_errors.Memory run.scan.kept tt tt (asks_so_far locations start before adaptor output state after run keeps.asked)
     (lasts_after before state.source after run.file run.faults run.idle keeps.file (omega (arith, faults)) idle) (inl (faults ∙ run.faults))
 run_stalls locations limit start before adaptor output state after scan_errors.BadProjection run gives = absurd gives
 run_stalls locations limit start before adaptor output state after scan_errors.OffsetOverflow run gives = absurd gives
@@ -203,11 +210,11 @@ asks_some locations start before batch adaptor next output state new run batched
 pub run_unsent : (locations : List SegmentLocation) (limit : ℕ) (start : ScanData) (before : SourceState) (batch : List IoRequest) (adaptor next : AdaptorData) (output : Option ColumnData) (state new : SessionState) (error : ScanError) →
     Running locations start before adaptor output state → Batches locations batch adaptor next → SendGives batch (Err error) state new → RunGives locations limit start (Err error) next.scan before new.source
 run_unsent locations limit start before batch adaptor next output state new scan_errors.ReadFault run batched (some, stays, rose) =
-    gives_with locations limit start next.scan before new.source scan_errors.ReadFault (kept_then locations start before adaptor.scan next.scan run.scan.kept batched.scan.keeps) (rose_after before state.source new.source run.faults rose)
+    gives_with locations limit start next.scan before new.source scan_errors.ReadFault (kept_then locations start before adaptor.scan next.scan run.scan.kept batched.scan.keeps) (rose_after before state.source new.source run.faults rose) tt
     (asks_some locations start before batch adaptor next output state new run batched some)
     (lasts_after before state.source new.source run.file run.faults run.idle stays.file rose.kept (let p = stays.idle in omega (arith, p))) (inr refl)
 run_unsent locations limit start before batch adaptor next output state new scan_errors.Memory run batched (some, stays, faults) =
-    gives_with locations limit start next.scan before new.source scan_errors.Memory (kept_then locations start before adaptor.scan next.scan run.scan.kept batched.scan.keeps) tt
+    gives_with locations limit start next.scan before new.source scan_errors.Memory (kept_then locations start before adaptor.scan next.scan run.scan.kept batched.scan.keeps) tt tt
     (asks_some locations start before batch adaptor next output state new run batched some)
     (lasts_after before state.source new.source run.file run.faults run.idle stays.file (omega (arith, faults)) (let p = stays.idle in omega (arith, p))) (inl (faults ∙ run.faults))
 run_unsent locations limit start before batch adaptor next output state new scan_errors.Stalled run batched gives = absurd gives
@@ -222,13 +229,17 @@ run_unsent locations limit start before batch adaptor next output state new (sca
 
 -- ---- refusals of the scan
 
--- the cause of a refused step as one of the split with which the run begins
+-- the split that is refused is that with which the run begins
+refused_split : (locations : List SegmentLocation) (start old new : ScanData) (before : SourceState) (error : StepError) → IsUnread start → KeptSoFar locations start before old → (refuses : RefusesSplit old.nodes old.job old.progress new.progress error) → refuses.split ≡ split_of start
+refused_split locations start old new before error unread kept refuses =
+    let at : slice_get start.job.splits.items refuses.number ≡ Some refuses.split = ap (λ (j : Job). slice_get j.splits.items refuses.number) (sym kept.job) ∙ refuses.at in
+    only_split start.job.splits.items (split_of start) refuses.split refuses.number unread.splits at
+
+-- the cause of a refused step as one of that split
 cause_at : (start old new : ScanData) (locations : List SegmentLocation) (before : SourceState) (error : StepError) → IsUnread start → KeptSoFar locations start before old → (refuses : RefusesSplit old.nodes old.job old.progress new.progress error) → (bytes : Bytes) →
     HasCauseIn old.nodes old.job new.progress.reads.wanted refuses.split bytes error → HasCauseIn start.nodes start.job new.progress.reads.wanted (split_of start) bytes error
 cause_at start old new locations before error unread kept refuses bytes cause =
-    let at : slice_get start.job.splits.items refuses.number ≡ Some refuses.split = ap (λ (j : Job). slice_get j.splits.items refuses.number) (sym kept.job) ∙ refuses.at in
-    let split : refuses.split ≡ split_of start = only_split start.job.splits.items (split_of start) refuses.split refuses.number unread.splits at in
-    subst (λ (s : Split). HasCauseIn start.nodes start.job new.progress.reads.wanted s bytes error) split
+    subst (λ (s : Split). HasCauseIn start.nodes start.job new.progress.reads.wanted s bytes error) (refused_split locations start old new before error unread kept refuses)
     (subst (λ (j : Job). HasCauseIn start.nodes j new.progress.reads.wanted refuses.split bytes error) kept.job
     (subst (λ (ns : List Node). HasCauseIn ns old.job new.progress.reads.wanted refuses.split bytes error) kept.nodes cause))
 
@@ -265,11 +276,42 @@ stop_cause locations limit start old new before now (errors.Step step_errors.Mem
 stop_cause locations limit start old new before now errors.NotOutstanding unread scan kept cause = absurd cause
 stop_cause locations limit start old new before now errors.Memory unread scan kept cause = tt
 
+-- ---- what a fault of rows leaves
+
+abbrev LeavesIn : List SegmentLocation → ScanData → SourceState → Wholes → StepError → List Node → Job → Split → Type 0
+LeavesIn locations start before wholes fault nodes job split =
+    AreThere nodes job.given wholes job.plan split.rows.start split.mask
+    ⊎ WhereScanned locations start before (λ bytes. HasInsideCause (leaves_of bytes) (handed_by nodes (Some job.given)) job.offset (plan_at nodes job.plan) split.rows.start split.mask fault)
+
+fault_left : (locations : List SegmentLocation) (start old new : ScanData) (before : SourceState) (fault : StepError) → IsUnread start → KeptSoFar locations start before old → (refuses : RefusesSplit old.nodes old.job old.progress new.progress fault) →
+    AreThere old.nodes old.job.given new.progress.wholes old.job.plan refuses.split.rows.start refuses.split.mask ⊎ FailsInWholes old.nodes old.job refuses.split old.progress.reads.wanted old.progress.leaves old.progress.wholes.made fault → LeavesFault locations start new before fault
+fault_left locations start old new before fault unread kept refuses left =
+    let here : LeavesIn locations start before new.progress.wholes fault old.nodes old.job refuses.split =
+    ⊎_elim
+    (λ (there : AreThere old.nodes old.job.given new.progress.wholes old.job.plan refuses.split.rows.start refuses.split.mask). inl there)
+    (λ (fails : FailsInWholes old.nodes old.job refuses.split old.progress.reads.wanted old.progress.leaves old.progress.wholes.made fault).
+    inr (λ file is held. fails (segment_bytes file locations) (unless_held fault (IsScanOf old (segment_bytes file locations)) (kept.told file is held))))
+    left in
+    subst (LeavesIn locations start before new.progress.wholes fault start.nodes start.job) (refused_split locations start old new before fault unread kept refuses)
+    (subst (λ (j : Job). LeavesIn locations start before new.progress.wholes fault start.nodes j refuses.split) kept.job
+    (subst (λ (ns : List Node). LeavesIn locations start before new.progress.wholes fault ns old.job refuses.split) kept.nodes here))
+
+stop_left : (locations : List SegmentLocation) (start old new : ScanData) (before : SourceState) (error : AdaptorError) → IsUnread start → KeptSoFar locations start before old → StopCause locations error old new → IfSome (row_fault (scan_error error)) (LeavesFault locations start new before)
+stop_left locations start old new before (errors.NoLocation segment) unread kept cause = tt
+stop_left locations start old new before (errors.Step (step_errors.Unsupported list)) unread kept cause = tt
+stop_left locations start old new before (errors.Step (step_errors.BadSegment segment)) unread kept cause = tt
+stop_left locations start old new before (errors.Step (step_errors.BadCode take row)) unread kept refuses = fault_left locations start old new before (step_errors.BadCode take row) unread kept refuses.cause refuses.cause.left
+stop_left locations start old new before (errors.Step (step_errors.EvalFault row)) unread kept refuses = fault_left locations start old new before (step_errors.EvalFault row) unread kept refuses.cause refuses.cause.left
+stop_left locations start old new before (errors.Step step_errors.Memory) unread kept cause = tt
+stop_left locations start old new before errors.NotOutstanding unread kept cause = tt
+stop_left locations start old new before errors.Memory unread kept cause = tt
+
 pub run_stops : (locations : List SegmentLocation) (limit : ℕ) (start : ScanData) (before : SourceState) (adaptor next : AdaptorData) (output : Option ColumnData) (state : SessionState) (error : AdaptorError) →
     Running locations start before adaptor output state → Stops locations error adaptor next → RunGives locations limit start (Err (scan_error error)) next.scan before state.source
 run_stops locations limit start before adaptor next output state error run stops =
     let kept = kept_then locations start before adaptor.scan next.scan run.scan.kept stops.scan in
     gives_with locations limit start next.scan before state.source (scan_error error) kept
     (stop_cause locations limit start adaptor.scan next.scan before state.source error run.unread run.scan kept stops.cause)
+    (stop_left locations start adaptor.scan next.scan before error run.unread run.scan.kept stops.cause)
     (asks_so_far locations start before adaptor output state state.source run refl)
     (record { file = run.file; faults = let p = run.faults in omega (arith, p); idle = run.idle }) (inl run.faults)

@@ -87,6 +87,7 @@ refuses_before error old middle new keeps is =
       active = here.active;
       cause = λ outside was. here.cause outside (unless_by error (IsScanOf old outside) (IsTold old.nodes old.job middle.progress outside) (told_at old middle outside keeps) was);
       left = left_before error old middle new here.split keeps here.left;
+      leaves = here.leaves;
     }
 
 -- the refusal of a step as one of the adaptor

@@ -1,6 +1,6 @@
 -- The chunks of one worker, one after another.
 use Rattle.std.proofs.Common.{◌≡◌, ℕ, ◌+◌, ◌<◌, ◌≤◌, ◌⊎◌, inl, inr, List, [], ◌∷◌, ◌++◌, Some, None, Result, Ok, Err, length, refl, sym, ◌∙◌, subst, arith}
-use Rattle.std.specs.Prelude.{IfOk, IfErr, IsSomeAnd, Option}
+use Rattle.std.specs.Prelude.{IfOk, IsSomeAnd, Option}
 use Rattle.std.specs.List.{slice_get, All}
 use Rattle.std.proofs.lemmas.List.Elements.{All-nil, All-push}
 use Rattle.vx_base.specs.Columns.{ColumnData}
@@ -13,6 +13,8 @@ use Rattle.vx_rows.specs.SegmentLeaves.{Bytes, leaves_of}
 use Rattle.vx_splits.specs.declared.selected_rows.SelectedRows.{SelectedRows}
 use Rattle.vx_steps.specs.declared.leaf_reads.LeafRead.{LeafRead}
 use Rattle.vx_steps.specs.Kept.{AreApart, IsKept}
+use Rattle.vx_steps.specs.KeptData.{Kept}
+use Rattle.vx_steps.specs.Offers.{IsForPlan, Keeps}
 use Rattle.vx_steps.specs.Visits.{IsLeafRead}
 use Rattle.vx_scan.specs.declared.errors.ScanError.{ScanError}
 use Rattle.vx_scan.specs.declared.errors.ScanError.TheVariants.{BadProjection, OffsetOverflow, OutOfRange, Unsupported, NoLocation, ReadFault, Stalled, BadSegment, BadCode, EvalFault, Memory}
@@ -24,10 +26,11 @@ use Rattle.vx_scan.specs.declared.plans.ScanPlans.{ScanPlans}
 use Rattle.vx_scan.specs.Asks.{IsLeftClear, KeepsFaults, Lasts, TellsFaults}
 use Rattle.vx_scan.specs.ChunkRows.{ChunkVisits, IsPiece}
 use Rattle.vx_scan.specs.LeafRows.{IsReadAt, LeavesLieTogether, row_behind}
-use Rattle.vx_scan.specs.Outcomes.{data_of, told_by, told_on, CanHandOn, IsHandedBy, Causes, GivesPiece, RunsOn}
+use Rattle.vx_scan.specs.Outcomes.{data_of, told_by, told_on, CanHandOn, IsHandedBy, Causes, GivesPiece, RunsGiven, RunsOn}
 use Rattle.vx_scan.specs.Plans.{bytes_of, projection_plan, AreInOrder, IsChunkOf}
 use Rattle.vx_scan.specs.Reasons.{Reason}
 use Rattle.vx_scan.specs.Workers.{numbers_of, AsksReached, Fails, HasDtype, HasItsRows, IsPieceOf, RunsSource}
+use Rattle.vx_scan.proofs.ChunkOutcomes.{error_of}
 use Rattle.vx_scan.proofs.Distinct.{distinct_none}
 use Rattle.vx_scan.proofs.Higher.{ascend_none, ascend_push}
 use Rattle.vx_scan.proofs.Lasting.{lasts_same, lasts_then}
@@ -113,6 +116,16 @@ ran_none plans chunks numbers pieces handed source no_leaves none_made no_number
 told_before : (plans : ScanPlans) (handed : HandedOn) (before now : SourceState) (P : Bytes → Type 0) → Lasts before now → IsHanded plans handed before → told_on plans handed now P → told_by plans before P
 told_before plans handed before now P lasts is claim = λ file told. claim file (lasts.file ∙ told) (is file told)
 
+-- ---- a chunk that is given no values
+
+-- none of no values counts
+none_fits : (plans : ScanPlans) (given fitting : List Kept) (piece : Result ColumnData ScanError) → given ≡ [] → Keeps (IsForPlan plans.table) given fitting ⊎ ((piece ≡ Err Memory) × (fitting ≡ [])) → fitting ≡ []
+none_fits plans given fitting piece none (inl keeps) = subst (λ (ks : List Kept). Keeps (IsForPlan plans.table) ks fitting) none keeps
+none_fits plans given fitting piece none (inr (lacks, empty)) = empty
+
+pub runs_alone : (plans : ScanPlans) (chunk : SelectedRows) (handed : HandedOn) (given : List Kept) (ran : Ran) (now after : SourceState) → given ≡ [] → RunsOn plans chunk handed given ran now after → RunsGiven plans chunk handed [] ran now after
+runs_alone plans chunk handed given ran now after none runs = subst (λ (ks : List Kept). RunsGiven plans chunk handed ks ran now after) (none_fits plans given runs.fitting ran.piece none runs.fits) runs.runs
+
 -- ---- a chunk that gave its piece
 
 of_chunk : (P : SelectedRows → Type 0) (got : Option SelectedRows) (chunk : SelectedRows) → got ≡ Some chunk → P chunk → IsSomeAnd got P
@@ -133,7 +146,7 @@ faultless (Ok one) column now after is (inr fault) = absurd cc
 faultless (Err error) column now after is (inr fault) = absurd cc
 
 -- what a chunk hands on of leaves
-hands_leaves : (plans : ScanPlans) (chunk : SelectedRows) (handed : HandedOn) (ran : Ran) (column : ColumnData) (before after : SourceState) → RunsOn plans chunk handed ran before after → ran.piece ≡ Ok column → HandsLeaves plans chunk (data_of handed.leaves.items) (data_of ran.handed.leaves.items)
+hands_leaves : (plans : ScanPlans) (chunk : SelectedRows) (handed : HandedOn) (ran : Ran) (column : ColumnData) (before after : SourceState) → RunsGiven plans chunk handed [] ran before after → ran.piece ≡ Ok column → HandsLeaves plans chunk (data_of handed.leaves.items) (data_of ran.handed.leaves.items)
 hands_leaves plans chunk handed ran column before after runs piece_is =
     let there = piece_of (λ column. (read : LeafRead) → IsReadAt plans (row_behind chunk) read.leaf → ChunkVisits (IsLeafRead read) plans [] chunk → IsKept (data_of ran.handed.leaves.items) read.leaf) ran.piece column piece_is runs.more.leaves_there in
     record { stay = runs.more.leaves_stay; there = there }
@@ -153,7 +166,7 @@ above_last [] number later = omega arith
 above_last (n ∷ numbers) number later = let rest = above_last numbers number (omega (arith, later)) in omega (arith, later, rest)
 
 pub ran_more : (plans : ScanPlans) (chunks : List SelectedRows) (numbers : List ℕ) (number : ℕ) (chunk : SelectedRows) (handed : HandedOn) (ran : Ran) (column : ColumnData) (pieces : List Piece) (before now after : SourceState) → IsChunkOf plans chunk → slice_get chunks number ≡ Some chunk → above numbers ≤ number
-    → RanSoFar plans chunks numbers pieces handed before now → RunsOn plans chunk handed ran now after → ran.piece ≡ Ok column → RanSoFar plans chunks (numbers ++ number ∷ []) (pieces ++ record { chunk = number; column = column } ∷ []) ran.handed before after
+    → RanSoFar plans chunks numbers pieces handed before now → RunsGiven plans chunk handed [] ran now after → ran.piece ≡ Ok column → RanSoFar plans chunks (numbers ++ number ∷ []) (pieces ++ record { chunk = number; column = column } ∷ []) ran.handed before after
 ran_more plans chunks numbers number chunk handed ran column pieces before now after is here later so_far runs piece_is =
     let piece : GivesPiece (told_on plans handed now) plans [] chunk column = piece_of (GivesPiece (told_on plans handed now) plans [] chunk) ran.piece column piece_is runs.content in
     let next = next_chunk plans chunks numbers number chunk pieces handed before now is here later so_far in
@@ -197,13 +210,6 @@ cause_before plans handed chunk (BadCode take row) before now after lasts is cau
 cause_before plans handed chunk (EvalFault row) before now after lasts is cause = λ file told. cause file (lasts.file ∙ told) (is file told)
 cause_before plans handed chunk Memory before now after lasts is cause = tt
 
-error_of : (P : ScanError → Type 0) (piece : Result ColumnData ScanError) (error : ScanError) → piece ≡ Err error → IfErr piece P → P error
-error_of P (Ok column) error is holds = absurd cc
-error_of P (Err one) error is holds = subst (IfErr_of P) is holds
-  where
-    IfErr_of : (ScanError → Type 0) → Result ColumnData ScanError → Type 0
-    IfErr_of P result = IfErr result P
-
 -- the error of the chunk is that a read failed, where a call on the source failed
 faults_told : (piece : Result ColumnData ScanError) (error : ScanError) (before now after : SourceState) → KeepsFaults before now → piece ≡ Err error → TellsFaults piece now after → KeepsFaults before after ⊎ (error ≡ ReadFault)
 faults_told piece error before now after so_far is (inl same) = inl (same ∙ so_far)
@@ -214,7 +220,7 @@ faults_told (Err one) error before now after so_far is (inr fault) =
     inr (sym here ∙ there)
 
 pub fails_now : (plans : ScanPlans) (chunks : List SelectedRows) (numbers : List ℕ) (number : ℕ) (chunk : SelectedRows) (handed : HandedOn) (ran : Ran) (error : ScanError) (pieces : List Piece) (before now after : SourceState) → slice_get chunks number ≡ Some chunk
-    → RanSoFar plans chunks numbers pieces handed before now → RunsOn plans chunk handed ran now after → ran.piece ≡ Err error → Fails plans chunks (record { chunk = number; error = error }) before after
+    → RanSoFar plans chunks numbers pieces handed before now → RunsGiven plans chunk handed [] ran now after → ran.piece ≡ Err error → Fails plans chunks (record { chunk = number; error = error }) before after
 fails_now plans chunks numbers number chunk handed ran error pieces before now after here so_far runs error_is =
     let cause : Causes (told_on plans handed now) plans [] chunk error now after = error_of (λ error. Causes (told_on plans handed now) plans [] chunk error now after) ran.piece error error_is runs.cause in
     record {
@@ -227,7 +233,7 @@ fails_now plans chunks numbers number chunk handed ran error pieces before now a
 -- ---- the source with one chunk more, whether that has a piece or failed
 
 pub source_more : (plans : ScanPlans) (chunks : List SelectedRows) (numbers : List ℕ) (number : ℕ) (chunk : SelectedRows) (handed : HandedOn) (ran : Ran) (pieces : List Piece) (before now after : SourceState) → IsChunkOf plans chunk → slice_get chunks number ≡ Some chunk → above numbers ≤ number
-    → RanSoFar plans chunks numbers pieces handed before now → RunsOn plans chunk handed ran now after → RunsSource plans chunks (numbers ++ number ∷ []) before after
+    → RanSoFar plans chunks numbers pieces handed before now → RunsGiven plans chunk handed [] ran now after → RunsSource plans chunks (numbers ++ number ∷ []) before after
 source_more plans chunks numbers number chunk handed ran pieces before now after is here later so_far runs =
     let next = next_chunk plans chunks numbers number chunk pieces handed before now is here later so_far in
     let fresh : NewReasons plans number (data_of handed.leaves.items) chunk runs.asks.segments = new_reasons plans number (data_of handed.leaves.items) chunk runs.asks.segments runs.asks.wanted in

@@ -6,12 +6,14 @@ use Rattle.vx_rows.specs.Derivations.{Leaves}
 use Rattle.vx_rows.specs.Reads.{Found}
 use Rattle.vx_rows.specs.SegmentLeaves.{Bytes}
 use Rattle.vx_splits.specs.declared.selected_rows.SelectedRows.{SelectedRows}
+use Rattle.vx_steps.specs.declared.errors.StepError.{StepError}
 use Rattle.vx_steps.specs.Given.{Handed, handed_by, row_value}
 use Rattle.vx_steps.specs.KeptData.{Kept}
 use Rattle.vx_steps.specs.Laws.{IsRowOf, IsBadCodeAt, SomeRead}
 use Rattle.vx_steps.specs.Rows.{AreOf, rows_of}
 use Rattle.vx_steps.specs.ScanLaws.{IsTornIn}
 use Rattle.vx_steps.specs.Visits.{Test, SomeVisit, HasEvalFault}
+use Rattle.vx_steps.specs.Wholes.{HasInsideCause}
 use Rattle.vx_scan.specs.declared.plans.ScanPlans.{ScanPlans}
 use Rattle.vx_scan.specs.Plans.{projection_plan}
 
@@ -50,6 +52,10 @@ ChunkReadsBadCode leaves plans given chosen take row = ChunkFinds (IsBadCodeAt l
 -- Some selected row rests on that row of an expression, which is a fault over a value that is none.
 abbrev pub ChunkFaultsAt : Leaves → ScanPlans → List Kept → SelectedRows → ℕ → Type 0
 ChunkFaultsAt leaves plans given chosen row = ChunkVisits (HasEvalFault leaves plans.row_offset row) plans given chosen
+
+-- The fault is one of whole values that the selected rows ask for, which nothing that is given stands in place of.
+abbrev pub ChunkFailsInside : Leaves → ScanPlans → List Kept → SelectedRows → StepError → Type 0
+ChunkFailsInside leaves plans given chosen fault = HasInsideCause leaves (given_to plans given) plans.row_offset (projection_plan plans) chosen.scope.rows.start chosen.mask fault
 
 -- ---- the piece
 

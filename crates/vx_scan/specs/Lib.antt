@@ -34,6 +34,7 @@ pub mod Scanned
 pub mod Settings
 pub mod Starts
 pub mod Valid
+pub mod Values
 pub mod Waits
 pub mod Ways
 pub mod WorkedScans

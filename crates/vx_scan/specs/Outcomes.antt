@@ -1,11 +1,12 @@
 -- What the run of a chunk gives.
-use Rattle.std.specs.Prelude.{◌≡◌, ℕ, ◌<◌, ◌≤◌, ◌⊎◌, List, [], length, map, Some, None, Err, IfOk, IfErr}
+use Rattle.std.specs.Prelude.{◌≡◌, ℕ, ◌<◌, ◌≤◌, ◌⊎◌, List, [], length, map, Some, None, Err, IfOk, IfErr, IfSome}
 use Rattle.vx_base.specs.Columns.{ColumnData}
 use Rattle.vx_base.specs.Masks.{true_count}
 use Rattle.vx_base.specs.Sources.{SourceState, Rose, RoseBy}
 use Rattle.vx_plan.specs.Refs.{number_of}
 use Rattle.vx_rows.specs.SegmentLeaves.{Bytes, leaves_of}
 use Rattle.vx_splits.specs.declared.selected_rows.SelectedRows.{SelectedRows}
+use Rattle.vx_steps.specs.Below.{HasNoEvalBelowTake, HasNoShare}
 use Rattle.vx_steps.specs.Held.{AreMade, AreTyped, HaveLeaves}
 use Rattle.vx_steps.specs.Kept.{kept_at, kept_data, AreApart, IsKept}
 use Rattle.vx_steps.specs.KeptData.{Kept}
@@ -20,9 +21,10 @@ use Rattle.vx_scan.specs.declared.outcomes.HandedOn.{HandedOn}
 use Rattle.vx_scan.specs.declared.outcomes.Ran.{Ran}
 use Rattle.vx_scan.specs.declared.plans.ScanPlans.{ScanPlans}
 use Rattle.vx_scan.specs.Asks.{AsksOnly, Lasts, TellsFaults}
-use Rattle.vx_scan.specs.ChunkRows.{ChunkReaches, ChunkVisits, ChunkFaultsAt, IsPiece, ChunkReadsBadCode, ChunkReadsList, ChunkReadsTorn}
+use Rattle.vx_scan.specs.ChunkRows.{ChunkFailsInside, ChunkReaches, ChunkVisits, ChunkFaultsAt, IsPiece, ChunkReadsBadCode, ChunkReadsList, ChunkReadsTorn}
 use Rattle.vx_scan.specs.LeafRows.{IsReadAt, row_behind}
-use Rattle.vx_scan.specs.Plans.{bytes_of, projection_node}
+use Rattle.vx_scan.specs.Plans.{bytes_of, projection_node, projection_plan}
+use Rattle.vx_scan.specs.Runs.{row_fault}
 
 -- ---- what is claimed of bytes
 
@@ -80,13 +82,19 @@ data_of values = map kept_data values
 abbrev pub AreUsedOrMade : List Kept → List Kept → List Kept → ℕ → Type 0
 AreUsedOrMade given used made n = (IsKept given n × IsKept used n) ⊎ ((kept_at given n ≡ None) × IsKept made n)
 
+-- the same of all that the selected rows ask for
+abbrev pub AreAllUsedOrMade : ScanPlans → List Kept → SelectedRows → ChunkOutcome → Type 0
+AreAllUsedOrMade plans given chosen outcome = (n : ℕ) → ChunkAsks plans given chosen n → AreUsedOrMade given (data_of outcome.used.items) (data_of outcome.made.items) n
+
 -- Only given values were used. Those that were made are whole by the file. Those that the selected rows of a piece ask
--- for were used where they are given, and else made.
+-- for were used where they are given, and else made. So were those that rows with a fault of an expression ask for, where
+-- no share stands in the projection's plan and no expression below a take.
 pub record KeepsValues (plans : ScanPlans) (given : List Kept) (chosen : SelectedRows) (outcome : ChunkOutcome) (before : SourceState) : Type 0 where
   pub used : (n : ℕ) (column : ColumnData) → kept_at (data_of outcome.used.items) n ≡ Some column → kept_at given n ≡ Some column
   pub made : told_by plans before (λ bytes. AreMade plans.table plans.row_offset (data_of outcome.made.items) (leaves_of bytes))
   pub typed : AreTyped plans.table (data_of outcome.made.items)
-  pub there : IfOk outcome.piece (λ column. (n : ℕ) → ChunkAsks plans given chosen n → AreUsedOrMade given (data_of outcome.used.items) (data_of outcome.made.items) n)
+  pub there : IfOk outcome.piece (λ column. AreAllUsedOrMade plans given chosen outcome)
+  pub faults : (row : ℕ) → outcome.piece ≡ Err (EvalFault row) → HasNoShare (projection_plan plans) → HasNoEvalBelowTake (projection_plan plans) → told_by plans before (λ bytes. AreAllUsedOrMade plans given chosen outcome)
 
 pub record RunsChunk (plans : ScanPlans) (chosen : SelectedRows) (given : List Kept) (outcome : ChunkOutcome) (before after : SourceState) : Type 0 where
   -- the given values that fit their plans: they stand in place of whole ones; where memory lacked, none may count
@@ -120,26 +128,45 @@ IsHandedBy plans handed bytes = AreHandedBy plans (data_of handed.leaves.items) 
 abbrev pub told_on : ScanPlans → HandedOn → SourceState → Claims
 told_on plans handed source P = (file : List ℕ) → source.file ≡ Some file → IsHandedBy plans handed (bytes_of plans file) → P (bytes_of plans file)
 
--- What is handed on is so by the file, if what was handed in is. The values that were made before stay, and those that
--- the selected rows of a piece ask for are among them. Of the leaves that were handed in, and of those that the selected
+-- the whole values of the number were given or made
+abbrev pub IsGivenOrMade : List Kept → List Kept → ℕ → Type 0
+IsGivenOrMade given made n = IsKept given n ⊎ IsKept made n
+
+-- the same of all that the selected rows ask for
+abbrev pub AreAllThere : ScanPlans → List Kept → List Kept → SelectedRows → Type 0
+AreAllThere plans given made chosen = (n : ℕ) → ChunkAsks plans given chosen n → IsGivenOrMade given made n
+
+-- What is handed on is so by the file, if what was handed in is, whatever was given. The values that were made before
+-- stay, and those that the selected rows of a piece ask for are among them or given. So are those that rows with a fault
+-- ask for, or the fault is one inside whole values. Of the leaves that were handed in, and of those that the selected
 -- rows of a piece read, each is handed on that the row behind the chunk reads.
-pub record HandsOnMore (plans : ScanPlans) (chosen : SelectedRows) (handed : HandedOn) (ran : Ran) (before : SourceState) : Type 0 where
+pub record HandsOnMore (plans : ScanPlans) (chosen : SelectedRows) (handed : HandedOn) (given : List Kept) (ran : Ran) (before : SourceState) : Type 0 where
   pub can : CanHandOn plans ran.handed
   pub by_file : told_on plans handed before (IsHandedBy plans ran.handed)
   pub stays : (n : ℕ) (column : ColumnData) → n < length plans.table → kept_at (data_of handed.made.items) n ≡ Some column → kept_at (data_of ran.handed.made.items) n ≡ Some column
-  pub there : IfOk ran.piece (λ column. (n : ℕ) → ChunkAsks plans [] chosen n → IsKept (data_of ran.handed.made.items) n)
+  pub there : IfOk ran.piece (λ column. AreAllThere plans given (data_of ran.handed.made.items) chosen)
+  pub left : IfErr ran.piece (λ error. IfSome (row_fault error) (λ fault.
+      AreAllThere plans given (data_of ran.handed.made.items) chosen ⊎ told_on plans handed before (λ bytes. ChunkFailsInside (leaves_of bytes) plans given chosen fault)))
   pub leaves_stay : (leaf : ℕ) → IsReadAt plans (row_behind chosen) leaf → IsKept (data_of handed.leaves.items) leaf → IsKept (data_of ran.handed.leaves.items) leaf
-  pub leaves_there : IfOk ran.piece (λ column. (read : LeafRead) → IsReadAt plans (row_behind chosen) read.leaf → ChunkVisits (IsLeafRead read) plans [] chosen → IsKept (data_of ran.handed.leaves.items) read.leaf)
+  pub leaves_there : IfOk ran.piece (λ column. (read : LeafRead) → IsReadAt plans (row_behind chosen) read.leaf → ChunkVisits (IsLeafRead read) plans given chosen → IsKept (data_of ran.handed.leaves.items) read.leaf)
 
-pub record RunsOn (plans : ScanPlans) (chosen : SelectedRows) (handed : HandedOn) (ran : Ran) (before after : SourceState) : Type 0 where
+-- What the run gives with these values in place of whole ones.
+pub record RunsGiven (plans : ScanPlans) (chosen : SelectedRows) (handed : HandedOn) (given : List Kept) (ran : Ran) (before after : SourceState) : Type 0 where
   -- Ok is the chunk's piece by the file, if what was handed in is so by it
-  pub content : IfOk ran.piece (GivesPiece (told_on plans handed before) plans [] chosen)
+  pub content : IfOk ran.piece (GivesPiece (told_on plans handed before) plans given chosen)
   -- each error has its cause
-  pub cause : IfErr ran.piece (λ error. Causes (told_on plans handed before) plans [] chosen error before after)
-  -- segments that the chunk's rows read by leaves that were not handed in were asked for, each once
-  pub asks : AsksOnly (IsWanted plans [] (data_of handed.leaves.items) chosen) plans.locations.items before after
-  pub more : HandsOnMore plans chosen handed ran before
+  pub cause : IfErr ran.piece (λ error. Causes (told_on plans handed before) plans given chosen error before after)
+  -- segments that the chunk's rows read by leaves that were not handed in were asked for, each once, and none that is
+  -- read only for values that are given
+  pub asks : AsksOnly (IsWanted plans given (data_of handed.leaves.items) chosen) plans.locations.items before after
+  pub more : HandsOnMore plans chosen handed given ran before
   -- where a call on the source failed, that is the error
   pub faults : TellsFaults ran.piece before after
   pub lasts : Lasts before after
   pub in_flight : after.in_flight ≡ []
+
+pub record RunsOn (plans : ScanPlans) (chosen : SelectedRows) (handed : HandedOn) (given : List Kept) (ran : Ran) (before after : SourceState) : Type 0 where
+  -- the given values that fit their plans: they stand in place of whole ones; where memory lacked, none may count
+  pub fitting : List Kept
+  pub fits : Keeps (IsForPlan plans.table) given fitting ⊎ ((ran.piece ≡ Err Memory) × (fitting ≡ []))
+  pub runs : RunsGiven plans chosen handed fitting ran before after

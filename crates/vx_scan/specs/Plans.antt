@@ -3,6 +3,7 @@ use Rattle.std.specs.Prelude.{◌≡◌, ℕ, ◌-◌, ◌^◌, ◌<◌, ◌≤�
 use Rattle.vx_base.specs.Sources.{SourceState, Rose, RoseBy}
 use Rattle.vx_io.specs.Ranges.{IsTableOf}
 use Rattle.vx_layout.specs.Rows.{segment_bytes}
+use Rattle.vx_plan.specs.declared.children.PlanRef.{PlanRef}
 use Rattle.vx_plan.specs.Nodes.{Node}
 use Rattle.vx_plan.specs.Plans.{Plan, plan_at}
 use Rattle.vx_plan.specs.Refs.{number_of}
@@ -26,6 +27,10 @@ projection_node plans = node_at plans.table (number_of plans.projection)
 
 abbrev pub projection_plan : ScanPlans → Plan
 projection_plan plans = plan_at plans.table (number_of plans.projection)
+
+-- the plans of a scan, with that plan of the table in place of the projection's
+abbrev pub with_projection : ScanPlans → PlanRef → ScanPlans
+with_projection plans node = record plans { projection = node }
 
 -- A chunk lies inside the projection's rows, with a truth value for each of its own.
 pub record IsChunkOf (plans : ScanPlans) (chosen : SelectedRows) : Type 0 where

@@ -1,5 +1,5 @@
 -- What a run of a scan of one split gives, and what it asks its source for.
-use Rattle.std.specs.Prelude.{◌≡◌, ℕ, ◌≤◌, List, length, Option, Some, None, Result, Ok, Err}
+use Rattle.std.specs.Prelude.{◌≡◌, ℕ, ◌≤◌, ◌⊎◌, List, length, Option, Some, None, IfSome, IfErr, Result, Ok, Err}
 use Rattle.vx_base.specs.Columns.{ColumnData}
 use Rattle.vx_base.specs.Masks.{true_count}
 use Rattle.vx_base.specs.Sources.{SourceState, Rose, RoseBy}
@@ -18,7 +18,7 @@ use Rattle.vx_steps.specs.Rows.{AreOf, rows_of}
 use Rattle.vx_steps.specs.ScanData.{ScanData, IsScanOf}
 use Rattle.vx_steps.specs.ScanLaws.{IsSplitCause, SplitReads}
 use Rattle.vx_steps.specs.Turns.{AreLeavesKept, HasRowCause}
-use Rattle.vx_steps.specs.Wholes.{AreThere}
+use Rattle.vx_steps.specs.Wholes.{AreThere, HasInsideCause}
 use Rattle.vx_scan.specs.declared.adaptor_errors.AdaptorError.{AdaptorError}
 use Rattle.vx_scan.specs.declared.adaptor_errors.AdaptorError.TheVariants as errors
 use Rattle.vx_scan.specs.declared.errors.ScanError.{ScanError}
@@ -86,12 +86,26 @@ RunCause locations limit start (EvalFault row) before after = IsFaultCause locat
 RunCause locations limit start Memory before after = Unit {0}
 RunCause locations limit start error before after = ⊥
 
+-- the fault of rows that an error tells of: a code that is none of the values, or an expression
+abbrev pub row_fault : ScanError → Option StepError
+row_fault (BadCode take row) = Some (step_errors.BadCode take row)
+row_fault (EvalFault row) = Some (step_errors.EvalFault row)
+row_fault error = None
+
+-- the whole values that the split's selected rows ask for were made or used, or the fault is one of theirs
+abbrev pub LeavesFault : List SegmentLocation → ScanData → ScanData → SourceState → StepError → Type 0
+LeavesFault locations start scan before fault =
+    AreThere start.nodes start.job.given scan.progress.wholes start.job.plan (split_of start).rows.start (split_of start).mask
+    ⊎ WhereScanned locations start before (λ bytes. HasInsideCause (leaves_of bytes) (handed_by start.nodes (Some start.job.given)) start.job.offset (plan_at start.nodes start.job.plan) (split_of start).rows.start (split_of start).mask fault)
+
 abbrev pub RunAnswer : List SegmentLocation → ℕ → ScanData → Result (Option ColumnData) ScanError → ScanData → SourceState → SourceState → Type 0
 RunAnswer locations limit start (Ok output) scan before after = GivesOutput locations start scan before output
 RunAnswer locations limit start (Err error) scan before after = RunCause locations limit start error before after
 
 pub record RunGives (locations : List SegmentLocation) (limit : ℕ) (start : ScanData) (result : Result (Option ColumnData) ScanError) (scan : ScanData) (before after : SourceState) : Type 0 where
   pub answer : RunAnswer locations limit start result scan before after
+  -- what a fault of rows leaves of whole values
+  pub left : IfErr result (λ error. IfSome (row_fault error) (LeavesFault locations start scan before))
   pub asks : AsksOnly (IsReadByStart start) locations before after
   pub faults : TellsFaults result before after
   -- the scan is still of the told file, and keeps the columns that it had

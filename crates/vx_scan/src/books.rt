@@ -7,7 +7,7 @@ ghost use Rattle.vx_scan.specs.Books.{Inserts};
 
 use std::alloc::{AllocError, Global};
 use std::marker::Model;
-use std::sync::Mutex;
+use std::sync::{Mutex, Wait};
 use vx_base::Column;
 use vx_plan::PlanRef;
 use vx_steps::KeptValue;
@@ -92,14 +92,31 @@ impl Book {
 /// A book under a lock, which workers share by reference. What it has is known to no contract.
 #[derive(Drop)]
 pub struct ValueCache {
-    _book: Mutex<Book>,
+    book: Mutex<Book>,
 }
 
 impl ValueCache {
     /// A cache with an empty book. It takes no memory.
     pub fn new(alloc: Global) -> ValueCache {
         ValueCache {
-            _book: Mutex::new(Book::new(alloc)),
+            book: Mutex::new(Book::new(alloc)),
         }
+    }
+
+    /// A copy of the column that the book has for a plan, or none where it has none. It waits for the lock. Its only
+    /// error is want of memory.
+    pub fn get<R: Wait>(&self, rt: &R, node: PlanRef) -> Result<Option<Column>, AllocError> {
+        self.book.lock(rt).get(node)
+    }
+
+    /// Keeps the column of a plan in the book, unless it has one already, and gives a copy of the kept one. It waits for
+    /// the lock. Its only error is want of memory, and then the book is as it was.
+    pub fn insert<R: Wait>(
+        &self,
+        rt: &R,
+        node: PlanRef,
+        column: Column,
+    ) -> Result<Column, AllocError> {
+        self.book.lock(rt).insert(node, column)
     }
 }

@@ -1,10 +1,11 @@
 //! The run of a chunk: the scan of its selected rows, from which its piece comes.
 
-ghost use Rattle.std.specs.Prelude.{[], IfOk};
+ghost use Rattle.std.specs.Prelude.{◌<◌, [], length, IfOk};
+ghost use Rattle.vx_plan.specs.Refs.{number_of};
 ghost use Rattle.vx_scan.specs.ChunkScans.{IsChunkScan};
 ghost use Rattle.vx_scan.specs.Outcomes.{data_of, CanHandOn, RunsChunk, RunsOn};
 ghost use Rattle.vx_scan.specs.Pieces.{PieceOf};
-ghost use Rattle.vx_scan.specs.Plans.{ArePlans, IsChunkOf};
+ghost use Rattle.vx_scan.specs.Plans.{with_projection, ArePlans, IsChunkOf};
 
 use crate::errors::ScanError;
 use crate::outcomes::{ChunkOutcome, HandedOn, Ran};
@@ -12,18 +13,21 @@ use crate::plans::ScanPlans;
 use crate::runs::{Finished, run_over};
 use std::alloc::{AllocError, Global};
 use vx_base::{Column, SegmentSource};
+use vx_plan::PlanRef;
 use vx_splits::SelectedRows;
 use vx_steps::{KeptValue, Scan, ScanBuildError, ScanKept, Split};
 
-/// The scan of a chunk's selected rows.
-fn scan_of<'a>(
+/// The scan of a chunk's selected rows, as rows of a plan of the table.
+pub(crate) fn scan_of<'a>(
     alloc: Global,
     plans: &'a ScanPlans,
+    node: PlanRef,
     chosen: &SelectedRows,
 ) -> Result<Scan<'a>, AllocError>
     requires plans { ArePlans plans.now }
-    requires chunk { IsChunkOf plans.now chosen.now }
-    ensures { IfOk result (IsChunkScan plans.now chosen.now [] [] []) }
+    requires known { number_of node < length plans.now.table }
+    requires chunk { IsChunkOf (with_projection plans.now node) chosen.now }
+    ensures { IfOk result (IsChunkScan (with_projection plans.now node) chosen.now [] [] []) }
 {
     let mut splits = Vec::with_capacity(alloc, 1)?;
     splits.push(Split {
@@ -32,25 +36,26 @@ fn scan_of<'a>(
     })?;
     // The contract of `len` says that the table keeps its rules.
     let _plans = plans.table.len();
-    match Scan::try_new(alloc, &plans.table, plans.projection, splits) {
+    match Scan::try_new(alloc, &plans.table, node, splits) {
         Ok(scan) => Ok(scan.with_row_offset(plans.row_offset)),
         Err(ScanBuildError::OutOfRange) => unreachable!(),
     }
 }
 
-/// The column of the scan's split as the piece of the chunk: an empty one where no row is selected.
-fn piece_of(
+/// The column of the scan's split as a piece of its plan: an empty one where no row is selected.
+pub(crate) fn piece_of(
     alloc: Global,
     plans: &ScanPlans,
+    node: PlanRef,
     output: Result<Option<Column>, ScanError>,
 ) -> Result<Column, ScanError>
-    requires { ArePlans plans.now }
-    ensures { PieceOf plans.now output result }
+    requires { number_of node < length plans.now.table }
+    ensures { PieceOf (with_projection plans.now node) output result }
 {
     match output {
         Ok(Some(column)) => Ok(column),
         Ok(None) => {
-            let dtype = plans.table.dtype(plans.projection).copy(alloc)?;
+            let dtype = plans.table.dtype(node).copy(alloc)?;
             Ok(Column::empty(alloc, dtype)?)
         }
         Err(error) => Err(error),
@@ -71,7 +76,7 @@ pub fn run_chunk<S: SegmentSource>(
     requires chunk { IsChunkOf plans.now chosen.now }
     ensures { RunsChunk plans.now chosen.now (data_of given.items) result (S.state source.old) (S.state source.new) }
 {
-    let Ok(scan) = scan_of(alloc, plans, chosen) else {
+    let Ok(scan) = scan_of(alloc, plans, plans.projection, chosen) else {
         source.clear();
         return ChunkOutcome {
             piece: Err(ScanError::Memory),
@@ -82,27 +87,29 @@ pub fn run_chunk<S: SegmentSource>(
     let Finished { output, kept } = run_over(alloc, plans, scan.with_value_cache(given), source);
     let ScanKept { used, made, .. } = kept;
     ChunkOutcome {
-        piece: piece_of(alloc, plans, output),
+        piece: piece_of(alloc, plans, plans.projection, output),
         used,
         made,
     }
 }
 
-/// Runs a chunk with what earlier chunks of the worker handed on, and hands on what the later ones can use. Whatever it
-/// answers, nothing is in flight at the source afterwards.
+/// Runs a chunk with what earlier chunks of the worker handed on, and hands on what the later ones can use. The given
+/// values stand in place of the whole values of their plans, as in `run_chunk`, and are not handed on. Whatever it answers,
+/// nothing is in flight at the source afterwards.
 pub(crate) fn run_on<S: SegmentSource>(
     alloc: Global,
     plans: &ScanPlans,
     chosen: &SelectedRows,
     source: &mut S,
     handed: HandedOn,
+    given: Vec<KeptValue>,
 ) -> Ran
     requires plans { ArePlans plans.now }
     requires chunk { IsChunkOf plans.now chosen.now }
     requires handed { CanHandOn plans.now handed }
-    ensures { RunsOn plans.now chosen.now handed result (S.state source.old) (S.state source.new) }
+    ensures { RunsOn plans.now chosen.now handed (data_of given.items) result (S.state source.old) (S.state source.new) }
 {
-    let Ok(scan) = scan_of(alloc, plans, chosen) else {
+    let Ok(scan) = scan_of(alloc, plans, plans.projection, chosen) else {
         source.clear();
         return Ran {
             piece: Err(ScanError::Memory),
@@ -110,11 +117,14 @@ pub(crate) fn run_on<S: SegmentSource>(
         };
     };
     let HandedOn { leaves, made } = handed;
-    let scan = scan.with_leaves(leaves).with_made(made);
+    let scan = scan
+        .with_leaves(leaves)
+        .with_made(made)
+        .with_value_cache(given);
     let Finished { output, kept } = run_over(alloc, plans, scan, source);
     let ScanKept { leaves, made, .. } = kept;
     Ran {
-        piece: piece_of(alloc, plans, output),
+        piece: piece_of(alloc, plans, plans.projection, output),
         handed: HandedOn { leaves, made },
     }
 }

@@ -4,7 +4,7 @@
 //! - A scan that is built and run: [`ScanBuilder`]; one that is prepared to run: [`Prepared`].
 //! - Between the scan of a plan and a session: [`ScanAdaptor`], with its [`State`], [`AdaptorStep`] and
 //!   [`AdaptorError`].
-//! - The run of a chunk: [`run_chunk`] with its [`ChunkOutcome`].
+//! - The run of a chunk: [`run_chunk`] with its [`ChunkOutcome`]; the reading of a plan's whole values: [`run_values`].
 //! - The run of all chunks by a worker for each source: [`execute`] with its [`Outcome`], of [`Piece`], [`ClaimList`],
 //!   [`Rerun`] and [`ChunkError`]; the chunks that workers claim: [`Claims`], [`Claiming`], [`ClaimSeat`].
 //! - Whole values by plan: [`Book`], and [`ValueCache`], which keeps one under a lock.
@@ -37,6 +37,7 @@ mod prepares;
 mod preparing;
 mod runs;
 mod settings;
+mod values;
 mod waits;
 mod workers;
 
@@ -56,4 +57,5 @@ pub use outcomes::{ChunkOutcome, Outcome, Rerun};
 pub use plan_texts::plan_text;
 pub use plans::ScanPlans;
 pub use prepares::Prepared;
+pub use values::run_values;
 pub use vx_claims::{ClaimSeat, Claiming, Claims};

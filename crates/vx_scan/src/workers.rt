@@ -49,10 +49,18 @@ fn work<S: SegmentSource>(
             return;
         };
         lane.claimed.push_reserved(number);
+        let given = Vec::new(lane.alloc); // so far no values are borrowed
         let Ran {
             piece,
             handed: more,
-        } = run_on(lane.alloc, plans, &chunks[number as usize], source, handed);
+        } = run_on(
+            lane.alloc,
+            plans,
+            &chunks[number as usize],
+            source,
+            handed,
+            given,
+        );
         match piece {
             Ok(column) => lane.pieces.push_reserved(Piece {
                 chunk: number,
