@@ -1,4 +1,4 @@
-use Rattle.std.proofs.Common.{◌≡◌, ◌-◌, length, drop}
+use Rattle.std.proofs.Common.{◌≡◌, ◌-◌, length, vec_len, drop}
 use Rattle.scan_commands.specs.RowWriting.{batch_lines, WritesBut}
 use Rattle.scan_commands.proofs.side_by_side.write_by.Given as goal
 
@@ -6,7 +6,7 @@ use Rattle.scan_commands.proofs.side_by_side.write_by.Given as goal
 abbrev pub invariant-loop-first : goal.invariant-loop-first
 invariant-loop-first g l =
     WritesBut (batch_lines (drop l.first l.batches)) (batch_lines l.batches) (g.K.Sink.state l.fn.out) (g.K.Sink.state l.out)
-    × ((g.K.Sink.state l.out).faults ≡ (g.K.Sink.state l.fn.out).faults)
+    × ((g.K.Sink.state l.out).faults ≡ (g.K.Sink.state l.fn.out).faults) × (vec_len l.texts ≡ l.workers)
 
 abbrev pub decreases-loop-first : goal.decreases-loop-first
 decreases-loop-first g l = length l.batches - l.first
