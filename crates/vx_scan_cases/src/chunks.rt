@@ -20,7 +20,11 @@ use vx_splits::{SelectedRows, WorkScope};
 use vx_steps::{KeptValue, Split};
 
 /// What the chunks of the tree share.
-fn plans_of(alloc: Global, tree: &LayoutTree, desk: Desk<'_>) -> Result<ScanPlans, AllocError>
+pub(crate) fn plans_of(
+    alloc: Global,
+    tree: &LayoutTree,
+    desk: Desk<'_>,
+) -> Result<ScanPlans, AllocError>
     ensures { IfOk result ArePlans }
 {
     let locations = places_of(alloc, desk.places)?;

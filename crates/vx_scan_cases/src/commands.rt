@@ -4,6 +4,7 @@ use crate::adaptors::write_adaptor;
 use crate::chunks::write_chunk;
 use crate::scans::{write_dtype, write_scan, write_selected};
 use crate::trees::write_tree;
+use crate::values::write_values;
 use crate::workers::{write_book, write_executed, write_prepared};
 use std::alloc::AllocError;
 use std::thread::Threads;
@@ -47,6 +48,7 @@ fn write_answer<R: AllocGlobal + Threads + Sync>(
         "scan" => write_scan(rt, desk, out),
         "select" => write_selected(rt, desk, words, out),
         "chunk" => write_chunk(alloc, desk, words, out),
+        "values" => write_values(alloc, desk, words, out),
         "prepare" => write_prepared(alloc, desk, words, out),
         "execute" => write_executed(rt, desk, words, out),
         "book" => write_book(alloc, words, out),

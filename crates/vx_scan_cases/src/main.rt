@@ -12,6 +12,7 @@ mod files;
 mod scans;
 mod splits;
 mod trees;
+mod values;
 mod workers;
 
 use commands::write_lines;

@@ -1,0 +1,54 @@
+//! Readings of the whole values of one plan.
+
+ghost use Rattle.std.specs.Prelude.{◌<◌, length};
+ghost use Rattle.vx_plan.specs.Refs.{number_of};
+ghost use Rattle.vx_scan.specs.Plans.{ArePlans};
+
+use crate::answers::{write_column, write_error, write_source};
+use crate::chunks::plans_of;
+use crate::commands::Desk;
+use crate::files::source_of;
+use crate::trees::tree_of;
+use std::alloc::{AllocError, Global};
+use vx_plan::PlanRef;
+use vx_scan::{ScanPlans, run_values};
+
+/// Appends the whole values of a plan, or why there are none, and what their source was asked.
+fn write_plan(
+    alloc: Global,
+    desk: Desk<'_>,
+    plans: &ScanPlans,
+    node: PlanRef,
+    out: &mut String,
+) -> Result<(), AllocError>
+    requires plans { ArePlans plans.now }
+    requires known { number_of node < length plans.now.table }
+{
+    let mut source = source_of(alloc, desk.bytes, desk.script)?;
+    match run_values(alloc, plans, node, &mut source) {
+        Ok(column) => {
+            out.push_str(" values")?;
+            write_column(alloc, &column, out)?;
+        }
+        Err(error) => write_error(error, out)?,
+    }
+    write_source(&source, out)
+}
+
+/// Appends what a reading of the plan of that number gives, where the tree has one.
+pub(crate) fn write_values(
+    alloc: Global,
+    desk: Desk<'_>,
+    words: &str,
+    out: &mut String,
+) -> Result<(), AllocError> {
+    let Some(tree) = tree_of(alloc, desk.nodes)? else {
+        return out.push_str(" no tree;");
+    };
+    let plans = plans_of(alloc, &tree, desk)?;
+    let number = words.parse::<u32>().unwrap_or(0);
+    if plans.table.len() <= number {
+        return out.push_str(" no plan;");
+    }
+    write_plan(alloc, desk, &plans, PlanRef(number), out)
+}
