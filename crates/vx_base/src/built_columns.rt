@@ -170,7 +170,7 @@ impl Column {
 
     /// The structs of the parts' values, with that many rows, which a struct of no parts has too. A row
     /// that is not valid is null, and the dtype takes nulls exactly where a validity is given. It moves
-    /// the parts.
+    /// the parts, but copies shared rows on which there are other handles.
     pub fn pack(
         alloc: Global,
         fields: Fields,
