@@ -6,6 +6,7 @@ use crate::fields::{list, number, option};
 use scan_commands::append_column_lines;
 use scan_demo::{DemoFile, demo_file};
 use std::alloc::{AllocError, Global};
+use std::sync::Wait;
 use std::thread::Threads;
 use vx_base::{Column, Script, ScriptSource};
 use vx_scan::{ScanBuilder, ScanError, ScanFile};
@@ -64,7 +65,7 @@ fn indices_of(alloc: Global, options: &str) -> Option<StrictSorted> {
 }
 
 /// The batches of the rows with these numbers in a range.
-fn batches_of<R: Threads + Sync>(
+fn batches_of<R: Threads + Wait + Sync>(
     rt: &R,
     alloc: Global,
     file: ScanFile,
@@ -112,7 +113,10 @@ fn asked_ranges(alloc: Global, sources: &[ScriptSource]) -> Option<usize> {
 
 /// Scans rows of the demo's file, and says them, and what was asked for. Where the last source fails or stalls, it says
 /// whether the rows are there and that source did neither, or that a read failed or stalled.
-pub(crate) fn demo_rows<R: AllocGlobal + Threads + Sync>(rt: &R, options: &str) -> Option<String> {
+pub(crate) fn demo_rows<R: AllocGlobal + Threads + Wait + Sync>(
+    rt: &R,
+    options: &str,
+) -> Option<String> {
     let alloc = rt.alloc();
     let rows = number(options, "rows", 0) as u64;
     if rows > 1000000 {

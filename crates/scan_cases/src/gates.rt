@@ -6,7 +6,7 @@ use crate::fields::{list, number, option, words_of};
 use crate::runs::repeated_bytes;
 use scan_commands::{run, status_text};
 use std::alloc::Global;
-use std::sync::Arc;
+use std::sync::{Arc, Wait};
 use std::thread::Threads;
 use vx_base::{BytesSink, BytesSource, Gate, GateSource};
 
@@ -30,7 +30,7 @@ fn gated(alloc: Global, file: &str, options: &str) -> Option<Vec<GateSource>> {
 }
 
 /// Runs a request over sources at a gate, and says its status and how much it wrote.
-pub(crate) fn gate_outcome<R: AllocGlobal + Threads + Sync>(
+pub(crate) fn gate_outcome<R: AllocGlobal + Threads + Wait + Sync>(
     rt: &R,
     file: &str,
     options: &str,

@@ -14,6 +14,7 @@ use gates::gate_outcome;
 use outcomes::outcome;
 use scan_commands::status_text;
 use std::io;
+use std::sync::Wait;
 use std::thread::Threads;
 
 fn main(rt: HostRuntime) -> io::Result<()> {
@@ -33,7 +34,11 @@ fn main(rt: HostRuntime) -> io::Result<()> {
 }
 
 /// The answer to a line that has one, where the line `file` tells the file.
-fn answer<R: AllocGlobal + Threads + Sync>(rt: &R, file: &str, line: &str) -> Option<String> {
+fn answer<R: AllocGlobal + Threads + Wait + Sync>(
+    rt: &R,
+    file: &str,
+    line: &str,
+) -> Option<String> {
     let (command, rest) = line.split_once(' ')?;
     match command {
         "run" => {

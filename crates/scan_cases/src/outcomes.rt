@@ -4,11 +4,12 @@ use crate::fields::{number, option};
 use crate::runs::{Ran, run_once};
 use scan_commands::status_text;
 use std::alloc::{AllocError, Global};
+use std::sync::Wait;
 use std::thread::Threads;
 use vx_base::ScriptSource;
 
 /// Runs a request over sources of a file, and says what came of it.
-pub(crate) fn outcome<R: AllocGlobal + Threads + Sync>(
+pub(crate) fn outcome<R: AllocGlobal + Threads + Wait + Sync>(
     rt: &R,
     file: &str,
     options: &str,
@@ -39,7 +40,7 @@ fn has_own(options: &str) -> bool {
 }
 
 /// Whether the run comes to the same with one, two and four workers, ordered and not.
-fn is_same<R: AllocGlobal + Threads + Sync>(
+fn is_same<R: AllocGlobal + Threads + Wait + Sync>(
     rt: &R,
     file: &str,
     options: &str,

@@ -5,6 +5,7 @@ ghost use Rattle.std.specs.Prelude.{◌<◌, ◌≤◌, length};
 use crate::fields::{bytes_of, list, number, words_of};
 use scan_commands::run;
 use std::alloc::Global;
+use std::sync::Wait;
 use std::thread::Threads;
 use vx_base::{BytesSink, BytesSource, Script, ScriptSource};
 
@@ -56,7 +57,7 @@ fn sources_of(alloc: Global, file: &str, options: &str, count: usize) -> Option<
 }
 
 /// Runs a request over so many sources of a file, by words between commas.
-pub(crate) fn run_once<R: AllocGlobal + Threads + Sync>(
+pub(crate) fn run_once<R: AllocGlobal + Threads + Wait + Sync>(
     rt: &R,
     file: &str,
     options: &str,

@@ -20,6 +20,7 @@ use std::env;
 use std::fs::File;
 use std::io::{self, ErrorKind};
 use std::process::ExitCode;
+use std::sync::Wait;
 use std::thread::Threads;
 use vx_base::{FileSource, ReadSource, SegmentSource, Sink, Source, Text, WriteSink};
 
@@ -86,7 +87,7 @@ fn files_named(alloc: Global, words: &[String]) -> Result<FileNames, AllocError>
 
 /// Runs the words on the files that they name and on standard output; `threads` starts the threads of the workers. The error
 /// is for want of memory before the run.
-fn run_files<R: AllocGlobal + Threads + Sync>(
+fn run_files<R: AllocGlobal + Threads + Wait + Sync>(
     rt: &HostRuntime,
     threads: &R,
     words: &[String],
@@ -137,7 +138,7 @@ fn if_opened(file: io::Result<File>) -> Result<Option<File>, AllocError>
 }
 
 /// Runs the words, and ends with the status that the run answers.
-fn answered<R: AllocGlobal + Threads + Sync, Q: Source, S: SegmentSource + Send, K: Sink>(
+fn answered<R: AllocGlobal + Threads + Wait + Sync, Q: Source, S: SegmentSource + Send, K: Sink>(
     rt: &HostRuntime,
     threads: &R,
     words: &[String],

@@ -14,10 +14,11 @@ use Rattle.vx_scan.specs.declared.errors.ScanError.TheVariants as scan
 use Rattle.vx_rows.specs.Derivations.{Leaves}
 use Rattle.vx_scan.specs.Answer.{FileScan}
 use Rattle.vx_scan.specs.Beginning.{Refuses}
-use Rattle.vx_scan.specs.Lent.{AllTell, EachSource, SomeSourceBy, WhereAllTell}
+use Rattle.vx_scan.specs.Lent.{AllTell, EachSource, WhereAllTell}
 use Rattle.vx_scan.specs.Plans.{IsQuiet}
-use Rattle.vx_scan.specs.Scanned.{FailsPiece, LowestCause}
+use Rattle.vx_scan.specs.Scanned.{LowestCause}
 use Rattle.vx_scan.specs.Valid.{IsValidScan}
+use Rattle.vx_scan.proofs.ScanValid.{no_lowest}
 use Rattle.scan_commands.specs.declared.endings.Ending.{Ending}
 use Rattle.scan_commands.specs.declared.endings.Ending.TheVariants.{Done, RequestTooLarge, BadRequest, BadLayout, BadProjection, ScanFailed, WriteFault, RequestFault, OutOfMemory}
 use Rattle.scan_commands.specs.Desks.{ReadsBytes, ReadsRequest}
@@ -46,14 +47,6 @@ cause_of : (limit : ℕ) → (asked : Asked) (error : ScanError) (befores afters
 cause_of limit asked error befores afters other (inl memory) = absurd (other memory)
 cause_of limit asked error befores afters other (inr cause) = cause
 
--- what never holds of a source and what the list has for it holds of none of them
-no_source : {X : Type 0} (P : X → SourceState → SourceState → Type 0) → ((x : X) (before after : SourceState) → P x before after → ⊥) → (xs : List X) (befores afters : List SourceState) → SomeSourceBy P xs befores afters → ⊥
-no_source P never [] befores afters some = some
-no_source P never (x ∷ xs) [] afters some = some
-no_source P never (x ∷ xs) (before ∷ befores) [] some = some
-no_source P never (x ∷ xs) (before ∷ befores) (after ∷ afters) (inl here) = never x before after here
-no_source P never (x ∷ xs) (before ∷ befores) (after ∷ afters) (inr later) = no_source P never xs befores afters later
-
 -- it was refused before it began
 begins_not : (limit : ℕ) → (error : ScanError) (asked : Asked) (old new : ReadState) (befores afters : List SourceState) (sink : WriteState) → (LowestCause (scan_of asked) limit error befores afters → ⊥) → ReadsRequest asked old new → ScanGives limit (scan_of asked) (Err error) befores afters → WhyScanFailed limit asked error befores afters → RefusesScan error (world old befores sink) (world new afters sink)
 begins_not limit error asked old new befores afters sink never reads gives (inl refused) = record { asked = asked; reads = reads; cause = refused; sources = gives.untouched refused; sink = refl }
@@ -75,8 +68,8 @@ fails limit error asked old new befores afters sink other never reads gives = re
 }
 
 pub scan_failed : (limit : ℕ) → (error : ScanError) (asked : Asked) (old new : ReadState) (befores afters : List SourceState) (sink : WriteState) → ReadsRequest asked old new → ScanGives limit (scan_of asked) (Err error) befores afters → Ends limit (scan_ending error) (world old befores sink) (world new afters sink)
-scan_failed limit scan.OutOfRange asked old new befores afters sink reads gives = begins_not limit scan.OutOfRange asked old new befores afters sink (λ lowest. no_source (FailsPiece (scan_of asked) limit lowest.place lowest.rows scan.OutOfRange) (λ numbers before after fails. fails.cause) lowest.claims befores afters lowest.cause) reads gives (cause_of limit asked scan.OutOfRange befores afters (λ e. absurd cc) gives.answers.cause)
-scan_failed limit scan.OffsetOverflow asked old new befores afters sink reads gives = begins_not limit scan.OffsetOverflow asked old new befores afters sink (λ lowest. no_source (FailsPiece (scan_of asked) limit lowest.place lowest.rows scan.OffsetOverflow) (λ numbers before after fails. fails.cause) lowest.claims befores afters lowest.cause) reads gives (cause_of limit asked scan.OffsetOverflow befores afters (λ e. absurd cc) gives.answers.cause)
+scan_failed limit scan.OutOfRange asked old new befores afters sink reads gives = begins_not limit scan.OutOfRange asked old new befores afters sink (no_lowest (scan_of asked) limit scan.OutOfRange befores afters (λ told rows before after cause. cause)) reads gives (cause_of limit asked scan.OutOfRange befores afters (λ e. absurd cc) gives.answers.cause)
+scan_failed limit scan.OffsetOverflow asked old new befores afters sink reads gives = begins_not limit scan.OffsetOverflow asked old new befores afters sink (no_lowest (scan_of asked) limit scan.OffsetOverflow befores afters (λ told rows before after cause. cause)) reads gives (cause_of limit asked scan.OffsetOverflow befores afters (λ e. absurd cc) gives.answers.cause)
 scan_failed limit scan.BadProjection asked old new befores afters sink reads gives = fails limit scan.BadProjection asked old new befores afters sink (λ e. absurd cc) (λ unbound. unbound (projection_is_bound reads.bytes asked reads.are)) reads gives
 scan_failed limit (scan.Unsupported list) asked old new befores afters sink reads gives = fails limit (scan.Unsupported list) asked old new befores afters sink (λ e. absurd cc) (λ never. never) reads gives
 scan_failed limit (scan.NoLocation segment) asked old new befores afters sink reads gives = fails limit (scan.NoLocation segment) asked old new befores afters sink (λ e. absurd cc) (λ never. never) reads gives

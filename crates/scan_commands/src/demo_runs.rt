@@ -8,6 +8,7 @@ use crate::endings::Ending;
 use crate::writing::write_all;
 use scan_demo::{DemoFile, demo_file, scans_give_demo_rows, summary_of};
 use std::alloc::{AllocError, Global};
+use std::sync::Wait;
 use std::thread::Threads;
 use vx_base::{MemorySource, Sink, StreamError};
 use vx_scan::ScanBuilder;
@@ -27,7 +28,7 @@ fn sources_of(alloc: Global, bytes: &[u8]) -> Result<Vec<MemorySource>, AllocErr
 }
 
 /// The summary of the demo file of so many rows, by a scan of all of them.
-fn scanned_summary<R: AllocGlobal + Threads + Sync>(
+fn scanned_summary<R: AllocGlobal + Threads + Wait + Sync>(
     rt: &R,
     number: u64,
 ) -> Result<Vec<u8>, AllocError>
@@ -47,7 +48,7 @@ fn scanned_summary<R: AllocGlobal + Threads + Sync>(
 }
 
 /// Writes the summary of the demo file of so many rows. A fault while writing leaves a front of it.
-pub(crate) fn demonstrate<R: AllocGlobal + Threads + Sync, K: Sink>(
+pub(crate) fn demonstrate<R: AllocGlobal + Threads + Wait + Sync, K: Sink>(
     rt: &R,
     number: u64,
     out: &mut K,

@@ -10,6 +10,7 @@ use crate::plan_runs::draw;
 use crate::scan_runs::serve;
 use crate::statuses::{NOT_YET, OUT_OF_MEMORY, USAGE};
 use scan_words::{Command, WordsError, words_of};
+use std::sync::Wait;
 use std::thread::Threads;
 use vx_base::{SegmentSource, Sink, Source};
 
@@ -21,7 +22,7 @@ const DEFAULT_WORKERS: usize = 4;
 /// file; `read` isn't done yet ([`NOT_YET`]). The answer is a status of docs/ANSWERS.md: [`USAGE`] for words of no
 /// command, and for a scan by more workers than there are sources. Output is written only once all of it is known but for
 /// the writing, so that a fault before writes nothing; a fault while writing leaves a front of it.
-pub fn run<R: AllocGlobal + Threads + Sync, Q: Source, S: SegmentSource + Send, K: Sink>(
+pub fn run<R: AllocGlobal + Threads + Wait + Sync, Q: Source, S: SegmentSource + Send, K: Sink>(
     rt: &R,
     words: &[String],
     request: &mut Q,
@@ -42,7 +43,7 @@ pub fn run<R: AllocGlobal + Threads + Sync, Q: Source, S: SegmentSource + Send, 
 }
 
 /// Does what a command asks.
-fn obey<R: AllocGlobal + Threads + Sync, Q: Source, S: SegmentSource + Send, K: Sink>(
+fn obey<R: AllocGlobal + Threads + Wait + Sync, Q: Source, S: SegmentSource + Send, K: Sink>(
     rt: &R,
     command: &Command,
     request: &mut Q,
@@ -92,7 +93,7 @@ fn worker_count(sources: usize, workers: Option<u64>) -> usize
 }
 
 /// Serves the request from the first so many sources, and leaves the others alone.
-fn scan_by<R: AllocGlobal + Threads + Sync, Q: Source, S: SegmentSource + Send, K: Sink>(
+fn scan_by<R: AllocGlobal + Threads + Wait + Sync, Q: Source, S: SegmentSource + Send, K: Sink>(
     rt: &R,
     workers: usize,
     idle_limit: u64,

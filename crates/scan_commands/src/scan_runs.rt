@@ -9,19 +9,19 @@ use crate::request_forms::request_of;
 use crate::requests::{ReadingError, read_request};
 use crate::scans::batches_of;
 use crate::side_by_side::write_by;
+use std::sync::Wait;
 use std::thread::Threads;
 use vx_base::{SegmentSource, Sink, Source, StreamError};
 
 /// Reads the request, scans the sources for its rows, and writes a line for each, once all rows are known: a fault of the
 /// scan writes nothing, and one while writing leaves a front of the lines. A source may answer as often as the idle
 /// limit that a read goes on, from one completion to the next.
-pub(crate) fn serve<R: AllocGlobal + Threads + Sync, Q: Source, S: SegmentSource + Send, K: Sink>(
-    rt: &R,
-    idle_limit: u64,
-    request: &mut Q,
-    sources: &mut [S],
-    out: &mut K,
-) -> Ending
+pub(crate) fn serve<
+    R: AllocGlobal + Threads + Wait + Sync,
+    Q: Source,
+    S: SegmentSource + Send,
+    K: Sink,
+>(rt: &R, idle_limit: u64, request: &mut Q, sources: &mut [S], out: &mut K) -> Ending
     requires limit { 0 < idle_limit }
     requires some { 0 < length sources.old }
     requires few { length sources.old ≤ 64 }

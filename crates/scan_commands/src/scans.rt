@@ -8,13 +8,14 @@ ghost use Rattle.scan_commands.specs.Scans.{scan_of, ScanGives};
 
 use crate::request_forms::Request;
 use std::alloc::{AllocError, Global};
+use std::sync::Wait;
 use std::thread::Threads;
 use vx_base::{Column, SegmentSource};
 use vx_scan::{ScanBuilder, ScanError, pieces_are_the_answer};
 
 /// The rows of a request, read from the sources by a worker for each: a column for each chunk, in the order of the rows. A
 /// source may answer as often as the idle limit that a read goes on, from one completion to the next.
-pub(crate) fn batches_of<R: Threads + Sync, S: SegmentSource + Send>(
+pub(crate) fn batches_of<R: Threads + Wait + Sync, S: SegmentSource + Send>(
     rt: &R,
     alloc: Global,
     request: Request,

@@ -1,9 +1,9 @@
 -- In the tree of a good list of nodes no dictionary stands twice, so the takes of what it is lowered to are of different
 -- dictionaries.
-use Rattle.std.proofs.Common.{◌≡◌, ℕ, zero, suc, ◌+◌, ◌<◌, ◌≤◌, ⊎_elim, Bool, true, false, cond, eqb, List, [], ◌∷◌, ◌++◌, Option, Some, None, length, map, refl, sym, ap, ◌∙◌, subst, arith}
+use Rattle.std.proofs.Common.{◌≡◌, ℕ, zero, suc, ◌+◌, ◌<◌, ◌≤◌, ⊎_elim, Bool, true, false, cond, eqb, List, [], ◌∷◌, ◌++◌, Option, Some, None, length, map, refl, ap, subst, arith}
 use Rattle.std.specs.Prelude.{if◌then◌else◌, IfSome, IsSomeAnd}
 use Rattle.std.specs.List.{flat_map, slice_get, sum_by, All, AllByRecursion}
-use Rattle.std.proofs.lemmas.Bool.{cases_lt, eq-eqb, ne_eqb}
+use Rattle.std.proofs.lemmas.Bool.{cases_lt, ne_eqb}
 use Rattle.std.proofs.lemmas.List.Elements.{All-head, All-tail}
 use Rattle.std.proofs.lemmas.List.Sums.{sum_by-append, sum_by-cons}
 use Rattle.vx_base.specs.Data.{Members, no_members, member}
@@ -22,8 +22,8 @@ use Rattle.vx_layout.specs.Trees.{Head, Tree, missing, leaf, chunks, fields, dic
 use Rattle.vx_layout.proofs.Unfolding.{HaveLaterChildren, good_later, unfolds}
 use Rattle.vx_lower.specs.Lowered.{lowered, lowered_in, lowered_fields, lowered_validity, packing, plan_head_of, kept_head, plan_zones_of, tell, with_zones}
 use Rattle.vx_lower.specs.Projected.{Projection, kept_of}
-use Rattle.vx_lower.proofs.NumberSums.{total, total_first, total_same, times, times_in, sum_is_total, total_but_first, zero_nowhere}
-use Rattle.vx_plan.specs.Plans.{Zones, Plan, no_plan, take_plan, Plans, no_plans, plan}
+use Rattle.vx_lower.proofs.NumberSums.{total, total_first, times, times_in, sum_is_total, total_but_first, zero_nowhere}
+use Rattle.vx_plan.specs.Plans.{Zones, Plan, no_plan, take_plan, Plans, plan}
 use Rattle.vx_plan.specs.Plans.{Head as PlanHead}
 use Rattle.vx_scan.specs.Preparing.{TakesAreApart}
 use Rattle.vx_scan.proofs.ApartTakes.{one_at, takes_at, takes_among, takes_valid, takes_apart}

@@ -1,6 +1,6 @@
 -- What is decided before a scan begins.
-use Rattle.std.proofs.Common.{◌≡◌, ℕ, zero, suc, ◌+◌, ◌-◌, ◌<◌, ◌≤◌, inl, inr, length, Bool, true, false, List, [], ◌∷◌, Option, Some, None, refl, sym, ap, ◌∙◌, subst, arith}
-use Rattle.std.specs.Prelude.{◌↔◌, ◌^◌, min, nat_lt, if◌then◌else◌, IsTrue, slice_index_or}
+use Rattle.std.proofs.Common.{◌≡◌, ℕ, zero, suc, ◌-◌, ◌<◌, ◌≤◌, inl, inr, Bool, true, false, List, [], ◌∷◌, Option, Some, None, refl, sym, ap, ◌∙◌, subst, arith}
+use Rattle.std.specs.Prelude.{◌↔◌, ◌^◌, min, nat_lt, if◌then◌else◌, IsTrue}
 use Rattle.std.proofs.lemmas.Bool.{cases_lt, lt-ltb, ltb-true}
 use Rattle.vx_base.specs.Data.{DataType}
 use Rattle.vx_expr.specs.Bound.{Bound, IsBoundTo}
@@ -10,13 +10,11 @@ use Rattle.std.specs.declared.ops.Range.{Range}
 use Rattle.vx_splits.specs.declared.selections.Selection.{Selection}
 use Rattle.vx_splits.specs.Taken.{selected_rows, selects, taken_rows}
 use Rattle.vx_scan.specs.Answer.{FileScan, row_count, scan_rows, scan_pieces, size_of, pieces_of}
-use Rattle.vx_scan.specs.Beginning.{BeginsOver, HasWork, Overflows, Refuses, range_or}
+use Rattle.vx_scan.specs.Beginning.{BeginsOver, HasWork, Overflows, range_or}
 use Rattle.vx_scan.specs.Settings.{scan_by}
-use Rattle.vx_scan.specs.Valid.{HasRows, IsBound, IsValidScan, SelectsInside}
+use Rattle.vx_scan.specs.Valid.{HasRows, IsBound, SelectsInside}
 use Rattle.vx_scan.specs.declared.files.ScanFile.{ScanFile}
 use Rattle.vx_scan.specs.declared.settings.Settings.{Settings}
-use Rattle.vx_scan.specs.declared.errors.ScanError.{ScanError}
-use Rattle.vx_scan.specs.declared.errors.ScanError.TheVariants.{BadProjection, OffsetOverflow, OutOfRange, Unsupported, NoLocation, ReadFault, Stalled, BadSegment, BadCode, EvalFault, Memory}
 
 -- ---- the range
 

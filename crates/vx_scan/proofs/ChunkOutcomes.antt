@@ -224,7 +224,7 @@ lacks_chunk plans chosen given outcome before after lacks none_used none_made_it
     let made : data_of outcome.made.items ≡ [] = ap data_of none_made_items in
     record {
       fitting = [];
-      fits = inr lacks;
+      fits = inr (lacks, clears.asked);
       content = rw lacks tt;
       values = record {
         used = λ n column at. subst (λ (ks : List Kept). kept_at ks n ≡ Some column) used at;

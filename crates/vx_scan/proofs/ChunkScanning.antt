@@ -1,5 +1,5 @@
 -- The scan of a chunk as it is made, and with what is handed in.
-use Rattle.std.proofs.Common.{◌≡◌, ℕ, List, [], ◌∷◌, length, refl, sym, ap, ◌∙◌, subst, arith}
+use Rattle.std.proofs.Common.{◌≡◌, ℕ, ◌+◌, ◌<◌, ◌≤◌, List, [], ◌∷◌, length, refl, sym, ap, ◌∙◌, subst, arith}
 use Rattle.std.specs.Prelude.{slice_index_or}
 use Rattle.std.specs.List.{AllByRecursion}
 use Rattle.vx_plan.specs.Nodes.{Node}
@@ -20,6 +20,19 @@ use Rattle.vx_scan.specs.LeafRows.{split_in}
 use Rattle.vx_scan.specs.Plans.{ArePlans, IsChunkOf, projection_node}
 use Rattle.vx_scan.specs.Starts.{no_rows, split_of}
 use Rattle.vx_scan.proofs.Fitting.{fitting_typed, none_typed}
+
+-- The table is a good one, the projection is one of its plans, and the chunk lies inside it.
+pub record IsGoodChunk (plans : ScanPlans) (chosen : SelectedRows) : Type 0 where
+  pub good : IsGoodTable plans.table
+  pub known : number_of plans.projection < length plans.table
+  pub inside : chosen.scope.rows.start + length chosen.mask ≤ (projection_node plans).rows
+
+pub good_chunk : (plans : ScanPlans) (chosen : SelectedRows) → IsGoodTable plans.table → number_of plans.projection < length plans.table → IsChunkOf plans chosen → IsGoodChunk plans chosen
+good_chunk plans chosen good known is =
+    let forwards = is.forwards in
+    let inside = is.inside in
+    let mask = is.mask in
+    record { good = good; known = known; inside = omega (arith, forwards, inside, mask) }
 
 -- the chunk alone is inside the projection's rows
 pub inside_one : (plans : ScanPlans) (chosen : SelectedRows) (splits : List Split) → IsChunkOf plans chosen → splits ≡ split_in chosen ∷ [] → AllByRecursion (IsInside (projection_node plans).rows) splits

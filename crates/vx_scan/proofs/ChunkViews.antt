@@ -33,7 +33,7 @@ use Rattle.vx_scan.specs.ChunkRows.{ChunkFailsInside, ChunkVisits, IsPiece}
 use Rattle.vx_scan.specs.ChunkScans.{IsChunkScan}
 use Rattle.vx_scan.specs.Outcomes.{Causes, ChunkAsks, Claims, GivesPiece, IsWanted}
 use Rattle.vx_scan.specs.Plans.{bytes_of}
-use Rattle.vx_scan.specs.Runs.{GivesSplit, IsReadByStart, LeavesFault, RunCause}
+use Rattle.vx_scan.specs.Runs.{GivesSplit, IsReadByStart, LeavesFault, LeavesRead, RunCause}
 use Rattle.vx_scan.specs.Starts.{split_of}
 use Rattle.vx_scan.proofs.Running.{only_split}
 
@@ -103,6 +103,12 @@ fault_left Told plans chosen given leaves made start scan before fault is claim 
     inr (claim (λ bytes. ChunkFailsInside (leaves_of bytes) plans given chosen fault) (λ file told held.
     subst (λ (v : View). HasInsideCause (leaves_of (bytes_of plans file)) (handed_by v.nodes (Some v.given)) v.offset (plan_at v.nodes v.plan) v.first v.mask fault)
     (view_same plans chosen given leaves made start is) (inside file told held)))
+
+-- and the leaves that they read are kept
+pub fault_reads : (plans : ScanPlans) (chosen : SelectedRows) (given leaves made : List Kept) (start scan : ScanData) (fault : StepError) → IsChunkScan plans chosen given leaves made start →
+    LeavesRead start scan fault → (read : LeafRead) → ChunkVisits (IsLeafRead read) plans given chosen → IsKept scan.progress.leaves read.leaf
+fault_reads plans chosen given leaves made start scan fault is have read visits =
+    have read (subst (ViewVisits (IsLeafRead read)) (sym (view_same plans chosen given leaves made start is)) visits)
 
 -- ---- what is wanted
 

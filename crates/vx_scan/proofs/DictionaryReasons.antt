@@ -1,5 +1,5 @@
 -- The reasons of a scan that are through takes, by the dictionaries that these were lowered from.
-use Rattle.std.proofs.Common.{◌≡◌, ◌≢◌, ℕ, inl, inr, Some, None, List, [], ◌∷◌, ◌++◌, map, refl, sym, ap, ◌∙◌, subst}
+use Rattle.std.proofs.Common.{◌≡◌, ℕ, inl, inr, Some, None, List, [], ◌∷◌, ◌++◌, map, refl, sym, ap, subst}
 use Rattle.std.specs.List.{flat_map, AllByRecursion}
 use Rattle.vx_base.specs.declared.locations.AskedRange.{AskedRange}
 use Rattle.vx_lower.specs.Projected.{Projection}
@@ -8,7 +8,7 @@ use Rattle.vx_rows.specs.Reads.{Way, directly, through, AnyOf}
 use Rattle.vx_rows.specs.Renumbered.{way_renumbered}
 use Rattle.vx_steps.specs.declared.leaf_reads.LeafRead.{LeafRead}
 use Rattle.vx_steps.specs.Below.{StandsIn}
-use Rattle.vx_steps.specs.Given.{Handed, no_given}
+use Rattle.vx_steps.specs.Given.{no_given}
 use Rattle.vx_steps.proofs.Standing.{Tells, visit_stands}
 use Rattle.vx_scan.specs.Answer.{FileScan}
 use Rattle.vx_scan.specs.Fetched.{AreDistinct}

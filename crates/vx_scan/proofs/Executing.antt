@@ -1,185 +1,313 @@
--- What the workers did, one source after the other, is what the whole run gives.
+-- What all workers gave together, and what came of the chunks that ran with borrowed values, is what the whole run gives.
 use Rattle.std.proofs.Common.{◌≡◌, ◌≢◌, ℕ, zero, suc, ◌<◌, ◌≤◌, ◌⊎◌, inl, inr, true, List, [], ◌∷◌, Some, None, length, map, refl, sym, ap, ◌∙◌, subst, arith}
-use Rattle.std.specs.Prelude.{Option, IfSome, slice_index_or, Bool}
-use Rattle.std.specs.List.{All, AllByRecursion, sum_by}
+use Rattle.std.specs.Prelude.{Option, IfSome, IsSomeAnd, nat_lt, slice_index_or, slice_set}
+use Rattle.std.specs.List.{All, AllByRecursion, slice_get}
 use Rattle.std.specs.List.Sorted.{IsNonDecreasingBy}
+use Rattle.std.proofs.lemmas.Bool.{cases_lt, lt-ltb}
 use Rattle.std.proofs.lemmas.List.{length-map, get_or-map}
-use Rattle.std.proofs.lemmas.List.Elements.{All-cons, All-nil}
-use Rattle.std.proofs.lemmas.List.Sums.{sum_by-cons}
 use Rattle.vx_base.specs.Masks.{Ascend}
 use Rattle.vx_base.specs.Sources.{SourceState}
-use Rattle.vx_claims.specs.declared.claims.Claims.{Claims}
-use Rattle.vx_claims.specs.Apart.{times, times_over, once_below}
-use Rattle.vx_claims.specs.Claims.{claimed, was_told}
-use Rattle.vx_claims.proofs.Numbers.{times_append, times_itself, once_at_most}
-use Rattle.vx_claims.proofs.Wholes.{once_apart, each_whole}
-use Rattle.vx_rows.specs.SegmentLeaves.{leaves_of}
+use Rattle.vx_claims.specs.Apart.{times, times_over, AreApart, AreWhole}
+use Rattle.vx_claims.proofs.Numbers.{once_yes}
+use Rattle.vx_plan.specs.Plans.{plan_at}
+use Rattle.vx_plan.specs.Refs.{number_of}
+use Rattle.vx_rows.specs.SegmentLeaves.{Bytes, leaves_of}
 use Rattle.vx_splits.specs.declared.selected_rows.SelectedRows.{SelectedRows}
+use Rattle.vx_steps.specs.Given.{whole_value}
+use Rattle.vx_steps.specs.KeptData.{Kept}
+use Rattle.vx_scan.specs.declared.errors.ScanError.{ScanError}
+use Rattle.vx_scan.specs.declared.errors.ScanError.TheVariants.{BadProjection, OffsetOverflow, OutOfRange, Unsupported, NoLocation, ReadFault, Stalled, BadSegment, BadCode, EvalFault, Memory}
+use Rattle.vx_scan.specs.declared.joins.Joined.{Joined}
 use Rattle.vx_scan.specs.declared.lanes.ChunkError.{ChunkError}
-use Rattle.vx_scan.specs.declared.lanes.Lane.{Lane}
+use Rattle.vx_scan.specs.declared.lanes.Loan.{Loan}
 use Rattle.vx_scan.specs.declared.lanes.Piece.{Piece}
 use Rattle.vx_scan.specs.declared.outcomes.Outcome.{Outcome}
+use Rattle.vx_scan.specs.declared.outcomes.Rerun.{Rerun}
 use Rattle.vx_scan.specs.declared.plans.ScanPlans.{ScanPlans}
-use Rattle.vx_scan.specs.Executes.{FailsLowest, FaultsAtLast, StopsAtLast, Executed, Finishes}
-use Rattle.vx_scan.specs.Gathers.{IsAtMost, IsBelow, no_memory, IsFrom, claimed_times, done_times, IsOfLane}
+use Rattle.vx_scan.specs.Asks.{KeepsFaults}
+use Rattle.vx_scan.specs.Executes.{FailsLowest, FaultsAtLast, StopsAtLast, Executed}
+use Rattle.vx_scan.specs.Gathers.{IsAtMost, IsBelow, no_memory}
+use Rattle.vx_scan.specs.Joins.{run_times, FailsFirst, FaultsWhereNotRan, JoinedAll, RanOrLast}
 use Rattle.vx_scan.specs.Lent.{EachSourceBy, SomeSourceBy, AllTell}
-use Rattle.vx_scan.specs.Plans.{bytes_of}
-use Rattle.vx_scan.specs.Workers.{HasDtype, HasItsRows, IsPieceOf, numbers_of, FailsLast, RunsSource, Ends, Worked}
+use Rattle.vx_scan.specs.Loans.{loaned_of}
+use Rattle.vx_scan.specs.Outcomes.{told_by_all, Causes, Claims}
+use Rattle.vx_scan.specs.Settling.{FailsSettled, IsRerun, Settles, told_right}
+use Rattle.vx_scan.specs.Workers.{IsPieceOf, numbers_of, IsLast, FailsLast, RunsSource}
 use Rattle.vx_scan.proofs.Ascending.{in_order_once}
-use Rattle.vx_scan.proofs.LaneEnds.{all_quiet, each_ascend, each_faults, each_stops}
-use Rattle.vx_scan.proofs.LaneFacts.{Each, all_by, done_less, over_lanes, pieces_below, told_end}
+use Rattle.vx_scan.proofs.LentSources.{each_by, each_first}
 
--- ---- the whole run, one source after the other
+-- ---- lists
+
+pub each_weaker : {X : Type 0} (P Q : X → Type 0) → ((x : X) → P x → Q x) → (xs : List X) → AllByRecursion P xs → AllByRecursion Q xs
+each_weaker P Q from [] each = tt
+each_weaker P Q from (x ∷ xs) each = (from x each.0, each_weaker P Q from xs each.1)
+
+all_so : {X : Type 0} (Q : X → Type 0) → ((x : X) → Q x) → (xs : List X) → AllByRecursion Q xs
+all_so Q so [] = tt
+all_so Q so (x ∷ xs) = (so x, all_so Q so xs)
+
+got_within : (chunks : List SelectedRows) (i : ℕ) (chunk : SelectedRows) → slice_get chunks i ≡ Some chunk → i < length chunks
+got_within [] i chunk here = absurd cc
+got_within (one ∷ chunks) zero chunk here = omega arith
+got_within (one ∷ chunks) (suc i) chunk here = let rest = got_within chunks i chunk here in omega (arith, rest)
+
+numbers_in_order : (pieces : List Piece) → IsNonDecreasingBy (λ piece. piece.chunk) pieces → (i j : ℕ) (d : ℕ) → i ≤ j → j < length (numbers_of pieces) → slice_index_or (numbers_of pieces) i d ≤ slice_index_or (numbers_of pieces) j d
+numbers_in_order [] sorted i j d le lt = absurd (omega (arith, lt))
+numbers_in_order (piece ∷ pieces) sorted i j d le lt =
+    let size = length-map (piece ∷ pieces) (λ (one : Piece). one.chunk) in
+    let lower = sorted i j piece le (omega (arith, lt, size)) in
+    let one = get_or-map (λ (other : Piece). other.chunk) (piece ∷ pieces) i piece d (omega (arith, le, lt, size)) in
+    let two = get_or-map (λ (other : Piece). other.chunk) (piece ∷ pieces) j piece d (omega (arith, lt, size)) in
+    omega (arith, lower, one, two)
+
+-- ---- errors
 
 -- no number is below want of memory
 not_lacking : (x : ℕ) (error : Option ChunkError) → IsBelow error x → error ≢ Some no_memory
 not_lacking x error below lacks = let none : x < 0 = subst (λ (one : Option ChunkError). IsBelow one x) lacks below in omega (arith, none)
 
-module _ (claims : Claims) (plans : ScanPlans) (chunks : List SelectedRows) where
-  -- ---- all sources
+-- where there is no error, there was none before
+none_before : (error old : Option ChunkError) → error ≡ None → IsAtMost error old → old ≡ None
+none_before error None none most = refl
+none_before error (Some one) none most = absurd (subst (λ (e : Option ChunkError). IsAtMost e (Some one)) none most)
 
-  each_source : (lanes : List Lane) (befores afters : List SourceState) → Each claims plans chunks lanes befores afters → EachSourceBy (RunsSource plans chunks) (map (λ lane. lane.claimed.items) lanes) befores afters
-  each_source [] [] [] each = tt
-  each_source [] [] (after ∷ afters) each = absurd each
-  each_source [] (before ∷ befores) afters each = absurd each
-  each_source (lane ∷ lanes) [] afters each = absurd each
-  each_source (lane ∷ lanes) (before ∷ befores) [] each = absurd each
-  each_source (lane ∷ lanes) (before ∷ befores) (after ∷ afters) each = (each.0.runs, each_source lanes befores afters each.1)
+-- ---- what is told
 
-  abbrev HasPieces : List ℕ → Lane → Type 0
-  HasPieces file lane = All (IsPieceOf (leaves_of (bytes_of plans file)) plans chunks) lane.pieces.items
+causes_from : (Told Others : Claims) → ((P : Bytes → Type 0) → Told P → Others P) → (plans : ScanPlans) (given : List Kept) (chosen : SelectedRows) (error : ScanError) (before after : SourceState) → Causes Told plans given chosen error before after → Causes Others plans given chosen error before after
+causes_from Told Others from plans given chosen BadProjection before after cause = cause
+causes_from Told Others from plans given chosen OffsetOverflow before after cause = cause
+causes_from Told Others from plans given chosen OutOfRange before after cause = cause
+causes_from Told Others from plans given chosen (Unsupported list) before after cause = cause
+causes_from Told Others from plans given chosen (NoLocation segment) before after cause = cause
+causes_from Told Others from plans given chosen ReadFault before after cause = cause
+causes_from Told Others from plans given chosen Stalled before after cause = cause
+causes_from Told Others from plans given chosen (BadSegment segment) before after cause = from _ cause
+causes_from Told Others from plans given chosen (BadCode code_take row) before after cause = from _ cause
+causes_from Told Others from plans given chosen (EvalFault row) before after cause = from _ cause
+causes_from Told Others from plans given chosen Memory before after cause = tt
 
-  all_content : (file : List ℕ) (lanes : List Lane) (befores afters : List SourceState) → Each claims plans chunks lanes befores afters → AllTell file befores → All (HasPieces file) lanes
-  all_content file [] [] [] each tell = All-nil (HasPieces file)
-  all_content file [] [] (after ∷ afters) each tell = absurd each
-  all_content file [] (before ∷ befores) afters each tell = absurd each
-  all_content file (lane ∷ lanes) [] afters each tell = absurd each
-  all_content file (lane ∷ lanes) (before ∷ befores) [] each tell = absurd each
-  all_content file (lane ∷ lanes) (before ∷ befores) (after ∷ afters) each tell = All-cons (HasPieces file) lane lanes (each.0.content file tell.0) (all_content file lanes befores afters each.1 tell.1)
+reruns_from : (Told Others : Claims) → ((P : Bytes → Type 0) → Told P → Others P) → (plans : ScanPlans) (chunks : List SelectedRows) (reruns : List Rerun) → AllByRecursion (IsRerun plans chunks Told) reruns → AllByRecursion (IsRerun plans chunks Others) reruns
+reruns_from Told Others from plans chunks [] each = tt
+reruns_from Told Others from plans chunks (rerun ∷ reruns) each = (
+  record {
+    chunk = each.0.chunk;
+    here = each.0.here;
+    asks = each.0.asks;
+    borrowed = each.0.borrowed;
+    made = each.0.made;
+    differ = each.0.differ;
+    whole = from (λ bytes. whole_value (leaves_of bytes) plans.row_offset (plan_at plans.table (number_of rerun.node)) ≡ Some rerun.made.values) each.0.whole;
+  },
+  reruns_from Told Others from plans chunks reruns each.1,
+)
 
-  -- an error that one of the lanes has
-  abbrev Found : ChunkError → List Lane → List SourceState → List SourceState → Type 0
-  Found error lanes befores afters =
-      (error ≡ no_memory) ⊎ (SomeSourceBy (FailsLast plans chunks error) (map (λ lane. lane.claimed.items) lanes) befores afters × (1 ≤ sum_by (claimed_times error.chunk) lanes))
+-- the first source still tells the file that all told
+first_tells : (plans : ScanPlans) (chunks : List SelectedRows) (file : List ℕ) (lists : List (List ℕ)) (befores : List SourceState) (first : SourceState) (others : List SourceState) → EachSourceBy (RunsSource plans chunks) lists befores (first ∷ others) → AllTell file befores → first.file ≡ Some file
+first_tells plans chunks file [] [] first others each tell = absurd each
+first_tells plans chunks file [] (before ∷ befores) first others each tell = absurd each
+first_tells plans chunks file (list ∷ lists) [] first others each tell = absurd each
+first_tells plans chunks file (list ∷ lists) (before ∷ befores) first others each tell = each.0.lasts.file ∙ tell.0
 
-  lane_error : (error : ChunkError) (found : Option ChunkError) (numbers done : List ℕ) (told : Bool) (before after : SourceState) → Ends plans chunks found numbers done told before after → found ≡ Some error
-      → (error ≡ no_memory) ⊎ (FailsLast plans chunks error numbers before after × (1 ≤ times error.chunk numbers))
-  lane_error error None numbers done told before after ends is = absurd cc
-  lane_error error (Some one) numbers done told before after (inl stops) is =
-      let same : one ≡ error = cc in
-      let list = ap (times one.chunk) stops.last in
-      let more = times_append one.chunk done (one.chunk ∷ []) in
-      let here = times_itself one.chunk [] in
-      let stands : 1 ≤ times one.chunk numbers = omega (arith, list, more, here) in
-      let fails : FailsLast plans chunks one numbers before after = record { last = (done, stops.last); fails = stops.fails } in
-      inr (subst (λ (e : ChunkError). FailsLast plans chunks e numbers before after × (1 ≤ times e.chunk numbers)) same (fails, stands))
-  lane_error error (Some one) numbers done told before after (inr wants) is =
-      let same : one ≡ error = cc in
-      inl (sym same ∙ (λ i. record { chunk = wants.chunk i; error = wants.memory i }))
+-- ---- the whole run
 
-  -- every lane's place
-  found_at : (error : ChunkError) (k : ℕ) (d : Lane) (lanes : List Lane) (befores afters : List SourceState) → Each claims plans chunks lanes befores afters → k < length lanes → (slice_index_or lanes k d).error ≡ Some error → Found error lanes befores afters
-  found_at error k d [] [] [] each within is = absurd (omega (arith, within))
-  found_at error k d [] [] (after ∷ afters) each within is = absurd each
-  found_at error k d [] (before ∷ befores) afters each within is = absurd each
-  found_at error k d (lane ∷ lanes) [] afters each within is = absurd each
-  found_at error k d (lane ∷ lanes) (before ∷ befores) [] each within is = absurd each
-  found_at error zero d (lane ∷ lanes) (before ∷ befores) (after ∷ afters) each within is = by_case (lane_error error lane.error lane.claimed.items (numbers_of lane.pieces.items) (was_told lane.seat) before after each.0.ends is)
+module _ (plans : ScanPlans) (chunks : List SelectedRows) (joined : Joined) (outcome : Outcome) (befores : List SourceState) (first : SourceState) (others : List SourceState) (after : SourceState) (some : 0 < length befores)
+    (gives : JoinedAll plans chunks joined befores (first ∷ others)) (settles : Settles plans chunks joined outcome first after) where
+  by_all : (P : Bytes → Type 0) → told_right plans chunks joined first P → told_by_all plans befores P
+  by_all P told file tell = told file (first_tells plans chunks file joined.claimed.items befores first others gives.sources tell) (gives.right file tell)
+
+  over : (x : ℕ) → times_over x outcome.claimed.items ≡ times_over x joined.claimed.items
+  over x = ap (times_over x) settles.lists
+
+  none_joined : outcome.error ≡ None → joined.error ≡ None
+  none_joined none = none_before outcome.error joined.error none settles.lowest
+
+  -- a chunk below the one that failed has its piece if it ran
+  piece_below : (x : ℕ) → IsBelow outcome.error x → times x (numbers_of outcome.pieces.items) ≡ run_times x joined
+  piece_below x below = settles.all_pieces (not_lacking x outcome.error below) x below
+
+  below_error : (error : ChunkError) → outcome.error ≡ Some error → (x : ℕ) → x < error.chunk → IsBelow outcome.error x
+  below_error error is x less = subst (λ (one : Option ChunkError). IsBelow one x) (sym is) less
+
+  piece_before : outcome.error ≡ None → (x : ℕ) → times x (numbers_of outcome.pieces.items) ≡ run_times x joined
+  piece_before none x = piece_below x (subst (λ (error : Option ChunkError). IsBelow error x) (sym none) tt)
+
+  -- a chunk below one that failed now ran
+  ran_below : (error : ChunkError) → error.chunk < length chunks → (old : Option ChunkError) → joined.error ≡ old → IsAtMost (Some error) old → (x : ℕ) → x < error.chunk → run_times x joined ≡ 1
+  ran_below error inside None is most x less = gives.complete is x ∙ once_yes (length chunks) x (omega (arith, less, inside))
+  ran_below error inside (Some one) is most x less = by_cause (subst (λ (e : Option ChunkError). IfSome e (λ failed. (failed ≡ no_memory) ⊎ FailsFirst plans chunks failed joined befores (first ∷ others))) is gives.cause)
     where
-      by_case : (error ≡ no_memory) ⊎ (FailsLast plans chunks error lane.claimed.items before after × (1 ≤ times error.chunk lane.claimed.items)) → Found error (lane ∷ lanes) (before ∷ befores) (after ∷ afters)
-      by_case (inl memory) = inl memory
-      by_case (inr fails) =
-          let cons = sum_by-cons (claimed_times error.chunk) lane lanes in
-          let list = ap (times error.chunk) each.0.claimed in
-          let some = fails.1 in
-          inr (inl fails.0, omega (arith, cons, list, some))
-  found_at error (suc k) d (lane ∷ lanes) (before ∷ befores) (after ∷ afters) each within is = by_case (found_at error k d lanes befores afters each.1 (omega (arith, within)) is)
+      by_cause : (one ≡ no_memory) ⊎ FailsFirst plans chunks one joined befores (first ∷ others) → run_times x joined ≡ 1
+      by_cause (inl memory) = let none : one.chunk ≡ 0 = ap (λ (e : ChunkError). e.chunk) memory in absurd (omega (arith, less, most, none))
+      by_cause (inr fails) = fails.lower x (omega (arith, less, most))
+
+  settled_below : (error : ChunkError) → outcome.error ≡ Some error → FailsSettled plans chunks joined error first after → (x : ℕ) → x < error.chunk → times x (numbers_of outcome.pieces.items) ≡ 1
+  settled_below error is fails x less =
+      piece_below x (below_error error is x less)
+      ∙ ran_below error (got_within chunks error.chunk fails.chunk fails.here) joined.error refl (subst (λ (one : Option ChunkError). IsAtMost one joined.error) is settles.lowest) x less
+
+  -- a chunk that had borrowed failed: so its worker isn't alone
+  settled_more : (error : ChunkError) → FailsSettled plans chunks joined error first after → 1 < length befores
+  settled_more error fails = by_order (cases_lt 1 (length befores))
     where
-      by_case : Found error lanes befores afters → Found error (lane ∷ lanes) (before ∷ befores) (after ∷ afters)
-      by_case (inl memory) = inl memory
-      by_case (inr fails) =
-          let cons = sum_by-cons (claimed_times error.chunk) lane lanes in
-          let some = fails.1 in
-          inr (inr fails.0, omega (arith, cons, some))
+      by_order : (1 < length befores) ⊎ (length befores ≤ 1) → 1 < length befores
+      by_order (inl more) = more
+      by_order (inr most) =
+          let none : times error.chunk (loaned_of joined.loans.items) ≡ 0 = ap (λ (loans : List Loan). times error.chunk (loaned_of loans)) (gives.alone (omega (arith, some, most))) in
+          let loaned = fails.loaned in
+          absurd (omega (arith, none, loaned))
 
-  found_from : (error : ChunkError) (lanes : List Lane) (befores afters : List SourceState) → Each claims plans chunks lanes befores afters → IsFrom lanes (Some error) → Found error lanes befores afters
-  found_from error lanes befores afters each (inl memory) = inl memory
-  found_from error lanes befores afters each (inr any) = found_at error any.0 any.1 lanes befores afters each any.2 (ap (λ (lane : Lane). lane.error) any.3 ∙ any.4)
+  -- ---- why there are no batches
 
-  -- ---- the whole run
-
-  numbers_in_order : (pieces : List Piece) → IsNonDecreasingBy (λ piece. piece.chunk) pieces → (i j : ℕ) (d : ℕ) → i ≤ j → j < length (numbers_of pieces) → slice_index_or (numbers_of pieces) i d ≤ slice_index_or (numbers_of pieces) j d
-  numbers_in_order [] sorted i j d le lt = absurd (omega (arith, lt))
-  numbers_in_order (piece ∷ pieces) sorted i j d le lt =
-      let size = length-map (piece ∷ pieces) (λ (one : Piece). one.chunk) in
-      let lower = sorted i j piece le (omega (arith, lt, size)) in
-      let one = get_or-map (λ (other : Piece). other.chunk) (piece ∷ pieces) i piece d (omega (arith, le, lt, size)) in
-      let two = get_or-map (λ (other : Piece). other.chunk) (piece ∷ pieces) j piece d (omega (arith, lt, size)) in
-      omega (arith, lower, one, two)
-
-  -- what holds of each piece of each lane
-  of_lanes : (P : Piece → Type 0) (lanes : List Lane) (pieces : List Piece) → All (IsOfLane lanes) pieces → All (λ lane. All P lane.pieces.items) lanes → All P pieces
-  of_lanes P lanes pieces given all k d within =
-      let any = given k d within in
-      let here = subst (λ (lane : Lane). All P lane.pieces.items) any.3 (all any.0 any.1 any.2) in
-      let piece : Piece = slice_index_or pieces k d in
-      subst P any.4.2 (here any.4.0 piece any.4.1)
-
-  pub executed : (outcome : Outcome) (lanes : List Lane) (befores afters : List SourceState) → 0 < length lanes → Each claims plans chunks lanes befores afters → Finishes (length chunks) lanes outcome → Executed plans chunks outcome befores afters
-  executed outcome lanes befores afters some each finishes = record {
-    apart = once_apart (length chunks) outcome.claimed.items (λ x. let same = over x in let once = finishes.once x in omega (arith, same, once));
-    whole = λ none. each_whole (length chunks) outcome.claimed.items (λ x. over x ∙ whole none x);
-    ascend = subst (λ (lists : List (List ℕ)). AllByRecursion Ascend lists) (sym finishes.lists) (each_ascend claims plans chunks lanes befores afters each);
-    claimed = λ x.
-        let most = finishes.some_pieces x in
-        let less = done_less claims plans chunks x lanes befores afters each in
-        let same = over x in
-        omega (arith, most, less, same);
-    sorted = finishes.sorted;
-    complete = λ none. in_order_once (length chunks) (numbers_of outcome.pieces.items) (numbers_in_order outcome.pieces.items finishes.sorted) (λ x.
-        finishes.pieces (not_lacking x outcome.error (subst (λ (error : Option ChunkError). IsBelow error x) (sym none) tt)) x
-        ∙ pieces_below claims plans chunks x None lanes befores afters each tt (at_none none) ∙ whole none x);
-    content = λ file tell. of_lanes (IsPieceOf (leaves_of (bytes_of plans file)) plans chunks) lanes outcome.pieces.items finishes.given (all_content file lanes befores afters each tell);
-    dtype = of_lanes (HasDtype plans) lanes outcome.pieces.items finishes.given (all_by (Worked claims plans chunks) (λ lane. All (HasDtype plans) lane.pieces.items) (λ lane before after worked. worked.dtype) lanes befores afters each);
-    rows = of_lanes (HasItsRows chunks) lanes outcome.pieces.items finishes.given (all_by (Worked claims plans chunks) (λ lane. All (HasItsRows chunks) lane.pieces.items) (λ lane before after worked. worked.rows) lanes befores afters each);
-    cause = cause_of outcome.error refl;
-    stops = λ enough. subst (λ (lists : List (List ℕ)). AllByRecursion (StopsAtLast outcome.pieces.items) lists) (sym finishes.lists) (each_stops claims plans chunks outcome.pieces.items lanes befores afters each (λ x some.
-        let same = finishes.pieces enough x in
-        let less = done_less claims plans chunks x lanes befores afters each in
-        let once = finishes.once x in
-        let one = once_at_most (length chunks) x in
-        omega (arith, some, same, less, once, one)));
-    faults = subst (λ (lists : List (List ℕ)). EachSourceBy (FaultsAtLast outcome.pieces.items) lists befores afters) (sym finishes.lists) (each_faults claims plans chunks outcome.pieces.items lanes befores afters each (λ x less.
-        let most = finishes.some_pieces x in
-        let once = finishes.once x in
-        let one = once_at_most (length chunks) x in
-        omega (arith, less, most, once, one)));
-    quiet = λ none. all_quiet claims plans chunks lanes befores afters each (at_none none);
-    sources = subst (λ (lists : List (List ℕ)). EachSourceBy (RunsSource plans chunks) lists befores afters) (sym finishes.lists) (each_source lanes befores afters each);
-    reruns = finishes.reruns;
+  old_fails : (error : ChunkError) → outcome.error ≡ Some error → joined.error ≡ Some error → (error ≡ no_memory) ⊎ FailsFirst plans chunks error joined befores (first ∷ others) → (error ≡ no_memory) ⊎ FailsLowest plans chunks error outcome.pieces.items outcome.claimed.items befores (first ∷ others) (after ∷ others)
+  old_fails error is old (inl memory) = inl memory
+  old_fails error is old (inr fails) = inr record {
+    fails = inl (subst (λ (lists : List (List ℕ)). SomeSourceBy (FailsLast plans chunks error) lists befores (first ∷ others)) (sym settles.lists) fails.fails);
+    lower = λ x less. piece_below x (below_error error is x less) ∙ fails.lower x less;
   }
-    where
-      over : (x : ℕ) → times_over x outcome.claimed.items ≡ sum_by (claimed_times x) lanes
-      over x = ap (times_over x) finishes.lists ∙ over_lanes x lanes (all_by (Worked claims plans chunks) (λ lane. lane.claimed.items ≡ claimed lane.seat) (λ lane before after worked. worked.claimed) lanes befores afters each)
 
-      at_none : outcome.error ≡ None → All (λ lane. IsAtMost None lane.error) lanes
-      at_none none = subst (λ (error : Option ChunkError). All (λ (lane : Lane). IsAtMost error lane.error) lanes) none finishes.lowest
-
-      whole : outcome.error ≡ None → (x : ℕ) → sum_by (claimed_times x) lanes ≡ once_below (length chunks) x
-      whole none x =
-          let told = all_by (Worked claims plans chunks) (λ lane. IsAtMost None lane.error → was_told lane.seat ≡ true) (λ lane before after worked most. told_end claims plans chunks lane lane.error before after most worked.ends) lanes befores afters each in
-          let least = at_none none in
-          finishes.whole some (λ k d within. told k d within (least k d within)) x
-
-      lowest_of : (error : ChunkError) → outcome.error ≡ Some error → Found error lanes befores afters → (error ≡ no_memory) ⊎ FailsLowest plans chunks error outcome.pieces.items outcome.claimed.items befores afters
-      lowest_of error is (inl memory) = inl memory
-      lowest_of error is (inr found) = inr record {
-        fails = subst (λ (lists : List (List ℕ)). SomeSourceBy (FailsLast plans chunks error) lists befores afters) (sym finishes.lists) found.0;
-        lower = λ x less.
-            let below = subst (λ (one : Option ChunkError). IsBelow one x) (sym is) less in
-            finishes.pieces (not_lacking x outcome.error below) x ∙ pieces_below claims plans chunks x outcome.error lanes befores afters each below finishes.lowest ∙ finishes.lower x error.chunk found.1 less;
+  lowest_of : (error : ChunkError) → outcome.error ≡ Some error → (error ≡ no_memory) ⊎ ((joined.error ≡ Some error) ⊎ FailsSettled plans chunks joined error first after)
+      → (error ≡ no_memory) ⊎ FailsLowest plans chunks error outcome.pieces.items outcome.claimed.items befores (first ∷ others) (after ∷ others)
+  lowest_of error is (inl memory) = inl memory
+  lowest_of error is (inr (inl old)) = old_fails error is old (subst (λ (e : Option ChunkError). IfSome e (λ failed. (failed ≡ no_memory) ⊎ FailsFirst plans chunks failed joined befores (first ∷ others))) old gives.cause)
+  lowest_of error is (inr (inr fails)) =
+      let loaned = fails.loaned in
+      let most = gives.claimed error.chunk in
+      let same = over error.chunk in
+      inr record {
+        fails = inr (
+          settled_more error fails,
+          omega (arith, loaned, most, same),
+          (
+            record { chunk = fails.chunk; here = fails.here; cause = causes_from (told_right plans chunks joined first) (told_by_all plans befores) by_all plans [] fails.chunk error.error first after fails.cause },
+            refl,
+          ),
+        );
+        lower = settled_below error is fails;
       }
 
-      cause_of : (error : Option ChunkError) → outcome.error ≡ error → IfSome error (λ one. (one ≡ no_memory) ⊎ FailsLowest plans chunks one outcome.pieces.items outcome.claimed.items befores afters)
-      cause_of None is = tt
-      cause_of (Some error) is = lowest_of error is (found_from error lanes befores afters each (subst (IsFrom lanes) is finishes.from))
+  cause_of : (error : Option ChunkError) → outcome.error ≡ error → IfSome error (λ one. (one ≡ no_memory) ⊎ FailsLowest plans chunks one outcome.pieces.items outcome.claimed.items befores (first ∷ others) (after ∷ others))
+  cause_of None is = tt
+  cause_of (Some error) is = lowest_of error is (subst (λ (e : Option ChunkError). IfSome e (λ one. (one ≡ no_memory) ⊎ ((joined.error ≡ Some one) ⊎ FailsSettled plans chunks joined one first after))) is settles.cause)
+
+  -- ---- where the workers stopped
+
+  abbrev Stops : List ℕ → Type 0
+  Stops numbers = StopsAtLast (nat_lt 1 (length befores)) outcome.error outcome.pieces.items numbers
+
+  -- values are shared, or the worker is alone
+  shares_or_alone : (nat_lt 1 (length befores) ≡ true) ⊎ (length befores ≡ 1)
+  shares_or_alone = by_order (cases_lt 1 (length befores))
+    where
+      by_order : (1 < length befores) ⊎ (length befores ≤ 1) → (nat_lt 1 (length befores) ≡ true) ⊎ (length befores ≡ 1)
+      by_order (inl more) = inl (lt-ltb 1 (length befores) more)
+      by_order (inr most) = inr (omega (arith, some, most))
+
+  -- where a worker is alone, what ran has its piece
+  alone_piece : outcome.error ≢ Some no_memory → length befores ≡ 1 → (x : ℕ) → run_times x joined ≡ 1 → times x (numbers_of outcome.pieces.items) ≡ 1
+  alone_piece enough alone x ran =
+      let none : times x (loaned_of joined.loans.items) ≡ 0 = ap (λ (loans : List Loan). times x (loaned_of loans)) (gives.alone alone) in
+      let least = settles.old_pieces enough x in
+      let most = settles.some_pieces x in
+      omega (arith, none, least, most, ran)
+
+  -- what ran has its piece, or lies no lower than the chunk that failed
+  ran_stops : (error : ChunkError) → outcome.error ≡ Some error → outcome.error ≢ Some no_memory → (x : ℕ) (numbers : List ℕ) → run_times x joined ≡ 1
+      → (times x (numbers_of outcome.pieces.items) ≡ 1) ⊎ (IsLast x numbers ⊎ ((nat_lt 1 (length befores) ≡ true) × IsSomeAnd outcome.error (λ one. one.chunk ≤ x)))
+  ran_stops error is enough x numbers ran = by_order shares_or_alone (cases_lt x error.chunk)
+    where
+      by_order : (nat_lt 1 (length befores) ≡ true) ⊎ (length befores ≡ 1) → (x < error.chunk) ⊎ (error.chunk ≤ x)
+          → (times x (numbers_of outcome.pieces.items) ≡ 1) ⊎ (IsLast x numbers ⊎ ((nat_lt 1 (length befores) ≡ true) × IsSomeAnd outcome.error (λ one. one.chunk ≤ x)))
+      by_order (inr alone) order = inl (alone_piece enough alone x ran)
+      by_order (inl shares) (inl less) = inl (piece_below x (below_error error is x less) ∙ ran)
+      by_order (inl shares) (inr least) = inr (inr (shares, subst (λ (one : Option ChunkError). IsSomeAnd one (λ failed. failed.chunk ≤ x)) (sym is) least))
+
+  old_stops : (error : ChunkError) → outcome.error ≡ Some error → outcome.error ≢ Some no_memory → (numbers : List ℕ) → RanOrLast joined numbers → Stops numbers
+  old_stops error is enough numbers stops x among = by_case (stops x among)
+    where
+      by_case : (run_times x joined ≡ 1) ⊎ IsLast x numbers → (times x (numbers_of outcome.pieces.items) ≡ 1) ⊎ (IsLast x numbers ⊎ ((nat_lt 1 (length befores) ≡ true) × IsSomeAnd outcome.error (λ one. one.chunk ≤ x)))
+      by_case (inl ran) = ran_stops error is enough x numbers ran
+      by_case (inr last) = inr (inl last)
+
+  -- a chunk that had borrowed failed: so values are shared
+  settled_shares : (error : ChunkError) → FailsSettled plans chunks joined error first after → nat_lt 1 (length befores) ≡ true
+  settled_shares error fails = lt-ltb 1 (length befores) (settled_more error fails)
+
+  settled_stops : (error : ChunkError) → outcome.error ≡ Some error → FailsSettled plans chunks joined error first after → (numbers : List ℕ) → Stops numbers
+  settled_stops error is fails numbers x among = by_order (cases_lt x error.chunk)
+    where
+      by_order : (x < error.chunk) ⊎ (error.chunk ≤ x) → (times x (numbers_of outcome.pieces.items) ≡ 1) ⊎ (IsLast x numbers ⊎ ((nat_lt 1 (length befores) ≡ true) × IsSomeAnd outcome.error (λ one. one.chunk ≤ x)))
+      by_order (inl less) = inl (settled_below error is fails x less)
+      by_order (inr least) = inr (inr (settled_shares error fails, subst (λ (one : Option ChunkError). IsSomeAnd one (λ failed. failed.chunk ≤ x)) (sym is) least))
+
+  done_stops : outcome.error ≡ None → (numbers : List ℕ) → RanOrLast joined numbers → Stops numbers
+  done_stops none numbers stops x among = by_case (stops x among)
+    where
+      by_case : (run_times x joined ≡ 1) ⊎ IsLast x numbers → (times x (numbers_of outcome.pieces.items) ≡ 1) ⊎ (IsLast x numbers ⊎ ((nat_lt 1 (length befores) ≡ true) × IsSomeAnd outcome.error (λ one. one.chunk ≤ x)))
+      by_case (inl ran) = inl (piece_before none x ∙ ran)
+      by_case (inr last) = inr (inl last)
+
+  stops_of : (error : Option ChunkError) → outcome.error ≡ error → outcome.error ≢ Some no_memory → AllByRecursion Stops joined.claimed.items
+  stops_of None is enough = each_weaker (RanOrLast joined) Stops (done_stops is) joined.claimed.items (gives.stops (λ lacks. let both : None ≡ Some no_memory = sym (none_joined is) ∙ lacks in absurd cc))
+  stops_of (Some error) is enough = by_cause (subst (λ (e : Option ChunkError). IfSome e (λ one. (one ≡ no_memory) ⊎ ((joined.error ≡ Some one) ⊎ FailsSettled plans chunks joined one first after))) is settles.cause)
+    where
+      by_cause : (error ≡ no_memory) ⊎ ((joined.error ≡ Some error) ⊎ FailsSettled plans chunks joined error first after) → AllByRecursion Stops joined.claimed.items
+      by_cause (inl memory) = absurd (enough (is ∙ ap Some memory))
+      by_cause (inr (inl old)) = each_weaker (RanOrLast joined) Stops (old_stops error is enough) joined.claimed.items (gives.stops (λ lacks. enough (is ∙ sym old ∙ lacks)))
+      by_cause (inr (inr fails)) = all_so Stops (settled_stops error is fails) joined.claimed.items
+
+  faults_last : (numbers : List ℕ) (before now : SourceState) → FaultsWhereNotRan joined numbers before now → FaultsAtLast outcome.pieces.items numbers before now
+  faults_last numbers before now (inl same) = inl same
+  faults_last numbers before now (inr (last, is, none)) = let most = settles.some_pieces last in inr (last, is, omega (arith, most, none))
+
+  none_fails : outcome.error ≡ None → KeepsFaults first after
+  none_fails none = by_case settles.faults
+    where
+      by_case : KeepsFaults first after ⊎ IsSomeAnd outcome.error (λ error. (error ≡ no_memory) ⊎ (error.error ≡ ReadFault)) → KeepsFaults first after
+      by_case (inl same) = same
+      by_case (inr fault) = absurd (subst (λ (e : Option ChunkError). IsSomeAnd e (λ error. (error ≡ no_memory) ⊎ (error.error ≡ ReadFault))) none fault)
+
+  -- ---- all of it
+
+  pub executed : Executed plans chunks outcome befores (after ∷ others)
+  executed = record {
+    apart = subst (AreApart (length chunks)) (sym settles.lists) gives.apart;
+    whole = λ none. subst (AreWhole (length chunks)) (sym settles.lists) (gives.whole (none_joined none));
+    ascend = subst (AllByRecursion Ascend) (sym settles.lists) gives.ascend;
+    claimed = λ x.
+        let most = settles.some_pieces x in
+        let less = gives.claimed x in
+        let same = over x in
+        omega (arith, most, less, same);
+    sorted = settles.sorted;
+    complete = λ none. in_order_once (length chunks) (numbers_of outcome.pieces.items) (numbers_in_order outcome.pieces.items settles.sorted) (λ x. piece_before none x ∙ gives.complete (none_joined none) x);
+    content = by_all (λ bytes. All (IsPieceOf (leaves_of bytes) plans chunks) outcome.pieces.items) settles.content;
+    dtype = settles.dtype gives.dtype;
+    rows = settles.rows gives.rows;
+    middles = first ∷ others;
+    cause = cause_of outcome.error refl;
+    stops = λ enough. subst (AllByRecursion Stops) (sym settles.lists) (stops_of outcome.error refl enough);
+    faults = subst (λ (lists : List (List ℕ)). EachSourceBy (FaultsAtLast outcome.pieces.items) lists befores (first ∷ others)) (sym settles.lists)
+        (each_by (FaultsWhereNotRan joined) (FaultsAtLast outcome.pieces.items) faults_last joined.claimed.items befores (first ∷ others) gives.faults);
+    quiet = λ none. each_first KeepsFaults KeepsFaults (λ before now last one two. two ∙ one) befores (first ∷ others) (after ∷ others) (gives.quiet (none_joined none)) (none_fails none, refl);
+    sources = subst (λ (lists : List (List ℕ)). EachSourceBy (RunsSource plans chunks) lists befores (first ∷ others)) (sym settles.lists) gives.sources;
+    again = (record { asks = settles.again; faults = settles.faults; lasts = settles.lasts; in_flight = settles.in_flight }, refl);
+    reruns = reruns_from (told_right plans chunks joined first) (told_by_all plans befores) by_all plans chunks outcome.reruns.items settles.reruns;
+    reruns_once = λ x.
+        let most = settles.reruns_once x in
+        let ran = gives.claimed x in
+        let same = over x in
+        omega (arith, most, ran, same);
+    alone = λ one. let none = settles.none (gives.alone one) in (ap (λ (source : SourceState). source ∷ others) none.0, none.1);
+  }
+
+-- no worker ran where there was no source
+none_ran : (plans : ScanPlans) (chunks : List SelectedRows) (lists : List (List ℕ)) (befores : List SourceState) → 0 < length befores → EachSourceBy (RunsSource plans chunks) lists befores [] → ⊥
+none_ran plans chunks lists [] some each = absurd (omega (arith, some))
+none_ran plans chunks [] (before ∷ befores) some each = each
+none_ran plans chunks (list ∷ lists) (before ∷ befores) some each = each
+
+-- the first of the sources is lent, and the others stay as they are
+pub executed_by : {S : Type 0} (state : S → SourceState) (plans : ScanPlans) (chunks : List SelectedRows) (joined : Joined) (outcome : Outcome) (befores : List SourceState) (sources : List S) (first after : S) → 0 < length befores
+    → JoinedAll plans chunks joined befores (map state sources) → Settles plans chunks joined outcome (state (slice_index_or sources 0 first)) (state after) → Executed plans chunks outcome befores (map state (slice_set sources 0 after))
+executed_by state plans chunks joined outcome befores [] first after some gives settles = absurd (none_ran plans chunks joined.claimed.items befores some gives.sources)
+executed_by state plans chunks joined outcome befores (one ∷ sources) first after some gives settles = executed plans chunks joined outcome befores (state one) (map state sources) (state after) some gives settles

@@ -5,7 +5,6 @@ use Rattle.std.specs.declared.alloc.AllocError.{AllocError}
 use Rattle.std.specs.declared.ops.Range.{Range}
 use Rattle.std.specs.List.{slice_get, AllByRecursion}
 use Rattle.vx_base.specs.Data.{DataType}
-use Rattle.vx_base.specs.declared.locations.SegmentLocation.{SegmentLocation}
 use Rattle.vx_expr.specs.Bound.{Bound, IsBoundTo}
 use Rattle.vx_expr.specs.Mentions.{is_root, uses_root}
 use Rattle.vx_expr.specs.Terms.{Term}
@@ -20,14 +19,13 @@ use Rattle.vx_layout.proofs.Unfolding.{good_later, head_of_subtree}
 use Rattle.vx_lower.specs.KeptRows.{kept_type}
 use Rattle.vx_lower.specs.Lowered.{lowered}
 use Rattle.vx_lower.specs.Numbered.{numbered, NumberNoRows}
-use Rattle.vx_lower.specs.Planned.{CanBePlanned}
 use Rattle.vx_lower.specs.Projected.{Projection, kept_of}
 use Rattle.vx_lower.specs.TreePlans.{HasTreeRows, HasTreeType}
 use Rattle.vx_lower.proofs.GoodTrees.{can_be_planned}
 use Rattle.vx_lower.proofs.Planning.{kept_typed}
 use Rattle.vx_plan.specs.Kinds.{HasKind, IsRowIdx}
 use Rattle.vx_plan.specs.Nodes.{Node as PlanNode}
-use Rattle.vx_plan.specs.Plans.{Head as PlanHead, Plan, plan_at, plan_head}
+use Rattle.vx_plan.specs.Plans.{Head as PlanHead, Plan, plan_at}
 use Rattle.vx_plan.specs.Refs.{number_of}
 use Rattle.vx_plan.specs.Rules.{node_at}
 use Rattle.vx_plan.specs.Tables.{IsGoodTable}
@@ -39,7 +37,7 @@ use Rattle.vx_splits.specs.Trimmed.{chosen_rows}
 use Rattle.vx_scan.specs.declared.files.ScanFile.{ScanFile}
 use Rattle.vx_scan.specs.declared.plans.ScanPlans.{ScanPlans}
 use Rattle.vx_scan.specs.declared.settings.Settings.{Settings}
-use Rattle.vx_scan.specs.Answer.{FileScan, row_count, scan_rows, size_of, pieces_of}
+use Rattle.vx_scan.specs.Answer.{row_count, size_of, pieces_of}
 use Rattle.vx_scan.specs.Beginning.{BeginsOver}
 use Rattle.vx_scan.specs.PlanTexts.{held_tree, projection_of, IsProjectionPlanBy}
 use Rattle.vx_scan.specs.Plans.{AreInOrder}

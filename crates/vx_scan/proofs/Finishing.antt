@@ -2,7 +2,6 @@
 use Rattle.std.proofs.Common.{◌≡◌, ℕ, ◌-◌, ◌<◌, ◌≤◌, ◌⊎◌, inl, inr, true, false, true≢false, List, [], ◌∷◌, length, refl, sym, ◌∙◌, arith}
 use Rattle.std.specs.Prelude.{min, Bool}
 use Rattle.std.specs.List.{All, sum_by}
-use Rattle.std.specs.List.Sorted.{IsNonDecreasingBy}
 use Rattle.std.proofs.lemmas.Bool.{cases_lt}
 use Rattle.std.proofs.lemmas.List.Elements.{All-head, All-tail}
 use Rattle.std.proofs.lemmas.List.Sums.{sum_by-cons}
@@ -12,10 +11,10 @@ use Rattle.vx_claims.specs.Claims.{claimed, parts, was_told, Closes}
 use Rattle.vx_claims.specs.Apart.{times, once_below}
 use Rattle.vx_claims.specs.Limits.{all_parts}
 use Rattle.vx_claims.proofs.Numbers.{times_above, once_yes, once_no}
-use Rattle.vx_scan.specs.declared.outcomes.Outcome.{Outcome}
+use Rattle.vx_scan.specs.declared.joins.Joined.{Joined}
 use Rattle.vx_scan.specs.declared.lanes.Lane.{Lane}
 use Rattle.vx_scan.specs.Gathers.{claimed_times, Gathers}
-use Rattle.vx_scan.specs.Executes.{Finishes}
+use Rattle.vx_scan.specs.Joins.{Joins}
 
 ones_sum : (lanes : List Lane) → All (λ lane. parts lane.seat ≡ 1) lanes → sum_by (λ lane. parts lane.seat) lanes ≡ length lanes
 ones_sum [] all = refl
@@ -31,9 +30,8 @@ all_told (lane ∷ lanes) true untold some all = refl
 all_told (lane ∷ lanes) false untold some all =
     absurd (true≢false (sym (All-head (λ (one : Lane). was_told one.seat ≡ true) lane lanes all) ∙ All-head (λ (one : Lane). was_told one.seat ≡ false) lane lanes (untold refl)))
 
-pub finishes : (claims : Claims) (count word : ℕ) (lanes : List Lane) (seat : ClaimSeat) (outcome : Outcome) → length lanes ≤ 64 → All (λ lane. parts lane.seat ≡ 1) lanes
-    → Gathers claims (all_parts - length lanes) lanes seat outcome.claimed.items outcome.pieces.items outcome.error → IsNonDecreasingBy (λ piece. piece.chunk) outcome.pieces.items → Closes count seat word → outcome.reruns.items ≡ [] → Finishes count lanes outcome
-finishes claims count word lanes seat outcome few ones gathers sorted closes no_rerun =
+pub joins : (claims : Claims) (count word : ℕ) (lanes : List Lane) (seat : ClaimSeat) (joined : Joined) → length lanes ≤ 64 → All (λ lane. parts lane.seat ≡ 1) lanes → Gathers claims (all_parts - length lanes) lanes seat joined → Closes count seat word → Joins count lanes joined
+joins claims count word lanes seat joined few ones gathers closes =
     let all : parts seat ≡ all_parts = (let sum = gathers.parts in let number = ones_sum lanes ones in omega (arith, sum, number, few)) in
     record {
       lists = gathers.all_lists;
@@ -46,10 +44,12 @@ finishes claims count word lanes seat outcome few ones gathers sorted closes no_
       pieces = gathers.all_pieces;
       some_pieces = gathers.some_pieces;
       given = gathers.given;
-      sorted = sorted;
+      loans = gathers.all_loans;
+      some_loans = gathers.some_loans;
+      given_loans = gathers.given_loans;
+      made = gathers.made;
       lowest = gathers.lowest;
       from = gathers.from;
-      reruns = no_rerun;
     }
   where
     is_below : (y : ℕ) → 1 ≤ times y (claimed seat) → (y < min word count) ⊎ (min word count ≤ y) → y < min word count

@@ -1,8 +1,8 @@
 -- The columns of the pieces that all workers gave are the batches of the chunks.
-use Rattle.std.proofs.Common.{◌≡◌, ◌≢◌, ℕ, zero, suc, ◌+◌, ◌<◌, ◌≤◌, ◌⊎◌, inl, inr, List, [], ◌∷◌, ◌++◌, Some, None, Result, Ok, Err, Vec, Global, length, map, take, refl, sym, ap, ◌∙◌, subst, arith}
+use Rattle.std.proofs.Common.{◌≡◌, ◌≢◌, ℕ, zero, suc, ◌+◌, ◌<◌, ◌≤◌, ◌⊎◌, inl, inr, Bool, true, List, [], ◌∷◌, ◌++◌, Some, None, Result, Ok, Err, Vec, Global, length, map, take, refl, sym, ap, ◌∙◌, subst, arith}
 use native.Mathlib.Decide.{ℕ_discrete}
 use mathlib.Core.Logic.{dite}
-use Rattle.std.specs.Prelude.{Option, IfSome, IsSomeAnd}
+use Rattle.std.specs.Prelude.{Option, IfSome, IsSomeAnd, nat_lt}
 use Rattle.std.specs.List.{slice_get, All, AllByRecursion, flat_map}
 use Rattle.std.proofs.lemmas.Bool.{cases_lt}
 use Rattle.std.proofs.lemmas.List.{length-map, map-append}
@@ -28,22 +28,21 @@ use Rattle.vx_scan.specs.BatchColumns.{Told, TakesBatches}
 use Rattle.vx_scan.specs.Batches.{AreBatches, FaultsFrom, HasPiece, HavePiecesButLast, Share, reasons_in, AsksOver, LowestFailure, GivesBatches}
 use Rattle.vx_scan.specs.ChunkRows.{IsPiece}
 use Rattle.vx_scan.specs.Fetched.{AreDistinct}
-use Rattle.vx_scan.specs.Executes.{stretch, FailsLowest, FaultsAtLast, StopsAtLast, Executed, Executes}
+use Rattle.vx_scan.specs.Executes.{stretch, AskedAgain, FailsAgain, FailsLowest, FaultsAtLast, StopsAtLast, Executed, Executes}
 use Rattle.vx_scan.specs.Gathers.{no_memory}
-use Rattle.vx_scan.specs.Lent.{EachSource, EachSourceBy, SomeSourceBy}
+use Rattle.vx_scan.specs.Lent.{EachSource, EachSourceBy, FirstSource, SomeSourceBy}
 use Rattle.vx_scan.specs.Plans.{bytes_of, projection_node}
 use Rattle.vx_scan.specs.Reasons.{Reason, chunk_and_segment}
+use Rattle.vx_scan.specs.Settling.{rerun_chunks, AsksAgain}
 use Rattle.vx_scan.specs.Workers.{HasDtype, HasItsRows, IsPieceOf, numbers_of, IsLast, AsksReached, RunsSource, FailsLast}
 use Rattle.vx_scan.proofs.Distinct.{distinct_none, distinct_then, apart_from}
+use Rattle.vx_scan.proofs.Executing.{each_weaker}
 use Rattle.vx_scan.proofs.LaneEnds.{among_stands}
-use Rattle.vx_scan.proofs.LentSources.{each_by}
+use Rattle.vx_scan.proofs.Lasting.{lasts_then}
+use Rattle.vx_scan.proofs.LentSources.{each_by, each_clear, each_first, each_lasts, first_by, first_same, first_there}
 use Rattle.vx_scan.proofs.Sessions.{asked_nothing}
 
 -- ---- the batches
-
-each_weaker : {X : Type 0} (P Q : X → Type 0) → ((x : X) → P x → Q x) → (xs : List X) → AllByRecursion P xs → AllByRecursion Q xs
-each_weaker P Q from [] each = tt
-each_weaker P Q from (x ∷ xs) each = (from x each.0, each_weaker P Q from xs each.1)
 
 module _ (all : List SelectedRows) where
   -- these chunks are those from that place on
@@ -106,11 +105,11 @@ module _ (leaves : Leaves) (plans : ScanPlans) (all : List SelectedRows) where
   chunk_piece : (number : ℕ) (chunk : SelectedRows) (pieces : List Piece) → slice_get all number ≡ Some chunk → 1 ≤ times number (numbers_of pieces) → All (IsPieceOf leaves plans all) pieces → HasPiece leaves plans chunk
   chunk_piece number chunk pieces here some are = subst (λ (got : Option SelectedRows). IsSomeAnd got (HasPiece leaves plans)) here (has_piece number pieces some are)
 
-  pieces_but_last : (pieces : List Piece) → All (IsPieceOf leaves plans all) pieces → (lists : List (List ℕ)) → AllByRecursion (StopsAtLast pieces) lists → AllByRecursion (HavePiecesButLast leaves plans all) lists
-  pieces_but_last pieces are lists stop =
-      each_weaker (StopsAtLast pieces) (HavePiecesButLast leaves plans all) (λ numbers stops x among. by_case x numbers (stops x among)) lists stop
+  pieces_but_last : (shares : Bool) (failed : ChunkError) (pieces : List Piece) → All (IsPieceOf leaves plans all) pieces → (lists : List (List ℕ)) → AllByRecursion (StopsAtLast shares (Some failed) pieces) lists → AllByRecursion (HavePiecesButLast leaves plans all shares failed.chunk) lists
+  pieces_but_last shares failed pieces are lists stop =
+      each_weaker (StopsAtLast shares (Some failed) pieces) (HavePiecesButLast leaves plans all shares failed.chunk) (λ numbers stops x among. by_case x numbers (stops x among)) lists stop
     where
-      by_case : (x : ℕ) (numbers : List ℕ) → (times x (numbers_of pieces) ≡ 1) ⊎ IsLast x numbers → IsSomeAnd (slice_get all x) (HasPiece leaves plans) ⊎ IsLast x numbers
+      by_case : (x : ℕ) (numbers : List ℕ) → (times x (numbers_of pieces) ≡ 1) ⊎ (IsLast x numbers ⊎ ((shares ≡ true) × (failed.chunk ≤ x))) → IsSomeAnd (slice_get all x) (HasPiece leaves plans) ⊎ (IsLast x numbers ⊎ ((shares ≡ true) × (failed.chunk ≤ x)))
       by_case x numbers (inl one) = inl (has_piece x pieces (omega (arith, one)) are)
       by_case x numbers (inr last) = inr last
 
@@ -131,7 +130,7 @@ all_dtypes plans (piece ∷ pieces) are = (All-head (HasDtype plans) piece piece
 some_same : {one two : ChunkError} → Some one ≡ Some two → one ≡ two
 some_same is = cc
 
-is_memory : (error : ScanError) → (error ≡ Memory) ⊎ (error ≢ Memory)
+pub is_memory : (error : ScanError) → (error ≡ Memory) ⊎ (error ≢ Memory)
 is_memory BadProjection = inr (λ same. cc)
 is_memory OffsetOverflow = inr (λ same. cc)
 is_memory OutOfRange = inr (λ same. cc)
@@ -227,7 +226,16 @@ module _ (plans : ScanPlans) (chunks : List SelectedRows) where
   fails_there error (list ∷ lists) (before ∷ befores) (after ∷ afters) (inl fails) = (fails.fails.chunk, fails.fails.here)
   fails_there error (list ∷ lists) (before ∷ befores) (after ∷ afters) (inr fails) = fails_there error lists befores afters fails
 
-  module _ (outcome : Outcome) (befores afters : List SourceState) where
+  module _ (outcome : Outcome) (befores afters : List SourceState) (executed : Executed plans chunks outcome befores afters) where
+    abbrev Fails : ChunkError → Type 0
+    Fails error = SomeSourceBy (FailsLast plans chunks error) outcome.claimed.items befores executed.middles ⊎ ((1 < length befores) × (1 ≤ times_over error.chunk outcome.claimed.items) × FirstSource (FailsAgain plans chunks error befores) executed.middles afters)
+
+    chunk_there : (error : ChunkError) → Fails error → (chunk : SelectedRows) × (slice_get chunks error.chunk ≡ Some chunk)
+    chunk_there error (inl fails) = fails_there error outcome.claimed.items befores executed.middles fails
+    chunk_there error (inr fails) =
+        let first = first_there (RunsSource plans chunks) (FailsAgain plans chunks error befores) error.chunk outcome.claimed.items befores executed.middles afters fails.1 executed.sources fails.2 in
+        (first.2.chunk, first.2.here)
+
     -- what has no piece isn't below the chunk that failed
     faults_from : (place : ℕ) (list : List ℕ) (before after : SourceState) → ((x : ℕ) → x < place → times x (numbers_of outcome.pieces.items) ≡ 1) → FaultsAtLast outcome.pieces.items list before after → FaultsFrom place list before after
     faults_from place list before after lower (inl same) = inl same
@@ -237,11 +245,19 @@ module _ (plans : ScanPlans) (chunks : List SelectedRows) where
         by_order (inl less) = let one = lower last less in absurd (omega (arith, one, none))
         by_order (inr least) = inr (last, is, least)
 
-    lowest_of : (error : ScanError) → outcome.error ≢ Some no_memory → Executed plans chunks outcome befores afters → (told : Told outcome error) → (told.failed ≡ no_memory) ⊎ FailsLowest plans chunks told.failed outcome.pieces.items outcome.claimed.items befores afters
+    -- no reruns are no chunks that ran again
+    none_again : length befores ≡ 1 → (afters ≡ executed.middles) × (rerun_chunks outcome.reruns.items ≡ [])
+    none_again one = let none = executed.alone one in (none.0, ap rerun_chunks none.1)
+
+    -- that chunk failed, and that is why
+    is_failure : (error : ScanError) (told : Told outcome error) → told.failed ≡ record { chunk = told.failed.chunk; error = error }
+    is_failure error told = λ i. record { chunk = told.failed.chunk; error = told.why i }
+
+    lowest_of : (error : ScanError) → outcome.error ≢ Some no_memory → (told : Told outcome error) → (told.failed ≡ no_memory) ⊎ FailsLowest plans chunks told.failed outcome.pieces.items outcome.claimed.items befores executed.middles afters
         → (error ≡ Memory) ⊎ LowestFailure plans chunks error befores afters
-    lowest_of error enough executed told (inl memory) = inl (sym told.why ∙ ap (λ (failed : ChunkError). failed.error) memory)
-    lowest_of error enough executed told (inr fails) =
-        let there = fails_there told.failed outcome.claimed.items befores afters fails.fails in
+    lowest_of error enough told (inl memory) = inl (sym told.why ∙ ap (λ (failed : ChunkError). failed.error) memory)
+    lowest_of error enough told (inr fails) =
+        let there = chunk_there told.failed fails.fails in
         inr record {
           place = told.failed.chunk;
           chunk = there.0;
@@ -250,19 +266,25 @@ module _ (plans : ScanPlans) (chunks : List SelectedRows) where
           apart = executed.apart;
           ascend = executed.ascend;
           all_before = λ x less. let one = fails.lower x less in let most = executed.claimed x in let once = executed.apart.once x in omega (arith, one, most, once);
+          middles = executed.middles;
+          reruns = rerun_chunks outcome.reruns.items;
           ran = executed.sources;
-          faults = each_by (FaultsAtLast outcome.pieces.items) (FaultsFrom told.failed.chunk) (λ list before after at_last. faults_from told.failed.chunk list before after fails.lower at_last) outcome.claimed.items befores afters executed.faults;
-          cause = subst (λ (one : ScanError). SomeSourceBy (FailsLast plans chunks (record { chunk = told.failed.chunk; error = one })) outcome.claimed.items befores afters) told.why fails.fails;
+          again = subst (λ (one : Option ChunkError). FirstSource (AskedAgain plans chunks (rerun_chunks outcome.reruns.items) one) executed.middles afters) (told.is ∙ ap Some (is_failure error told)) executed.again;
+          alone = none_again;
+          faults = each_by (FaultsAtLast outcome.pieces.items) (FaultsFrom told.failed.chunk) (λ list before after at_last. faults_from told.failed.chunk list before after fails.lower at_last) outcome.claimed.items befores executed.middles executed.faults;
+          cause = subst Fails (is_failure error told) fails.fails;
           lower = λ file tell.
               all_taken (HasPiece (leaves_of (bytes_of plans file)) plans) told.failed.chunk chunks (λ i chunk less here.
               let one = fails.lower i less in
               chunk_piece (leaves_of (bytes_of plans file)) plans chunks i chunk outcome.pieces.items here (omega (arith, one)) (executed.content file tell));
-          stops = λ file tell. pieces_but_last (leaves_of (bytes_of plans file)) plans chunks outcome.pieces.items (executed.content file tell) outcome.claimed.items (executed.stops enough);
+          stops = λ file tell.
+              pieces_but_last (leaves_of (bytes_of plans file)) plans chunks (nat_lt 1 (length befores)) told.failed outcome.pieces.items (executed.content file tell) outcome.claimed.items
+              (subst (λ (one : Option ChunkError). AllByRecursion (StopsAtLast (nat_lt 1 (length befores)) one outcome.pieces.items) outcome.claimed.items) told.is (executed.stops enough));
         }
 
-    cause_of : (error : ScanError) → Executed plans chunks outcome befores afters → TakesBatches outcome (Err error) → (error ≡ Memory) ⊎ LowestFailure plans chunks error befores afters
-    cause_of error executed (inl memory) = inl memory
-    cause_of error executed (inr told) = by_memory (is_memory error)
+    cause_of : (error : ScanError) → TakesBatches outcome (Err error) → (error ≡ Memory) ⊎ LowestFailure plans chunks error befores afters
+    cause_of error (inl memory) = inl memory
+    cause_of error (inr told) = by_memory (is_memory error)
       where
         -- want of memory outside of a run is want of memory
         enough : error ≢ Memory → outcome.error ≢ Some no_memory
@@ -271,17 +293,39 @@ module _ (plans : ScanPlans) (chunks : List SelectedRows) where
         by_memory : (error ≡ Memory) ⊎ (error ≢ Memory) → (error ≡ Memory) ⊎ LowestFailure plans chunks error befores afters
         by_memory (inl memory) = inl memory
         by_memory (inr other) =
-            lowest_of error (enough other) executed told (subst (λ (one : Option ChunkError). IfSome one (λ failed. (failed ≡ no_memory) ⊎ FailsLowest plans chunks failed outcome.pieces.items outcome.claimed.items befores afters)) told.is executed.cause)
+            lowest_of error (enough other) told (subst (λ (one : Option ChunkError). IfSome one (λ failed. (failed ≡ no_memory) ⊎ FailsLowest plans chunks failed outcome.pieces.items outcome.claimed.items befores executed.middles afters)) told.is executed.cause)
 
-    asks_of : Executed plans chunks outcome befores afters → AsksOver plans chunks befores afters
-    asks_of executed =
-        let all = shared outcome.claimed.items befores afters executed.apart.once executed.sources in
-        record { shares = all.shares; each = all.each; once_a_chunk = all.distinct }
+    asks_of : AsksOver plans chunks befores afters
+    asks_of =
+        let all = shared outcome.claimed.items befores executed.middles executed.apart.once executed.sources in
+        record {
+          shares = all.shares;
+          middles = executed.middles;
+          each = all.each;
+          once_a_chunk = all.distinct;
+          reruns = rerun_chunks outcome.reruns.items;
+          reruns_once = λ x. let most = executed.reruns_once x in let once = executed.apart.once x in omega (arith, most, once);
+          again = first_by (AskedAgain plans chunks (rerun_chunks outcome.reruns.items) outcome.error) (AsksAgain plans chunks (rerun_chunks outcome.reruns.items)) (λ before after asked. asked.asks) executed.middles afters executed.again;
+          alone = none_again;
+        }
 
     -- ---- all sources together
 
-    from_executed : (result : Result (Vec ColumnData Global) ScanError) → Executed plans chunks outcome befores afters → TakesBatches outcome result → GivesBatches plans chunks result befores afters
-    from_executed (Ok batches) executed takes =
+    -- what was left clear, and then again
+    clear_then : (before now after : SourceState) → IsLeftClear before now → IsLeftClear now after → IsLeftClear before after
+    clear_then before now after one (inl none) = inl none
+    clear_then before now after one (inr same) = subst (IsLeftClear before) (sym same) one
+
+    all_last : EachSource Lasts befores afters
+    all_last = each_first Lasts (AskedAgain plans chunks (rerun_chunks outcome.reruns.items) outcome.error) (λ before now after one two. lasts_then before now after one two.lasts) befores executed.middles afters
+        (each_from Lasts (λ list before after runs. runs.lasts) outcome.claimed.items befores executed.middles executed.sources) executed.again
+
+    all_clear : EachSource IsLeftClear befores afters
+    all_clear = each_first IsLeftClear (AskedAgain plans chunks (rerun_chunks outcome.reruns.items) outcome.error) (λ before now after one two. clear_then before now after one two.in_flight) befores executed.middles afters
+        (each_from IsLeftClear (λ list before after runs. runs.in_flight) outcome.claimed.items befores executed.middles executed.sources) executed.again
+
+    from_executed : (result : Result (Vec ColumnData Global) ScanError) → TakesBatches outcome result → GivesBatches plans chunks result befores afters
+    from_executed (Ok batches) takes =
         let numbers = executed.complete takes.0 in
         record {
           content = λ file tell. subst (AreBatches (leaves_of (bytes_of plans file)) plans chunks) (sym takes.1)
@@ -291,21 +335,21 @@ module _ (plans : ScanPlans) (chunks : List SelectedRows) where
           rows = ap (map (λ (batch : ColumnData). length batch.values)) takes.1
               ∙ rows_from chunks 0 chunks outcome.pieces.items (λ i chunk here. let at : 0 + i ≡ i = omega arith in ap (slice_get chunks) at ∙ here) numbers executed.rows;
           faults = executed.quiet takes.0;
-          asks = asks_of executed;
+          asks = asks_of;
           cause = tt;
-          lasts = each_from Lasts (λ list before after runs. runs.lasts) outcome.claimed.items befores afters executed.sources;
-          in_flight = each_from IsLeftClear (λ list before after runs. runs.in_flight) outcome.claimed.items befores afters executed.sources;
+          lasts = all_last;
+          in_flight = all_clear;
         }
-    from_executed (Err error) executed takes = record {
+    from_executed (Err error) takes = record {
       content = tt;
       count = tt;
       dtype = tt;
       rows = tt;
       faults = tt;
-      asks = asks_of executed;
-      cause = cause_of error executed takes;
-      lasts = each_from Lasts (λ list before after runs. runs.lasts) outcome.claimed.items befores afters executed.sources;
-      in_flight = each_from IsLeftClear (λ list before after runs. runs.in_flight) outcome.claimed.items befores afters executed.sources;
+      asks = asks_of;
+      cause = cause_of error takes;
+      lasts = all_last;
+      in_flight = all_clear;
     }
 
   -- ---- where no worker started
@@ -325,7 +369,18 @@ module _ (plans : ScanPlans) (chunks : List SelectedRows) where
     asked = sym (asked_nothing source.asked);
     once_a_chunk = distinct_none;
     once_a_leaf = λ order together. distinct_none;
-    once_a_take = λ order together. distinct_none;
+    once_a_take = distinct_none;
+  }
+
+  none_asked : (source : SourceState) → AsksAgain plans chunks [] source source
+  none_asked source = record {
+    reasons = [];
+    are = tt;
+    direct = tt;
+    located = All-nil (λ segment. segment < length plans.locations.items);
+    asked = sym (asked_nothing source.asked);
+    once_a_chunk = distinct_none;
+    once_a_take = distinct_none;
   }
 
   all_idle : (sources : List SourceState) → AsksShares (idle_shares sources) sources sources
@@ -335,10 +390,6 @@ module _ (plans : ScanPlans) (chunks : List SelectedRows) where
   idle_distinct : (sources : List SourceState) → AreDistinct (map chunk_and_segment (flat_map reasons_in (idle_shares sources)))
   idle_distinct [] = distinct_none
   idle_distinct (source ∷ sources) = idle_distinct sources
-
-  each_idle : (P : SourceState → SourceState → Type 0) → ((source : SourceState) → P source source) → (sources : List SourceState) → EachSource P sources sources
-  each_idle P same [] = tt
-  each_idle P same (source ∷ sources) = (same source, each_idle P same sources)
 
   idle_cause : (outcome : Outcome) (error : ScanError) → outcome.error ≡ Some no_memory → TakesBatches outcome (Err error) → error ≡ Memory
   idle_cause outcome error none (inl memory) = memory
@@ -354,13 +405,22 @@ module _ (plans : ScanPlans) (chunks : List SelectedRows) where
     dtype = tt;
     rows = tt;
     faults = tt;
-    asks = record { shares = idle_shares sources; each = all_idle sources; once_a_chunk = idle_distinct sources };
+    asks = record {
+      shares = idle_shares sources;
+      middles = sources;
+      each = all_idle sources;
+      once_a_chunk = idle_distinct sources;
+      reruns = [];
+      reruns_once = λ x. omega arith;
+      again = first_same (AsksAgain plans chunks []) none_asked sources;
+      alone = λ one. (refl, refl);
+    };
     cause = inl (idle_cause outcome error none takes);
-    lasts = each_idle Lasts (λ source. record { file = refl; faults = omega arith; idle = omega arith }) sources;
-    in_flight = each_idle IsLeftClear (λ source. inr refl) sources;
+    lasts = each_lasts sources;
+    in_flight = each_clear sources;
   }
 
 pub gives_batches : (plans : ScanPlans) (chunks : List SelectedRows) (outcome : Outcome) (result : Result (Vec ColumnData Global) ScanError) (befores afters : List SourceState) → Executes plans chunks outcome befores afters → TakesBatches outcome result → GivesBatches plans chunks result befores afters
-gives_batches plans chunks outcome result befores afters (inl executed) takes = from_executed plans chunks outcome befores afters result executed takes
+gives_batches plans chunks outcome result befores afters (inl executed) takes = from_executed plans chunks outcome befores afters executed result takes
 gives_batches plans chunks outcome result befores afters (inr idle) takes =
     subst (GivesBatches plans chunks result befores) (sym idle.sources) (from_nothing plans chunks outcome befores result idle.error takes)

@@ -1,5 +1,5 @@
 -- The outcome of a chunk among those of one source, from the run of its scan.
-use Rattle.std.proofs.Common.{◌≡◌, ℕ, ◌+◌, ◌<◌, ◌⊎◌, inl, inr, ⊎_elim, List, [], ◌∷◌, Option, Some, None, Ok, Err, length, refl, sym, ap, ◌∙◌, subst, arith}
+use Rattle.std.proofs.Common.{◌≡◌, ℕ, ◌+◌, ◌<◌, ◌⊎◌, inl, inr, ⊎_elim, List, [], ◌∷◌, ◌++◌, Option, Some, None, Ok, Err, length, refl, sym, ap, ◌∙◌, subst, arith}
 use Rattle.std.specs.Prelude.{IfErr, IfSome, Result}
 use Rattle.std.proofs.lemmas.List.Elements.{All-weaker}
 use Rattle.vx_base.specs.Columns.{ColumnData}
@@ -8,13 +8,14 @@ use Rattle.vx_plan.specs.Nodes.{Node}
 use Rattle.vx_plan.specs.Refs.{number_of}
 use Rattle.vx_plan.specs.Rules.{node_at}
 use Rattle.vx_plan.specs.Tables.{IsGoodTable}
-use Rattle.vx_rows.specs.SegmentLeaves.{leaves_of}
+use Rattle.vx_rows.specs.SegmentLeaves.{Bytes, leaves_of}
 use Rattle.vx_splits.specs.declared.selected_rows.SelectedRows.{SelectedRows}
 use Rattle.vx_steps.specs.declared.errors.StepError.{StepError}
 use Rattle.vx_steps.specs.declared.jobs.Job.{Job}
 use Rattle.vx_steps.specs.declared.leaf_reads.LeafRead.{LeafRead}
 use Rattle.vx_steps.specs.declared.splits.Split.{Split}
 use Rattle.vx_steps.specs.Jobs.{KeepsColumns}
+use Rattle.vx_steps.specs.Held.{AreMade, AreTyped}
 use Rattle.vx_steps.specs.Kept.{AreApart, kept_at, IsKept}
 use Rattle.vx_steps.specs.KeptData.{Kept}
 use Rattle.vx_steps.specs.Leavings.{behind_all, IsLeafOf, IsReadBehind, RowReads}
@@ -33,13 +34,15 @@ use Rattle.vx_scan.specs.ChunkRows.{given_to, ChunkFailsInside, ChunkVisits}
 use Rattle.vx_scan.specs.ChunkScans.{IsChunkScan}
 use Rattle.vx_scan.specs.Finished.{Finishes}
 use Rattle.vx_scan.specs.LeafRows.{IsReadAt, row_behind, split_in}
-use Rattle.vx_scan.specs.Outcomes.{AreAllThere, CanHandOn, ChunkAsks, IsGivenOrMade, IsHandedBy, IsWanted, RunsOn, data_of, told_on}
+use Rattle.vx_scan.specs.Outcomes.{AreAllThere, AreOwn, CanHandOn, Causes, ChunkAsks, Claims, GivesPiece, HandsLeavesRead, IsGivenOrMade, IsHandedBy, IsWanted, RunsOn, RunsOnly, data_of, told_on}
 use Rattle.vx_scan.specs.Pieces.{PieceOf}
-use Rattle.vx_scan.specs.Plans.{bytes_of, projection_plan}
-use Rattle.vx_scan.specs.Runs.{LeavesFault, row_fault}
+use Rattle.vx_scan.specs.Plans.{bytes_of, projection_plan, IsChunkOf}
+use Rattle.vx_scan.specs.Runs.{LeavesFault, LeavesRead, row_fault}
+use Rattle.vx_scan.proofs.AddedVisits.{AreBehind, KeepsBoth, are_behind, cause_added, gives_added, keeps_both, kept_behind, kept_in_either, kept_in_front}
 use Rattle.vx_scan.proofs.ChunkOutcomes.{asks_nothing, chunk_causes, chunk_content, chunk_error, chunk_faults, chunk_leaves, chunk_there, lasts_cleared, leaves_in, made_in, there_as, typed_in}
-use Rattle.vx_scan.proofs.ChunkViews.{Claimable, asks_wanted, fault_left}
-use Rattle.vx_scan.proofs.Fitting.{kept_first, leaves_fitting, made_fitting, stays_fitting}
+use Rattle.vx_scan.proofs.ChunkScanning.{IsGoodChunk, good_chunk}
+use Rattle.vx_scan.proofs.ChunkViews.{Claimable, asks_wanted, fault_left, fault_reads}
+use Rattle.vx_scan.proofs.Fitting.{kept_among, kept_first, leaves_fitting, made_fitting, stays_fitting}
 use Rattle.vx_scan.proofs.LeafShapes.{leaf_counts}
 use Rattle.vx_scan.proofs.WeakerVisits.{leaf_read, weaker_visit}
 
@@ -125,70 +128,111 @@ fault_leaves plans chosen handed given leaves made after start scan before error
         (λ (inside : told_on plans handed before (λ bytes. ChunkFailsInside (leaves_of bytes) plans given chosen fault)). inr inside)
         (fault_left (told_on plans handed before) plans chosen given leaves made start scan before fault is claim left)
 
-error_as : {X : Type 0} (piece : Result X ScanError) (P Q : ScanError → Type 0) → ((error : ScanError) → P error → Q error) → IfErr piece P → IfErr piece Q
+pub error_as : {X : Type 0} (piece : Result X ScanError) (P Q : ScanError → Type 0) → ((error : ScanError) → P error → Q error) → IfErr piece P → IfErr piece Q
 error_as (Ok x) P Q f holds = tt
 error_as (Err error) P Q f holds = f error holds
 
-pub runs_on : (plans : ScanPlans) (chosen : SelectedRows) (handed : HandedOn) (given fitting leaves made : List Kept) (start : ScanData) (finished : Finished) (ran : Ran) (before after : SourceState) → CanHandOn plans handed → Keeps (IsForPlan plans.table) given fitting → Keeps (IsForLeaf plans.table) (data_of handed.leaves.items) leaves →
-    Keeps (IsForPlan plans.table) (data_of handed.made.items) made → IsChunkScan plans chosen fitting leaves made start → Finishes plans.locations.items plans.idle_limit start finished before after → PieceOf plans finished.output ran.piece → ran.handed.leaves ≡ finished.kept.leaves →
-    ran.handed.made ≡ finished.kept.made → AreApart (data_of ran.handed.made.items) → RunsOn plans chosen handed given ran before after
-runs_on plans chosen handed given fitting leaves made start finished ran before after can fits fits_leaves fits_made is done piece same_leaves same_made apart =
+some_as : {X : Type 0} (option : Option X) (P Q : X → Type 0) → ((x : X) → P x → Q x) → IfSome option P → IfSome option Q
+some_as None P Q f holds = tt
+some_as (Some x) P Q f holds = f x holds
+
+-- they have the dtypes and the rows of their plans
+own_typed : (plans : ScanPlans) (chosen : SelectedRows) (made own : List Kept) → AreOwn plans chosen made own → AreTyped plans.table made → AreTyped plans.table own
+own_typed plans chosen made own are typed n column at = typed n column (are.from n column at)
+
+-- what is claimed of bytes by which those of the made values that the chunk asks for, and that fit, are whole
+made_claim : (plans : ScanPlans) (chosen : SelectedRows) (handed : HandedOn) (own more : List Kept) (before : SourceState) → CanHandOn plans handed → AreOwn plans chosen (data_of handed.made.items) own → Keeps (IsForPlan plans.table) own more →
+    (P Q : Bytes → Type 0) → ((bytes : Bytes) → AreMade plans.table plans.row_offset more (leaves_of bytes) → P bytes → Q bytes) → told_on plans handed before P → told_on plans handed before Q
+made_claim plans chosen handed own more before can are fits P Q to claim file told by =
+    to (bytes_of plans file) (made_fitting plans.table plans.row_offset own more (leaves_of (bytes_of plans file)) (own_typed plans chosen (data_of handed.made.items) own are can.made) fits (λ n column at. by.made_are n column (are.from n column at))) (claim file told by)
+
+pub runs_on : (plans : ScanPlans) (chosen : SelectedRows) (handed : HandedOn) (given own all leaves made : List Kept) (start : ScanData) (finished : Finished) (ran : Ran) (before after : SourceState) → IsChunkOf plans chosen → CanHandOn plans handed → AreOwn plans chosen (data_of handed.made.items) own → Keeps (IsForPlan plans.table) (given ++ own) all
+    → Keeps (IsForLeaf plans.table) (data_of handed.leaves.items) leaves → Keeps (IsForPlan plans.table) (data_of handed.made.items) made → IsChunkScan plans chosen all leaves made start → Finishes plans.locations.items plans.idle_limit start finished before after → PieceOf plans finished.output ran.piece
+    → ran.handed.leaves ≡ finished.kept.leaves → ran.handed.made ≡ finished.kept.made → AreApart (data_of ran.handed.made.items) → RunsOnly plans chosen handed given ran before after
+runs_on plans chosen handed given own all leaves made start finished ran before after chunk can are fits_all fits_leaves fits_made is done piece same_leaves same_made apart =
     let scan : ScanData = done.scan in
     let gives = done.gives in
     let kept_leaves : data_of ran.handed.leaves.items ≡ data_of finished.kept.leaves.items = λ i. data_of (same_leaves i).items in
     let kept_made : data_of ran.handed.made.items ≡ scan.progress.wholes.made = (λ i. data_of (same_made i).items) ∙ done.kept.made in
-    let claim = claim_on plans chosen handed fitting leaves made start before can fits_leaves fits_made is in
+    let claim = claim_on plans chosen handed all leaves made start before can fits_leaves fits_made is in
     let keeps : Keeps (λ one. IsReadBehind scan.nodes scan.job one.node) scan.progress.leaves (data_of ran.handed.leaves.items) = subst (Keeps (λ one. IsReadBehind scan.nodes scan.job one.node) scan.progress.leaves) (sym kept_leaves) done.kept.leaves in
     let good : IsGoodTable plans.table = subst IsGoodTable is.nodes is.unread.good in
     let there : number_of plans.projection < length plans.table = let known = is.unread.known in let nodes = ap length is.nodes in let plan = is.plan in omega (arith, known, nodes, plan) in
+    let both : KeepsBoth (IsForPlan plans.table) given own all = keeps_both (IsForPlan plans.table) given own all fits_all in
+    let fitting : List Kept = both.front in
+    let more : List Kept = both.back in
+    let behind : AreBehind fitting more all = subst (AreBehind fitting more) (sym both.is) (are_behind fitting more) in
+    let inside : IsGoodChunk plans chosen = good_chunk plans chosen good there chunk in
+    let Told : Claims = told_on plans handed before in
+    let claim_made = made_claim plans chosen handed own more before can are both.keeps_back in
     record {
-      fitting = fitting;
-      fits = inl fits;
       runs = record {
-        content = chunk_content (told_on plans handed before) plans chosen fitting leaves made start scan before after finished.output ran.piece is claim gives.answer piece;
-        cause = chunk_causes (told_on plans handed before) plans chosen fitting leaves made start scan before after finished.output ran.piece is claim gives.answer piece;
-        asks = asks_on plans chosen fitting leaves handed before after can fits_leaves good there (asks_wanted plans chosen fitting leaves made start before after is gives.asks);
-        more = record {
-          can = record {
-            leaves = typed_in plans chosen fitting leaves made (data_of finished.kept.leaves.items) (data_of ran.handed.leaves.items) start scan is gives.nodes kept_leaves done.kept.typed_leaves;
-            made = typed_in plans chosen fitting leaves made scan.progress.wholes.made (data_of ran.handed.made.items) start scan is gives.nodes kept_made done.kept.typed_made;
-            apart = apart;
-          };
-          by_file = claim (IsHandedBy plans ran.handed) (λ file told held. record {
-            leaves_are = leaves_in plans chosen fitting leaves made (data_of ran.handed.leaves.items) start scan (bytes_of plans file) is gives.nodes keeps (gives.told file told held);
-            made_are = made_in plans chosen fitting leaves made (data_of ran.handed.made.items) start scan (bytes_of plans file) is gives.nodes gives.job kept_made (gives.told file told held);
-          });
-          stays = λ n column known at. subst (λ (ks : List Kept). kept_at ks n ≡ Some column) (sym kept_made)
-              (gives.wholes.made n column (subst (λ (ks : List Kept). kept_at ks n ≡ Some column) (sym is.made_are) (stays_fitting plans.table (data_of handed.made.items) made n column can.made fits_made known at)));
-          there = there_as ran.piece (λ column. (n : ℕ) → ChunkAsks plans fitting chosen n → IsThere fitting scan.progress.wholes n) (λ column. AreAllThere plans fitting (data_of ran.handed.made.items) chosen)
-              (λ column there n asks. given_or_made fitting (data_of ran.handed.made.items) n scan kept_made (there n asks))
-              (chunk_there plans chosen fitting leaves made start scan before after finished.output ran.piece is gives.answer piece);
-          left = error_as ran.piece (λ error. IfSome (row_fault error) (LeavesFault plans.locations.items start scan before))
-              (λ error. IfSome (row_fault error) (λ fault. AreAllThere plans fitting (data_of ran.handed.made.items) chosen ⊎ told_on plans handed before (λ bytes. ChunkFailsInside (leaves_of bytes) plans fitting chosen fault)))
-              (λ error. fault_leaves plans chosen handed fitting leaves made (data_of ran.handed.made.items) start scan before error is claim kept_made)
-              (chunk_error (λ error. IfSome (row_fault error) (LeavesFault plans.locations.items start scan before)) plans finished.output ran.piece tt piece gives.left);
-          leaves_stay = λ leaf read kept.
-              leaf_on scan (data_of ran.handed.leaves.items) leaf keeps (read_behind plans chosen fitting leaves made start scan leaf is gives.nodes gives.job read)
-              (stay_on leaf start.progress.leaves scan.progress.leaves gives.leaves
-              (subst (λ (ks : List Kept). IsKept ks leaf) (sym is.leaves_are) (leaf_in plans leaves handed can fits_leaves good there leaf (row_behind chosen) read.1 kept)));
-          leaves_there = there_as ran.piece (λ column. (read : LeafRead) → ChunkVisits (IsLeafRead read) plans fitting chosen → IsKept scan.progress.leaves read.leaf) (λ column. (read : LeafRead) → IsReadAt plans (row_behind chosen) read.leaf → ChunkVisits (IsLeafRead read) plans fitting chosen → IsKept (data_of ran.handed.leaves.items) read.leaf)
-              (λ column have read past visits. leaf_on scan (data_of ran.handed.leaves.items) read.leaf keeps (read_behind plans chosen fitting leaves made start scan read.leaf is gives.nodes gives.job past) (have read visits))
-              (chunk_leaves plans chosen fitting leaves made start scan before after finished.output ran.piece is gives.answer piece);
+        fitting = fitting;
+        fits = inl both.keeps_front;
+        all = all;
+        stand = record {
+          has_given = λ n kept. kept_in_front fitting more all n behind kept;
+          has_made = λ n known asks kept.
+              (let here : IsKept own n = are.asked n asks kept in
+              kept_behind fitting more all n behind (here.0, stays_fitting plans.table own more n here.0 (own_typed plans chosen (data_of handed.made.items) own are can.made) both.keeps_back known here.1));
         };
-        faults = chunk_faults plans before after finished.output ran.piece piece gives.faults;
-        lasts = gives.lasts;
-        in_flight = done.in_flight;
+        runs = record {
+          content = there_as ran.piece (GivesPiece Told plans all chosen) (GivesPiece Told plans fitting chosen) (λ column. gives_added plans chosen fitting more all inside behind Told column claim_made)
+              (chunk_content Told plans chosen all leaves made start scan before after finished.output ran.piece is claim gives.answer piece);
+          cause = error_as ran.piece (λ error. Causes Told plans all chosen error before after) (λ error. Causes Told plans fitting chosen error before after) (λ error. cause_added plans chosen fitting more all inside behind Told error before after claim_made)
+              (chunk_causes Told plans chosen all leaves made start scan before after finished.output ran.piece is claim gives.answer piece);
+          asks = asks_on plans chosen all leaves handed before after can fits_leaves good there (asks_wanted plans chosen all leaves made start before after is gives.asks);
+          more = record {
+            can = record {
+              leaves = typed_in plans chosen all leaves made (data_of finished.kept.leaves.items) (data_of ran.handed.leaves.items) start scan is gives.nodes kept_leaves done.kept.typed_leaves;
+              made = typed_in plans chosen all leaves made scan.progress.wholes.made (data_of ran.handed.made.items) start scan is gives.nodes kept_made done.kept.typed_made;
+              apart = apart;
+            };
+            by_file = claim (IsHandedBy plans ran.handed) (λ file told held. record {
+              leaves_are = leaves_in plans chosen all leaves made (data_of ran.handed.leaves.items) start scan (bytes_of plans file) is gives.nodes keeps (gives.told file told held);
+              made_are = made_in plans chosen all leaves made (data_of ran.handed.made.items) start scan (bytes_of plans file) is gives.nodes gives.job kept_made (gives.told file told held);
+            });
+            stays = λ n column known at. subst (λ (ks : List Kept). kept_at ks n ≡ Some column) (sym kept_made)
+                (gives.wholes.made n column (subst (λ (ks : List Kept). kept_at ks n ≡ Some column) (sym is.made_are) (stays_fitting plans.table (data_of handed.made.items) made n column can.made fits_made known at)));
+            there = there_as ran.piece (λ column. (n : ℕ) → ChunkAsks plans all chosen n → IsThere all scan.progress.wholes n) (λ column. AreAllThere plans all (data_of ran.handed.made.items) chosen)
+                (λ column there n asks. given_or_made all (data_of ran.handed.made.items) n scan kept_made (there n asks))
+                (chunk_there plans chosen all leaves made start scan before after finished.output ran.piece is gives.answer piece);
+            left = error_as ran.piece (λ error. IfSome (row_fault error) (LeavesFault plans.locations.items start scan before))
+                (λ error. IfSome (row_fault error) (λ fault. AreAllThere plans all (data_of ran.handed.made.items) chosen ⊎ told_on plans handed before (λ bytes. ChunkFailsInside (leaves_of bytes) plans all chosen fault)))
+                (λ error. fault_leaves plans chosen handed all leaves made (data_of ran.handed.made.items) start scan before error is claim kept_made)
+                (chunk_error (λ error. IfSome (row_fault error) (LeavesFault plans.locations.items start scan before)) plans finished.output ran.piece tt piece gives.left);
+            leaves_stay = λ leaf read kept.
+                leaf_on scan (data_of ran.handed.leaves.items) leaf keeps (read_behind plans chosen all leaves made start scan leaf is gives.nodes gives.job read)
+                (stay_on leaf start.progress.leaves scan.progress.leaves gives.leaves
+                (subst (λ (ks : List Kept). IsKept ks leaf) (sym is.leaves_are) (leaf_in plans leaves handed can fits_leaves good there leaf (row_behind chosen) read.1 kept)));
+            leaves_there = there_as ran.piece (λ column. (read : LeafRead) → ChunkVisits (IsLeafRead read) plans all chosen → IsKept scan.progress.leaves read.leaf) (λ column. HandsLeavesRead plans chosen all (data_of ran.handed.leaves.items))
+                (λ column have read past visits. leaf_on scan (data_of ran.handed.leaves.items) read.leaf keeps (read_behind plans chosen all leaves made start scan read.leaf is gives.nodes gives.job past) (have read visits))
+                (chunk_leaves plans chosen all leaves made start scan before after finished.output ran.piece is gives.answer piece);
+            leaves_left = error_as ran.piece (λ error. IfSome (row_fault error) (LeavesRead start scan)) (λ error. IfSome (row_fault error) (λ fault. HandsLeavesRead plans chosen all (data_of ran.handed.leaves.items)))
+                (λ error. some_as (row_fault error) (LeavesRead start scan) (λ fault. HandsLeavesRead plans chosen all (data_of ran.handed.leaves.items))
+                (λ fault have read past visits. leaf_on scan (data_of ran.handed.leaves.items) read.leaf keeps (read_behind plans chosen all leaves made start scan read.leaf is gives.nodes gives.job past) (fault_reads plans chosen all leaves made start scan fault is have read visits)))
+                (chunk_error (λ error. IfSome (row_fault error) (LeavesRead start scan)) plans finished.output ran.piece tt piece gives.left_leaves);
+          };
+          faults = chunk_faults plans before after finished.output ran.piece piece gives.faults;
+          lasts = gives.lasts;
+          in_flight = done.in_flight;
+        };
       };
+      only = λ n kept.
+          ⊎_elim (λ (here : IsKept fitting n). inl (kept_among (IsForPlan plans.table) given fitting n here.0 both.keeps_front here.1))
+          (λ (there : IsKept more n). inr (let first = kept_among (IsForPlan plans.table) own more n there.0 both.keeps_back there.1 in (first.0, are.from n first.0 first.1))) (kept_in_either fitting more all n behind kept);
     }
 
 pub lacks_on : (plans : ScanPlans) (chosen : SelectedRows) (handed : HandedOn) (given : List Kept) (ran : Ran) (before after : SourceState) → CanHandOn plans handed → ran.piece ≡ Err Memory → ran.handed ≡ handed → Cleared before after → RunsOn plans chosen handed given ran before after
 lacks_on plans chosen handed given ran before after can lacks same clears = record {
   fitting = [];
   fits = inr (lacks, refl);
+  all = data_of handed.made.items;
+  stand = record { has_given = λ n kept. let none = kept.1 in absurd cc; has_made = λ n known asks kept. kept };
   runs = record {
     content = rw lacks tt;
     cause = rw lacks tt;
-    asks = asks_nothing (IsWanted plans [] (data_of handed.leaves.items) chosen) plans.locations.items before after clears.asked;
+    asks = asks_nothing (IsWanted plans (data_of handed.made.items) (data_of handed.leaves.items) chosen) plans.locations.items before after clears.asked;
     more = record {
       can = subst (CanHandOn plans) (sym same) can;
       by_file = λ file told by. subst (λ (h : HandedOn). IsHandedBy plans h (bytes_of plans file)) (sym same) by;
@@ -197,9 +241,14 @@ lacks_on plans chosen handed given ran before after can lacks same clears = reco
       left = rw lacks tt;
       leaves_stay = λ leaf read kept. subst (λ (h : HandedOn). IsKept (data_of h.leaves.items) leaf) (sym same) kept;
       leaves_there = rw lacks tt;
+      leaves_left = rw lacks tt;
     };
     faults = inl clears.faults;
     lasts = lasts_cleared before after clears;
     in_flight = clears.in_flight;
   };
 }
+
+pub lacks_only : (plans : ScanPlans) (chosen : SelectedRows) (handed : HandedOn) (given : List Kept) (ran : Ran) (before after : SourceState) → CanHandOn plans handed → ran.piece ≡ Err Memory → ran.handed ≡ handed → Cleared before after → RunsOnly plans chosen handed given ran before after
+unfolding lacks_on
+lacks_only plans chosen handed given ran before after can lacks same clears = record { runs = lacks_on plans chosen handed given ran before after can lacks same clears; only = λ n kept. inr kept }

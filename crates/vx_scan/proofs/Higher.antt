@@ -1,5 +1,5 @@
 -- Numbers that ascend, and one more that is above them.
-use Rattle.std.proofs.Common.{◌≡◌, ℕ, zero, suc, ◌+◌, ◌<◌, ◌≤◌, List, [], ◌∷◌, ◌++◌, length, arith}
+use Rattle.std.proofs.Common.{◌≡◌, ℕ, zero, suc, ◌+◌, ◌≤◌, List, [], ◌∷◌, ◌++◌, arith}
 use Rattle.vx_base.specs.Masks.{Ascend}
 use Rattle.vx_claims.specs.Views.{above}
 use Rattle.vx_splits.proofs.Rising.{Ascend-tail}

@@ -1,22 +1,30 @@
 -- One more lane is taken in.
-use Rattle.std.proofs.Common.{◌≡◌, ℕ, ◌+◌, ◌<◌, ◌≤◌, ◌⊎◌, inl, inr, true, false, List, [], ◌∷◌, ◌++◌, Some, None, refl, sym, ap, ◌∙◌, subst, arith, rules}
+use Rattle.std.proofs.Common.{◌≡◌, ◌≢◌, ℕ, ◌+◌, ◌<◌, ◌≤◌, ◌⊎◌, inl, inr, true, false, List, [], ◌∷◌, ◌++◌, Some, None, map, refl, sym, ap, ◌∙◌, subst, arith, rules}
 use Rattle.std.specs.Prelude.{slice_index_or, Option, ◌||◌, Bool}
 use Rattle.std.specs.List.{All, Any, Contains, sum_by}
+use Rattle.std.specs.Global.{Vec}
 use Rattle.std.proofs.lemmas.Bool.{cases_lt, lt-ltb, le-ltb}
 use Rattle.std.proofs.lemmas.List.{map-append}
 use Rattle.std.proofs.lemmas.List.Elements.{All-push, All-append, All-contains_itself, Contains-append_left}
 use Rattle.std.proofs.lemmas.List.Quantifiers.{Any-push}
 use Rattle.std.proofs.lemmas.List.Sums.{sum_by_push}
+use Rattle.vx_base.specs.Columns.{ColumnData}
 use Rattle.vx_claims.specs.declared.claims.Claims.{Claims}
 use Rattle.vx_claims.specs.declared.claims.ClaimSeat.{ClaimSeat}
 use Rattle.vx_claims.specs.Claims.{claimed, parts, was_told, TakesIn}
 use Rattle.vx_claims.specs.Apart.{times}
 use Rattle.vx_claims.proofs.Numbers.{times_append}
+use Rattle.vx_steps.specs.declared.kept.KeptValue.{KeptValue}
+use Rattle.vx_steps.specs.Kept.{kept_at, kept_data}
+use Rattle.vx_steps.specs.KeptData.{Kept}
+use Rattle.vx_steps.proofs.Keeping.{kept_new, kept_old}
+use Rattle.vx_scan.specs.declared.joins.Joined.{Joined}
 use Rattle.vx_scan.specs.declared.lanes.ChunkError.{ChunkError}
 use Rattle.vx_scan.specs.declared.lanes.Lane.{Lane}
+use Rattle.vx_scan.specs.declared.lanes.Loan.{Loan}
 use Rattle.vx_scan.specs.declared.lanes.Piece.{Piece}
-use Rattle.vx_scan.specs.Workers.{numbers_of}
-use Rattle.vx_scan.specs.Gathers.{lower_of, IsAtMost, no_memory, IsFrom, claimed_times, done_times, IsOfLane, Gathers}
+use Rattle.vx_scan.specs.Outcomes.{data_of}
+use Rattle.vx_scan.specs.Gathers.{lower_of, IsAtMost, no_memory, IsFrom, claimed_times, IsMadeByLane, MoreOrSame, TakesMore, Gathers}
 
 -- ---- the lower error
 
@@ -44,6 +52,11 @@ at_most_over least None (Some other) one two = absurd two
 at_most_over None (Some error) (Some other) one two = absurd one
 at_most_over (Some least) (Some error) (Some other) one two = omega (arith, one, two)
 
+-- no error is below want of memory
+no_memory_least : (error : Option ChunkError) → IsAtMost (Some no_memory) error
+no_memory_least None = tt
+no_memory_least (Some one) = omega arith
+
 -- nothing takes the place of want of memory
 lower_kept : (one two : ChunkError) → one.chunk ≤ two.chunk → lower_of (Some one) (Some two) ≡ Some one
 lower_kept one two least = rw (le-ltb two.chunk one.chunk least) refl
@@ -63,6 +76,8 @@ lower_is (Some one) (Some two) = by_order (cases_lt two.chunk one.chunk)
     by_order : (two.chunk < one.chunk) ⊎ (one.chunk ≤ two.chunk) → (lower_of (Some one) (Some two) ≡ Some one) ⊎ (lower_of (Some one) (Some two) ≡ Some two)
     by_order (inl less) = inr (rw (lt-ltb two.chunk one.chunk less) refl)
     by_order (inr least) = inl (rw (le-ltb two.chunk one.chunk least) refl)
+
+-- ---- what one of the lanes has
 
 any_longer : {X : Type 0} (P : X → Type 0) (xs : List X) (y : X) → Any P xs → Any P (xs ++ y ∷ [])
 any_longer P xs y (k, x, within, is, holds) =
@@ -85,24 +100,72 @@ from_lower lanes lane error from = by_case (lower_is error lane.error)
     by_case (inl is) = subst (IsFrom (lanes ++ lane ∷ [])) (sym is) (from_longer lanes lane error from)
     by_case (inr is) = from_lane lanes lane (lower_of error lane.error) (sym is)
 
--- ---- the pieces
+-- each of these is in the list that one of the lanes has
+abbrev OfLanes : {X : Type 0} → (Lane → List X) → List Lane → List X → Type 0
+OfLanes own lanes xs = All (λ x. Any (λ (one : Lane). Contains (own one) x) lanes) xs
 
-done_push : (x : ℕ) (pieces : List Piece) (lane : Lane) → times x (numbers_of (pieces ++ lane.pieces.items)) ≡ times x (numbers_of pieces) + done_times x lane
-done_push x pieces lane = ap (times x) (map-append (λ (piece : Piece). piece.chunk) pieces lane.pieces.items) ∙ times_append x (numbers_of pieces) (numbers_of lane.pieces.items)
+of_longer : {X : Type 0} (own : Lane → List X) (lanes : List Lane) (lane : Lane) (xs : List X) → OfLanes own lanes xs → OfLanes own (lanes ++ lane ∷ []) xs
+of_longer own lanes lane xs given k d within = any_longer (λ (one : Lane). Contains (own one) (slice_index_or xs k d)) lanes lane (given k d within)
 
-given_longer : (lanes : List Lane) (lane : Lane) (pieces : List Piece) → All (IsOfLane lanes) pieces → All (IsOfLane (lanes ++ lane ∷ [])) pieces
-given_longer lanes lane pieces given k d within = any_longer (λ (one : Lane). Contains one.pieces.items (slice_index_or pieces k d)) lanes lane (given k d within)
+of_lane : {X : Type 0} (own : Lane → List X) (lanes : List Lane) (lane : Lane) → OfLanes own (lanes ++ lane ∷ []) (own lane)
+of_lane own lanes lane k d within = Any-push (λ (one : Lane). Contains (own one) (slice_index_or (own lane) k d)) lanes lane (All-contains_itself (own lane) k d within)
 
-given_lane : (lanes : List Lane) (lane : Lane) → All (IsOfLane (lanes ++ lane ∷ [])) lane.pieces.items
-given_lane lanes lane k d within = Any-push (λ (one : Lane). Contains one.pieces.items (slice_index_or lane.pieces.items k d)) lanes lane (All-contains_itself lane.pieces.items k d within)
+of_more : {X : Type 0} (own : Lane → List X) (lanes : List Lane) (lane : Lane) (old new : List X) → OfLanes own lanes old → MoreOrSame old (own lane) new → OfLanes own (lanes ++ lane ∷ []) new
+of_more own lanes lane old new given (inl more) =
+    subst (OfLanes own (lanes ++ lane ∷ [])) (sym more) (All-append (λ x. Any (λ (one : Lane). Contains (own one) x) (lanes ++ lane ∷ [])) old (own lane) (of_longer own lanes lane old given) (of_lane own lanes lane))
+of_more own lanes lane old new given (inr same) = subst (OfLanes own (lanes ++ lane ∷ [])) (sym same) (of_longer own lanes lane old given)
 
--- ---- one more lane
+-- ---- how often they have it
+
+module _ {X : Type 0} (number : X → ℕ) (own : Lane → List X) where
+  -- how often one of these has that number
+  abbrev times_by : ℕ → List X → ℕ
+  times_by x xs = times x (map number xs)
+
+  abbrev times_in : ℕ → Lane → ℕ
+  times_in x lane = times x (map number (own lane))
+
+  times_more : (x : ℕ) (lanes : List Lane) (lane : Lane) (old new : List X) → times_by x old ≡ sum_by (times_in x) lanes → new ≡ old ++ own lane → times_by x new ≡ sum_by (times_in x) (lanes ++ lane ∷ [])
+  times_more x lanes lane old new before more =
+      let push = sum_by_push (times_in x) lanes lane in
+      let all : times_by x new ≡ times_by x old + times_in x lane = ap (times_by x) more ∙ ap (times x) (map-append number old (own lane)) ∙ times_append x (map number old) (map number (own lane)) in
+      omega (arith, before, push, all)
+
+  times_most : (x : ℕ) (lanes : List Lane) (lane : Lane) (old new : List X) → times_by x old ≤ sum_by (times_in x) lanes → MoreOrSame old (own lane) new → times_by x new ≤ sum_by (times_in x) (lanes ++ lane ∷ [])
+  times_most x lanes lane old new before (inl more) =
+      let push = sum_by_push (times_in x) lanes lane in
+      let all : times_by x new ≡ times_by x old + times_in x lane = ap (times_by x) more ∙ ap (times x) (map-append number old (own lane)) ∙ times_append x (map number old) (map number (own lane)) in
+      omega (arith, before, push, all)
+  times_most x lanes lane old new before (inr same) =
+      let push = sum_by_push (times_in x) lanes lane in
+      let all : times_by x new ≡ times_by x old = ap (times_by x) same in
+      omega (arith, before, push, all)
+
+-- ---- the whole values
+
+-- what is found in two lists one after the other is found in one of them
+found_in : (n : ℕ) (column : ColumnData) (old more : List Kept) (first : Option ColumnData) → kept_at old n ≡ first → kept_at (old ++ more) n ≡ Some column → (kept_at old n ≡ Some column) ⊎ (kept_at more n ≡ Some column)
+found_in n column old more None none is = inr (sym (kept_new old more n none) ∙ is)
+found_in n column old more (Some one) found is = let same : Some one ≡ Some column = sym (kept_old old more n one found) ∙ is in inl (found ∙ same)
+
+made_more : (lanes : List Lane) (lane : Lane) (old new : List KeptValue) → ((n : ℕ) (column : ColumnData) → kept_at (data_of old) n ≡ Some column → IsMadeByLane lanes n column) → MoreOrSame old lane.handed.made.items new
+    → (n : ℕ) (column : ColumnData) → kept_at (data_of new) n ≡ Some column → IsMadeByLane (lanes ++ lane ∷ []) n column
+made_more lanes lane old new made (inl more) n column is =
+    let both : data_of new ≡ data_of old ++ data_of lane.handed.made.items = ap data_of more ∙ map-append kept_data old lane.handed.made.items in
+    by_case (found_in n column (data_of old) (data_of lane.handed.made.items) (kept_at (data_of old) n) refl (ap (λ (kept : List Kept). kept_at kept n) (sym both) ∙ is))
+  where
+    by_case : (kept_at (data_of old) n ≡ Some column) ⊎ (kept_at (data_of lane.handed.made.items) n ≡ Some column) → IsMadeByLane (lanes ++ lane ∷ []) n column
+    by_case (inl before) = any_longer (λ (one : Lane). kept_at (data_of one.handed.made.items) n ≡ Some column) lanes lane (made n column before)
+    by_case (inr here) = Any-push (λ (one : Lane). kept_at (data_of one.handed.made.items) n ≡ Some column) lanes lane here
+made_more lanes lane old new made (inr same) n column is =
+    any_longer (λ (one : Lane). kept_at (data_of one.handed.made.items) n ≡ Some column) lanes lane (made n column (ap (λ (values : List KeptValue). kept_at (data_of values) n) (sym same) ∙ is))
+
+-- ---- the seats
 
 untold_parts : (a b : Bool) → a || b ≡ false → (a ≡ false) × (b ≡ false)
 untold_parts false b is = (refl, is)
 untold_parts true b is = search rules
 
--- what does not hang on the pieces and the error
 takes_untold : (claims : Claims) (lanes : List Lane) (lane : Lane) (seat new : ClaimSeat) → (was_told seat ≡ false → All (λ (one : Lane). was_told one.seat ≡ false) lanes) → TakesIn claims seat lane.seat new
     → was_told new ≡ false → All (λ (one : Lane). was_told one.seat ≡ false) (lanes ++ lane ∷ [])
 takes_untold claims lanes lane seat new untold takes is =
@@ -121,49 +184,73 @@ takes_parts claims lanes lane seat new left before takes =
     let sum = takes.parts in
     omega (arith, before, push, sum)
 
-pub takes_lane : (claims : Claims) (left : ℕ) (lanes : List Lane) (lane : Lane) (seat new : ClaimSeat) (lists : List (List ℕ)) (pieces : List Piece) (error : Option ChunkError) → Gathers claims left lanes seat lists pieces error
-    → TakesIn claims seat lane.seat new → Gathers claims left (lanes ++ lane ∷ []) new (lists ++ lane.claimed.items ∷ []) (pieces ++ lane.pieces.items) (lower_of error lane.error)
-takes_lane claims left lanes lane seat new lists pieces error gathers takes = record {
+-- ---- one more lane
+
+-- the error is the lower one, and all pieces and loans are there
+abbrev TakesWhole : Joined → Lane → Joined → Type 0
+TakesWhole joined lane after = (after.error ≡ lower_of joined.error lane.error) × (after.pieces.items ≡ joined.pieces.items ++ lane.pieces.items) × (after.loans.items ≡ joined.loans.items ++ lane.loans.items)
+
+-- The lane's list is there, and each of the others with the lane's own or as it was; all of them, unless memory lacked.
+pub record TakesIt (joined : Joined) (lane : Lane) (after : Joined) : Type 0 where
+  pub lists : after.claimed.items ≡ joined.claimed.items ++ lane.claimed.items ∷ []
+  pub pieces : MoreOrSame joined.pieces.items lane.pieces.items after.pieces.items
+  pub loans : MoreOrSame joined.loans.items lane.loans.items after.loans.items
+  pub made : MoreOrSame joined.made.items lane.handed.made.items after.made.items
+  pub whole : (after.error ≡ Some no_memory) ⊎ TakesWhole joined lane after
+
+-- what is so with no more than its own lists and the lower error is so with what was appended to them
+pub takes_more : (joined between next after : Joined) (lane : Lane) (enough : Bool) → between.claimed.items ≡ joined.claimed.items ++ lane.claimed.items ∷ [] → between.error ≡ lower_of joined.error lane.error → between.pieces.items ≡ joined.pieces.items → between.loans.items ≡ joined.loans.items
+    → between.made.items ≡ joined.made.items → TakesMore enough lane.pieces.items lane.loans.items lane.handed.made.items between next → after.claimed.items ≡ next.claimed.items → after.pieces.items ≡ next.pieces.items → after.loans.items ≡ next.loans.items → after.made.items ≡ next.made.items
+    → (after.error ≡ Some no_memory) ⊎ ((enough ≡ true) × (after.error ≡ next.error)) → TakesIt joined lane after
+takes_more joined between next after lane enough lists error pieces loans made more claimed_is pieces_is loans_is made_is whole = record {
+  lists = claimed_is ∙ ap (λ (list : Vec (List ℕ)). list.items) more.claimed ∙ lists;
+  pieces = of_those joined.pieces.items between.pieces.items lane.pieces.items next.pieces.items after.pieces.items pieces pieces_is more.pieces;
+  loans = of_those joined.loans.items between.loans.items lane.loans.items next.loans.items after.loans.items loans loans_is more.loans;
+  made = of_those joined.made.items between.made.items lane.handed.made.items next.made.items after.made.items made made_is more.made;
+  whole = whole_of whole;
+}
+  where
+    of_those : {X : Type 0} (old middle own new last : List X) → middle ≡ old → last ≡ new → MoreOrSame middle own new → MoreOrSame old own last
+    of_those old middle own new last one two (inl is) = inl (two ∙ is ∙ ap (λ (xs : List _). xs ++ own) one)
+    of_those old middle own new last one two (inr is) = inr (two ∙ is ∙ one)
+
+    whole_of : (after.error ≡ Some no_memory) ⊎ ((enough ≡ true) × (after.error ≡ next.error)) → (after.error ≡ Some no_memory) ⊎ TakesWhole joined lane after
+    whole_of (inl lacks) = inl lacks
+    whole_of (inr all) = inr (
+      all.1 ∙ more.error ∙ error,
+      pieces_is ∙ more.all_pieces all.0 ∙ ap (λ (xs : List Piece). xs ++ lane.pieces.items) pieces,
+      loans_is ∙ more.all_loans all.0 ∙ ap (λ (xs : List Loan). xs ++ lane.loans.items) loans,
+    )
+
+pub takes_lane : (claims : Claims) (left : ℕ) (lanes : List Lane) (lane : Lane) (seat new : ClaimSeat) (joined after : Joined) → Gathers claims left lanes seat joined → TakesIn claims seat lane.seat new → TakesIt joined lane after → Gathers claims left (lanes ++ lane ∷ []) new after
+takes_lane claims left lanes lane seat new joined after gathers takes took = record {
   own = takes.seat;
   parts = takes_parts claims lanes lane seat new left gathers.parts takes;
   claimed = λ x. takes_claimed claims lanes lane seat new x (gathers.claimed x) takes;
   untold = takes_untold claims lanes lane seat new gathers.untold takes;
-  all_lists = ap (λ (ls : List (List ℕ)). ls ++ lane.claimed.items ∷ []) gathers.all_lists ∙ sym (map-append (λ (one : Lane). one.claimed.items) lanes (lane ∷ []));
-  all_pieces = λ enough x.
-      let before = gathers.all_pieces (λ lacks. enough (still_lacking error lane.error lacks)) x in
-      let push = sum_by_push (done_times x) lanes lane in
-      let more = done_push x pieces lane in
-      omega (arith, before, push, more);
-  some_pieces = λ x.
-      let before = gathers.some_pieces x in
-      let push = sum_by_push (done_times x) lanes lane in
-      let more = done_push x pieces lane in
-      omega (arith, before, push, more);
-  given = All-append (IsOfLane (lanes ++ lane ∷ [])) pieces lane.pieces.items (given_longer lanes lane pieces gathers.given) (given_lane lanes lane);
-  lowest = All-push (λ (one : Lane). IsAtMost (lower_of error lane.error) one.error) lanes lane (λ k d within. at_most_over (lower_of error lane.error) error (slice_index_or lanes k d).error (at_most_first error lane.error) (gathers.lowest k d within))
-      (at_most_other error lane.error);
-  from = from_lower lanes lane error gathers.from;
+  all_lists = took.lists ∙ ap (λ (ls : List (List ℕ)). ls ++ lane.claimed.items ∷ []) gathers.all_lists ∙ sym (map-append (λ (one : Lane). one.claimed.items) lanes (lane ∷ []));
+  all_pieces = λ enough x. let all = appended enough took.whole in times_more (λ (piece : Piece). piece.chunk) (λ (one : Lane). one.pieces.items) x lanes lane joined.pieces.items after.pieces.items (gathers.all_pieces all.0 x) all.1;
+  some_pieces = λ x. times_most (λ (piece : Piece). piece.chunk) (λ (one : Lane). one.pieces.items) x lanes lane joined.pieces.items after.pieces.items (gathers.some_pieces x) took.pieces;
+  given = of_more (λ (one : Lane). one.pieces.items) lanes lane joined.pieces.items after.pieces.items gathers.given took.pieces;
+  all_loans = λ enough x. let all = appended enough took.whole in times_more (λ (loan : Loan). loan.chunk) (λ (one : Lane). one.loans.items) x lanes lane joined.loans.items after.loans.items (gathers.all_loans all.0 x) all.2;
+  some_loans = λ x. times_most (λ (loan : Loan). loan.chunk) (λ (one : Lane). one.loans.items) x lanes lane joined.loans.items after.loans.items (gathers.some_loans x) took.loans;
+  given_loans = of_more (λ (one : Lane). one.loans.items) lanes lane joined.loans.items after.loans.items gathers.given_loans took.loans;
+  made = made_more lanes lane joined.made.items after.made.items gathers.made took.made;
+  lowest = lowest_of took.whole;
+  from = from_of took.whole;
 }
+  where
+    appended : after.error ≢ Some no_memory → (after.error ≡ Some no_memory) ⊎ TakesWhole joined lane after → (joined.error ≢ Some no_memory) × (after.pieces.items ≡ joined.pieces.items ++ lane.pieces.items) × (after.loans.items ≡ joined.loans.items ++ lane.loans.items)
+    appended enough (inl lacks) = absurd (enough lacks)
+    appended enough (inr all) = ((λ lacks. enough (all.0 ∙ still_lacking joined.error lane.error lacks)), all.1, all.2)
 
--- no error is below want of memory
-pub no_memory_least : (error : Option ChunkError) → IsAtMost (Some no_memory) error
-no_memory_least None = tt
-no_memory_least (Some one) = omega arith
+    lowest_of : (after.error ≡ Some no_memory) ⊎ TakesWhole joined lane after → All (λ (one : Lane). IsAtMost after.error one.error) (lanes ++ lane ∷ [])
+    lowest_of (inl lacks) = subst (λ (error : Option ChunkError). All (λ (one : Lane). IsAtMost error one.error) (lanes ++ lane ∷ [])) (sym lacks) (λ k d within. no_memory_least (slice_index_or (lanes ++ lane ∷ []) k d).error)
+    lowest_of (inr all) = subst (λ (error : Option ChunkError). All (λ (one : Lane). IsAtMost error one.error) (lanes ++ lane ∷ [])) (sym all.0)
+        (All-push (λ (one : Lane). IsAtMost (lower_of joined.error lane.error) one.error) lanes lane
+        (λ k d within. at_most_over (lower_of joined.error lane.error) joined.error (slice_index_or lanes k d).error (at_most_first joined.error lane.error) (gathers.lowest k d within))
+        (at_most_other joined.error lane.error))
 
-pub loses_pieces : (claims : Claims) (left : ℕ) (lanes : List Lane) (lane : Lane) (seat new : ClaimSeat) (lists : List (List ℕ)) (pieces : List Piece) (error : Option ChunkError) → Gathers claims left lanes seat lists pieces error
-    → TakesIn claims seat lane.seat new → Gathers claims left (lanes ++ lane ∷ []) new (lists ++ lane.claimed.items ∷ []) pieces (Some no_memory)
-loses_pieces claims left lanes lane seat new lists pieces error gathers takes = record {
-  own = takes.seat;
-  parts = takes_parts claims lanes lane seat new left gathers.parts takes;
-  claimed = λ x. takes_claimed claims lanes lane seat new x (gathers.claimed x) takes;
-  untold = takes_untold claims lanes lane seat new gathers.untold takes;
-  all_lists = ap (λ (ls : List (List ℕ)). ls ++ lane.claimed.items ∷ []) gathers.all_lists ∙ sym (map-append (λ (one : Lane). one.claimed.items) lanes (lane ∷ []));
-  all_pieces = λ enough x. absurd (enough refl);
-  some_pieces = λ x.
-      let before = gathers.some_pieces x in
-      let push = sum_by_push (done_times x) lanes lane in
-      omega (arith, before, push);
-  given = given_longer lanes lane pieces gathers.given;
-  lowest = λ k d within. no_memory_least (slice_index_or (lanes ++ lane ∷ []) k d).error;
-  from = inl refl;
-}
+    from_of : (after.error ≡ Some no_memory) ⊎ TakesWhole joined lane after → IsFrom (lanes ++ lane ∷ []) after.error
+    from_of (inl lacks) = subst (IsFrom (lanes ++ lane ∷ [])) (sym lacks) (inl refl)
+    from_of (inr all) = subst (IsFrom (lanes ++ lane ∷ [])) (sym all.0) (from_lower lanes lane joined.error gathers.from)

@@ -1,5 +1,5 @@
 -- What follows of each lane, and of all, from what their workers did.
-use Rattle.std.proofs.Common.{◌≡◌, ℕ, ◌<◌, ◌≤◌, inl, inr, true, List, [], ◌∷◌, Some, None, length, map, refl, sym, ap, ◌∙◌, arith}
+use Rattle.std.proofs.Common.{◌≡◌, ℕ, ◌+◌, ◌≤◌, inl, inr, true, List, [], ◌∷◌, Some, None, length, map, refl, sym, ap, ◌∙◌, arith}
 use Rattle.std.specs.Prelude.{Option, Bool}
 use Rattle.std.specs.List.{All, sum_by}
 use Rattle.std.proofs.lemmas.List.Elements.{All-head, All-tail, All-cons, All-nil}
@@ -13,8 +13,9 @@ use Rattle.vx_splits.specs.declared.selected_rows.SelectedRows.{SelectedRows}
 use Rattle.vx_scan.specs.declared.lanes.ChunkError.{ChunkError}
 use Rattle.vx_scan.specs.declared.lanes.Lane.{Lane}
 use Rattle.vx_scan.specs.declared.plans.ScanPlans.{ScanPlans}
-use Rattle.vx_scan.specs.Gathers.{IsAtMost, IsBelow, claimed_times, done_times}
+use Rattle.vx_scan.specs.Gathers.{IsAtMost, IsBelow, claimed_times, done_times, loaned_times}
 use Rattle.vx_scan.specs.Lent.{EachSourceBy}
+use Rattle.vx_scan.specs.Loans.{loaned_of}
 use Rattle.vx_scan.specs.Workers.{numbers_of, Ends, Worked}
 
 -- ---- facts of each lane
@@ -65,51 +66,70 @@ over_lanes x (lane ∷ lanes) all =
     let two = sum_by-cons (claimed_times x) lane lanes in
     omega (arith, here, rest, one, two)
 
--- ---- the pieces of a lane
+-- how often a lane has the piece of a chunk, or ran it with borrowed values
+abbrev pub ran_times : ℕ → Lane → ℕ
+ran_times x lane = done_times x lane + loaned_times x lane
 
-module _ (claims : Claims) (plans : ScanPlans) (chunks : List SelectedRows) where
-  pub done_claimed : (x : ℕ) (error : Option ChunkError) (numbers done : List ℕ) (told : Bool) (before after : SourceState) → Ends plans chunks error numbers done told before after → times x done ≤ times x numbers
-  done_claimed x None numbers done told before after ends = let same = ap (times x) ends.0 in omega (arith, same)
-  done_claimed x (Some error) numbers done told before after (inl stops) = let list = ap (times x) stops.last in let more = times_append x done (error.chunk ∷ []) in omega (arith, list, more)
-  done_claimed x (Some error) numbers done told before after (inr wants) = let same = ap (times x) wants.all in omega (arith, same)
+pub ran_sum : (x : ℕ) (lanes : List Lane) → sum_by (ran_times x) lanes ≡ sum_by (done_times x) lanes + sum_by (loaned_times x) lanes
+ran_sum x [] = refl
+ran_sum x (lane ∷ lanes) =
+    let rest = ran_sum x lanes in
+    let all = sum_by-cons (ran_times x) lane lanes in
+    let done = sum_by-cons (done_times x) lane lanes in
+    let loaned = sum_by-cons (loaned_times x) lane lanes in
+    omega (arith, rest, all, done, loaned)
 
-  pub done_below : (x : ℕ) (lowest error : Option ChunkError) (numbers done : List ℕ) (told : Bool) (before after : SourceState) → IsBelow lowest x → IsAtMost lowest error → Ends plans chunks error numbers done told before after → times x done ≡ times x numbers
-  done_below x lowest None numbers done told before after below most ends = ap (times x) (sym ends.0)
-  done_below x None (Some error) numbers done told before after below most ends = absurd most
-  done_below x (Some lowest) (Some error) numbers done told before after below most (inl stops) =
+-- ---- what a lane ran
+
+module _ (shares : Bool) (claims : Claims) (plans : ScanPlans) (chunks : List SelectedRows) where
+  pub done_claimed : (x : ℕ) (error : Option ChunkError) (numbers done loaned : List ℕ) (told : Bool) (before after : SourceState) → Ends plans chunks error numbers done loaned told before after → times x done + times x loaned ≤ times x numbers
+  done_claimed x None numbers done loaned told before after ends = let same = ends.0 x in omega (arith, same)
+  done_claimed x (Some error) numbers done loaned told before after (inl stops) =
       let list = ap (times x) stops.last in
-      let more = times_append x done (error.chunk ∷ []) in
-      let other = times_other x error.chunk [] (λ same. absurd (omega (arith, below, most, same))) in
-      omega (arith, list, more, other)
-  done_below x (Some lowest) (Some error) numbers done told before after below most (inr wants) = ap (times x) (sym wants.all)
+      let more = times_append x stops.earlier (error.chunk ∷ []) in
+      let same = stops.all_done x in
+      omega (arith, list, more, same)
+  done_claimed x (Some error) numbers done loaned told before after (inr wants) = let same = wants.all x in omega (arith, same)
 
-  pub lane_done : (x : ℕ) (lane : Lane) (before after : SourceState) → Worked claims plans chunks lane before after → done_times x lane ≤ claimed_times x lane
-  lane_done x lane before after worked =
-      let most = done_claimed x lane.error lane.claimed.items (numbers_of lane.pieces.items) (was_told lane.seat) before after worked.ends in
+  pub done_below : (x : ℕ) (lowest error : Option ChunkError) (numbers done loaned : List ℕ) (told : Bool) (before after : SourceState) → IsBelow lowest x → IsAtMost lowest error → Ends plans chunks error numbers done loaned told before after → times x done + times x loaned ≡ times x numbers
+  done_below x lowest None numbers done loaned told before after below most ends = sym (ends.0 x)
+  done_below x None (Some error) numbers done loaned told before after below most ends = absurd most
+  done_below x (Some lowest) (Some error) numbers done loaned told before after below most (inl stops) =
+      let list = ap (times x) stops.last in
+      let more = times_append x stops.earlier (error.chunk ∷ []) in
+      let other = times_other x error.chunk [] (λ same. absurd (omega (arith, below, most, same))) in
+      let same = stops.all_done x in
+      omega (arith, list, more, other, same)
+  done_below x (Some lowest) (Some error) numbers done loaned told before after below most (inr wants) = sym (wants.all x)
+
+  pub lane_ran : (x : ℕ) (lane : Lane) (before after : SourceState) → Worked shares claims plans chunks lane before after → ran_times x lane ≤ claimed_times x lane
+  lane_ran x lane before after worked =
+      let most = done_claimed x lane.error lane.claimed.items (numbers_of lane.pieces.items) (loaned_of lane.loans.items) (was_told lane.seat) before after worked.ends in
       let list = ap (times x) worked.claimed in
       omega (arith, most, list)
 
-  abbrev pub DoneBelow : ℕ → Option ChunkError → Lane → Type 0
-  DoneBelow x lowest lane = IsAtMost lowest lane.error → done_times x lane ≡ claimed_times x lane
+  abbrev pub RanBelow : ℕ → Option ChunkError → Lane → Type 0
+  RanBelow x lowest lane = IsAtMost lowest lane.error → ran_times x lane ≡ claimed_times x lane
 
-  pub lane_below : (x : ℕ) (lowest : Option ChunkError) → IsBelow lowest x → (lane : Lane) (before after : SourceState) → Worked claims plans chunks lane before after → DoneBelow x lowest lane
-  lane_below x lowest below lane before after worked most = done_below x lowest lane.error lane.claimed.items (numbers_of lane.pieces.items) (was_told lane.seat) before after below most worked.ends ∙ ap (times x) worked.claimed
+  pub lane_below : (x : ℕ) (lowest : Option ChunkError) → IsBelow lowest x → (lane : Lane) (before after : SourceState) → Worked shares claims plans chunks lane before after → RanBelow x lowest lane
+  lane_below x lowest below lane before after worked most =
+      done_below x lowest lane.error lane.claimed.items (numbers_of lane.pieces.items) (loaned_of lane.loans.items) (was_told lane.seat) before after below most worked.ends ∙ ap (times x) worked.claimed
 
-  pub told_end : (lane : Lane) (error : Option ChunkError) (before after : SourceState) → IsAtMost None error → Ends plans chunks error lane.claimed.items (numbers_of lane.pieces.items) (was_told lane.seat) before after → was_told lane.seat ≡ true
+  pub told_end : (lane : Lane) (error : Option ChunkError) (before after : SourceState) → IsAtMost None error → Ends plans chunks error lane.claimed.items (numbers_of lane.pieces.items) (loaned_of lane.loans.items) (was_told lane.seat) before after → was_told lane.seat ≡ true
   told_end lane None before after most ends = ends.1
   told_end lane (Some error) before after most ends = absurd most
 
   -- ---- all lanes
 
   abbrev pub Each : List Lane → List SourceState → List SourceState → Type 0
-  Each lanes befores afters = EachSourceBy (Worked claims plans chunks) lanes befores afters
+  Each lanes befores afters = EachSourceBy (Worked shares claims plans chunks) lanes befores afters
 
-  pub pieces_below : (x : ℕ) (lowest : Option ChunkError) (lanes : List Lane) (befores afters : List SourceState) → Each lanes befores afters → IsBelow lowest x → All (λ lane. IsAtMost lowest lane.error) lanes
-      → sum_by (done_times x) lanes ≡ sum_by (claimed_times x) lanes
-  pieces_below x lowest lanes befores afters each below most =
-      let all = all_by (Worked claims plans chunks) (DoneBelow x lowest) (lane_below x lowest below) lanes befores afters each in
-      sums_agree (done_times x) (claimed_times x) lanes (λ k d within. all k d within (most k d within))
+  pub all_below : (x : ℕ) (lowest : Option ChunkError) (lanes : List Lane) (befores afters : List SourceState) → Each lanes befores afters → IsBelow lowest x → All (λ lane. IsAtMost lowest lane.error) lanes
+      → sum_by (ran_times x) lanes ≡ sum_by (claimed_times x) lanes
+  all_below x lowest lanes befores afters each below most =
+      let all = all_by (Worked shares claims plans chunks) (RanBelow x lowest) (lane_below x lowest below) lanes befores afters each in
+      sums_agree (ran_times x) (claimed_times x) lanes (λ k d within. all k d within (most k d within))
 
-  pub done_less : (x : ℕ) (lanes : List Lane) (befores afters : List SourceState) → Each lanes befores afters → sum_by (done_times x) lanes ≤ sum_by (claimed_times x) lanes
-  done_less x lanes befores afters each =
-      sums_less (done_times x) (claimed_times x) lanes (all_by (Worked claims plans chunks) (λ lane. done_times x lane ≤ claimed_times x lane) (lane_done x) lanes befores afters each)
+  pub ran_less : (x : ℕ) (lanes : List Lane) (befores afters : List SourceState) → Each lanes befores afters → sum_by (ran_times x) lanes ≤ sum_by (claimed_times x) lanes
+  ran_less x lanes befores afters each =
+      sums_less (ran_times x) (claimed_times x) lanes (all_by (Worked shares claims plans chunks) (λ lane. ran_times x lane ≤ claimed_times x lane) (lane_ran x) lanes befores afters each)

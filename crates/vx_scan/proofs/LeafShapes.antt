@@ -1,5 +1,5 @@
 -- A leaf that a row of a table's plan reads is a scan of a segment in the table.
-use Rattle.std.proofs.Common.{◌≡◌, ℕ, ◌<◌, inl, inr, List, Some, None, Option, length, map, refl, sym, ap, ◌∙◌, subst}
+use Rattle.std.proofs.Common.{◌≡◌, ℕ, ◌<◌, inl, inr, List, Some, None, length, map, refl, sym, ap, ◌∙◌, subst}
 use Rattle.std.specs.List.{slice_get}
 use Rattle.std.proofs.lemmas.Option.{slice_get-get_or}
 use Rattle.vx_base.specs.Columns.{ColumnData}
@@ -21,7 +21,7 @@ use Rattle.vx_steps.specs.Kept.{kept_at}
 use Rattle.vx_steps.specs.KeptData.{Kept}
 use Rattle.vx_steps.specs.Leavings.{IsLeafOf}
 use Rattle.vx_steps.specs.Offers.{IsForLeaf, Keeps}
-use Rattle.vx_steps.specs.Visits.{Test, Visits, IsLeafRead}
+use Rattle.vx_steps.specs.Visits.{Visits, IsLeafRead}
 use Rattle.vx_steps.proofs.Standing.{stands_of_table, visit_stands, IsOfTable, Tells}
 use Rattle.vx_scan.proofs.Fitting.{kept_first}
 

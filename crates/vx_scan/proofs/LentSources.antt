@@ -1,9 +1,10 @@
 -- What holds of each of the sources that are lent to a call, or of one of them.
-use Rattle.std.proofs.Common.{◌≡◌, ℕ, inl, inr, List, [], ◌∷◌, ◌++◌, Some, map, refl, ap, ◌∙◌, arith}
+use Rattle.std.proofs.Common.{◌≡◌, ℕ, ◌≤◌, inl, inr, List, [], ◌∷◌, ◌++◌, map, refl, ap, sym, ◌∙◌, subst, arith}
 use Rattle.std.specs.List.{flat_map}
 use Rattle.vx_base.specs.Sources.{SourceState}
+use Rattle.vx_claims.specs.Apart.{times_over}
 use Rattle.vx_scan.specs.Asks.{IsLeftClear, Lasts}
-use Rattle.vx_scan.specs.Lent.{EachSource, SomeSource, EachSourceBy, SomeSourceBy, AllTell}
+use Rattle.vx_scan.specs.Lent.{EachSource, EachSourceBy, SomeSourceBy, FirstSource}
 
 -- ---- from one relation to another
 
@@ -36,6 +37,14 @@ some_by P Q to (x ∷ xs) (before ∷ befores) [] some = absurd some
 some_by P Q to (x ∷ xs) (before ∷ befores) (after ∷ afters) (inl here) = inl (to x before after here)
 some_by P Q to (x ∷ xs) (before ∷ befores) (after ∷ afters) (inr later) = inr (some_by P Q to xs befores afters later)
 
+-- what never holds of a source and what the list has for it holds of none of them
+pub none_by : {X : Type 0} (P : X → SourceState → SourceState → Type 0) → ((x : X) (before after : SourceState) → P x before after → ⊥) → (xs : List X) (befores afters : List SourceState) → SomeSourceBy P xs befores afters → ⊥
+none_by P never [] befores afters some = some
+none_by P never (x ∷ xs) [] afters some = some
+none_by P never (x ∷ xs) (before ∷ befores) [] some = some
+none_by P never (x ∷ xs) (before ∷ befores) (after ∷ afters) (inl here) = never x before after here
+none_by P never (x ∷ xs) (before ∷ befores) (after ∷ afters) (inr later) = none_by P never xs befores afters later
+
 -- without the list, where the relation doesn't ask for it
 pub each_without : {X : Type 0} (P : X → SourceState → SourceState → Type 0) (Q : SourceState → SourceState → Type 0) → ((x : X) (before after : SourceState) → P x before after → Q before after) → (xs : List X) (befores afters : List SourceState) → EachSourceBy P xs befores afters → EachSource Q befores afters
 each_without P Q to [] [] [] each = tt
@@ -45,21 +54,35 @@ each_without P Q to (x ∷ xs) [] afters each = absurd each
 each_without P Q to (x ∷ xs) (before ∷ befores) [] each = absurd each
 each_without P Q to (x ∷ xs) (before ∷ befores) (after ∷ afters) each = (to x before after each.0, each_without P Q to xs befores afters each.1)
 
-pub some_without : {X : Type 0} (P : X → SourceState → SourceState → Type 0) (Q : SourceState → SourceState → Type 0) → ((x : X) (before after : SourceState) → P x before after → Q before after) → (xs : List X) (befores afters : List SourceState) → SomeSourceBy P xs befores afters → SomeSource Q befores afters
-some_without P Q to [] befores afters some = absurd some
-some_without P Q to (x ∷ xs) [] afters some = absurd some
-some_without P Q to (x ∷ xs) (before ∷ befores) [] some = absurd some
-some_without P Q to (x ∷ xs) (before ∷ befores) (after ∷ afters) (inl here) = inl (to x before after here)
-some_without P Q to (x ∷ xs) (before ∷ befores) (after ∷ afters) (inr later) = inr (some_without P Q to xs befores afters later)
+-- ---- the first source
 
--- ---- one source, of which all holds
+pub first_by : (P Q : SourceState → SourceState → Type 0) → ((before after : SourceState) → P before after → Q before after) → (befores afters : List SourceState) → FirstSource P befores afters → FirstSource Q befores afters
+first_by P Q to [] [] first = tt
+first_by P Q to [] (after ∷ afters) first = absurd first
+first_by P Q to (before ∷ befores) [] first = absurd first
+first_by P Q to (before ∷ befores) (after ∷ afters) first = (to before after first.0, first.1)
 
--- what follows of a source by what holds of one, by what holds of each and by the file that all tell
-pub by_one_source : (P Q : SourceState → SourceState → Type 0) (R : Type 0) (file : List ℕ) → ((before after : SourceState) → P before after → before.file ≡ Some file → Q before after → R) → (befores afters : List SourceState) → SomeSource P befores afters → AllTell file befores → EachSource Q befores afters → R
-by_one_source P Q R file to [] afters some told each = absurd some
-by_one_source P Q R file to (before ∷ befores) [] some told each = absurd some
-by_one_source P Q R file to (before ∷ befores) (after ∷ afters) (inl here) told each = to before after here told.0 each.0
-by_one_source P Q R file to (before ∷ befores) (after ∷ afters) (inr later) told each = by_one_source P Q R file to befores afters later told.1 each.1
+-- what holds of each source holds yet, once the first one has gone on
+pub each_first : (P Q : SourceState → SourceState → Type 0) → ((before now after : SourceState) → P before now → Q now after → P before after) → (befores middles afters : List SourceState) → EachSource P befores middles → FirstSource Q middles afters → EachSource P befores afters
+each_first P Q on [] [] [] each first = tt
+each_first P Q on [] [] (after ∷ afters) each first = absurd first
+each_first P Q on [] (now ∷ middles) afters each first = absurd each
+each_first P Q on (before ∷ befores) [] afters each first = absurd each
+each_first P Q on (before ∷ befores) (now ∷ middles) [] each first = absurd first
+each_first P Q on (before ∷ befores) (now ∷ middles) (after ∷ afters) each first = (on before now after each.0 first.0, subst (EachSource P befores) (sym first.1) each.1)
+
+-- it is there where a worker claimed a chunk
+pub first_there : (P : List ℕ → SourceState → SourceState → Type 0) (Q : SourceState → SourceState → Type 0) (place : ℕ) (lists : List (List ℕ)) (befores middles afters : List SourceState) → 1 ≤ times_over place lists → EachSourceBy P lists befores middles → FirstSource Q middles afters
+    → (before : SourceState) × (after : SourceState) × Q before after
+first_there P Q place [] befores middles afters claimed each first = absurd (omega (arith, claimed))
+first_there P Q place (list ∷ lists) [] middles afters claimed each first = absurd each
+first_there P Q place (list ∷ lists) (before ∷ befores) [] afters claimed each first = absurd each
+first_there P Q place (list ∷ lists) (before ∷ befores) (now ∷ middles) [] claimed each first = absurd first
+first_there P Q place (list ∷ lists) (before ∷ befores) (now ∷ middles) (after ∷ afters) claimed each first = (now, after, first.0)
+
+pub first_same : (P : SourceState → SourceState → Type 0) → ((source : SourceState) → P source source) → (sources : List SourceState) → FirstSource P sources sources
+first_same P same [] = tt
+first_same P same (source ∷ sources) = (same source, refl)
 
 -- ---- sources that are as they were
 

@@ -1,8 +1,14 @@
+mod AddedValues
+mod AddedVisits
 mod Answered
 mod ApartDictionaries
 mod ApartTakes
 mod Ascending
+mod AskingAgain
 mod BeginningRows
+mod Borrowed
+mod Certifying
+mod CertifyingEach
 mod ChunkOutcomes
 mod ChunkPieces
 mod ChunkScanning
@@ -10,6 +16,8 @@ mod ChunkViews
 mod ClearedRuns
 mod Computing
 mod Continuing
+mod CountedScans
+mod CountedSources
 mod Counting
 mod Crossing
 mod Cutting
@@ -17,6 +25,7 @@ mod DictionaryReasons
 mod Distinct
 mod Executing
 mod FewApart
+mod FewerReads
 mod FilePreparing
 mod Finishing
 mod Fitting
@@ -26,17 +35,22 @@ mod Growing
 mod HandedRuns
 mod HandingOut
 mod Higher
+mod JoinedLanes
 mod Joining
 mod LaneCrossing
 mod LaneEnds
 mod LaneFacts
+mod LaneWork
 mod Lasting
 mod LeafPlaces
 mod LeafShapes
 pub mod LentSources
+mod Loaning
 mod LowestCauses
 mod NewReasons
 mod OneText
+mod OutsideReads
+mod OwnValues
 mod Pieces
 mod PlainPlans
 mod ProjectedPlans
@@ -51,14 +65,20 @@ pub mod ScanValid
 pub mod Scanning
 mod SessionRuns
 mod Sessions
-mod Sorting
+mod SettledAsks
+mod SettledCauses
+mod SettledEnds
+mod SettledOutcome
+mod SettlingAll
+mod SettlingOne
 mod SoundParts
-mod Spreading
 mod Stepping
 mod Taken
 mod TakenReads
 mod UnsharedPlans
+mod TakenWholes
 mod Ways
 mod WeakerVisits
+mod WholeReads
 mod WholeRuns
 mod Working

@@ -1,25 +1,31 @@
 -- The lowest chunk that failed is the lowest piece of the scan that has no batch.
-use Rattle.std.proofs.Common.{◌≡◌, ℕ, zero, suc, ◌⊎◌, inl, inr, List, [], ◌∷◌, Some, length, map, take, sym, ap, ◌∙◌, subst}
-use Rattle.std.specs.Prelude.{IsSomeAnd}
+use Rattle.std.proofs.Common.{◌≡◌, ◌≢◌, ℕ, zero, suc, ◌<◌, ◌≤◌, ◌⊎◌, inl, inr, Bool, true, List, [], ◌∷◌, Some, length, map, take, sym, ap, ◌∙◌, subst}
+use Rattle.std.specs.Prelude.{IsSomeAnd, nat_lt}
 use Rattle.std.specs.List.{slice_get, AllByRecursion}
 use Rattle.std.proofs.lemmas.List.{length-map}
 use Rattle.vx_base.specs.Sources.{SourceState}
-use Rattle.vx_claims.specs.Apart.{AreApart}
+use Rattle.vx_claims.specs.Apart.{times_over, AreApart}
 use Rattle.vx_rows.specs.SegmentLeaves.{Bytes, leaves_of}
 use Rattle.vx_splits.specs.declared.selected_rows.SelectedRows.{SelectedRows}
 use Rattle.vx_splits.specs.Trimmed.{chosen_rows}
 use Rattle.vx_scan.specs.declared.errors.ScanError.{ScanError}
+use Rattle.vx_scan.specs.declared.errors.ScanError.TheVariants.{ReadFault, Memory}
+use Rattle.vx_scan.specs.declared.lanes.ChunkError.{ChunkError}
 use Rattle.vx_scan.specs.declared.plans.ScanPlans.{ScanPlans}
 use Rattle.vx_scan.specs.Answer.{FileScan, row_count, scan_pieces}
+use Rattle.vx_scan.specs.Asks.{KeepsFaults}
 use Rattle.vx_scan.specs.Batches.{HasPiece, HavePiecesButLast, LowestFailure}
-use Rattle.vx_scan.specs.Outcomes.{Causes, told_by}
+use Rattle.vx_scan.specs.Executes.{AskedAgain, FailsAgain}
+use Rattle.vx_scan.specs.Gathers.{no_memory}
+use Rattle.vx_scan.specs.Lent.{FirstSource, SomeSourceBy}
+use Rattle.vx_scan.specs.Outcomes.{Causes, told_by, told_by_all}
 use Rattle.vx_scan.specs.Plans.{bytes_of}
 use Rattle.vx_scan.specs.Preparing.{ArePlansOf, AreChunksOf, LiesInside}
-use Rattle.vx_scan.specs.Scanned.{FailsPiece, HasAnswer, HaveAnswersButLast, LowestCause, RunsPieces}
+use Rattle.vx_scan.specs.Scanned.{FailsPiece, FailsPieceAgain, HasAnswer, HaveAnswersButLast, LowestCause, RunsAgain, RunsPieces}
 use Rattle.vx_scan.specs.Workers.{IsLast, FailsLast, RunsSource}
-use Rattle.vx_scan.proofs.LentSources.{each_by, some_by}
-use Rattle.vx_scan.proofs.ScanAsks.{gains_of}
-use Rattle.vx_scan.proofs.ScanCauses.{cause_of, have_answers, inside_at, piece_answers, rows_at, same_bytes}
+use Rattle.vx_scan.proofs.LentSources.{each_by, first_by, some_by}
+use Rattle.vx_scan.proofs.ScanAsks.{gains_again, gains_of}
+use Rattle.vx_scan.proofs.ScanCauses.{cause_of, cause_of_all, have_answers, inside_at, piece_answers, rows_at, same_bytes}
 
 module _ (scan : FileScan) (limit : ℕ) (plans : ScanPlans) (are : ArePlansOf scan limit plans) (chunks : List SelectedRows) (of_scan : AreChunksOf scan chunks) where
   runs_pieces : (numbers : List ℕ) (before after : SourceState) → RunsSource plans chunks numbers before after → RunsPieces scan numbers before after
@@ -27,20 +33,54 @@ module _ (scan : FileScan) (limit : ℕ) (plans : ScanPlans) (are : ArePlansOf s
     reasons = runs.reasons;
     gains = gains_of scan limit plans are chunks of_scan numbers runs.reasons before after runs.asks;
     own = runs.asks.own;
+    lasts = runs.lasts;
   }
 
   same_chunk : (one two : SelectedRows) → Some one ≡ Some two → one ≡ two
   same_chunk one two same = cc
 
-  fails_piece : (place : ℕ) (chunk : SelectedRows) → slice_get chunks place ≡ Some chunk → (error : ScanError) (numbers : List ℕ) (before after : SourceState) → FailsLast plans chunks (record { chunk = place; error = error }) numbers before after → FailsPiece scan limit place (chosen_rows chunk) error numbers before after
-  fails_piece place chunk here error numbers before after fails =
-      let same = same_chunk fails.fails.chunk chunk (sym fails.fails.here ∙ here) in
-      record {
-        last = fails.last;
-        cause = cause_of scan limit plans are chunk (inside_at (row_count scan) chunks place chunk of_scan.inside here) error before after
-            (subst (λ (one : SelectedRows). Causes (told_by plans before) plans [] one error before after) same fails.fails.cause);
-        faults = fails.fails.faults;
-      }
+  -- ---- the piece that failed
+
+  module _ (place : ℕ) (chunk : SelectedRows) (here : slice_get chunks place ≡ Some chunk) (error : ScanError) where
+    fails_piece : (numbers : List ℕ) (before after : SourceState) → FailsLast plans chunks (record { chunk = place; error = error }) numbers before after → FailsPiece scan limit place (chosen_rows chunk) error numbers before after
+    fails_piece numbers before after fails =
+        let same = same_chunk fails.fails.chunk chunk (sym fails.fails.here ∙ here) in
+        record {
+          last = fails.last;
+          cause = cause_of scan limit plans are chunk (inside_at (row_count scan) chunks place chunk of_scan.inside here) error before after
+              (subst (λ (one : SelectedRows). Causes (told_by plans before) plans [] one error before after) same fails.fails.cause);
+          faults = fails.fails.faults;
+        }
+
+    -- a call failed only where a read failed: want of memory is another error
+    read_failed : (error ≢ Memory) → (before after : SourceState) → KeepsFaults before after ⊎ ((record { chunk = place; error = error } ≡ no_memory) ⊎ (error ≡ ReadFault)) → KeepsFaults before after ⊎ (error ≡ ReadFault)
+    read_failed other before after (inl same) = inl same
+    read_failed other before after (inr (inl lacks)) = absurd (other (ap (λ (one : ChunkError). one.error) lacks))
+    read_failed other before after (inr (inr fault)) = inr fault
+
+    fails_again : (error ≢ Memory) → (reruns : List ℕ) (sources middles afters : List SourceState) → FirstSource (FailsAgain plans chunks (record { chunk = place; error = error }) sources) middles afters
+        → FirstSource (AskedAgain plans chunks reruns (Some (record { chunk = place; error = error }))) middles afters → FirstSource (FailsPieceAgain scan limit (chosen_rows chunk) error sources) middles afters
+    fails_again other reruns sources [] [] fails again = tt
+    fails_again other reruns sources [] (after ∷ afters) fails again = absurd fails
+    fails_again other reruns sources (before ∷ middles) [] fails again = absurd fails
+    fails_again other reruns sources (before ∷ middles) (after ∷ afters) fails again =
+        let same = same_chunk fails.0.chunk chunk (sym fails.0.here ∙ here) in (
+          record {
+            cause = cause_of_all scan limit plans are chunk (inside_at (row_count scan) chunks place chunk of_scan.inside here) error sources before after
+                (subst (λ (one : SelectedRows). Causes (told_by_all plans sources) plans [] one error before after) same fails.0.cause);
+            faults = read_failed other before after again.0.faults;
+          },
+          fails.1,
+        )
+
+    fails_either : (error ≢ Memory) → (reruns : List ℕ) (claims : List (List ℕ)) (befores middles afters : List SourceState) → FirstSource (AskedAgain plans chunks reruns (Some (record { chunk = place; error = error }))) middles afters
+        → SomeSourceBy (FailsLast plans chunks (record { chunk = place; error = error })) claims befores middles ⊎ ((1 < length befores) × (1 ≤ times_over place claims) × FirstSource (FailsAgain plans chunks (record { chunk = place; error = error }) befores) middles afters)
+        → SomeSourceBy (FailsPiece scan limit place (chosen_rows chunk) error) claims befores middles ⊎ ((1 < length befores) × (1 ≤ times_over place claims) × FirstSource (FailsPieceAgain scan limit (chosen_rows chunk) error befores) middles afters)
+    fails_either other reruns claims befores middles afters again (inl fails) =
+        inl (some_by (FailsLast plans chunks (record { chunk = place; error = error })) (FailsPiece scan limit place (chosen_rows chunk) error) fails_piece claims befores middles fails)
+    fails_either other reruns claims befores middles afters again (inr fails) = inr (fails.0, fails.1, fails_again other reruns befores middles afters fails.2 again)
+
+  -- ---- the others
 
   -- the answer of a piece is the piece of its chunk
   answer_there : (bytes : Bytes) (others : List SelectedRows) → AllByRecursion (LiesInside (row_count scan)) others → (x : ℕ) → IsSomeAnd (slice_get others x) (HasPiece (leaves_of bytes) plans) → IsSomeAnd (slice_get (map chosen_rows others) x) (HasAnswer (leaves_of bytes) scan.projection)
@@ -48,16 +88,16 @@ module _ (scan : FileScan) (limit : ℕ) (plans : ScanPlans) (are : ArePlansOf s
   answer_there bytes (chunk ∷ others) inside zero has = (has.0.values, piece_answers scan limit plans are bytes chunk inside.0 has.0 has.1)
   answer_there bytes (chunk ∷ others) inside (suc x) has = answer_there bytes others inside.1 x has
 
-  answers_but_last : (bytes : Bytes) (lists : List (List ℕ)) → AllByRecursion (HavePiecesButLast (leaves_of bytes) plans chunks) lists → AllByRecursion (HaveAnswersButLast (leaves_of bytes) scan) lists
-  answers_but_last bytes [] have = tt
-  answers_but_last bytes (list ∷ lists) have = ((λ x among. by_case x (have.0 x among)), answers_but_last bytes lists have.1)
+  answers_but_last : (bytes : Bytes) (shares : Bool) (place : ℕ) (lists : List (List ℕ)) → AllByRecursion (HavePiecesButLast (leaves_of bytes) plans chunks shares place) lists → AllByRecursion (HaveAnswersButLast (leaves_of bytes) scan shares place) lists
+  answers_but_last bytes shares place [] have = tt
+  answers_but_last bytes shares place (list ∷ lists) have = ((λ x among. by_case x (have.0 x among)), answers_but_last bytes shares place lists have.1)
     where
-      by_case : (x : ℕ) → IsSomeAnd (slice_get chunks x) (HasPiece (leaves_of bytes) plans) ⊎ IsLast x list → IsSomeAnd (slice_get (scan_pieces scan) x) (HasAnswer (leaves_of bytes) scan.projection) ⊎ IsLast x list
+      by_case : (x : ℕ) → IsSomeAnd (slice_get chunks x) (HasPiece (leaves_of bytes) plans) ⊎ (IsLast x list ⊎ ((shares ≡ true) × (place ≤ x))) → IsSomeAnd (slice_get (scan_pieces scan) x) (HasAnswer (leaves_of bytes) scan.projection) ⊎ (IsLast x list ⊎ ((shares ≡ true) × (place ≤ x)))
       by_case x (inl has) = inl (subst (λ (pieces : List (List ℕ)). IsSomeAnd (slice_get pieces x) (HasAnswer (leaves_of bytes) scan.projection)) of_scan.pieces (answer_there bytes chunks of_scan.inside x has))
       by_case x (inr last) = inr last
 
-  pub lowest_of : (error : ScanError) (befores afters : List SourceState) → LowestFailure plans chunks error befores afters → LowestCause scan limit error befores afters
-  lowest_of error befores afters lowest = record {
+  pub lowest_of : (error : ScanError) → error ≢ Memory → (befores afters : List SourceState) → LowestFailure plans chunks error befores afters → LowestCause scan limit error befores afters
+  lowest_of error other befores afters lowest = record {
     place = lowest.place;
     rows = chosen_rows lowest.chunk;
     here = ap (λ (pieces : List (List ℕ)). slice_get pieces lowest.place) (sym of_scan.pieces) ∙ rows_at chunks lowest.place lowest.chunk lowest.here;
@@ -65,15 +105,19 @@ module _ (scan : FileScan) (limit : ℕ) (plans : ScanPlans) (are : ArePlansOf s
     apart = subst (λ (count : ℕ). AreApart count lowest.claims) (sym (length-map chunks chosen_rows) ∙ ap length of_scan.pieces) lowest.apart;
     ascend = lowest.ascend;
     all_before = lowest.all_before;
-    ran = each_by (RunsSource plans chunks) (RunsPieces scan) runs_pieces lowest.claims befores afters lowest.ran;
+    middles = lowest.middles;
+    reruns = lowest.reruns;
+    ran = each_by (RunsSource plans chunks) (RunsPieces scan) runs_pieces lowest.claims befores lowest.middles lowest.ran;
+    again = first_by (AskedAgain plans chunks lowest.reruns (Some (record { chunk = lowest.place; error = error }))) (RunsAgain scan lowest.reruns error)
+        (λ before after asked. record { gains = gains_again scan limit plans are chunks of_scan lowest.reruns before after asked.asks; faults = read_failed lowest.place lowest.chunk lowest.here error other before after asked.faults; lasts = asked.lasts }) lowest.middles afters lowest.again;
+    alone = lowest.alone;
     faults = lowest.faults;
-    cause = some_by (FailsLast plans chunks (record { chunk = lowest.place; error = error })) (FailsPiece scan limit lowest.place (chosen_rows lowest.chunk) error)
-        (fails_piece lowest.place lowest.chunk lowest.here error) lowest.claims befores afters lowest.cause;
+    cause = fails_either lowest.place lowest.chunk lowest.here error other lowest.reruns lowest.claims befores lowest.middles afters lowest.again lowest.cause;
     lower = λ file told.
         subst (λ (bytes : Bytes). AllByRecursion (HasAnswer (leaves_of bytes) scan.projection) (take lowest.place (scan_pieces scan))) (same_bytes scan limit plans are file)
         (subst (λ (pieces : List (List ℕ)). AllByRecursion (HasAnswer (leaves_of (bytes_of plans file)) scan.projection) (take lowest.place pieces)) of_scan.pieces
         (have_answers scan limit plans are (bytes_of plans file) chunks of_scan.inside lowest.place (lowest.lower file told)));
     stops = λ file told.
-        subst (λ (bytes : Bytes). AllByRecursion (HaveAnswersButLast (leaves_of bytes) scan) lowest.claims) (same_bytes scan limit plans are file)
-        (answers_but_last (bytes_of plans file) lowest.claims (lowest.stops file told));
+        subst (λ (bytes : Bytes). AllByRecursion (HaveAnswersButLast (leaves_of bytes) scan (nat_lt 1 (length befores)) lowest.place) lowest.claims) (same_bytes scan limit plans are file)
+        (answers_but_last (bytes_of plans file) (nat_lt 1 (length befores)) lowest.place lowest.claims (lowest.stops file told));
   }

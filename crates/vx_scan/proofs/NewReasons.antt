@@ -1,5 +1,5 @@
--- The reasons for which a chunk asks, behind those of the chunks that ran before it.
-use Rattle.std.proofs.Common.{◌≡◌, ◌≢◌, ℕ, zero, suc, ◌+◌, ◌<◌, ◌≤◌, inl, inr, Bool, true, List, [], ◌∷◌, ◌++◌, Option, Some, None, length, map, refl, sym, ap, ◌∙◌, subst, arith}
+-- The reasons for which a chunk asks, behind those of the chunks that ran before it, whatever whole values it is given.
+use Rattle.std.proofs.Common.{◌≡◌, ◌≢◌, ℕ, zero, suc, ◌+◌, ◌<◌, ◌≤◌, inl, inr, ⊎_elim, Bool, true, List, [], ◌∷◌, ◌++◌, Option, Some, None, length, map, refl, sym, ap, ◌∙◌, subst, arith}
 use Rattle.std.specs.Prelude.{if◌then◌else◌, max}
 use Rattle.std.specs.List.{slice_get, flat_map, All, AllByRecursion}
 use Rattle.std.proofs.lemmas.Bool.{lt-ltb}
@@ -11,23 +11,24 @@ use Rattle.vx_base.specs.Sources.{SourceState}
 use Rattle.vx_base.specs.declared.locations.SegmentLocation.{SegmentLocation}
 use Rattle.vx_claims.specs.Views.{above}
 use Rattle.vx_io.specs.Fetches.{asked_for}
+use Rattle.vx_plan.specs.Nodes.{Node}
 use Rattle.vx_plan.specs.Refs.{number_of}
+use Rattle.vx_plan.specs.Tables.{IsGoodTable}
 use Rattle.vx_rows.specs.Reads.{Way, through, IsAmong}
 use Rattle.vx_splits.specs.declared.selected_rows.SelectedRows.{SelectedRows}
-use Rattle.vx_steps.specs.Kept.{kept_at, IsKept}
+use Rattle.vx_steps.specs.Kept.{kept_at, values_of, IsKept}
 use Rattle.vx_steps.specs.declared.leaf_reads.LeafRead.{LeafRead}
 use Rattle.vx_steps.specs.Given.{given_for}
 use Rattle.vx_steps.specs.KeptData.{Kept}
 use Rattle.vx_steps.specs.Leavings.{IsLeafOf, RowReads}
 use Rattle.vx_steps.specs.Rows.{SomeRow}
 use Rattle.vx_steps.specs.Visits.{IsLeafRead}
-use Rattle.vx_steps.proofs.ReadVisits.{no_columns}
 use Rattle.vx_scan.specs.declared.plans.ScanPlans.{ScanPlans}
 use Rattle.vx_scan.specs.Asks.{AsksOnly}
 use Rattle.vx_scan.specs.ChunkRows.{given_to, ChunkReaches, ChunkVisits}
 use Rattle.vx_scan.specs.Fetched.{AreDistinct, location_of}
 use Rattle.vx_scan.specs.LeafRows.{IsReadAt, LeavesLieTogether, row_behind}
-use Rattle.vx_scan.specs.Outcomes.{IsWanted}
+use Rattle.vx_scan.specs.Outcomes.{AreAllThere, ChunkAsks, HandsLeavesRead, IsWanted}
 use Rattle.vx_scan.specs.Plans.{projection_plan, AreInOrder, FollowFrom, IsChunkOf}
 use Rattle.vx_scan.specs.Reasons.{Reason, leaf_of, read_for, segment_of, chunk_and_segment, take_and_segment, IsReasonAmong}
 use Rattle.vx_scan.specs.Ways.{ReadsBy}
@@ -35,7 +36,8 @@ use Rattle.vx_scan.specs.Workers.{AsksReached}
 use Rattle.vx_scan.proofs.Distinct.{apart_from, distinct_by, distinct_then}
 use Rattle.vx_scan.proofs.Sessions.{asked_then}
 use Rattle.vx_scan.proofs.Taken.{distinct_taken, taken_apart}
-use Rattle.vx_scan.proofs.Ways.{read_visited, way_of}
+use Rattle.vx_scan.proofs.TakenWholes.{IsWholeFor, TakesWhole, takes_whole}
+use Rattle.vx_scan.proofs.Ways.{IsFree, way_of}
 use Rattle.vx_scan.proofs.WeakerVisits.{leaf_read, same_read, weaker_visit}
 
 -- ---- chunks in order
@@ -122,63 +124,73 @@ pub record RunsNext (plans : ScanPlans) (chunks : List SelectedRows) (numbers : 
   pub later : above numbers ≤ number
   pub behind : AreInOrder chunks → row ≤ chunk.scope.rows.start
 
+-- what was made is among these whole values
+abbrev pub HasMade : ScanPlans → List Kept → List Kept → Type 0
+HasMade plans made all = (n : ℕ) → n < length plans.table → IsKept made n → IsKept all n
+
+-- and what was made and the chunk asks for
+abbrev pub HasAsked : ScanPlans → SelectedRows → List Kept → List Kept → Type 0
+HasAsked plans chunk made all = (n : ℕ) → n < length plans.table → ChunkAsks plans [] chunk n → IsKept made n → IsKept all n
+
 -- ---- the reasons of a chunk
 
 -- a selected row of the chunk reads the leaf that way
 abbrev ChunkReadsBy : ScanPlans → SelectedRows → Way → LeafRead → Type 0
 ChunkReadsBy plans chunk way read = SomeRow (ReadsBy way read (projection_plan plans)) chunk.scope.rows.start chunk.mask
 
--- a selected row of the chunk reads the leaf that way, of which no column was handed in, and reaches the segment
-pub record IsNewReason (plans : ScanPlans) (place : ℕ) (handed : List Kept) (chunk : SelectedRows) (reason : Reason) : Type 0 where
+-- A selected row of the chunk reads the leaf that way, in place of which nothing is given; no column of the leaf was handed
+-- in, and the row reaches the segment.
+pub record IsNewReason (plans : ScanPlans) (place : ℕ) (given handed : List Kept) (chunk : SelectedRows) (reason : Reason) : Type 0 where
   pub at : reason.chunk ≡ place
-  pub reads : ChunkVisits (IsLeafRead (read_for reason)) plans [] chunk
+  pub reads : ChunkVisits (IsLeafRead (read_for reason)) plans given chunk
   pub by : ChunkReadsBy plans chunk reason.way (read_for reason)
+  pub free : IsFree (given_for plans.table given) reason.way
   pub fresh : kept_at handed reason.leaf ≡ None
   pub reaches : ChunkReaches plans chunk reason.segment
 
-pub record NewReasons (plans : ScanPlans) (place : ℕ) (handed : List Kept) (chunk : SelectedRows) (segments : List ℕ) : Type 0 where
+pub record NewReasons (plans : ScanPlans) (place : ℕ) (given handed : List Kept) (chunk : SelectedRows) (segments : List ℕ) : Type 0 where
   pub reasons : List Reason
   pub segments_are : map segment_of reasons ≡ segments
-  pub each : AllByRecursion (IsNewReason plans place handed chunk) reasons
+  pub each : AllByRecursion (IsNewReason plans place given handed chunk) reasons
 
-pub new_reasons : (plans : ScanPlans) (place : ℕ) (handed : List Kept) (chunk : SelectedRows) (segments : List ℕ) → All (IsWanted plans [] handed chunk) segments → NewReasons plans place handed chunk segments
-new_reasons plans place handed chunk [] wanted = record { reasons = []; segments_are = refl; each = tt }
-new_reasons plans place handed chunk (segment ∷ segments) wanted =
-    let one : IsWanted plans [] handed chunk segment = All-head (IsWanted plans [] handed chunk) segment segments wanted in
-    let rest : NewReasons plans place handed chunk segments = new_reasons plans place handed chunk segments (All-tail (IsWanted plans [] handed chunk) segment segments wanted) in
+pub new_reasons : (plans : ScanPlans) (place : ℕ) (given handed : List Kept) (chunk : SelectedRows) (segments : List ℕ) → All (IsWanted plans given handed chunk) segments → NewReasons plans place given handed chunk segments
+new_reasons plans place given handed chunk [] wanted = record { reasons = []; segments_are = refl; each = tt }
+new_reasons plans place given handed chunk (segment ∷ segments) wanted =
+    let one : IsWanted plans given handed chunk segment = All-head (IsWanted plans given handed chunk) segment segments wanted in
+    let rest : NewReasons plans place given handed chunk segments = new_reasons plans place given handed chunk segments (All-tail (IsWanted plans given handed chunk) segment segments wanted) in
     let read : LeafRead = record { leaf = one.leaf; segment = segment } in
-    let way : (way : Way) × ReadsBy way read (projection_plan plans) (chunk.scope.rows.start + one.visited.0) =
-    way_of read (given_for plans.table []) (projection_plan plans) (chunk.scope.rows.start + one.visited.0) one.visited.2 in
+    let way : (way : Way) × IsFree (given_for plans.table given) way × ReadsBy way read (projection_plan plans) (chunk.scope.rows.start + one.visited.0) =
+    way_of read (given_for plans.table given) (projection_plan plans) (chunk.scope.rows.start + one.visited.0) one.visited.2 in
     record {
       reasons = record { chunk = place; leaf = one.leaf; segment = segment; way = way.0 } ∷ rest.reasons;
       segments_are = ap (λ (ss : List ℕ). segment ∷ ss) rest.segments_are;
-      each = (record { at = refl; reads = one.visited; by = (one.visited.0, one.visited.1, way.1); fresh = one.not_handed; reaches = one.reached }, rest.each);
+      each = (record { at = refl; reads = one.visited; by = (one.visited.0, one.visited.1, way.2); free = way.1; fresh = one.not_handed; reaches = one.reached }, rest.each);
     }
 
-new_among : (plans : ScanPlans) (chunks : List SelectedRows) (number : ℕ) (handed : List Kept) (chunk : SelectedRows) → slice_get chunks number ≡ Some chunk → (reason : Reason) → IsNewReason plans number handed chunk reason → IsReasonAmong plans chunks reason
-new_among plans chunks number handed chunk here reason is = record {
+new_among : (plans : ScanPlans) (chunks : List SelectedRows) (number : ℕ) (given handed : List Kept) (chunk : SelectedRows) → slice_get chunks number ≡ Some chunk → (reason : Reason) → IsNewReason plans number given handed chunk reason → IsReasonAmong plans chunks reason
+new_among plans chunks number given handed chunk here reason is = record {
   chunk = chunk;
   here = ap (slice_get chunks) is.at ∙ here;
   reads = is.by;
   reaches = is.reaches;
 }
 
--- a row of the chunk that reads the leaf, with nothing handed in
+-- a row of the chunk that reads the leaf, whatever is given
 record ReadsInside (plans : ScanPlans) (chunk : SelectedRows) (leaf : ℕ) : Type 0 where
   row : ℕ
   behind : chunk.scope.rows.start ≤ row
   before : row < chunk.scope.rows.end
   reads : RowReads plans.table (number_of plans.projection) row leaf
 
-reads_inside : (plans : ScanPlans) (chunk : SelectedRows) (read : LeafRead) → IsChunkOf plans chunk → ChunkVisits (IsLeafRead read) plans [] chunk → ReadsInside plans chunk read.leaf
-reads_inside plans chunk read is visits =
+reads_inside : (plans : ScanPlans) (given : List Kept) (chunk : SelectedRows) (read : LeafRead) → IsChunkOf plans chunk → ChunkVisits (IsLeafRead read) plans given chunk → ReadsInside plans chunk read.leaf
+reads_inside plans given chunk read is visits =
     let less : visits.0 < length chunk.mask = bit_inside chunk.mask visits.0 visits.1 in
     let size = is.mask in
     record {
       row = chunk.scope.rows.start + visits.0;
       behind = omega arith;
       before = omega (arith, less, size);
-      reads = weaker_visit (IsLeafRead read) (IsLeafOf read.leaf) (leaf_read read) (given_to plans []) (projection_plan plans) (chunk.scope.rows.start + visits.0) visits.2;
+      reads = weaker_visit (IsLeafRead read) (IsLeafOf read.leaf) (leaf_read read) (given_to plans given) (projection_plan plans) (chunk.scope.rows.start + visits.0) visits.2;
     }
 
 -- ---- what came of the leaves that were asked for
@@ -190,14 +202,9 @@ pub record IsPast (plans : ScanPlans) (row : ℕ) (handed : List Kept) (leaf : �
   pub reads : RowReads plans.table (number_of plans.projection) at leaf
   pub stays : IsReadAt plans row leaf → IsKept handed leaf
 
--- some row reads the leaf through the take by which this one was read
-abbrev SharesTake : ScanPlans → Reason → LeafRead → Type 0
-SharesTake plans reason read = (take : ℕ) × (reason.way ≡ through take) × ((at : ℕ) × ReadsBy (through take) read (projection_plan plans) at)
-
--- So it is with the leaf that was asked for, and with all that are read through its take.
-pub record IsPastReason (plans : ScanPlans) (row : ℕ) (handed : List Kept) (reason : Reason) : Type 0 where
-  pub own : IsPast plans row handed reason.leaf
-  pub others : (read : LeafRead) → SharesTake plans reason read → IsPast plans row handed read.leaf
+-- So it is with the leaf that was asked for.
+abbrev pub IsPastReason : ScanPlans → ℕ → List Kept → Reason → Type 0
+IsPastReason plans row handed reason = IsPast plans row handed reason.leaf
 
 abbrev pub ArePast : ScanPlans → ℕ → List Kept → List Reason → Type 0
 ArePast plans row handed reasons = AllByRecursion (IsPastReason plans row handed) reasons
@@ -206,9 +213,9 @@ none_kept : (columns : Option ColumnData) (column : ColumnData) → columns ≡ 
 none_kept columns column at none = let both : Some column ≡ None = sym at ∙ none in cc
 
 -- a leaf that was asked for is not asked for by a later chunk
-not_again : (plans : ScanPlans) (row place : ℕ) (handed : List Kept) (chunk : SelectedRows) → IsChunkOf plans chunk → row ≤ chunk.scope.rows.start → LeavesLieTogether (projection_plan plans) → (leaf : ℕ) (new : Reason) → IsPast plans row handed leaf → IsNewReason plans place handed chunk new → leaf ≢ new.leaf
-not_again plans row place handed chunk is behind together leaf new past fresh same =
-    let inside : ReadsInside plans chunk new.leaf = reads_inside plans chunk (read_for new) is fresh.reads in
+not_again : (plans : ScanPlans) (row place : ℕ) (given handed : List Kept) (chunk : SelectedRows) → IsChunkOf plans chunk → row ≤ chunk.scope.rows.start → LeavesLieTogether (projection_plan plans) → (leaf : ℕ) (new : Reason) → IsPast plans row handed leaf → IsNewReason plans place given handed chunk new → leaf ≢ new.leaf
+not_again plans row place given handed chunk is behind together leaf new past fresh same =
+    let inside : ReadsInside plans chunk new.leaf = reads_inside plans given chunk (read_for new) is fresh.reads in
     let from = inside.behind in
     let to = inside.before in
     let end = is.inside in
@@ -218,40 +225,84 @@ not_again plans row place handed chunk is behind together leaf new past fresh sa
     let kept : IsKept handed leaf = past.stays (omega (arith, behind, from, to, end), here) in
     none_kept (kept_at handed new.leaf) kept.0 (ap (kept_at handed) (sym same) ∙ kept.1) fresh.fresh
 
--- and nothing is asked for through its take
-no_take_again : (plans : ScanPlans) (row place : ℕ) (handed : List Kept) (chunk : SelectedRows) → IsChunkOf plans chunk → row ≤ chunk.scope.rows.start → LeavesLieTogether (projection_plan plans) → (old new : Reason) (take : ℕ) → IsPastReason plans row handed old → IsNewReason plans place handed chunk new → old.way ≡ through take → new.way ≡ through take → ⊥
-no_take_again plans row place handed chunk is behind together old new take past fresh one two =
-    let v : ReadsBy (through take) (read_for new) (projection_plan plans) (chunk.scope.rows.start + fresh.by.0) = subst (λ (way : Way). ReadsBy way (read_for new) (projection_plan plans) (chunk.scope.rows.start + fresh.by.0)) two fresh.by.2 in
-    not_again plans row place handed chunk is behind together new.leaf new (past.others (read_for new) (take, one, (chunk.scope.rows.start + fresh.by.0, v))) fresh refl
+-- ---- what came of whole values that were asked for
+
+-- Where it was asked for through whole values, these were made.
+abbrev pub IsTaken : ScanPlans → List Kept → Reason → Type 0
+IsTaken plans made reason = (take : ℕ) → reason.way ≡ through take → (n : ℕ) × IsWholeFor plans.table take n × IsKept made n
+
+abbrev pub AreTaken : ScanPlans → List Kept → List Reason → Type 0
+AreTaken plans made reasons = AllByRecursion (IsTaken plans made) reasons
+
+-- nothing stands in place of values that are
+not_free : (nodes : List Node) (given : List Kept) (take n : ℕ) → IsWholeFor nodes take n → IsKept given n → given_for nodes given take ≡ None → ⊥
+not_free nodes given take n whole (column, at) none =
+    let both : None ≡ Some column.values = sym none ∙ (whole.is given ∙ ap values_of at) in
+    cc
+
+-- what stands for the take is kept, whichever its number
+same_whole : (nodes : List Node) (made : List Kept) (take n m : ℕ) → IsWholeFor nodes take n → IsWholeFor nodes take m → IsKept made n → IsKept made m
+same_whole nodes made take n m one other (column, at) = of_found (kept_at made m) refl (sym (other.is made) ∙ (one.is made ∙ ap values_of at))
+  where
+    of_found : (found : Option ColumnData) → kept_at made m ≡ found → values_of found ≡ Some column.values → IsKept made m
+    of_found None is both = absurd cc
+    of_found (Some other_one) is both = (other_one, is)
+
+-- so nothing is asked for through these again
+no_take_again : (plans : ScanPlans) (place : ℕ) (made given handed : List Kept) (chunk : SelectedRows) → IsGoodTable plans.table → number_of plans.projection < length plans.table → HasAsked plans chunk made given → (old new : Reason) (take : ℕ) → IsTaken plans made old → IsNewReason plans place given handed chunk new → old.way ≡ through take → new.way ≡ through take → ⊥
+no_take_again plans place made given handed chunk good known has old new take past fresh one two =
+    let kept = past take one in
+    let asked : TakesWhole plans chunk take = takes_whole plans chunk good known take (read_for new) (subst (λ (way : Way). ChunkReadsBy plans chunk way (read_for new)) two fresh.by) in
+    let own : IsKept made asked.number = same_whole plans.table made take kept.0 asked.number kept.1 asked.whole kept.2 in
+    not_free plans.table given take asked.number asked.whole (has asked.number asked.whole.known (asked.asks []) own) (subst (IsFree (given_for plans.table given)) two fresh.free)
+
+-- what was made before stays
+old_taken : (plans : ScanPlans) (made more : List Kept) → HasMade plans made more → (reason : Reason) → IsTaken plans made reason → IsTaken plans more reason
+old_taken plans made more stays reason taken take is =
+    let kept = taken take is in
+    (kept.0, kept.1, stays kept.0 kept.1.known kept.2)
+
+-- and where all that the chunk asks for is given or made, what it was asked for through is made
+new_taken : (plans : ScanPlans) (place : ℕ) (given handed more : List Kept) (chunk : SelectedRows) → IsGoodTable plans.table → number_of plans.projection < length plans.table → AreAllThere plans given more chunk → (reason : Reason) → IsNewReason plans place given handed chunk reason → IsTaken plans more reason
+new_taken plans place given handed more chunk good known there reason fresh take is =
+    let one : TakesWhole plans chunk take = takes_whole plans chunk good known take (read_for reason) (subst (λ (way : Way). ChunkReadsBy plans chunk way (read_for reason)) is fresh.by) in
+    (one.number, one.whole, ⊎_elim (λ (here : IsKept given one.number). absurd (not_free plans.table given take one.number one.whole here (subst (IsFree (given_for plans.table given)) is fresh.free))) (λ (made : IsKept more one.number). made) (there one.number (one.asks given)))
+
+pub taken_more : (plans : ScanPlans) (place : ℕ) (made given handed more : List Kept) (chunk : SelectedRows) (segments : List ℕ) (reasons : List Reason) → IsGoodTable plans.table → number_of plans.projection < length plans.table → HasMade plans made more → AreAllThere plans given more chunk
+    → (fresh : NewReasons plans place given handed chunk segments) → AreTaken plans made reasons → AreTaken plans more (reasons ++ fresh.reasons)
+taken_more plans place made given handed more chunk segments reasons good known stays there fresh taken =
+    each_then (IsTaken plans more) reasons fresh.reasons
+    (each_weaker (IsTaken plans made) (IsTaken plans more) (old_taken plans made more stays) reasons taken)
+    (each_weaker (IsNewReason plans place given handed chunk) (IsTaken plans more) (new_taken plans place given handed more chunk good known there) fresh.reasons fresh.each)
 
 -- ---- the asks with those of one chunk more
 
-same_segment : (plans : ScanPlans) (place : ℕ) (handed : List Kept) (chunk : SelectedRows) → LeavesLieTogether (projection_plan plans) → (one other : Reason) → IsNewReason plans place handed chunk one → IsNewReason plans place handed chunk other → one.leaf ≡ other.leaf → one.segment ≡ other.segment
-same_segment plans place handed chunk together one other first second same =
+same_segment : (plans : ScanPlans) (place : ℕ) (given handed : List Kept) (chunk : SelectedRows) → LeavesLieTogether (projection_plan plans) → (one other : Reason) → IsNewReason plans place given handed chunk one → IsNewReason plans place given handed chunk other → one.leaf ≡ other.leaf → one.segment ≡ other.segment
+same_segment plans place given handed chunk together one other first second same =
     together.segment (read_for one) (read_for other) (chunk.scope.rows.start + first.reads.0) (chunk.scope.rows.start + second.reads.0)
-    (weaker_visit (IsLeafRead (read_for one)) (IsLeafRead (read_for one)) (same_read (read_for one)) (given_to plans []) (projection_plan plans) (chunk.scope.rows.start + first.reads.0) first.reads.2)
-    (weaker_visit (IsLeafRead (read_for other)) (IsLeafRead (read_for other)) (same_read (read_for other)) (given_to plans []) (projection_plan plans) (chunk.scope.rows.start + second.reads.0) second.reads.2) same
+    (weaker_visit (IsLeafRead (read_for one)) (IsLeafRead (read_for one)) (same_read (read_for one)) (given_to plans given) (projection_plan plans) (chunk.scope.rows.start + first.reads.0) first.reads.2)
+    (weaker_visit (IsLeafRead (read_for other)) (IsLeafRead (read_for other)) (same_read (read_for other)) (given_to plans given) (projection_plan plans) (chunk.scope.rows.start + second.reads.0) second.reads.2) same
 
-earlier : (plans : ScanPlans) (numbers : List ℕ) (number : ℕ) (handed : List Kept) (chunk : SelectedRows) → above numbers ≤ number → (old new : Reason) → IsAmong old.chunk numbers → IsNewReason plans number handed chunk new → chunk_and_segment old ≢ chunk_and_segment new
-earlier plans numbers number handed chunk later old new among fresh same =
+earlier : (plans : ScanPlans) (numbers : List ℕ) (number : ℕ) (given handed : List Kept) (chunk : SelectedRows) → above numbers ≤ number → (old new : Reason) → IsAmong old.chunk numbers → IsNewReason plans number given handed chunk new → chunk_and_segment old ≢ chunk_and_segment new
+earlier plans numbers number given handed chunk later old new among fresh same =
     let less = among_below old.chunk numbers among in
     let place : old.chunk ≡ new.chunk = ap (λ (pair : ℕ × ℕ). pair.0) same in
     let at = fresh.at in
     omega (arith, less, place, at, later)
 
 -- the new asks of a chunk, behind those of the chunks before
-pub asks_more : (plans : ScanPlans) (chunks : List SelectedRows) (numbers : List ℕ) (row number : ℕ) (chunk : SelectedRows) (handed : List Kept) (reasons : List Reason) (before now after : SourceState) → RunsNext plans chunks numbers row number chunk
-    → AsksReached plans chunks numbers reasons before now → (AreInOrder chunks → LeavesLieTogether (projection_plan plans) → ArePast plans row handed reasons)
-    → (more : AsksOnly (IsWanted plans [] handed chunk) plans.locations.items now after) (fresh : NewReasons plans number handed chunk more.segments) → AsksReached plans chunks (numbers ++ number ∷ []) (reasons ++ fresh.reasons) before after
-asks_more plans chunks numbers row number chunk handed reasons before now after next asks past more fresh =
+pub asks_more : (plans : ScanPlans) (chunks : List SelectedRows) (numbers : List ℕ) (row number : ℕ) (chunk : SelectedRows) (made given handed : List Kept) (reasons : List Reason) (before now after : SourceState) → IsGoodTable plans.table → number_of plans.projection < length plans.table → RunsNext plans chunks numbers row number chunk
+    → AsksReached plans chunks numbers reasons before now → HasAsked plans chunk made given → AreTaken plans made reasons → (AreInOrder chunks → LeavesLieTogether (projection_plan plans) → ArePast plans row handed reasons)
+    → (more : AsksOnly (IsWanted plans given handed chunk) plans.locations.items now after) (fresh : NewReasons plans number given handed chunk more.segments) → AsksReached plans chunks (numbers ++ number ∷ []) (reasons ++ fresh.reasons) before after
+asks_more plans chunks numbers row number chunk made given handed reasons before now after good known next asks has taken past more fresh =
     let segments : map segment_of (reasons ++ fresh.reasons) ≡ map segment_of reasons ++ more.segments =
     map-append segment_of reasons fresh.reasons ∙ ap (λ (ss : List ℕ). map segment_of reasons ++ ss) fresh.segments_are in
     record {
       are = each_then (IsReasonAmong plans chunks) reasons fresh.reasons asks.are
-          (each_weaker (IsNewReason plans number handed chunk) (IsReasonAmong plans chunks) (new_among plans chunks number handed chunk next.here) fresh.reasons fresh.each);
+          (each_weaker (IsNewReason plans number given handed chunk) (IsReasonAmong plans chunks) (new_among plans chunks number given handed chunk next.here) fresh.reasons fresh.each);
       own = each_then (λ (reason : Reason). IsAmong reason.chunk (numbers ++ number ∷ [])) reasons fresh.reasons
           (each_weaker (λ (reason : Reason). IsAmong reason.chunk numbers) (λ (reason : Reason). IsAmong reason.chunk (numbers ++ number ∷ [])) (λ reason among. among_front reason.chunk numbers (number ∷ []) among) reasons asks.own)
-          (each_weaker (IsNewReason plans number handed chunk) (λ (reason : Reason). IsAmong reason.chunk (numbers ++ number ∷ [])) (λ reason is. among_last reason.chunk numbers number is.at) fresh.reasons fresh.each);
+          (each_weaker (IsNewReason plans number given handed chunk) (λ (reason : Reason). IsAmong reason.chunk (numbers ++ number ∷ [])) (λ reason is. among_last reason.chunk numbers number is.at) fresh.reasons fresh.each);
       located = subst (All (λ segment. segment < length plans.locations.items)) (sym segments)
           (All-append (λ segment. segment < length plans.locations.items) (map segment_of reasons) more.segments asks.located more.asks.located);
       asked = more.asks.asked
@@ -261,32 +312,31 @@ asks_more plans chunks numbers row number chunk handed reasons before now after 
           (sym (map-append (location_of plans.locations.items) (map segment_of reasons) more.segments) ∙ ap (map (location_of plans.locations.items)) (sym segments))));
       once_a_chunk = subst AreDistinct (sym (map-append chunk_and_segment reasons fresh.reasons))
           (distinct_then (map chunk_and_segment reasons) (map chunk_and_segment fresh.reasons) asks.once_a_chunk
-          (distinct_by (IsNewReason plans number handed chunk) chunk_and_segment segment_of (λ one two first second same. ap (λ (pair : ℕ × ℕ). pair.1) same) fresh.reasons fresh.each (subst AreDistinct (sym fresh.segments_are) more.asks.apart))
-          (apart_from (λ (reason : Reason). IsAmong reason.chunk numbers) (IsNewReason plans number handed chunk) chunk_and_segment (earlier plans numbers number handed chunk next.later) reasons fresh.reasons asks.own fresh.each));
+          (distinct_by (IsNewReason plans number given handed chunk) chunk_and_segment segment_of (λ one two first second same. ap (λ (pair : ℕ × ℕ). pair.1) same) fresh.reasons fresh.each (subst AreDistinct (sym fresh.segments_are) more.asks.apart))
+          (apart_from (λ (reason : Reason). IsAmong reason.chunk numbers) (IsNewReason plans number given handed chunk) chunk_and_segment (earlier plans numbers number given handed chunk next.later) reasons fresh.reasons asks.own fresh.each));
       once_a_leaf = λ order together.
           subst AreDistinct (sym (map-append leaf_of reasons fresh.reasons))
           (distinct_then (map leaf_of reasons) (map leaf_of fresh.reasons) (asks.once_a_leaf order together)
-          (distinct_by (IsNewReason plans number handed chunk) leaf_of segment_of (same_segment plans number handed chunk together) fresh.reasons fresh.each (subst AreDistinct (sym fresh.segments_are) more.asks.apart))
-          (apart_from (IsPastReason plans row handed) (IsNewReason plans number handed chunk) leaf_of
-          (λ one two first second. not_again plans row number handed chunk next.is (next.behind order) together one.leaf two first.own second) reasons fresh.reasons (past order together) fresh.each));
-      once_a_take = λ order together.
-          subst AreDistinct (sym (flat_map-append take_and_segment reasons fresh.reasons))
-          (distinct_then (flat_map take_and_segment reasons) (flat_map take_and_segment fresh.reasons) (asks.once_a_take order together)
+          (distinct_by (IsNewReason plans number given handed chunk) leaf_of segment_of (same_segment plans number given handed chunk together) fresh.reasons fresh.each (subst AreDistinct (sym fresh.segments_are) more.asks.apart))
+          (apart_from (IsPastReason plans row handed) (IsNewReason plans number given handed chunk) leaf_of
+          (λ one two first second. not_again plans row number given handed chunk next.is (next.behind order) together one.leaf two first second) reasons fresh.reasons (past order together) fresh.each));
+      once_a_take = subst AreDistinct (sym (flat_map-append take_and_segment reasons fresh.reasons))
+          (distinct_then (flat_map take_and_segment reasons) (flat_map take_and_segment fresh.reasons) asks.once_a_take
           (distinct_taken fresh.reasons (subst AreDistinct (sym fresh.segments_are) more.asks.apart))
-          (taken_apart (IsPastReason plans row handed) (IsNewReason plans number handed chunk)
-          (no_take_again plans row number handed chunk next.is (next.behind order) together) reasons fresh.reasons (past order together) fresh.each));
+          (taken_apart (IsTaken plans made) (IsNewReason plans number given handed chunk)
+          (no_take_again plans number made given handed chunk good known has) reasons fresh.reasons taken fresh.each));
     }
 
 -- ---- what comes of the leaves behind one chunk more
 
 -- of the leaves that a chunk was handed and of those that it reads, each is handed on that the row behind it reads
-pub record HandsLeaves (plans : ScanPlans) (chunk : SelectedRows) (handed more : List Kept) : Type 0 where
+pub record HandsLeaves (plans : ScanPlans) (chunk : SelectedRows) (given handed more : List Kept) : Type 0 where
   pub stay : (leaf : ℕ) → IsReadAt plans (row_behind chunk) leaf → IsKept handed leaf → IsKept more leaf
-  pub there : (read : LeafRead) → IsReadAt plans (row_behind chunk) read.leaf → ChunkVisits (IsLeafRead read) plans [] chunk → IsKept more read.leaf
+  pub there : HandsLeavesRead plans chunk given more
 
-old_leaf : (plans : ScanPlans) (row : ℕ) (handed more : List Kept) (chunk : SelectedRows) → IsChunkOf plans chunk → row ≤ chunk.scope.rows.start → chunk.scope.rows.start < chunk.scope.rows.end → LeavesLieTogether (projection_plan plans) → HandsLeaves plans chunk handed more →
+old_leaf : (plans : ScanPlans) (row : ℕ) (given handed more : List Kept) (chunk : SelectedRows) → IsChunkOf plans chunk → row ≤ chunk.scope.rows.start → chunk.scope.rows.start < chunk.scope.rows.end → LeavesLieTogether (projection_plan plans) → HandsLeaves plans chunk given handed more →
     (leaf : ℕ) → IsPast plans row handed leaf → IsPast plans chunk.scope.rows.end more leaf
-old_leaf plans row handed more chunk is behind some together hands leaf past =
+old_leaf plans row given handed more chunk is behind some together hands leaf past =
     let low = past.before in
     record {
       at = past.at;
@@ -298,16 +348,9 @@ old_leaf plans row handed more chunk is behind some together hands leaf past =
           hands.stay leaf (subst (λ (r : ℕ). IsReadAt plans r leaf) (sym (behind_it chunk some)) read) (past.stays (omega (arith, end, behind, some), here));
     }
 
-old_past : (plans : ScanPlans) (row : ℕ) (handed more : List Kept) (chunk : SelectedRows) → IsChunkOf plans chunk → row ≤ chunk.scope.rows.start → chunk.scope.rows.start < chunk.scope.rows.end → LeavesLieTogether (projection_plan plans) → HandsLeaves plans chunk handed more →
-    (reason : Reason) → IsPastReason plans row handed reason → IsPastReason plans chunk.scope.rows.end more reason
-old_past plans row handed more chunk is behind some together hands reason past = record {
-  own = old_leaf plans row handed more chunk is behind some together hands reason.leaf past.own;
-  others = λ read shares. old_leaf plans row handed more chunk is behind some together hands read.leaf (past.others read shares);
-}
-
-new_leaf : (plans : ScanPlans) (handed more : List Kept) (chunk : SelectedRows) → IsChunkOf plans chunk → chunk.scope.rows.start < chunk.scope.rows.end → HandsLeaves plans chunk handed more → (read : LeafRead) → ChunkVisits (IsLeafRead read) plans [] chunk → IsPast plans chunk.scope.rows.end more read.leaf
-new_leaf plans handed more chunk is some hands read visits =
-    let inside : ReadsInside plans chunk read.leaf = reads_inside plans chunk read is visits in
+new_leaf : (plans : ScanPlans) (given handed more : List Kept) (chunk : SelectedRows) → IsChunkOf plans chunk → chunk.scope.rows.start < chunk.scope.rows.end → HandsLeaves plans chunk given handed more → (read : LeafRead) → ChunkVisits (IsLeafRead read) plans given chunk → IsPast plans chunk.scope.rows.end more read.leaf
+new_leaf plans given handed more chunk is some hands read visits =
+    let inside : ReadsInside plans chunk read.leaf = reads_inside plans given chunk read is visits in
     record {
       at = inside.row;
       before = inside.before;
@@ -315,23 +358,10 @@ new_leaf plans handed more chunk is some hands read visits =
       stays = λ later. hands.there read (subst (λ (r : ℕ). IsReadAt plans r read.leaf) (sym (behind_it chunk some)) later) visits;
     }
 
--- what is read through the take of a new reason, the chunk reads
-read_beside : (plans : ScanPlans) (place : ℕ) (handed : List Kept) (chunk : SelectedRows) → LeavesLieTogether (projection_plan plans) → (reason : Reason) → IsNewReason plans place handed chunk reason → (read : LeafRead) → SharesTake plans reason read → ChunkVisits (IsLeafRead read) plans [] chunk
-read_beside plans place handed chunk together reason fresh read (take, is, (at, v)) =
-    let row : ℕ = chunk.scope.rows.start + fresh.by.0 in
-    let own : ReadsBy (through take) (read_for reason) (projection_plan plans) row = subst (λ (way : Way). ReadsBy way (read_for reason) (projection_plan plans) row) is fresh.by.2 in
-    (fresh.by.0, fresh.by.1, read_visited (through take) read (given_for plans.table []) (no_columns plans.table) (projection_plan plans) row (together.below take (read_for reason) read row at own v))
-
-new_past : (plans : ScanPlans) (place : ℕ) (handed more : List Kept) (chunk : SelectedRows) → IsChunkOf plans chunk → chunk.scope.rows.start < chunk.scope.rows.end → LeavesLieTogether (projection_plan plans) → HandsLeaves plans chunk handed more → (reason : Reason) → IsNewReason plans place handed chunk reason → IsPastReason plans chunk.scope.rows.end more reason
-new_past plans place handed more chunk is some together hands reason fresh = record {
-  own = new_leaf plans handed more chunk is some hands (read_for reason) fresh.reads;
-  others = λ read shares. new_leaf plans handed more chunk is some hands read (read_beside plans place handed chunk together reason fresh read shares);
-}
-
-pub past_more : (plans : ScanPlans) (chunks : List SelectedRows) (numbers : List ℕ) (row number : ℕ) (chunk : SelectedRows) (handed more : List Kept) (segments : List ℕ) (reasons : List Reason) → RunsNext plans chunks numbers row number chunk
-    → HandsLeaves plans chunk handed more → (fresh : NewReasons plans number handed chunk segments) → AreInOrder chunks → LeavesLieTogether (projection_plan plans) → ArePast plans row handed reasons → ArePast plans chunk.scope.rows.end more (reasons ++ fresh.reasons)
-past_more plans chunks numbers row number chunk handed more segments reasons next hands fresh order together past =
+pub past_more : (plans : ScanPlans) (chunks : List SelectedRows) (numbers : List ℕ) (row number : ℕ) (chunk : SelectedRows) (given handed more : List Kept) (segments : List ℕ) (reasons : List Reason) → RunsNext plans chunks numbers row number chunk
+    → HandsLeaves plans chunk given handed more → (fresh : NewReasons plans number given handed chunk segments) → AreInOrder chunks → LeavesLieTogether (projection_plan plans) → ArePast plans row handed reasons → ArePast plans chunk.scope.rows.end more (reasons ++ fresh.reasons)
+past_more plans chunks numbers row number chunk given handed more segments reasons next hands fresh order together past =
     let some = has_rows 0 chunks number chunk order next.here in
     each_then (IsPastReason plans chunk.scope.rows.end more) reasons fresh.reasons
-    (each_weaker (IsPastReason plans row handed) (IsPastReason plans chunk.scope.rows.end more) (old_past plans row handed more chunk next.is (next.behind order) some together hands) reasons past)
-    (each_weaker (IsNewReason plans number handed chunk) (IsPastReason plans chunk.scope.rows.end more) (new_past plans number handed more chunk next.is some together hands) fresh.reasons fresh.each)
+    (each_weaker (IsPastReason plans row handed) (IsPastReason plans chunk.scope.rows.end more) (λ reason old. old_leaf plans row given handed more chunk next.is (next.behind order) some together hands reason.leaf old) reasons past)
+    (each_weaker (IsNewReason plans number given handed chunk) (IsPastReason plans chunk.scope.rows.end more) (λ reason new. new_leaf plans given handed more chunk next.is some hands (read_for reason) new.reads) fresh.reasons fresh.each)

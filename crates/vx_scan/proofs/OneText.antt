@@ -1,22 +1,21 @@
 -- The text of a plan of a table is told by the plan alone, whatever numbers its parts have.
-use Rattle.std.proofs.Common.{◌≡◌, ℕ, zero, suc, ◌+◌, ◌<◌, Bool, true, false, List, [], ◌∷◌, ◌++◌, Some, length, map, get_or, refl, sym, ap, ◌∙◌, subst, arith}
-use Rattle.std.specs.Prelude.{codes, IfSome, IsSomeAnd, Option}
-use Rattle.std.specs.List.{slice_get, All}
+use Rattle.std.proofs.Common.{◌≡◌, ℕ, zero, suc, ◌+◌, ◌<◌, Bool, true, false, List, [], ◌∷◌, ◌++◌, length, map, get_or, refl, sym, ap, ◌∙◌, arith}
+use Rattle.std.specs.Prelude.{codes}
+use Rattle.std.specs.List.{All}
 use Rattle.std.proofs.lemmas.List.Elements.{All-head, All-tail}
 use Rattle.std.proofs.lemmas.Option.{slice_get-get_or}
 use Rattle.vx_base.specs.Data.{DataType, bool_type, int_type, utf8_type, struct_type, list_type}
 use Rattle.vx_expr.specs.Bound.{Bound}
 use Rattle.vx_expr.specs.Mentions.{is_root, uses_root, uses_row_number}
-use Rattle.vx_expr.specs.Terms.{Term}
 use Rattle.vx_plan.specs.declared.rules.PlanRule.TheVariants as rules
 use Rattle.vx_plan.specs.declared.nodes.PlanKind.{PlanKind}
 use Rattle.vx_plan.specs.declared.nodes.PlanKind.TheVariants as kinds
 use Rattle.vx_plan.specs.ChildNames.{child_name}
 use Rattle.vx_plan.specs.Nodes.{Node, absent}
-use Rattle.vx_plan.specs.Plans.{Head, Plan, no_plan, concat_plan, eval_plan, filter_plan, pack_plan, take_plan, share_plan, list_plan, row_idx_plan, scan_plan, zoned_plan, Plans, no_plans, plan, PlanValidity, all_valid, valid_as, head_at, plan_at, plan_grown_as, plan_gap, plan_in, plans_from, front_plans, last_plan, field_plans, last_validity}
+use Rattle.vx_plan.specs.Plans.{Head, Plan, no_plan, concat_plan, eval_plan, filter_plan, pack_plan, take_plan, share_plan, list_plan, row_idx_plan, scan_plan, zoned_plan, Plans, no_plans, plan, PlanValidity, all_valid, valid_as, head_at, plan_at, plan_grown_as, plan_in, plans_from, front_plans, last_plan, field_plans, last_validity}
 use Rattle.vx_plan.specs.Rules.{node_at, nodes_at, Asks, IsMadeAs}
 use Rattle.vx_plan.specs.Shapes.{zoned_kind}
-use Rattle.vx_plan.specs.Tables.{IsGoodNode, IsGoodTable}
+use Rattle.vx_plan.specs.Tables.{IsGoodTable}
 use Rattle.vx_plan.proofs.Unfolding.{Known, known}
 use Rattle.vx_lower.specs.PlanText.{all_headers, each_from, indent, lines_text, node_text}
 use Rattle.vx_lower.specs.Projected.{Projection}

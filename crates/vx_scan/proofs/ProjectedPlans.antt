@@ -1,6 +1,6 @@
 -- The plan that a table holds for a projection is the projection's.
-use Rattle.std.proofs.Common.{◌≡◌, ℕ, ◌+◌, pos, inl, inr, Bool, true, false, cond, List, [], Option, Some, None, map, length, refl, sym, ap, ◌∙◌, subst}
-use Rattle.std.specs.Prelude.{option_and_then, option_map, IsSome, IsSomeAnd, IsTrue}
+use Rattle.std.proofs.Common.{◌≡◌, ℕ, ◌+◌, pos, inl, inr, Bool, true, false, cond, List, [], Option, Some, None, length, refl, sym, ap, ◌∙◌, subst}
+use Rattle.std.specs.Prelude.{option_and_then, option_map, IsSome, IsSomeAnd}
 use Rattle.vx_base.specs.declared.dtypes.Nullability.TheVariants.{NonNullable, Nullable}
 use Rattle.vx_base.specs.Data.{DataType, bool_type, int_type, utf8_type, struct_type, list_type, Members, no_members, Datum, null, number}
 use Rattle.vx_base.specs.Names.{HasDistinctNames}
@@ -19,8 +19,7 @@ use Rattle.vx_lower.specs.Lowered.{lowered}
 use Rattle.vx_lower.specs.Numbered.{numbered}
 use Rattle.vx_lower.specs.OldNumbers.{old_number}
 use Rattle.vx_lower.specs.Planned.{planned, CanBePlanned}
-use Rattle.vx_lower.specs.PlannedOver.{IsPlannedOver}
-use Rattle.vx_lower.specs.Projected.{Projection, kept_of, root_value, projected_at, scan_reads}
+use Rattle.vx_lower.specs.Projected.{Projection, kept_of, root_value, projected_at}
 use Rattle.vx_lower.specs.RowIndex.{head_with, row_index_plan_from, row_index_plan_from_by}
 use Rattle.vx_lower.proofs.Lowering.{lowered_values}
 use Rattle.vx_lower.proofs.OldNumbers.{numbered_alike, numbered_values, same_reads}
@@ -28,12 +27,12 @@ use Rattle.vx_lower.proofs.PlannedTables.{holds_planned, holds_root}
 use Rattle.vx_lower.proofs.Planning.{planned_reads, planned_rows, planned_type, planned_values}
 use Rattle.vx_plan.specs.Alike.{IsAlike}
 use Rattle.vx_plan.specs.Nodes.{Node}
-use Rattle.vx_plan.specs.Plans.{Plan, eval_plan, pack_plan, row_idx_plan, no_plans, plan, all_valid, plan_at, plan_head}
+use Rattle.vx_plan.specs.Plans.{Plan, pack_plan, row_idx_plan, no_plans, plan, all_valid, plan_at, plan_head}
 use Rattle.vx_plan.specs.PlanRows.{plan_derivation, plan_reads, plan_value}
 use Rattle.vx_plan.proofs.AlikePlans.{alike_reads, alike_values}
 use Rattle.vx_rows.specs.Derivations.{Derivation, Leaves, derived, no_bound, one_more, struct_of_values}
 use Rattle.vx_rows.specs.Given.{with_given}
-use Rattle.vx_rows.specs.Renumbered.{read_renumbered, renumbered}
+use Rattle.vx_rows.specs.Renumbered.{renumbered}
 use Rattle.vx_rows.specs.Whole.{GiveFitting}
 use Rattle.vx_steps.specs.Given.{Handed, row_value, values_for}
 use Rattle.vx_steps.specs.Laws.{HandsNone, HasPart, IsFaultyRow, IsFaultyTerm}
@@ -41,8 +40,8 @@ use Rattle.vx_steps.specs.Visits.{Visits, HasEvalFault}
 use Rattle.vx_steps.proofs.VisitedParts.{term_worked}
 use Rattle.vx_steps.proofs.VisitedReads.{none_served}
 use Rattle.vx_scan.specs.Causes.{IsFaultAt}
-use Rattle.vx_scan.specs.PlanTexts.{held_tree, IsProjectionPlanBy, IsProjectionPlan}
-use Rattle.vx_scan.specs.Preparing.{node_of, IsPlanOf, IsProjectedBy, IsProjectedIn}
+use Rattle.vx_scan.specs.PlanTexts.{held_tree, IsProjectionPlanBy}
+use Rattle.vx_scan.specs.Preparing.{node_of, IsPlanOf, IsProjectedBy}
 use Rattle.vx_scan.proofs.PlainPlans.{lowered_plain, plain_sound}
 use Rattle.vx_scan.proofs.SoundParts.{kept_sound, part_also, part_back, part_renumbered, HasFault}
 

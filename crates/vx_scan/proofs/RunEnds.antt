@@ -27,7 +27,7 @@ use Rattle.vx_steps.specs.Agreement.{Agrees}
 use Rattle.vx_steps.specs.Given.{handed_by}
 use Rattle.vx_steps.specs.ScanData.{ScanData, IsScanOf}
 use Rattle.vx_steps.specs.Steps.{HasCauseIn, RefusesSplit}
-use Rattle.vx_steps.specs.Turns.{FailsInWholes}
+use Rattle.vx_steps.specs.Turns.{AreLeavesKept, FailsInWholes}
 use Rattle.vx_steps.specs.Wholes.{AreThere, HasInsideCause}
 use Rattle.vx_steps.proofs.Premises.{unless_held}
 use Rattle.vx_steps.proofs.SplitVisits.{split_cause}
@@ -41,7 +41,7 @@ use Rattle.vx_scan.specs.Asks.{AsksOnly, KeepsFaults, Lasts, TellsFaults}
 use Rattle.vx_scan.specs.Computes.{Batches, StopCause, Stops, WhyYields, Yields}
 use Rattle.vx_scan.specs.Continues.{splits_left}
 use Rattle.vx_scan.specs.Fetched.{AreApart, location_of, segments_in}
-use Rattle.vx_scan.specs.Runs.{GivesOutput, IsListCause, IsReadByStart, IsStepCause, LeavesFault, RunCause, RunGives, WhereScanned, row_fault, scan_error}
+use Rattle.vx_scan.specs.Runs.{GivesOutput, IsListCause, IsReadByStart, IsStepCause, LeavesFault, LeavesRead, RunCause, RunGives, WhereScanned, row_fault, scan_error}
 use Rattle.vx_scan.specs.Starts.{IsUnread, split_of}
 use Rattle.vx_scan.specs.Waits.{SendGives, WaitFails}
 use Rattle.vx_scan.proofs.Running.{KeptSoFar, ScanSoFar, all_taken, kept_then, only_split, so_far_then}
@@ -68,11 +68,12 @@ told_of X error before after (inl same) = inl same
 told_of X error before after (inr is) = inr (ap Err is)
 
 -- the answer, with what was asked and what lasts
-gives_with : (locations : List SegmentLocation) (limit : ℕ) (start scan : ScanData) (before after : SourceState) (error : ScanError) → KeptSoFar locations start before scan → RunCause locations limit start error before after → IfSome (row_fault error) (LeavesFault locations start scan before) → AsksOnly (IsReadByStart start) locations before after → Lasts before after → KeepsFaults before after ⊎ (error ≡ scan_errors.ReadFault) →
+gives_with : (locations : List SegmentLocation) (limit : ℕ) (start scan : ScanData) (before after : SourceState) (error : ScanError) → KeptSoFar locations start before scan → RunCause locations limit start error before after → IfSome (row_fault error) (LeavesFault locations start scan before) → IfSome (row_fault error) (LeavesRead start scan) → AsksOnly (IsReadByStart start) locations before after → Lasts before after → KeepsFaults before after ⊎ (error ≡ scan_errors.ReadFault) →
     RunGives locations limit start (Err error) scan before after
-gives_with locations limit start scan before after error kept cause left asks lasts faults = record {
+gives_with locations limit start scan before after error kept cause left left_leaves asks lasts faults = record {
   answer = cause;
   left = left;
+  left_leaves = left_leaves;
   asks = asks;
   faults = told_of (Option ColumnData) error before after faults;
   nodes = kept.nodes;
@@ -108,6 +109,7 @@ run_returns locations limit start before adaptor next output state run yields do
     record {
       answer = answer (output_waits locations start before adaptor next output yields run.so_far);
       left = tt;
+      left_leaves = tt;
       asks = asks_so_far locations start before adaptor output state state.source run refl;
       faults = inl run.faults;
       nodes = kept.nodes;
@@ -142,15 +144,15 @@ run_returns locations limit start before adaptor next output state run yields do
 pub run_stalls : (locations : List SegmentLocation) (limit : ℕ) (start : ScanData) (before : SourceState) (adaptor : AdaptorData) (output : Option ColumnData) (state : SessionState) (after : SourceState) (error : ScanError) →
     Running locations start before adaptor output state → WaitFails limit error state.source after → RunGives locations limit start (Err error) adaptor.scan before after
 run_stalls locations limit start before adaptor output state after scan_errors.ReadFault run (keeps, rose, idle) =
-    gives_with locations limit start adaptor.scan before after scan_errors.ReadFault run.scan.kept (rose_after before state.source after run.faults rose) tt (asks_so_far locations start before adaptor output state after run keeps.asked)
+    gives_with locations limit start adaptor.scan before after scan_errors.ReadFault run.scan.kept (rose_after before state.source after run.faults rose) tt tt (asks_so_far locations start before adaptor output state after run keeps.asked)
     (lasts_after before state.source after run.file run.faults run.idle keeps.file rose.kept idle) (inr refl)
 run_stalls locations limit start before adaptor output state after scan_errors.Stalled run (keeps, faults, waited) =
     gives_with locations limit start adaptor.scan before after scan_errors.Stalled run.scan.kept
-    (record { kept = let p = waited.kept in let q = run.idle in omega (arith, p, q); raised = let p = waited.raised in let q = run.idle in omega (arith, p, q) }) tt
+    (record { kept = let p = waited.kept in let q = run.idle in omega (arith, p, q); raised = let p = waited.raised in let q = run.idle in omega (arith, p, q) }) tt tt
     (asks_so_far locations start before adaptor output state after run keeps.asked)
     (lasts_after before state.source after run.file run.faults run.idle keeps.file (omega (arith, faults)) waited.kept) (inl (faults ∙ run.faults))
 run_stalls locations limit start before adaptor output state after scan_errors.Memory run (keeps, faults, idle) =
-    gives_with locations limit start adaptor.scan before after scan_errors.Memory run.scan.kept tt tt (asks_so_far locations start before adaptor output state after run keeps.asked)
+    gives_with locations limit start adaptor.scan before after scan_errors.Memory run.scan.kept tt tt tt (asks_so_far locations start before adaptor output state after run keeps.asked)
     (lasts_after before state.source after run.file run.faults run.idle keeps.file (omega (arith, faults)) idle) (inl (faults ∙ run.faults))
 run_stalls locations limit start before adaptor output state after scan_errors.BadProjection run gives = absurd gives
 run_stalls locations limit start before adaptor output state after scan_errors.OffsetOverflow run gives = absurd gives
@@ -210,11 +212,11 @@ asks_some locations start before batch adaptor next output state new run batched
 pub run_unsent : (locations : List SegmentLocation) (limit : ℕ) (start : ScanData) (before : SourceState) (batch : List IoRequest) (adaptor next : AdaptorData) (output : Option ColumnData) (state new : SessionState) (error : ScanError) →
     Running locations start before adaptor output state → Batches locations batch adaptor next → SendGives batch (Err error) state new → RunGives locations limit start (Err error) next.scan before new.source
 run_unsent locations limit start before batch adaptor next output state new scan_errors.ReadFault run batched (some, stays, rose) =
-    gives_with locations limit start next.scan before new.source scan_errors.ReadFault (kept_then locations start before adaptor.scan next.scan run.scan.kept batched.scan.keeps) (rose_after before state.source new.source run.faults rose) tt
+    gives_with locations limit start next.scan before new.source scan_errors.ReadFault (kept_then locations start before adaptor.scan next.scan run.scan.kept batched.scan.keeps) (rose_after before state.source new.source run.faults rose) tt tt
     (asks_some locations start before batch adaptor next output state new run batched some)
     (lasts_after before state.source new.source run.file run.faults run.idle stays.file rose.kept (let p = stays.idle in omega (arith, p))) (inr refl)
 run_unsent locations limit start before batch adaptor next output state new scan_errors.Memory run batched (some, stays, faults) =
-    gives_with locations limit start next.scan before new.source scan_errors.Memory (kept_then locations start before adaptor.scan next.scan run.scan.kept batched.scan.keeps) tt tt
+    gives_with locations limit start next.scan before new.source scan_errors.Memory (kept_then locations start before adaptor.scan next.scan run.scan.kept batched.scan.keeps) tt tt tt
     (asks_some locations start before batch adaptor next output state new run batched some)
     (lasts_after before state.source new.source run.file run.faults run.idle stays.file (omega (arith, faults)) (let p = stays.idle in omega (arith, p))) (inl (faults ∙ run.faults))
 run_unsent locations limit start before batch adaptor next output state new scan_errors.Stalled run batched gives = absurd gives
@@ -306,6 +308,23 @@ stop_left locations start old new before (errors.Step step_errors.Memory) unread
 stop_left locations start old new before errors.NotOutstanding unread kept cause = tt
 stop_left locations start old new before errors.Memory unread kept cause = tt
 
+leaves_read : (locations : List SegmentLocation) (start old new : ScanData) (before : SourceState) (fault : StepError) → IsUnread start → KeptSoFar locations start before old → (refuses : RefusesSplit old.nodes old.job old.progress new.progress fault) →
+    AreLeavesKept old.nodes old.job refuses.split new.progress.leaves → LeavesRead start new fault
+leaves_read locations start old new before fault unread kept refuses leaves =
+    subst (λ (s : Split). AreLeavesKept start.nodes start.job s new.progress.leaves) (refused_split locations start old new before fault unread kept refuses)
+    (subst (λ (j : Job). AreLeavesKept start.nodes j refuses.split new.progress.leaves) kept.job
+    (subst (λ (ns : List Node). AreLeavesKept ns old.job refuses.split new.progress.leaves) kept.nodes leaves))
+
+stop_leaves : (locations : List SegmentLocation) (start old new : ScanData) (before : SourceState) (error : AdaptorError) → IsUnread start → KeptSoFar locations start before old → StopCause locations error old new → IfSome (row_fault (scan_error error)) (LeavesRead start new)
+stop_leaves locations start old new before (errors.NoLocation segment) unread kept cause = tt
+stop_leaves locations start old new before (errors.Step (step_errors.Unsupported list)) unread kept cause = tt
+stop_leaves locations start old new before (errors.Step (step_errors.BadSegment segment)) unread kept cause = tt
+stop_leaves locations start old new before (errors.Step (step_errors.BadCode take row)) unread kept refuses = leaves_read locations start old new before (step_errors.BadCode take row) unread kept refuses.cause refuses.cause.leaves
+stop_leaves locations start old new before (errors.Step (step_errors.EvalFault row)) unread kept refuses = leaves_read locations start old new before (step_errors.EvalFault row) unread kept refuses.cause refuses.cause.leaves
+stop_leaves locations start old new before (errors.Step step_errors.Memory) unread kept cause = tt
+stop_leaves locations start old new before errors.NotOutstanding unread kept cause = tt
+stop_leaves locations start old new before errors.Memory unread kept cause = tt
+
 pub run_stops : (locations : List SegmentLocation) (limit : ℕ) (start : ScanData) (before : SourceState) (adaptor next : AdaptorData) (output : Option ColumnData) (state : SessionState) (error : AdaptorError) →
     Running locations start before adaptor output state → Stops locations error adaptor next → RunGives locations limit start (Err (scan_error error)) next.scan before state.source
 run_stops locations limit start before adaptor next output state error run stops =
@@ -313,5 +332,6 @@ run_stops locations limit start before adaptor next output state error run stops
     gives_with locations limit start next.scan before state.source (scan_error error) kept
     (stop_cause locations limit start adaptor.scan next.scan before state.source error run.unread run.scan kept stops.cause)
     (stop_left locations start adaptor.scan next.scan before error run.unread run.scan.kept stops.cause)
+    (stop_leaves locations start adaptor.scan next.scan before error run.unread run.scan.kept stops.cause)
     (asks_so_far locations start before adaptor output state state.source run refl)
     (record { file = run.file; faults = let p = run.faults in omega (arith, p); idle = run.idle }) (inl run.faults)

@@ -5,7 +5,6 @@ use Rattle.std.specs.declared.ops.Range.{Range}
 use Rattle.std.specs.List.{AllByRecursion}
 use Rattle.std.proofs.lemmas.Bool.{cases_lt}
 use Rattle.vx_base.specs.declared.locations.SegmentLocation.{SegmentLocation}
-use Rattle.vx_claims.specs.Limits.{most_chunks}
 use Rattle.vx_expr.specs.Mentions.{uses_row_number}
 use Rattle.vx_io.specs.Ranges.{IsTableOf}
 use Rattle.vx_layout.specs.declared.rules.ShapeRule.TheVariants.{FewRows}
@@ -22,7 +21,7 @@ use Rattle.vx_steps.specs.Held.{FitsOffset}
 use Rattle.vx_scan.specs.declared.files.ScanFile.{ScanFile}
 use Rattle.vx_scan.specs.declared.plans.ScanPlans.{ScanPlans}
 use Rattle.vx_scan.specs.declared.settings.Settings.{Settings}
-use Rattle.vx_scan.specs.Answer.{FileScan, row_count, scan_pieces}
+use Rattle.vx_scan.specs.Answer.{FileScan, row_count}
 use Rattle.vx_scan.specs.Beginning.{BeginsOver, Overflows}
 use Rattle.vx_scan.specs.Executes.{CanRun}
 use Rattle.vx_scan.specs.Plans.{projection_node, ArePlans, FollowFrom, IsChunkOf}
@@ -32,6 +31,7 @@ use Rattle.vx_scan.specs.Settings.{scan_by}
 use Rattle.vx_scan.specs.Valid.{HasRows}
 use Rattle.vx_scan.proofs.BeginningRows.{no_pieces, no_rows}
 use Rattle.vx_scan.proofs.FilePreparing.{root_head}
+use Rattle.vx_scan.proofs.ScanAsks.{lie_together}
 
 -- ---- the plans
 
@@ -93,6 +93,7 @@ pub rows_prepared : (file : ScanFile) (settings : Settings) (rows : Range ℕ) (
     → ArePlansOf (scan_by file settings) settings.idle_limit plans → AreChunksOf (scan_by file settings) chunks.items → IsPreparedFor (scan_by file settings) settings.idle_limit settings.ordered (record { plans = plans; chunks = chunks; ordered = settings.ordered })
 rows_prepared file settings rows plans chunks few good begins are of_scan = record {
   plans = are_plans file settings plans few begins.fits are;
+  together = lie_together (scan_by file settings) settings.idle_limit plans are;
   chunks = can_run (scan_by file settings) settings.idle_limit plans are chunks.items of_scan (few_rows file.layout good);
   pieces = of_scan.pieces;
   plan = λ some. are;
@@ -107,6 +108,7 @@ nothing_prepared file settings plans chunks few none empty are =
     let scan : FileScan = scan_by file settings in
     record {
       plans = plans_with file settings plans 0 few are (λ n has below. omega (arith, below));
+      together = lie_together scan settings.idle_limit plans are;
       chunks = rw empty (record { each = tt; ordered = tt; few = omega arith });
       pieces = ap (map chosen_rows) empty ∙ sym (no_pieces scan (no_rows settings.selection settings.range (row_count scan) none));
       plan = λ some. absurd (none some);

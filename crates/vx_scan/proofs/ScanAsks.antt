@@ -26,14 +26,15 @@ use Rattle.vx_scan.specs.Plans.{projection_plan}
 use Rattle.vx_scan.specs.PlanTexts.{held_tree}
 use Rattle.vx_scan.specs.Preparing.{node_of, ArePlansOf, LiesInside, AreChunksOf}
 use Rattle.vx_scan.specs.Reasons.{Reason, read_for, segment_of, chunk_and_segment, IsReasonAmong}
-use Rattle.vx_scan.specs.Scanned.{AreReasonsFor, Gains, GainsOver, IsReasonFor, ReachesRange, ScanReachesBy, way_in}
+use Rattle.vx_scan.specs.Scanned.{AreReasonsFor, Gains, GainsAgain, GainsOver, IsReasonFor, ReachesRange, ScanReachesBy, way_in}
+use Rattle.vx_scan.specs.Settling.{AsksAgain}
 use Rattle.vx_scan.specs.Ways.{ReadsBy}
 use Rattle.vx_scan.specs.Workers.{AsksReached}
 use Rattle.vx_scan.proofs.Answered.{pieces_join}
 use Rattle.vx_scan.proofs.DictionaryReasons.{once_a_dictionary}
 use Rattle.vx_scan.proofs.LeafPlaces.{reads_between, tree_reads}
 use Rattle.vx_scan.proofs.LeafShapes.{one_segment}
-use Rattle.vx_scan.proofs.LentSources.{each_source_by, joined_map}
+use Rattle.vx_scan.proofs.LentSources.{each_source_by, first_by, joined_map}
 use Rattle.vx_scan.proofs.ScanCauses.{inside_at}
 use Rattle.vx_scan.proofs.ScanReads.{in_moved, some_chosen}
 use Rattle.vx_scan.proofs.TakenReads.{read_below}
@@ -55,7 +56,7 @@ any_piece P [] place rows at any = absurd cc
 any_piece P (piece ∷ pieces) zero rows at any = let same : piece ≡ rows = cc in any_left P piece (flat_map (λ one. one) pieces) (subst (AnyOf P) (sym same) any)
 any_piece P (piece ∷ pieces) (suc place) rows at any = any_right P piece (flat_map (λ one. one) pieces) (any_piece P pieces place rows at any)
 
-place_there : (locations : List SegmentLocation) (segment : ℕ) → segment < length locations → slice_get locations segment ≡ Some (location_of locations segment)
+pub place_there : (locations : List SegmentLocation) (segment : ℕ) → segment < length locations → slice_get locations segment ≡ Some (location_of locations segment)
 place_there [] segment below = absurd (omega (arith, below))
 place_there (at ∷ locations) zero below = refl
 place_there (at ∷ locations) (suc segment) below = place_there locations segment (omega (arith, below))
@@ -126,7 +127,7 @@ reason_reaches scan reason range is = record {
   location = is.location;
 }
 
-abbrev ranges_for : ScanPlans → List Reason → List AskedRange
+abbrev pub ranges_for : ScanPlans → List Reason → List AskedRange
 ranges_for plans reasons = map range_of (map (location_of plans.locations.items) (map segment_of reasons))
 
 each_reason : (scan : FileScan) (limit : ℕ) (plans : ScanPlans) → ArePlansOf scan limit plans → (chunks : List SelectedRows) → AreChunksOf scan chunks → (reasons : List Reason) → AllLocated plans.locations.items (map segment_of reasons) → AllByRecursion (IsReasonAmong plans chunks) reasons → AreReasonsFor scan reasons (ranges_for plans reasons)
@@ -143,7 +144,7 @@ each_range scan (reason ∷ reasons) [] are = absurd are
 each_range scan (reason ∷ reasons) (range ∷ ranges) are = (reason_reaches scan reason range are.0, each_range scan reasons ranges are.1)
 
 -- each leaf of the scan's plan stands at one place
-lie_together : (scan : FileScan) (limit : ℕ) (plans : ScanPlans) → ArePlansOf scan limit plans → LeavesLieTogether (projection_plan plans)
+pub lie_together : (scan : FileScan) (limit : ℕ) (plans : ScanPlans) → ArePlansOf scan limit plans → LeavesLieTogether (projection_plan plans)
 lie_together scan limit plans are = record {
   segment = one_segment plans.table are.good (number_of plans.projection) are.known;
   between = reads_between scan.projection (projection_plan plans) are.plan_is;
@@ -159,13 +160,33 @@ gains_of scan limit plans are chunks of_scan numbers reasons before after asks =
       reached = each_range scan reasons (ranges_for plans reasons) for_ranges;
       are_reasons = for_ranges;
       once_a_leaf = asks.once_a_leaf of_scan.ordered (lie_together scan limit plans are);
-      once_a_dictionary = once_a_dictionary scan are.apart reasons (ranges_for plans reasons) for_ranges (asks.once_a_take of_scan.ordered (lie_together scan limit plans are));
+      once_a_dictionary = once_a_dictionary scan are.apart reasons (ranges_for plans reasons) for_ranges asks.once_a_take;
+    }
+
+-- the first source was asked again for what the scan reaches
+pub gains_again : (scan : FileScan) (limit : ℕ) (plans : ScanPlans) → ArePlansOf scan limit plans → (chunks : List SelectedRows) → AreChunksOf scan chunks → (reruns : List ℕ) (before after : SourceState) → AsksAgain plans chunks reruns before after → GainsAgain scan reruns before after
+gains_again scan limit plans are chunks of_scan reruns before after asks =
+    let for_ranges : AreReasonsFor scan asks.reasons (ranges_for plans asks.reasons) = each_reason scan limit plans are chunks of_scan asks.reasons asks.located asks.are in
+    record {
+      reasons = asks.reasons;
+      ranges = ranges_for plans asks.reasons;
+      gained = asks.asked;
+      reached = each_range scan asks.reasons (ranges_for plans asks.reasons) for_ranges;
+      are_reasons = for_ranges;
+      direct = asks.direct;
+      once_a_chunk = asks.once_a_chunk;
+      once_a_dictionary = once_a_dictionary scan are.apart asks.reasons (ranges_for plans asks.reasons) for_ranges asks.once_a_take;
     }
 
 pub gains_over : (scan : FileScan) (limit : ℕ) (plans : ScanPlans) → ArePlansOf scan limit plans → (chunks : List SelectedRows) → AreChunksOf scan chunks → (befores afters : List SourceState) → AsksOver plans chunks befores afters → GainsOver scan befores afters
 gains_over scan limit plans are chunks of_scan befores afters asks = record {
   reasons = map reasons_in asks.shares;
+  middles = asks.middles;
   each = each_source_by reasons_in (λ (share : Share). AsksReached plans chunks share.numbers share.reasons) (Gains scan)
-      (λ share before after reached. gains_of scan limit plans are chunks of_scan share.numbers share.reasons before after reached) asks.shares befores afters asks.each;
+      (λ share before after reached. gains_of scan limit plans are chunks of_scan share.numbers share.reasons before after reached) asks.shares befores asks.middles asks.each;
   once_a_chunk = subst (λ (reasons : List Reason). AreDistinct (map chunk_and_segment reasons)) (sym (joined_map reasons_in asks.shares)) asks.once_a_chunk;
+  reruns = asks.reruns;
+  reruns_once = asks.reruns_once;
+  again = first_by (AsksAgain plans chunks asks.reruns) (GainsAgain scan asks.reruns) (gains_again scan limit plans are chunks of_scan asks.reruns) asks.middles afters asks.again;
+  alone = asks.alone;
 }

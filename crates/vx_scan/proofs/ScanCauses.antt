@@ -28,14 +28,15 @@ use Rattle.vx_steps.proofs.VisitedReads.{none_served}
 use Rattle.vx_scan.specs.declared.errors.ScanError.{ScanError}
 use Rattle.vx_scan.specs.declared.errors.ScanError.TheVariants.{BadProjection, OffsetOverflow, OutOfRange, Unsupported, NoLocation, ReadFault, Stalled, BadSegment, BadCode, EvalFault, Memory}
 use Rattle.vx_scan.specs.declared.plans.ScanPlans.{ScanPlans}
-use Rattle.vx_scan.specs.Answer.{FileScan, row_count, scan_pieces, IsAnswer, ArePieces}
+use Rattle.vx_scan.specs.Answer.{FileScan, row_count, IsAnswer, ArePieces}
 use Rattle.vx_scan.specs.Batches.{AreBatches, HasPiece}
 use Rattle.vx_scan.specs.Causes.{ScanFinds, ScanReaches, ReadsTorn, ReadsBadCode, IsFaultAt, FaultsAt}
 use Rattle.vx_scan.specs.ChunkRows.{given_to, ChunkFinds, ChunkReaches, IsPiece}
-use Rattle.vx_scan.specs.Outcomes.{told_by, Causes}
+use Rattle.vx_scan.specs.Lent.{AllTell}
+use Rattle.vx_scan.specs.Outcomes.{told_by, told_by_all, Causes}
 use Rattle.vx_scan.specs.Plans.{bytes_of, projection_plan}
-use Rattle.vx_scan.specs.Preparing.{node_of, ArePlansOf, LiesInside, AreChunksOf}
-use Rattle.vx_scan.specs.Scanned.{CausedBy, HasAnswer}
+use Rattle.vx_scan.specs.Preparing.{node_of, ArePlansOf, LiesInside}
+use Rattle.vx_scan.specs.Scanned.{CausedBy, CausedByAll, CausedIn, HasAnswer}
 use Rattle.vx_scan.proofs.ScanReads.{chunk_rows, some_chosen, chunk_finds, in_moved, torn_moved, row_moved, code_moved}
 
 -- ---- nothing is given
@@ -134,28 +135,37 @@ faults_among leaves p at [] any = absurd any
 faults_among leaves p at (row ∷ rows) (inl here) = (inl here.0, subst (IsFaultAt leaves p) here.0 here.1)
 faults_among leaves p at (row ∷ rows) (inr later) = let rest = faults_among leaves p at rows later in (inr rest.0, rest.1)
 
-pub cause_of : (scan : FileScan) (limit : ℕ) (plans : ScanPlans) → ArePlansOf scan limit plans → (chunk : SelectedRows) → LiesInside (row_count scan) chunk → (error : ScanError) (before after : SourceState) → Causes (told_by plans before) plans [] chunk error before after → CausedBy scan limit (chosen_rows chunk) error before after
-cause_of scan limit plans are chunk inside BadProjection before after cause = cause
-cause_of scan limit plans are chunk inside OffsetOverflow before after cause = cause
-cause_of scan limit plans are chunk inside OutOfRange before after cause = cause
-cause_of scan limit plans are chunk inside (Unsupported list) before after cause =
+-- by any files of which it is told
+cause_in : (T : List ℕ → Type 0) (scan : FileScan) (limit : ℕ) (plans : ScanPlans) → ArePlansOf scan limit plans → (chunk : SelectedRows) → LiesInside (row_count scan) chunk → (error : ScanError) (before after : SourceState)
+    → Causes (λ P. (file : List ℕ) → T file → P (bytes_of plans file)) plans [] chunk error before after → CausedIn (λ P. (file : List ℕ) → T file → P file) scan limit (chosen_rows chunk) error before after
+cause_in T scan limit plans are chunk inside BadProjection before after cause = cause
+cause_in T scan limit plans are chunk inside OffsetOverflow before after cause = cause
+cause_in T scan limit plans are chunk inside OutOfRange before after cause = cause
+cause_in T scan limit plans are chunk inside (Unsupported list) before after cause =
     finds_of scan limit plans are (IsRowOf (number_of list)) (IsRowOf (node_of scan.projection (number_of list))) (row_moved (node_of scan.projection) (number_of list)) chunk inside cause
-cause_of scan limit plans are chunk inside (NoLocation segment) before after cause =
+cause_in T scan limit plans are chunk inside (NoLocation segment) before after cause =
     let count : length plans.locations.items ≡ length scan.locations = ap length are.locations in
     (reaches_of scan limit plans are chunk inside segment cause.0, λ below. let lacks = cause.1 in omega (arith, count, below, lacks))
-cause_of scan limit plans are chunk inside ReadFault before after cause = cause
-cause_of scan limit plans are chunk inside Stalled before after cause = subst (λ (n : ℕ). RoseBy n before.idle after.idle) are.limit_is cause
-cause_of scan limit plans are chunk inside (BadSegment segment) before after cause = λ file told.
+cause_in T scan limit plans are chunk inside ReadFault before after cause = cause
+cause_in T scan limit plans are chunk inside Stalled before after cause = subst (λ (n : ℕ). RoseBy n before.idle after.idle) are.limit_is cause
+cause_in T scan limit plans are chunk inside (BadSegment segment) before after cause = λ file told.
     subst (λ (bytes : Bytes). ReadsTorn bytes scan.projection (chosen_rows chunk) segment) (same_bytes scan limit plans are file)
     (finds_of scan limit plans are (IsTornIn (bytes_of plans file) segment) (IsTornIn (bytes_of plans file) segment) (torn_moved (node_of scan.projection) (bytes_of plans file) segment) chunk inside (cause file told))
-cause_of scan limit plans are chunk inside (BadCode code_take row) before after cause = λ file told.
+cause_in T scan limit plans are chunk inside (BadCode code_take row) before after cause = λ file told.
     subst (λ (bytes : Bytes). ReadsBadCode (leaves_of bytes) scan.projection (chosen_rows chunk) (node_of scan.projection (number_of code_take)) row) (same_bytes scan limit plans are file)
     (finds_of scan limit plans are (IsBadCodeAt (leaves_of (bytes_of plans file)) (number_of code_take) row) (IsBadCodeAt (leaves_of (bytes_of plans file)) (node_of scan.projection (number_of code_take)) row) (code_moved (node_of scan.projection) (leaves_of (bytes_of plans file)) (number_of code_take) row) chunk inside (cause file told))
-cause_of scan limit plans are chunk inside (EvalFault at) before after cause = λ file told.
+cause_in T scan limit plans are chunk inside (EvalFault at) before after cause = λ file told.
     let leaves : Leaves = leaves_of (bytes_of plans file) in
     let some : AnyOf (λ row. (row ≡ at) × IsFaultAt leaves scan.projection row) (chosen_rows chunk) =
     some_chosen (λ row. (row ≡ at) × IsFaultAt leaves scan.projection row) (row_count scan) chunk inside
     (some_mapped (Visits (HasEvalFault leaves plans.row_offset at) (given_to plans []) (projection_plan plans)) (λ row. (row ≡ at) × IsFaultAt leaves scan.projection row) (fault_row scan limit plans are leaves (give_fitting (bytes_of plans file)) at) chunk.scope.rows.start chunk.mask (cause file told)) in
     subst (λ (bytes : Bytes). FaultsAt (leaves_of bytes) scan.projection (chosen_rows chunk) at) (same_bytes scan limit plans are file)
     (faults_among leaves scan.projection at (chosen_rows chunk) some)
-cause_of scan limit plans are chunk inside Memory before after cause = tt
+cause_in T scan limit plans are chunk inside Memory before after cause = tt
+
+pub cause_of : (scan : FileScan) (limit : ℕ) (plans : ScanPlans) → ArePlansOf scan limit plans → (chunk : SelectedRows) → LiesInside (row_count scan) chunk → (error : ScanError) (before after : SourceState) → Causes (told_by plans before) plans [] chunk error before after → CausedBy scan limit (chosen_rows chunk) error before after
+cause_of scan limit plans are chunk inside error before after cause = cause_in (λ file. before.file ≡ Some file) scan limit plans are chunk inside error before after cause
+
+pub cause_of_all : (scan : FileScan) (limit : ℕ) (plans : ScanPlans) → ArePlansOf scan limit plans → (chunk : SelectedRows) → LiesInside (row_count scan) chunk → (error : ScanError) (sources : List SourceState) (before after : SourceState) → Causes (told_by_all plans sources) plans [] chunk error before after
+    → CausedByAll scan limit (chosen_rows chunk) error sources before after
+cause_of_all scan limit plans are chunk inside error sources before after cause = cause_in (λ file. AllTell file sources) scan limit plans are chunk inside error before after cause

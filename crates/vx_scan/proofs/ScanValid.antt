@@ -1,5 +1,5 @@
 -- A valid scan has no cause to fail.
-use Rattle.std.proofs.Common.{◌≡◌, ℕ, zero, suc, ◌+◌, ◌<◌, inl, inr, List, [], ◌∷◌, ◌++◌, Option, Some, None, length, refl, sym, ap, ◌∙◌, subst, arith}
+use Rattle.std.proofs.Common.{◌≡◌, ℕ, zero, suc, ◌+◌, ◌<◌, ◌≤◌, ◌⊎◌, inl, inr, List, [], ◌∷◌, ◌++◌, Option, Some, None, length, refl, sym, ap, ◌∙◌, subst, arith}
 use Rattle.std.specs.Prelude.{IfSome, IsSome, IsSomeAnd, option_and_then}
 use Rattle.std.specs.List.{slice_get, flat_map, AllByRecursion}
 use Rattle.vx_base.specs.Data.{Datum}
@@ -7,6 +7,7 @@ use Rattle.vx_base.specs.Reading.{decoded}
 use Rattle.vx_base.specs.Sources.{SourceState, bytes_at}
 use Rattle.vx_base.specs.declared.locations.SegmentLocation.{SegmentLocation}
 use Rattle.vx_expr.specs.Meaning.{meaning}
+use Rattle.vx_claims.specs.Apart.{times_over}
 use Rattle.vx_layout.specs.Rows.{file_leaves, segment_bytes}
 use Rattle.vx_layout.specs.Trees.{head_of}
 use Rattle.vx_lower.specs.Projected.{Projection, root_value, projected_at, scan_reads}
@@ -19,15 +20,17 @@ use Rattle.vx_steps.specs.ScanLaws.{IsTornIn}
 use Rattle.vx_scan.specs.declared.errors.ScanError.{ScanError}
 use Rattle.vx_scan.specs.declared.errors.ScanError.TheVariants.{BadProjection, OffsetOverflow, OutOfRange, Unsupported, NoLocation, ReadFault, Stalled, BadSegment, BadCode, EvalFault, Memory}
 use Rattle.vx_scan.specs.Answer.{FileScan, scan_rows, scan_pieces, size_of}
+use Rattle.vx_scan.specs.Asks.{Lasts}
 use Rattle.vx_scan.specs.Beginning.{Refuses}
-use Rattle.vx_scan.specs.Causes.{ScanFinds, IsFaultAt}
-use Rattle.vx_scan.specs.Lent.{EachSource, AllTell}
-use Rattle.vx_scan.specs.Plans.{IsQuiet}
+use Rattle.vx_scan.specs.Causes.{ScanFinds, ReadsTorn, ReadsBadCode, IsFaultAt, FaultsAt}
+use Rattle.vx_scan.specs.Lent.{EachSource, EachSourceBy, FirstSource, SomeSourceBy, AllTell, WhereAllTell}
+use Rattle.vx_scan.specs.Plans.{WhereTold, IsQuiet}
 use Rattle.vx_scan.specs.Preparing.{node_of}
-use Rattle.vx_scan.specs.Scanned.{CausedBy, FailsPiece, LowestCause}
+use Rattle.vx_scan.specs.Scanned.{CausedIn, FailsPiece, FailsPieceAgain, FileClaims, LowestCause, RunsAgain, RunsPieces}
 use Rattle.vx_scan.specs.Valid.{IsValidScan}
 use Rattle.vx_scan.proofs.Answered.{pieces_join}
-use Rattle.vx_scan.proofs.LentSources.{by_one_source, some_without}
+use Rattle.vx_scan.proofs.Lasting.{rose_from, rose_on}
+use Rattle.vx_scan.proofs.LentSources.{each_lasts, first_there, none_by}
 
 -- ---- no read of it is amiss
 
@@ -119,36 +122,94 @@ of_piece P scan place rows at each = all_in_piece P (scan_pieces scan) place row
 
 -- ---- no cause but want of memory
 
-only_memory : (scan : FileScan) (limit : ℕ) (file : List ℕ) (before after : SourceState) → before.file ≡ Some file → IsQuiet limit before after → (rows : List ℕ)
+only_memory : (Told : FileClaims) (file : List ℕ) → ((P : List ℕ → Type 0) → Told P → P file) → (scan : FileScan) (limit : ℕ) (before after : SourceState) → IsQuiet limit before after → (rows : List ℕ)
     → AllByRecursion (λ row. FindsOnly (IsFine (file_leaves file scan.locations)) (scan_reads scan.projection row)) rows → AllByRecursion (λ row. IsSome (projected_at (file_leaves file scan.locations) scan.projection row)) rows
-    → (error : ScanError) → CausedBy scan limit rows error before after → error ≡ Memory
-only_memory scan limit file before after told quiet rows fine answered BadProjection cause = absurd cause
-only_memory scan limit file before after told quiet rows fine answered OffsetOverflow cause = absurd cause
-only_memory scan limit file before after told quiet rows fine answered OutOfRange cause = absurd cause
-only_memory scan limit file before after told quiet rows fine answered (Unsupported list) cause =
+    → (error : ScanError) → CausedIn Told scan limit rows error before after → error ≡ Memory
+only_memory Told file tells scan limit before after quiet rows fine answered BadProjection cause = absurd cause
+only_memory Told file tells scan limit before after quiet rows fine answered OffsetOverflow cause = absurd cause
+only_memory Told file tells scan limit before after quiet rows fine answered OutOfRange cause = absurd cause
+only_memory Told file tells scan limit before after quiet rows fine answered (Unsupported list) cause =
     absurd (rows_fine (file_leaves file scan.locations) scan.projection (IsRowOf (node_of scan.projection (number_of list))) (row_amiss (file_leaves file scan.locations) (node_of scan.projection (number_of list))) rows fine cause)
-only_memory scan limit file before after told quiet rows fine answered (NoLocation segment) cause =
+only_memory Told file tells scan limit before after quiet rows fine answered (NoLocation segment) cause =
     absurd (rows_fine (file_leaves file scan.locations) scan.projection (IsIn segment) (unplaced_amiss file scan.locations segment cause.1) rows fine cause.0)
-only_memory scan limit file before after told quiet rows fine answered ReadFault cause = absurd (quiet.faults cause)
-only_memory scan limit file before after told quiet rows fine answered Stalled cause = absurd (quiet.idle cause)
-only_memory scan limit file before after told quiet rows fine answered (BadSegment segment) cause =
-    absurd (rows_fine (file_leaves file scan.locations) scan.projection (IsTornIn (segment_bytes file scan.locations) segment) (torn_amiss (segment_bytes file scan.locations) segment) rows fine (cause file told))
-only_memory scan limit file before after told quiet rows fine answered (BadCode code_take row) cause =
-    absurd (rows_fine (file_leaves file scan.locations) scan.projection (IsBadCodeAt (file_leaves file scan.locations) (node_of scan.projection (number_of code_take)) row) (code_amiss (file_leaves file scan.locations) (node_of scan.projection (number_of code_take)) row) rows fine (cause file told))
-only_memory scan limit file before after told quiet rows fine answered (EvalFault at) cause =
-    let fault = cause file told in
+only_memory Told file tells scan limit before after quiet rows fine answered ReadFault cause = absurd (quiet.faults cause)
+only_memory Told file tells scan limit before after quiet rows fine answered Stalled cause = absurd (quiet.idle cause)
+only_memory Told file tells scan limit before after quiet rows fine answered (BadSegment segment) cause =
+    absurd (rows_fine (file_leaves file scan.locations) scan.projection (IsTornIn (segment_bytes file scan.locations) segment) (torn_amiss (segment_bytes file scan.locations) segment) rows fine
+    (tells (λ one. ReadsTorn (segment_bytes one scan.locations) scan.projection rows segment) cause))
+only_memory Told file tells scan limit before after quiet rows fine answered (BadCode code_take row) cause =
+    absurd (rows_fine (file_leaves file scan.locations) scan.projection (IsBadCodeAt (file_leaves file scan.locations) (node_of scan.projection (number_of code_take)) row) (code_amiss (file_leaves file scan.locations) (node_of scan.projection (number_of code_take)) row) rows fine
+    (tells (λ one. ReadsBadCode (file_leaves one scan.locations) scan.projection rows (node_of scan.projection (number_of code_take)) row) cause))
+only_memory Told file tells scan limit before after quiet rows fine answered (EvalFault at) cause =
+    let fault : FaultsAt (file_leaves file scan.locations) scan.projection rows at = tells (λ one. FaultsAt (file_leaves one scan.locations) scan.projection rows at) cause in
     absurd (answered_at (file_leaves file scan.locations) scan.projection at rows answered fault.0 fault.1)
-only_memory scan limit file before after told quiet rows fine answered Memory cause = refl
+only_memory Told file tells scan limit before after quiet rows fine answered Memory cause = refl
+
+-- ---- what is quiet over two runs is quiet over each
+
+quiet_front : (limit : ℕ) (before now after : SourceState) → Lasts now after → IsQuiet limit before after → IsQuiet limit before now
+quiet_front limit before now after lasts quiet = record { faults = λ rose. quiet.faults (rose_on 1 before.faults now.faults after.faults rose lasts.faults); idle = λ rose. quiet.idle (rose_on limit before.idle now.idle after.idle rose lasts.idle) }
+
+quiet_back : (limit : ℕ) (before now after : SourceState) → Lasts before now → IsQuiet limit before after → IsQuiet limit now after
+quiet_back limit before now after lasts quiet = record { faults = λ rose. quiet.faults (rose_from 1 before.faults now.faults after.faults lasts.faults rose); idle = λ rose. quiet.idle (rose_from limit before.idle now.idle after.idle lasts.idle rose) }
+
+-- the first source went on, and the others are as they were
+all_last : (scan : FileScan) (reruns : List ℕ) (error : ScanError) (middles afters : List SourceState) → FirstSource (RunsAgain scan reruns error) middles afters → EachSource Lasts middles afters
+all_last scan reruns error [] [] first = tt
+all_last scan reruns error [] (after ∷ afters) first = absurd first
+all_last scan reruns error (now ∷ middles) [] first = absurd first
+all_last scan reruns error (now ∷ middles) (after ∷ afters) first = (first.0.lasts, subst (EachSource Lasts middles) (sym first.1) (each_lasts middles))
+
+-- ---- the piece that failed
+
+module _ (scan : FileScan) (limit place : ℕ) (rows : List ℕ) (error : ScanError) (file : List ℕ) (fine : AllByRecursion (λ row. FindsOnly (IsFine (file_leaves file scan.locations)) (scan_reads scan.projection row)) rows)
+    (answered : AllByRecursion (λ row. IsSome (projected_at (file_leaves file scan.locations) scan.projection row)) rows) where
+  -- at the last of a worker
+  last_memory : (claims : List (List ℕ)) (befores middles afters : List SourceState) → SomeSourceBy (FailsPiece scan limit place rows error) claims befores middles → EachSource Lasts middles afters → AllTell file befores → EachSource (IsQuiet limit) befores afters → error ≡ Memory
+  last_memory [] befores middles afters fails last told quiet = absurd fails
+  last_memory (numbers ∷ claims) [] middles afters fails last told quiet = absurd fails
+  last_memory (numbers ∷ claims) (before ∷ befores) [] afters fails last told quiet = absurd fails
+  last_memory (numbers ∷ claims) (before ∷ befores) (now ∷ middles) [] fails last told quiet = absurd last
+  last_memory (numbers ∷ claims) (before ∷ befores) (now ∷ middles) (after ∷ afters) (inl fails) last told quiet =
+      only_memory (WhereTold before) file (λ P all. all file told.0) scan limit before now (quiet_front limit before now after last.0 quiet.0) rows fine answered error fails.cause
+  last_memory (numbers ∷ claims) (before ∷ befores) (now ∷ middles) (after ∷ afters) (inr fails) last told quiet = last_memory claims befores middles afters fails last.1 told.1 quiet.1
+
+  -- on the first source, once all workers were done
+  again_memory : (sources : List SourceState) → AllTell file sources → (claims : List (List ℕ)) (befores middles afters : List SourceState) → 1 ≤ times_over place claims → EachSourceBy (RunsPieces scan) claims befores middles
+      → FirstSource (FailsPieceAgain scan limit rows error sources) middles afters → EachSource (IsQuiet limit) befores afters → error ≡ Memory
+  again_memory sources told [] befores middles afters claimed ran fails quiet = absurd (omega (arith, claimed))
+  again_memory sources told (numbers ∷ claims) [] middles afters claimed ran fails quiet = absurd ran
+  again_memory sources told (numbers ∷ claims) (before ∷ befores) [] afters claimed ran fails quiet = absurd ran
+  again_memory sources told (numbers ∷ claims) (before ∷ befores) (now ∷ middles) [] claimed ran fails quiet = absurd fails
+  again_memory sources told (numbers ∷ claims) (before ∷ befores) (now ∷ middles) (after ∷ afters) claimed ran fails quiet =
+      only_memory (WhereAllTell sources) file (λ P all. all file told) scan limit now after (quiet_back limit before now after ran.0.lasts quiet.0) rows fine answered error fails.0.cause
 
 pub valid_memory : (scan : FileScan) (limit : ℕ) (error : ScanError) (befores afters : List SourceState) → LowestCause scan limit error befores afters → (file : List ℕ) → AllTell file befores → IsValidScan (file_leaves file scan.locations) scan → EachSource (IsQuiet limit) befores afters → error ≡ Memory
-valid_memory scan limit error befores afters lowest file told valid quiet =
-    by_one_source (CausedBy scan limit lowest.rows error) (IsQuiet limit) (error ≡ Memory) file
-    (λ before after cause tells is_quiet.
-    only_memory scan limit file before after tells is_quiet lowest.rows
-    (of_piece (λ row. FindsOnly (IsFine (file_leaves file scan.locations)) (scan_reads scan.projection row)) scan lowest.place lowest.rows lowest.here valid.fine)
-    (of_piece (λ row. IsSome (projected_at (file_leaves file scan.locations) scan.projection row)) scan lowest.place lowest.rows lowest.here valid.answered)
-    error cause)
-    befores afters (some_without (FailsPiece scan limit lowest.place lowest.rows error) (CausedBy scan limit lowest.rows error) (λ numbers before after fails. fails.cause) lowest.claims befores afters lowest.cause) told quiet
+valid_memory scan limit error befores afters lowest file told valid quiet = by_cause lowest.cause
+  where
+    fine : AllByRecursion (λ row. FindsOnly (IsFine (file_leaves file scan.locations)) (scan_reads scan.projection row)) lowest.rows
+    fine = of_piece (λ row. FindsOnly (IsFine (file_leaves file scan.locations)) (scan_reads scan.projection row)) scan lowest.place lowest.rows lowest.here valid.fine
+
+    answered : AllByRecursion (λ row. IsSome (projected_at (file_leaves file scan.locations) scan.projection row)) lowest.rows
+    answered = of_piece (λ row. IsSome (projected_at (file_leaves file scan.locations) scan.projection row)) scan lowest.place lowest.rows lowest.here valid.answered
+
+    by_cause : SomeSourceBy (FailsPiece scan limit lowest.place lowest.rows error) lowest.claims befores lowest.middles
+        ⊎ ((1 < length befores) × (1 ≤ times_over lowest.place lowest.claims) × FirstSource (FailsPieceAgain scan limit lowest.rows error befores) lowest.middles afters)
+        → error ≡ Memory
+    by_cause (inl fails) = last_memory scan limit lowest.place lowest.rows error file fine answered lowest.claims befores lowest.middles afters fails (all_last scan lowest.reruns error lowest.middles afters lowest.again) told quiet
+    by_cause (inr fails) = again_memory scan limit lowest.place lowest.rows error file fine answered befores told lowest.claims befores lowest.middles afters fails.1 lowest.ran fails.2 quiet
+
+-- what is no cause is none of the lowest piece
+pub no_lowest : (scan : FileScan) (limit : ℕ) (error : ScanError) (befores afters : List SourceState) → ((Told : FileClaims) (rows : List ℕ) (before after : SourceState) → CausedIn Told scan limit rows error before after → ⊥) → LowestCause scan limit error befores afters → ⊥
+no_lowest scan limit error befores afters never lowest = by_cause lowest.cause
+  where
+    by_cause : SomeSourceBy (FailsPiece scan limit lowest.place lowest.rows error) lowest.claims befores lowest.middles
+        ⊎ ((1 < length befores) × (1 ≤ times_over lowest.place lowest.claims) × FirstSource (FailsPieceAgain scan limit lowest.rows error befores) lowest.middles afters)
+        → ⊥
+    by_cause (inl fails) = none_by (FailsPiece scan limit lowest.place lowest.rows error) (λ numbers before after fails. never (WhereTold before) lowest.rows before after fails.cause) lowest.claims befores lowest.middles fails
+    by_cause (inr fails) =
+        let first = first_there (RunsPieces scan) (FailsPieceAgain scan limit lowest.rows error befores) lowest.place lowest.claims befores lowest.middles afters fails.1 lowest.ran fails.2 in
+        never (WhereAllTell befores) lowest.rows first.0 first.1 first.2.cause
 
 -- ---- it is not refused
 

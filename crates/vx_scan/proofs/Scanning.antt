@@ -1,5 +1,5 @@
 -- From the batches of chunks to the answer of the scan.
-use Rattle.std.proofs.Common.{◌≡◌, ℕ, Bool, ◌⊎◌, inl, inr, List, [], ◌∷◌, Result, Ok, Err, Vec, Global, length, map, refl, sym, ap, ◌∙◌, subst}
+use Rattle.std.proofs.Common.{◌≡◌, ◌≢◌, ℕ, Bool, ◌⊎◌, inl, inr, List, [], ◌∷◌, Result, Ok, Err, Vec, Global, length, map, refl, sym, ap, ◌∙◌, subst, arith}
 use Rattle.std.specs.Result.{IsErrAnd}
 use Rattle.std.specs.List.{AllByRecursion}
 use Rattle.std.proofs.lemmas.List.{length-map}
@@ -31,12 +31,12 @@ use Rattle.vx_scan.specs.Plans.{bytes_of, projection_node, IsQuiet}
 use Rattle.vx_scan.specs.Prepared.{IsPreparedFor}
 use Rattle.vx_scan.specs.Preparing.{ArePlansOf, AreChunksOf, LiesInside}
 use Rattle.vx_scan.specs.Reasons.{Reason, chunk_and_segment}
-use Rattle.vx_scan.specs.Scanned.{Gains, GainsOver, LowestCause, AnswersScan}
+use Rattle.vx_scan.specs.Scanned.{Gains, GainsAgain, GainsOver, LowestCause, AnswersScan}
 use Rattle.vx_scan.specs.Valid.{HasRows, IsValidScan}
 use Rattle.vx_scan.proofs.BeginningRows.{no_pieces}
 use Rattle.vx_scan.proofs.Distinct.{distinct_none}
-use Rattle.vx_scan.proofs.GivenBatches.{gives_batches}
-use Rattle.vx_scan.proofs.LentSources.{each_clear, each_lasts, each_same, each_same_by, for_each, joined_none}
+use Rattle.vx_scan.proofs.GivenBatches.{gives_batches, is_memory}
+use Rattle.vx_scan.proofs.LentSources.{each_clear, each_lasts, each_same, each_same_by, first_same, for_each, joined_none}
 use Rattle.vx_scan.proofs.LowestCauses.{lowest_of}
 use Rattle.vx_scan.proofs.Sessions.{asked_nothing}
 use Rattle.vx_scan.proofs.ScanAsks.{gains_over}
@@ -61,7 +61,11 @@ chosen_counts count (chunk ∷ chunks) inside =
 
 lowest_or : (scan : FileScan) (limit : ℕ) (plans : ScanPlans) → ArePlansOf scan limit plans → (chunks : List SelectedRows) → AreChunksOf scan chunks → (error : ScanError) (befores afters : List SourceState) → (error ≡ Memory) ⊎ LowestFailure plans chunks error befores afters → (error ≡ Memory) ⊎ (Refuses scan error ⊎ LowestCause scan limit error befores afters)
 lowest_or scan limit plans are chunks of_scan error befores afters (inl memory) = inl memory
-lowest_or scan limit plans are chunks of_scan error befores afters (inr lowest) = inr (inr (lowest_of scan limit plans are chunks of_scan error befores afters lowest))
+lowest_or scan limit plans are chunks of_scan error befores afters (inr lowest) = by_memory (is_memory error)
+  where
+    by_memory : (error ≡ Memory) ⊎ (error ≢ Memory) → (error ≡ Memory) ⊎ (Refuses scan error ⊎ LowestCause scan limit error befores afters)
+    by_memory (inl memory) = inl memory
+    by_memory (inr other) = inr (inr (lowest_of scan limit plans are chunks of_scan error other befores afters lowest))
 
 memory_or : (scan : FileScan) (limit : ℕ) (error : ScanError) (befores afters : List SourceState) → (error ≡ Memory) ⊎ (Refuses scan error ⊎ LowestCause scan limit error befores afters) → (file : List ℕ) → AllTell file befores → IsValidScan (file_leaves file scan.locations) scan → EachSource (IsQuiet limit) befores afters → error ≡ Memory
 memory_or scan limit error befores afters (inl memory) file told valid quiet = memory
@@ -117,11 +121,28 @@ gains_none scan source = record {
   once_a_dictionary = distinct_none;
 }
 
+none_again : (scan : FileScan) (source : SourceState) → GainsAgain scan [] source source
+none_again scan source = record {
+  reasons = [];
+  ranges = [];
+  gained = sym (asked_nothing source.asked);
+  reached = tt;
+  are_reasons = tt;
+  direct = tt;
+  once_a_chunk = distinct_none;
+  once_a_dictionary = distinct_none;
+}
+
 pub none_gain : (scan : FileScan) (sources : List SourceState) → GainsOver scan sources sources
 none_gain scan sources = record {
   reasons = for_each [] sources;
+  middles = sources;
   each = each_same_by (Gains scan) [] (gains_none scan) sources;
   once_a_chunk = subst (λ (reasons : List Reason). AreDistinct (map chunk_and_segment reasons)) (sym (joined_none (λ (own : List Reason). own) [] refl sources)) distinct_none;
+  reruns = [];
+  reruns_once = λ x. omega arith;
+  again = first_same (GainsAgain scan []) (none_again scan) sources;
+  alone = λ one. (refl, refl);
 }
 
 pub memory_answers : (scan : FileScan) (limit : ℕ) (error : ScanError) (sources : List SourceState) → error ≡ Memory → AnswersScan scan limit (Err error) sources sources

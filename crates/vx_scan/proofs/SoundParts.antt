@@ -1,5 +1,5 @@
 -- No expression by which a row of a lowered tree is derived is a fault: only the kept fields of structs are packed.
-use Rattle.std.proofs.Common.{◌≡◌, ℕ, ◌-◌, ltb, inl, inr, Bool, true, false, cond, List, Option, Some, None, refl, sym, ap, ◌∙◌, subst}
+use Rattle.std.proofs.Common.{◌≡◌, ℕ, ◌-◌, ltb, inl, inr, Bool, true, false, cond, List, Option, Some, None, sym, ap, ◌∙◌, subst}
 use Rattle.std.specs.Prelude.{option_and_then, option_map, IsSomeAnd, IsTrue}
 use Rattle.vx_base.specs.declared.dtypes.Nullability.TheVariants.{NonNullable}
 use Rattle.vx_base.specs.Data.{DataType, bool_type, int_type, utf8_type, struct_type, list_type, Members, no_members, member, Datum}
@@ -16,14 +16,14 @@ use Rattle.vx_lower.specs.KeptRows.{kept_pack, kept_value}
 use Rattle.vx_lower.specs.Lowered.{kept_head, lowered, lowered_in, lowered_fields, plan_head_of, plan_zones_of, tell}
 use Rattle.vx_lower.proofs.LoweredRows.{lowered_all, zones_same}
 use Rattle.vx_lower.proofs.LoweredValues.{lowered_kept}
-use Rattle.vx_plan.specs.Plans.{Plan, Plans, pack_plan, plan, take_plan, plan_head}
+use Rattle.vx_plan.specs.Plans.{Plan, Plans, plan, take_plan, plan_head}
 use Rattle.vx_plan.specs.PlanRows.{plan_derivation, plan_derivation_in}
 use Rattle.vx_rows.specs.Derivations.{Derivation, nothing, cell, list_row, given, packed, valid_where, looked_up, worked_out, read_whole, Derivations, no_more, also, Leaves, derived, no_bound}
 use Rattle.vx_rows.specs.Renumbered.{renumbered, each_renumbered}
 use Rattle.vx_rows.specs.Whole.{GiveFitting}
 use Rattle.vx_rows.proofs.Renumbering.{same_worth}
 use Rattle.vx_steps.specs.Laws.{HasPart, HavePart, IsFaultyTerm}
-use Rattle.vx_scan.proofs.PlainPlans.{by_row, fields_plain, lowered_plain, plain_sound, validity_plain, IsPlain, ArePlain}
+use Rattle.vx_scan.proofs.PlainPlans.{by_row, lowered_plain, plain_sound, validity_plain, IsPlain, ArePlain}
 
 -- a derivation with a part that is an expression that is a fault
 abbrev pub HasFault : Leaves → Derivation → Type 0

@@ -1,5 +1,5 @@
 -- What a row of a table's plan reads through a take, each row reads that reads anything through it.
-use Rattle.std.proofs.Common.{◌≡◌, ℕ, ◌<◌, List, Some, None, length, refl, sym, ap, ◌∙◌, subst}
+use Rattle.std.proofs.Common.{◌≡◌, ℕ, ◌<◌, List, Some, None, length, sym, ap, ◌∙◌, subst}
 use Rattle.vx_rows.specs.Reads.{through}
 use Rattle.vx_plan.specs.Nodes.{Node}
 use Rattle.vx_plan.specs.Plans.{Head, Plan, no_plan, concat_plan, eval_plan, filter_plan, pack_plan, take_plan, share_plan, list_plan, row_idx_plan, scan_plan, zoned_plan, plan_head, plan_at, plan_gap}
@@ -7,7 +7,7 @@ use Rattle.vx_plan.specs.Tables.{IsGoodTable}
 use Rattle.vx_plan.proofs.Adding.{head_in_table}
 use Rattle.vx_steps.specs.declared.leaf_reads.LeafRead.{LeafRead}
 use Rattle.vx_steps.specs.Given.{Handed, no_given}
-use Rattle.vx_steps.specs.Visits.{SomeWholeVisit, IsLeafRead, Visits}
+use Rattle.vx_steps.specs.Visits.{SomeWholeVisit, IsLeafRead}
 use Rattle.vx_steps.proofs.PlacedVisits.{Implies, InTable, IsPlaced, is_placed, visit_mapped, visit_placed}
 use Rattle.vx_scan.specs.Ways.{IsReadThrough, ReadsBy}
 

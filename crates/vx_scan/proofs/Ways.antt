@@ -1,82 +1,87 @@
--- Each leaf that a row reads it reads by some way; and what is read by a way is read, and found in the plan's own reads
--- come to by that way.
-use Rattle.std.proofs.Common.{◌≡◌, ℕ, zero, suc, ◌+◌, ◌-◌, ◌<◌, inl, inr, Bool, true, false, List, [], ◌∷◌, ◌++◌, Some, None, refl, subst, arith}
+-- Each leaf that a row reads it reads by some way, in place of which nothing is given; and what is read by such a way is
+-- read, and found in the plan's own reads come to by that way.
+use Rattle.std.proofs.Common.{◌≡◌, ℕ, zero, suc, ◌+◌, ◌-◌, ◌<◌, inl, inr, Bool, true, false, List, [], ◌∷◌, ◌++◌, Some, None, refl, ap, ◌∙◌, subst, arith}
 use Rattle.std.specs.Prelude.{nat_lt}
 use Rattle.std.specs.Bool.{MatchBool}
 use Rattle.std.specs.List.{AllByRecursion}
 use Rattle.vx_rows.specs.Derivations.{Derivation, Derivations, packed, each_row}
-use Rattle.vx_rows.specs.Given.{GivenValues, with_given}
-use Rattle.vx_rows.specs.Reads.{Way, directly, through, Found, Read, reads_of, reads_of_each, AnyOf, Finds, FindsBy, IsIn}
+use Rattle.vx_rows.specs.Given.{GivenValues}
+use Rattle.vx_rows.specs.Reads.{Way, directly, through, Read, reads_of, reads_of_each, AnyOf, Finds, FindsBy, IsIn}
 use Rattle.vx_rows.proofs.ReadRows.{any_left, any_right, each_lies_through}
 use Rattle.vx_plan.specs.Plans.{Plan, no_plan, concat_plan, eval_plan, filter_plan, pack_plan, take_plan, share_plan, list_plan, row_idx_plan, scan_plan, zoned_plan, Plans, no_plans, plan, PlanValidity, all_valid, valid_as, plan_head}
 use Rattle.vx_plan.specs.PlanRows.{plan_derivation, plan_derivation_in, plan_derivations, plan_where_valid, plan_reads}
 use Rattle.vx_steps.specs.declared.leaf_reads.LeafRead.{LeafRead}
 use Rattle.vx_steps.specs.Below.{StandsAmong, StandsInValidity, IsSharePlan, HasNoShare}
-use Rattle.vx_steps.specs.Given.{Handed, no_given}
+use Rattle.vx_steps.specs.Given.{no_given}
 use Rattle.vx_steps.specs.Visits.{Test, Visits, VisitsIn, VisitsField, VisitsValidity, IsLeafRead, SomeWholeVisit}
 use Rattle.vx_steps.proofs.VisitedReads.{alone_same, by_test, leaf_found}
-use Rattle.vx_scan.specs.Ways.{IsReadOutside, IsReadThrough, IsReadBy, ReadsBy}
+use Rattle.vx_scan.specs.Ways.{IsReadBy, ReadsBy}
 
 -- ---- the way of a leaf
 
-either_way : (b : Bool) (A B : Type 0) (C D : Way → Type 0) → (A → (way : Way) × C way) → (B → (way : Way) × D way) → MatchBool b A B → (way : Way) × MatchBool b (C way) (D way)
-either_way true A B C D f g v = f v
-either_way false A B C D f g v = g v
+-- nothing that is given stands in place of what is read that way
+abbrev pub IsFree : GivenValues → Way → Type 0
+IsFree given directly = Unit {0}
+IsFree given (through n) = given n ≡ None
+
+either_way : (given : GivenValues) (b : Bool) (A B : Type 0) (C D : Way → Type 0) → (A → (way : Way) × IsFree given way × C way) → (B → (way : Way) × IsFree given way × D way) → MatchBool b A B → (way : Way) × IsFree given way × MatchBool b (C way) (D way)
+either_way given true A B C D f g v = f v
+either_way given false A B C D f g v = g v
 
 mutual
-  pub way_of : (read : LeafRead) (given : GivenValues) (p : Plan) (row : ℕ) → Visits (IsLeafRead read) (Some given) p row → (way : Way) × ReadsBy way read p row
+  pub way_of : (read : LeafRead) (given : GivenValues) (p : Plan) (row : ℕ) → Visits (IsLeafRead read) (Some given) p row → (way : Way) × IsFree given way × ReadsBy way read p row
   way_of read given (no_plan head) row v = absurd v
   way_of read given (concat_plan head children) row (inl v) = absurd v
   way_of read given (concat_plan head children) row (inr v) =
       let one = way_in read given children row v in
-      (one.0, inr one.1)
+      (one.0, one.1, inr one.2)
   way_of read given (eval_plan head e child) row (inl v) = absurd v
   way_of read given (eval_plan head e child) row (inr v) =
       let one = way_of read given child row v in
-      (one.0, inr one.1)
+      (one.0, one.1, inr one.2)
   way_of read given (filter_plan head child) row (inl v) = absurd v
   way_of read given (filter_plan head child) row (inr v) =
       let one = way_of read given child row v in
-      (one.0, inr one.1)
+      (one.0, one.1, inr one.2)
   way_of read given (zoned_plan head zones content table) row (inl v) = absurd v
   way_of read given (zoned_plan head zones content table) row (inr v) =
       let one = way_of read given content row v in
-      (one.0, inr one.1)
+      (one.0, one.1, inr one.2)
   way_of read given (pack_plan head children validity) row (inl v) = absurd v
   way_of read given (pack_plan head children validity) row (inr (inl v)) =
       let one = way_field read given children row v in
-      (one.0, inr (inl one.1))
+      (one.0, one.1, inr (inl one.2))
   way_of read given (pack_plan head children validity) row (inr (inr v)) =
       let one = way_validity read given validity row v in
-      (one.0, inr (inr one.1))
+      (one.0, one.1, inr (inr one.2))
   way_of read given (take_plan head codes values) row (inl v) = absurd v
   way_of read given (take_plan head codes values) row (inr (inl v)) =
       let one = way_of read given codes row v in
-      (one.0, inr (inl one.1))
-  way_of read given (take_plan head codes values) row (inr (inr (none, whole))) = (through head.number, inl (refl, whole))
+      (one.0, one.1, inr (inl one.2))
+  way_of read given (take_plan head codes values) row (inr (inr (none, whole))) = (through head.number, none, inl (refl, whole))
   way_of read given (share_plan head child) row (inl v) = absurd v
-  way_of read given (share_plan head child) row (inr (none, whole)) = (through head.number, inl (refl, whole))
+  way_of read given (share_plan head child) row (inr (none, whole)) = (through head.number, none, inl (refl, whole))
   way_of read given (list_plan head elements offsets validity) row v = absurd v
   way_of read given (row_idx_plan head) row v = absurd v
-  way_of read given (scan_plan head segment) row v = (directly, v)
+  way_of read given (scan_plan head segment) row v = (directly, tt, v)
 
-  way_in : (read : LeafRead) (given : GivenValues) (ps : Plans) (row : ℕ) → VisitsIn (IsLeafRead read) (Some given) ps row → (way : Way) × VisitsIn (IsReadBy way read) (Some no_given) ps row
+  way_in : (read : LeafRead) (given : GivenValues) (ps : Plans) (row : ℕ) → VisitsIn (IsLeafRead read) (Some given) ps row → (way : Way) × IsFree given way × VisitsIn (IsReadBy way read) (Some no_given) ps row
   way_in read given no_plans row v = absurd v
   way_in read given (plan first rest) row v =
-      either_way (nat_lt row (plan_head first).rows) (Visits (IsLeafRead read) (Some given) first row) (VisitsIn (IsLeafRead read) (Some given) rest (row - (plan_head first).rows))
+      either_way given (nat_lt row (plan_head first).rows) (Visits (IsLeafRead read) (Some given) first row) (VisitsIn (IsLeafRead read) (Some given) rest (row - (plan_head first).rows))
       (λ way. ReadsBy way read first row) (λ way. VisitsIn (IsReadBy way read) (Some no_given) rest (row - (plan_head first).rows))
       (way_of read given first row) (way_in read given rest (row - (plan_head first).rows)) v
 
-  way_field : (read : LeafRead) (given : GivenValues) (ps : Plans) (row : ℕ) → VisitsField (IsLeafRead read) (Some given) ps row → (way : Way) × VisitsField (IsReadBy way read) (Some no_given) ps row
+  way_field : (read : LeafRead) (given : GivenValues) (ps : Plans) (row : ℕ) → VisitsField (IsLeafRead read) (Some given) ps row → (way : Way) × IsFree given way × VisitsField (IsReadBy way read) (Some no_given) ps row
   way_field read given no_plans row v = absurd v
   way_field read given (plan first rest) row (inl v) =
       let one = way_of read given first row v in
-      (one.0, inl one.1)
+      (one.0, one.1, inl one.2)
   way_field read given (plan first rest) row (inr v) =
       let one = way_field read given rest row v in
-      (one.0, inr one.1)
+      (one.0, one.1, inr one.2)
 
-  way_validity : (read : LeafRead) (given : GivenValues) (validity : PlanValidity) (row : ℕ) → VisitsValidity (IsLeafRead read) (Some given) validity row → (way : Way) × VisitsValidity (IsReadBy way read) (Some no_given) validity row
+  way_validity : (read : LeafRead) (given : GivenValues) (validity : PlanValidity) (row : ℕ) → VisitsValidity (IsLeafRead read) (Some given) validity row → (way : Way) × IsFree given way × VisitsValidity (IsReadBy way read) (Some no_given) validity row
   way_validity read given all_valid row v = absurd v
   way_validity read given (valid_as validity) row v = way_of read given validity row v
 
@@ -141,7 +146,7 @@ abbrev Opens : Test → Test → GivenValues → Type 0
 Opens P Q given = (p : Plan) (row : ℕ) → P (Some no_given) p row → Visits Q (Some given) p row
 
 mutual
-  opened : (P Q : Test) (given : GivenValues) → Opens P Q given → SeesOutside P → (p : Plan) (row : ℕ) → Visits P (Some no_given) p row → Visits Q (Some given) p row
+  pub opened : (P Q : Test) (given : GivenValues) → Opens P Q given → SeesOutside P → (p : Plan) (row : ℕ) → Visits P (Some no_given) p row → Visits Q (Some given) p row
   opened P Q given own out (no_plan head) row v = own (no_plan head) row v
   opened P Q given own out (concat_plan head children) row (inl v) = own (concat_plan head children) row v
   opened P Q given own out (concat_plan head children) row (inr v) = inr (opened_in P Q given own out children row v)
@@ -178,36 +183,33 @@ mutual
   opened_validity P Q given own out all_valid row v = v
   opened_validity P Q given own out (valid_as validity) row v = opened P Q given own out validity row v
 
-abbrev GivesNone : GivenValues → Type 0
-GivesNone given = (n : ℕ) → given n ≡ None
+own_leaf : (way : Way) (read : LeafRead) (given : GivenValues) → IsFree given way → Opens (IsReadBy way read) (IsLeafRead read) given
+own_leaf directly read given free (no_plan head) row v = absurd v
+own_leaf directly read given free (concat_plan head children) row v = absurd v
+own_leaf directly read given free (eval_plan head e child) row v = absurd v
+own_leaf directly read given free (filter_plan head child) row v = absurd v
+own_leaf directly read given free (pack_plan head children validity) row v = absurd v
+own_leaf directly read given free (take_plan head codes values) row v = absurd v
+own_leaf directly read given free (share_plan head child) row v = absurd v
+own_leaf directly read given free (list_plan head elements offsets validity) row v = absurd v
+own_leaf directly read given free (row_idx_plan head) row v = absurd v
+own_leaf directly read given free (scan_plan head segment) row v = v
+own_leaf directly read given free (zoned_plan head zones content table) row v = absurd v
+own_leaf (through n) read given free (no_plan head) row v = absurd v
+own_leaf (through n) read given free (concat_plan head children) row v = absurd v
+own_leaf (through n) read given free (eval_plan head e child) row v = absurd v
+own_leaf (through n) read given free (filter_plan head child) row v = absurd v
+own_leaf (through n) read given free (pack_plan head children validity) row v = absurd v
+own_leaf (through n) read given free (take_plan head codes values) row v = inr (inr (ap given v.0 ∙ free, v.1))
+own_leaf (through n) read given free (share_plan head child) row v = inr (ap given v.0 ∙ free, v.1)
+own_leaf (through n) read given free (list_plan head elements offsets validity) row v = absurd v
+own_leaf (through n) read given free (row_idx_plan head) row v = absurd v
+own_leaf (through n) read given free (scan_plan head segment) row v = absurd v
+own_leaf (through n) read given free (zoned_plan head zones content table) row v = absurd v
 
-own_leaf : (way : Way) (read : LeafRead) (given : GivenValues) → GivesNone given → Opens (IsReadBy way read) (IsLeafRead read) given
-own_leaf directly read given none (no_plan head) row v = absurd v
-own_leaf directly read given none (concat_plan head children) row v = absurd v
-own_leaf directly read given none (eval_plan head e child) row v = absurd v
-own_leaf directly read given none (filter_plan head child) row v = absurd v
-own_leaf directly read given none (pack_plan head children validity) row v = absurd v
-own_leaf directly read given none (take_plan head codes values) row v = absurd v
-own_leaf directly read given none (share_plan head child) row v = absurd v
-own_leaf directly read given none (list_plan head elements offsets validity) row v = absurd v
-own_leaf directly read given none (row_idx_plan head) row v = absurd v
-own_leaf directly read given none (scan_plan head segment) row v = v
-own_leaf directly read given none (zoned_plan head zones content table) row v = absurd v
-own_leaf (through n) read given none (no_plan head) row v = absurd v
-own_leaf (through n) read given none (concat_plan head children) row v = absurd v
-own_leaf (through n) read given none (eval_plan head e child) row v = absurd v
-own_leaf (through n) read given none (filter_plan head child) row v = absurd v
-own_leaf (through n) read given none (pack_plan head children validity) row v = absurd v
-own_leaf (through n) read given none (take_plan head codes values) row v = inr (inr (none head.number, v.1))
-own_leaf (through n) read given none (share_plan head child) row v = inr (none head.number, v.1)
-own_leaf (through n) read given none (list_plan head elements offsets validity) row v = absurd v
-own_leaf (through n) read given none (row_idx_plan head) row v = absurd v
-own_leaf (through n) read given none (scan_plan head segment) row v = absurd v
-own_leaf (through n) read given none (zoned_plan head zones content table) row v = absurd v
-
--- where nothing is given, what is read by a way is visited
-pub read_visited : (way : Way) (read : LeafRead) (given : GivenValues) → GivesNone given → (p : Plan) (row : ℕ) → ReadsBy way read p row → Visits (IsLeafRead read) (Some given) p row
-read_visited way read given none p row v = opened (IsReadBy way read) (IsLeafRead read) given (own_leaf way read given none) (by_outside way read) p row v
+-- where nothing that is given stands in its place, what is read by a way is visited
+pub read_visited : (way : Way) (read : LeafRead) (given : GivenValues) → IsFree given way → (p : Plan) (row : ℕ) → ReadsBy way read p row → Visits (IsLeafRead read) (Some given) p row
+read_visited way read given free p row v = opened (IsReadBy way read) (IsLeafRead read) given (own_leaf way read given free) (by_outside way read) p row v
 
 -- ---- and is found, come to by that way
 

@@ -1,11 +1,11 @@
 -- What the chunks of a scan, run over all sources, give.
-use Rattle.std.specs.Prelude.{◌≡◌, ℕ, ◌<◌, ◌≤◌, ◌⊎◌, List, [], ◌∷◌, length, map, take, Some, IsSomeAnd, Result, IfOk, IfErr}
+use Rattle.std.specs.Prelude.{◌≡◌, ℕ, ◌<◌, ◌≤◌, nat_lt, Bool, true, ◌⊎◌, List, [], ◌∷◌, length, map, take, Some, IsSomeAnd, Result, IfOk, IfErr}
 use Rattle.std.specs.List.{slice_get, flat_map, AllByRecursion}
 use Rattle.std.specs.Global.{Vec}
 use Rattle.vx_base.specs.Columns.{ColumnData}
 use Rattle.vx_base.specs.Masks.{Ascend, true_count}
 use Rattle.vx_base.specs.Sources.{SourceState}
-use Rattle.vx_claims.specs.Apart.{times_over, AreApart}
+use Rattle.vx_claims.specs.Apart.{times, times_over, AreApart}
 use Rattle.vx_rows.specs.Derivations.{Leaves}
 use Rattle.vx_rows.specs.Reads.{IsAmong}
 use Rattle.vx_rows.specs.SegmentLeaves.{leaves_of}
@@ -16,9 +16,11 @@ use Rattle.vx_scan.specs.declared.plans.ScanPlans.{ScanPlans}
 use Rattle.vx_scan.specs.Asks.{IsLeftClear, KeepsFaults, Lasts}
 use Rattle.vx_scan.specs.ChunkRows.{IsPiece}
 use Rattle.vx_scan.specs.Fetched.{AreDistinct}
-use Rattle.vx_scan.specs.Lent.{EachSource, EachSourceBy, SomeSourceBy, WhereAllTell}
+use Rattle.vx_scan.specs.Executes.{AskedAgain, FailsAgain}
+use Rattle.vx_scan.specs.Lent.{EachSource, EachSourceBy, FirstSource, SomeSourceBy, WhereAllTell}
 use Rattle.vx_scan.specs.Plans.{bytes_of, projection_node}
 use Rattle.vx_scan.specs.Reasons.{Reason, chunk_and_segment}
+use Rattle.vx_scan.specs.Settling.{AsksAgain}
 use Rattle.vx_scan.specs.Workers.{AsksReached, IsLast, FailsLast, RunsSource}
 
 -- each batch is the piece of its chunk
@@ -40,23 +42,33 @@ abbrev pub reasons_in : Share → List Reason
 reasons_in share = share.reasons
 
 -- Each source was asked on behalf of the chunks of its own worker, and the reasons of all workers together have no chunk
--- and segment twice.
+-- and segment twice. Then the first one was asked again: for values that no worker made, and for chunks that ran again,
+-- each of these once. With one source nothing is asked again.
 pub record AsksOver (plans : ScanPlans) (chunks : List SelectedRows) (befores afters : List SourceState) : Type 0 where
   pub shares : List Share
-  pub each : EachSourceBy (λ (share : Share). AsksReached plans chunks share.numbers share.reasons) shares befores afters
+  pub middles : List SourceState
+  pub each : EachSourceBy (λ (share : Share). AsksReached plans chunks share.numbers share.reasons) shares befores middles
   pub once_a_chunk : AreDistinct (map chunk_and_segment (flat_map reasons_in shares))
+  pub reruns : List ℕ
+  pub reruns_once : (x : ℕ) → times x reruns ≤ 1
+  pub again : FirstSource (AsksAgain plans chunks reruns) middles afters
+  pub alone : length befores ≡ 1 → (afters ≡ middles) × (reruns ≡ [])
 
 -- A call on the source failed only at the last of these chunks, which isn't before that place.
 abbrev pub FaultsFrom : ℕ → List ℕ → SourceState → SourceState → Type 0
 FaultsFrom place numbers before after = KeepsFaults before after ⊎ ((last : ℕ) × IsLast last numbers × (place ≤ last))
 
--- each of these chunks has a piece, or is the last of them
-abbrev pub HavePiecesButLast : Leaves → ScanPlans → List SelectedRows → List ℕ → Type 0
-HavePiecesButLast leaves plans chunks numbers = (x : ℕ) → IsAmong x numbers → IsSomeAnd (slice_get chunks x) (HasPiece leaves plans) ⊎ IsLast x numbers
+-- Each of these chunks has a piece, or is the last of them. Where values are shared, it may also lie no lower than that
+-- place.
+abbrev pub HavePiecesButLast : Leaves → ScanPlans → List SelectedRows → Bool → ℕ → List ℕ → Type 0
+HavePiecesButLast leaves plans chunks shares place numbers =
+    (x : ℕ) → IsAmong x numbers → IsSomeAnd (slice_get chunks x) (HasPiece leaves plans) ⊎ (IsLast x numbers ⊎ ((shares ≡ true) × (place ≤ x)))
 
 -- The lowest chunk that failed, and why; those before it have pieces. The workers ran these chunks, in ascending order and
--- each one time at most: all before it, and it was the last of the worker whose source is its cause. Each source was
--- asked for the chunks of its worker, which have pieces, but for its last; and none failed at a chunk before it.
+-- each one time at most: all before it, and it was the last of the worker whose source is its cause, or, with several
+-- sources, one that failed on the first one once all workers were done. Each source was asked for the chunks of its worker,
+-- which have pieces, but for its last and, with several sources, those that don't lie before the one that failed; and while
+-- the workers ran, none failed at a chunk before it.
 pub record LowestFailure (plans : ScanPlans) (chunks : List SelectedRows) (error : ScanError) (befores afters : List SourceState) : Type 0 where
   pub place : ℕ
   pub chunk : SelectedRows
@@ -65,11 +77,17 @@ pub record LowestFailure (plans : ScanPlans) (chunks : List SelectedRows) (error
   pub apart : AreApart (length chunks) claims
   pub ascend : AllByRecursion Ascend claims
   pub all_before : (x : ℕ) → x < place → times_over x claims ≡ 1
-  pub ran : EachSourceBy (RunsSource plans chunks) claims befores afters
-  pub faults : EachSourceBy (FaultsFrom place) claims befores afters
-  pub cause : SomeSourceBy (FailsLast plans chunks (record { chunk = place; error = error })) claims befores afters
+  -- what the sources were when all workers were done, and which chunks ran again then
+  pub middles : List SourceState
+  pub reruns : List ℕ
+  pub ran : EachSourceBy (RunsSource plans chunks) claims befores middles
+  pub again : FirstSource (AskedAgain plans chunks reruns (Some (record { chunk = place; error = error }))) middles afters
+  pub alone : length befores ≡ 1 → (afters ≡ middles) × (reruns ≡ [])
+  pub faults : EachSourceBy (FaultsFrom place) claims befores middles
+  pub cause : SomeSourceBy (FailsLast plans chunks (record { chunk = place; error = error })) claims befores middles
+      ⊎ ((1 < length befores) × (1 ≤ times_over place claims) × FirstSource (FailsAgain plans chunks (record { chunk = place; error = error }) befores) middles afters)
   pub lower : WhereAllTell befores (λ file. AllByRecursion (HasPiece (leaves_of (bytes_of plans file)) plans) (take place chunks))
-  pub stops : WhereAllTell befores (λ file. AllByRecursion (HavePiecesButLast (leaves_of (bytes_of plans file)) plans chunks) claims)
+  pub stops : WhereAllTell befores (λ file. AllByRecursion (HavePiecesButLast (leaves_of (bytes_of plans file)) plans chunks (nat_lt 1 (length befores)) place) claims)
 
 pub record GivesBatches (plans : ScanPlans) (chunks : List SelectedRows) (result : Result (Vec ColumnData) ScanError) (befores afters : List SourceState) : Type 0 where
   -- the batches are the chunks' pieces by the file, in order

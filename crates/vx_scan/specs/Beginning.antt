@@ -1,9 +1,7 @@
 -- Whether a scan begins, and over which rows: what is decided before anything is asked and any memory is taken.
 use Rattle.std.specs.Prelude.{◌≡◌, ℕ, ◌+◌, ◌^◌, ◌≤◌, IsTrue, Option, Some, None, Result, Ok, Err}
 use Rattle.std.specs.declared.ops.Range.{Range}
-use Rattle.vx_expr.specs.Bound.{IsBoundTo}
 use Rattle.vx_expr.specs.Mentions.{uses_row_number}
-use Rattle.vx_layout.specs.Trees.{head_of}
 use Rattle.vx_splits.specs.Taken.{selected_rows}
 use Rattle.vx_scan.specs.declared.errors.ScanError.{ScanError}
 use Rattle.vx_scan.specs.declared.errors.ScanError.TheVariants.{BadProjection, OffsetOverflow, OutOfRange}

@@ -10,12 +10,6 @@ EachSource P [] (after ∷ afters) = ⊥
 EachSource P (before ∷ befores) [] = ⊥
 EachSource P (before ∷ befores) (after ∷ afters) = P before after × EachSource P befores afters
 
--- it holds of one of them
-abbrev pub SomeSource : (SourceState → SourceState → Type 0) → List SourceState → List SourceState → Type 0
-SomeSource P [] afters = ⊥
-SomeSource P (before ∷ befores) [] = ⊥
-SomeSource P (before ∷ befores) (after ∷ afters) = P before after ⊎ SomeSource P befores afters
-
 -- it holds of each source and what the list has for it
 abbrev pub EachSourceBy : {X : Type 0} → (X → SourceState → SourceState → Type 0) → List X → List SourceState → List SourceState → Type 0
 EachSourceBy P [] [] [] = Unit {0}
@@ -31,6 +25,13 @@ SomeSourceBy P [] befores afters = ⊥
 SomeSourceBy P (x ∷ xs) [] afters = ⊥
 SomeSourceBy P (x ∷ xs) (before ∷ befores) [] = ⊥
 SomeSourceBy P (x ∷ xs) (before ∷ befores) (after ∷ afters) = P x before after ⊎ SomeSourceBy P xs befores afters
+
+-- it holds of the first source, and the others are as they were
+abbrev pub FirstSource : (SourceState → SourceState → Type 0) → List SourceState → List SourceState → Type 0
+FirstSource P [] [] = Unit {0}
+FirstSource P [] (after ∷ afters) = ⊥
+FirstSource P (before ∷ befores) [] = ⊥
+FirstSource P (before ∷ befores) (after ∷ afters) = P before after × (afters ≡ befores)
 
 -- all sources tell this file
 abbrev pub AllTell : List ℕ → List SourceState → Type 0

@@ -6,8 +6,10 @@ pub mod BatchColumns
 pub mod Batches
 pub mod Beginning
 pub mod Books
+pub mod Borrowing
 pub mod Builders
 pub mod Causes
+pub mod Certified
 pub mod ChunkRows
 pub mod ChunkScans
 pub mod Computes
@@ -18,9 +20,11 @@ pub mod Fetched
 pub mod Finished
 pub mod Gathered
 pub mod Gathers
+pub mod Joins
 pub mod Laws
 pub mod LeafRows
 pub mod Lent
+pub mod Loans
 pub mod Outcomes
 pub mod Pieces
 pub mod PlanTexts
@@ -32,6 +36,9 @@ pub mod Refusals
 pub mod Runs
 pub mod Scanned
 pub mod Settings
+pub mod Settled
+pub mod Settling
+pub mod SourceCounts
 pub mod Starts
 pub mod Valid
 pub mod Values

@@ -1,5 +1,5 @@
 -- What the run of a chunk gives.
-use Rattle.std.specs.Prelude.{◌≡◌, ℕ, ◌<◌, ◌≤◌, ◌⊎◌, List, [], length, map, Some, None, Err, IfOk, IfErr, IfSome}
+use Rattle.std.specs.Prelude.{◌≡◌, ℕ, ◌<◌, ◌≤◌, ◌⊎◌, List, [], ◌++◌, length, map, Some, None, Err, IfOk, IfErr, IfSome}
 use Rattle.vx_base.specs.Columns.{ColumnData}
 use Rattle.vx_base.specs.Masks.{true_count}
 use Rattle.vx_base.specs.Sources.{SourceState, Rose, RoseBy}
@@ -23,6 +23,7 @@ use Rattle.vx_scan.specs.declared.plans.ScanPlans.{ScanPlans}
 use Rattle.vx_scan.specs.Asks.{AsksOnly, Lasts, TellsFaults}
 use Rattle.vx_scan.specs.ChunkRows.{ChunkFailsInside, ChunkReaches, ChunkVisits, ChunkFaultsAt, IsPiece, ChunkReadsBadCode, ChunkReadsList, ChunkReadsTorn}
 use Rattle.vx_scan.specs.LeafRows.{IsReadAt, row_behind}
+use Rattle.vx_scan.specs.Lent.{WhereAllTell}
 use Rattle.vx_scan.specs.Plans.{bytes_of, projection_node, projection_plan}
 use Rattle.vx_scan.specs.Runs.{row_fault}
 
@@ -35,6 +36,10 @@ Claims = (Bytes → Type 0) → Type 0
 -- those of the file, where the source tells it
 abbrev pub told_by : ScanPlans → SourceState → Claims
 told_by plans source P = (file : List ℕ) → source.file ≡ Some file → P (bytes_of plans file)
+
+-- those of the file that all sources tell
+abbrev pub told_by_all : ScanPlans → List SourceState → Claims
+told_by_all plans sources P = WhereAllTell sources (λ file. P (bytes_of plans file))
 
 -- what is handed on is so by the bytes
 pub record AreHandedBy (plans : ScanPlans) (leaves made : List Kept) (bytes : Bytes) : Type 0 where
@@ -97,9 +102,10 @@ pub record KeepsValues (plans : ScanPlans) (given : List Kept) (chosen : Selecte
   pub faults : (row : ℕ) → outcome.piece ≡ Err (EvalFault row) → HasNoShare (projection_plan plans) → HasNoEvalBelowTake (projection_plan plans) → told_by plans before (λ bytes. AreAllUsedOrMade plans given chosen outcome)
 
 pub record RunsChunk (plans : ScanPlans) (chosen : SelectedRows) (given : List Kept) (outcome : ChunkOutcome) (before after : SourceState) : Type 0 where
-  -- the given values that fit their plans: they stand in place of whole ones; where memory lacked, none may count
+  -- the given values that fit their plans: they stand in place of whole ones; where memory lacked, none may count, and then
+  -- nothing was asked for
   pub fitting : List Kept
-  pub fits : Keeps (IsForPlan plans.table) given fitting ⊎ (outcome.piece ≡ Err Memory)
+  pub fits : Keeps (IsForPlan plans.table) given fitting ⊎ ((outcome.piece ≡ Err Memory) × (after.asked ≡ before.asked))
   -- Ok is the chunk's piece by the file
   pub content : IfOk outcome.piece (GivesPiece (told_by plans before) plans fitting chosen)
   pub values : KeepsValues plans fitting chosen outcome before
@@ -136,10 +142,14 @@ IsGivenOrMade given made n = IsKept given n ⊎ IsKept made n
 abbrev pub AreAllThere : ScanPlans → List Kept → List Kept → SelectedRows → Type 0
 AreAllThere plans given made chosen = (n : ℕ) → ChunkAsks plans given chosen n → IsGivenOrMade given made n
 
+-- of the leaves that the selected rows read, each is handed on that the row behind the chunk reads
+abbrev pub HandsLeavesRead : ScanPlans → SelectedRows → List Kept → List Kept → Type 0
+HandsLeavesRead plans chosen given leaves = (read : LeafRead) → IsReadAt plans (row_behind chosen) read.leaf → ChunkVisits (IsLeafRead read) plans given chosen → IsKept leaves read.leaf
+
 -- What is handed on is so by the file, if what was handed in is, whatever was given. The values that were made before
 -- stay, and those that the selected rows of a piece ask for are among them or given. So are those that rows with a fault
 -- ask for, or the fault is one inside whole values. Of the leaves that were handed in, and of those that the selected
--- rows of a piece read, each is handed on that the row behind the chunk reads.
+-- rows of a piece or with a fault read, each is handed on that the row behind the chunk reads.
 pub record HandsOnMore (plans : ScanPlans) (chosen : SelectedRows) (handed : HandedOn) (given : List Kept) (ran : Ran) (before : SourceState) : Type 0 where
   pub can : CanHandOn plans ran.handed
   pub by_file : told_on plans handed before (IsHandedBy plans ran.handed)
@@ -148,18 +158,37 @@ pub record HandsOnMore (plans : ScanPlans) (chosen : SelectedRows) (handed : Han
   pub left : IfErr ran.piece (λ error. IfSome (row_fault error) (λ fault.
       AreAllThere plans given (data_of ran.handed.made.items) chosen ⊎ told_on plans handed before (λ bytes. ChunkFailsInside (leaves_of bytes) plans given chosen fault)))
   pub leaves_stay : (leaf : ℕ) → IsReadAt plans (row_behind chosen) leaf → IsKept (data_of handed.leaves.items) leaf → IsKept (data_of ran.handed.leaves.items) leaf
-  pub leaves_there : IfOk ran.piece (λ column. (read : LeafRead) → IsReadAt plans (row_behind chosen) read.leaf → ChunkVisits (IsLeafRead read) plans given chosen → IsKept (data_of ran.handed.leaves.items) read.leaf)
+  pub leaves_there : IfOk ran.piece (λ column. HandsLeavesRead plans chosen given (data_of ran.handed.leaves.items))
+  pub leaves_left : IfErr ran.piece (λ error. IfSome (row_fault error) (λ fault. HandsLeavesRead plans chosen given (data_of ran.handed.leaves.items)))
 
--- What the run gives with these values in place of whole ones.
-pub record RunsGiven (plans : ScanPlans) (chosen : SelectedRows) (handed : HandedOn) (given : List Kept) (ran : Ran) (before after : SourceState) : Type 0 where
+-- These are some of the values that were made, and all of them that the chunk asks for.
+pub record AreOwn (plans : ScanPlans) (chosen : SelectedRows) (made own : List Kept) : Type 0 where
+  pub from : (n : ℕ) (column : ColumnData) → kept_at own n ≡ Some column → kept_at made n ≡ Some column
+  pub asked : (n : ℕ) → ChunkAsks plans [] chosen n → IsKept made n → IsKept own n
+
+-- They stand behind the given ones.
+pub record HasOwn (plans : ScanPlans) (chosen : SelectedRows) (given made all : List Kept) : Type 0 where
+  pub own : List Kept
+  pub are : AreOwn plans chosen made own
+  pub is : all ≡ given ++ own
+
+-- What stands in place of whole values where a chunk runs: those that are given, and of those that its worker made what it
+-- asks for.
+pub record StandFor (plans : ScanPlans) (chosen : SelectedRows) (given made all : List Kept) : Type 0 where
+  pub has_given : (n : ℕ) → IsKept given n → IsKept all n
+  pub has_made : (n : ℕ) → n < length plans.table → ChunkAsks plans [] chosen n → IsKept made n → IsKept all n
+
+-- What the run gives with these values in place of whole ones. What it asked for and hands on goes by all that stood so,
+-- those that its worker made among them.
+pub record RunsGiven (plans : ScanPlans) (chosen : SelectedRows) (handed : HandedOn) (given all : List Kept) (ran : Ran) (before after : SourceState) : Type 0 where
   -- Ok is the chunk's piece by the file, if what was handed in is so by it
   pub content : IfOk ran.piece (GivesPiece (told_on plans handed before) plans given chosen)
   -- each error has its cause
   pub cause : IfErr ran.piece (λ error. Causes (told_on plans handed before) plans given chosen error before after)
   -- segments that the chunk's rows read by leaves that were not handed in were asked for, each once, and none that is
-  -- read only for values that are given
-  pub asks : AsksOnly (IsWanted plans given (data_of handed.leaves.items) chosen) plans.locations.items before after
-  pub more : HandsOnMore plans chosen handed given ran before
+  -- read only for values that are given or were made before
+  pub asks : AsksOnly (IsWanted plans all (data_of handed.leaves.items) chosen) plans.locations.items before after
+  pub more : HandsOnMore plans chosen handed all ran before
   -- where a call on the source failed, that is the error
   pub faults : TellsFaults ran.piece before after
   pub lasts : Lasts before after
@@ -169,4 +198,11 @@ pub record RunsOn (plans : ScanPlans) (chosen : SelectedRows) (handed : HandedOn
   -- the given values that fit their plans: they stand in place of whole ones; where memory lacked, none may count
   pub fitting : List Kept
   pub fits : Keeps (IsForPlan plans.table) given fitting ⊎ ((ran.piece ≡ Err Memory) × (fitting ≡ []))
-  pub runs : RunsGiven plans chosen handed fitting ran before after
+  pub all : List Kept
+  pub stand : StandFor plans chosen fitting (data_of handed.made.items) all
+  pub runs : RunsGiven plans chosen handed fitting all ran before after
+
+-- And nothing else stood in place of whole values.
+pub record RunsOnly (plans : ScanPlans) (chosen : SelectedRows) (handed : HandedOn) (given : List Kept) (ran : Ran) (before after : SourceState) : Type 0 where
+  pub runs : RunsOn plans chosen handed given ran before after
+  pub only : (n : ℕ) → IsKept runs.all n → IsGivenOrMade given (data_of handed.made.items) n

@@ -98,14 +98,19 @@ LeavesFault locations start scan before fault =
     AreThere start.nodes start.job.given scan.progress.wholes start.job.plan (split_of start).rows.start (split_of start).mask
     ⊎ WhereScanned locations start before (λ bytes. HasInsideCause (leaves_of bytes) (handed_by start.nodes (Some start.job.given)) start.job.offset (plan_at start.nodes start.job.plan) (split_of start).rows.start (split_of start).mask fault)
 
+-- and the leaves that they read are kept
+abbrev pub LeavesRead : ScanData → ScanData → StepError → Type 0
+LeavesRead start scan fault = AreLeavesKept start.nodes start.job (split_of start) scan.progress.leaves
+
 abbrev pub RunAnswer : List SegmentLocation → ℕ → ScanData → Result (Option ColumnData) ScanError → ScanData → SourceState → SourceState → Type 0
 RunAnswer locations limit start (Ok output) scan before after = GivesOutput locations start scan before output
 RunAnswer locations limit start (Err error) scan before after = RunCause locations limit start error before after
 
 pub record RunGives (locations : List SegmentLocation) (limit : ℕ) (start : ScanData) (result : Result (Option ColumnData) ScanError) (scan : ScanData) (before after : SourceState) : Type 0 where
   pub answer : RunAnswer locations limit start result scan before after
-  -- what a fault of rows leaves of whole values
+  -- what a fault of rows leaves of whole values, and of leaves
   pub left : IfErr result (λ error. IfSome (row_fault error) (LeavesFault locations start scan before))
+  pub left_leaves : IfErr result (λ error. IfSome (row_fault error) (LeavesRead start scan))
   pub asks : AsksOnly (IsReadByStart start) locations before after
   pub faults : TellsFaults result before after
   -- the scan is still of the told file, and keeps the columns that it had

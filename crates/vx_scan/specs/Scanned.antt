@@ -1,5 +1,5 @@
 -- What a scan of a file over the sources that are lent to it gives.
-use Rattle.std.specs.Prelude.{◌≡◌, ℕ, ◌<◌, ◌⊎◌, List, [], ◌∷◌, ◌++◌, length, map, take, Some, option_map, IsSomeAnd, Result, IfOk, IfErr}
+use Rattle.std.specs.Prelude.{◌≡◌, ℕ, ◌<◌, ◌≤◌, nat_lt, Bool, true, ◌⊎◌, List, [], ◌∷◌, ◌++◌, length, map, take, Some, option_map, IsSomeAnd, Result, IfOk, IfErr}
 use Rattle.std.specs.List.{slice_get, flat_map, AllByRecursion}
 use Rattle.std.specs.Global.{Vec}
 use Rattle.vx_base.specs.Columns.{ColumnData}
@@ -7,7 +7,7 @@ use Rattle.vx_base.specs.Data.{Datum}
 use Rattle.vx_base.specs.declared.locations.AskedRange.{AskedRange}
 use Rattle.vx_base.specs.Masks.{Ascend}
 use Rattle.vx_base.specs.Sources.{SourceState, Rose, RoseBy, range_of}
-use Rattle.vx_claims.specs.Apart.{times_over, AreApart}
+use Rattle.vx_claims.specs.Apart.{times, times_over, AreApart}
 use Rattle.vx_layout.specs.Rows.{file_leaves, segment_bytes}
 use Rattle.vx_lower.specs.Projected.{Projection, scan_reads}
 use Rattle.vx_plan.specs.Refs.{number_of}
@@ -23,10 +23,11 @@ use Rattle.vx_scan.specs.Beginning.{Refuses}
 use Rattle.vx_scan.specs.Causes.{ScanReaches, ReadsList, LacksLocation, ReadsTorn, ReadsBadCode, FaultsAt}
 use Rattle.vx_scan.specs.Fetched.{AreDistinct}
 use Rattle.vx_scan.specs.LeafRows.{ScanReadsLeaf}
-use Rattle.vx_scan.specs.Lent.{EachSource, EachSourceBy, SomeSourceBy, WhereAllTell}
+use Rattle.vx_scan.specs.Lent.{EachSource, EachSourceBy, FirstSource, SomeSourceBy, WhereAllTell}
 use Rattle.vx_scan.specs.Plans.{WhereTold, IsQuiet}
 use Rattle.vx_scan.specs.Preparing.{node_of}
 use Rattle.vx_scan.specs.Reasons.{Reason, read_for, leaf_of, chunk_and_segment, taken_by}
+use Rattle.vx_scan.specs.Settling.{direct_and_segment, IsDirectAmong}
 use Rattle.vx_scan.specs.Valid.{IsValidScan}
 use Rattle.vx_scan.specs.Workers.{IsLast}
 
@@ -66,8 +67,8 @@ AreReasonsFor scan (reason ∷ reasons) (range ∷ ranges) = IsReasonFor scan re
 AreReasonsFor scan reasons ranges = ⊥
 
 -- The source gained exactly these ranges, and the scan reaches each of them. Each was asked for a reason of its own. On
--- account of each leaf its segment is asked for at most once in the whole scan, and so is each segment on account of the
--- values of each outermost dictionary.
+-- account of each leaf its segment is asked for at most once while the source's worker runs, and so is each segment on
+-- account of the values of each outermost dictionary.
 pub record Gains (scan : FileScan) (reasons : List Reason) (before after : SourceState) : Type 0 where
   pub ranges : List AskedRange
   pub gained : after.asked ≡ option_map (λ asked. asked ++ ranges) before.asked
@@ -76,28 +77,57 @@ pub record Gains (scan : FileScan) (reasons : List Reason) (before after : Sourc
   pub once_a_leaf : AreDistinct (map leaf_of reasons)
   pub once_a_dictionary : AreDistinct (flat_map (dictionary_and_segment scan.projection) reasons)
 
+-- The source gained exactly these ranges again, and the scan reaches each of them: directly for pieces that ran again, each
+-- segment once for a piece; and each segment once on account of the values of each outermost dictionary.
+pub record GainsAgain (scan : FileScan) (reruns : List ℕ) (before after : SourceState) : Type 0 where
+  pub reasons : List Reason
+  pub ranges : List AskedRange
+  pub gained : after.asked ≡ option_map (λ asked. asked ++ ranges) before.asked
+  pub reached : AllByRecursion (ReachesRange scan) ranges
+  pub are_reasons : AreReasonsFor scan reasons ranges
+  pub direct : AllByRecursion (IsDirectAmong reruns) reasons
+  pub once_a_chunk : AreDistinct (flat_map direct_and_segment reasons)
+  pub once_a_dictionary : AreDistinct (flat_map (dictionary_and_segment scan.projection) reasons)
+
 -- Each source gained such ranges, for reasons of its own worker; over all sources together a chunk asks for each of its
--- segments at most once.
+-- segments at most once. Then the first one gained some again, for pieces that ran again, each of them once; with one
+-- source it gained none.
 pub record GainsOver (scan : FileScan) (befores afters : List SourceState) : Type 0 where
   pub reasons : List (List Reason)
-  pub each : EachSourceBy (Gains scan) reasons befores afters
+  pub middles : List SourceState
+  pub each : EachSourceBy (Gains scan) reasons befores middles
   pub once_a_chunk : AreDistinct (map chunk_and_segment (flat_map (λ own. own) reasons))
+  pub reruns : List ℕ
+  pub reruns_once : (x : ℕ) → times x reruns ≤ 1
+  pub again : FirstSource (GainsAgain scan reruns) middles afters
+  pub alone : length befores ≡ 1 → (afters ≡ middles) × (reruns ≡ [])
 
 -- ---- why there are no batches
 
+-- of which files something is claimed: it holds of them all
+abbrev pub FileClaims : Type 1
+FileClaims = (List ℕ → Type 0) → Type 0
+
 -- Why rows of the scan have none. A plan is named by its number, which tells the node that it was lowered from.
+abbrev pub CausedIn : FileClaims → FileScan → ℕ → List ℕ → ScanError → SourceState → SourceState → Type 0
+CausedIn Told scan limit rows (Unsupported list) before after = ReadsList scan.projection rows (node_of scan.projection (number_of list))
+CausedIn Told scan limit rows (NoLocation segment) before after = LacksLocation scan.locations scan.projection rows segment
+CausedIn Told scan limit rows ReadFault before after = Rose before.faults after.faults
+CausedIn Told scan limit rows Stalled before after = RoseBy limit before.idle after.idle
+CausedIn Told scan limit rows (BadSegment segment) before after = Told (λ file. ReadsTorn (segment_bytes file scan.locations) scan.projection rows segment)
+CausedIn Told scan limit rows (BadCode take row) before after =
+    Told (λ file. ReadsBadCode (file_leaves file scan.locations) scan.projection rows (node_of scan.projection (number_of take)) row)
+CausedIn Told scan limit rows (EvalFault row) before after = Told (λ file. FaultsAt (file_leaves file scan.locations) scan.projection rows row)
+CausedIn Told scan limit rows Memory before after = Unit {0}
+CausedIn Told scan limit rows error before after = ⊥
+
+-- by the file that the source tells
 abbrev pub CausedBy : FileScan → ℕ → List ℕ → ScanError → SourceState → SourceState → Type 0
-CausedBy scan limit rows (Unsupported list) before after = ReadsList scan.projection rows (node_of scan.projection (number_of list))
-CausedBy scan limit rows (NoLocation segment) before after = LacksLocation scan.locations scan.projection rows segment
-CausedBy scan limit rows ReadFault before after = Rose before.faults after.faults
-CausedBy scan limit rows Stalled before after = RoseBy limit before.idle after.idle
-CausedBy scan limit rows (BadSegment segment) before after =
-    WhereTold before (λ file. ReadsTorn (segment_bytes file scan.locations) scan.projection rows segment)
-CausedBy scan limit rows (BadCode take row) before after =
-    WhereTold before (λ file. ReadsBadCode (file_leaves file scan.locations) scan.projection rows (node_of scan.projection (number_of take)) row)
-CausedBy scan limit rows (EvalFault row) before after = WhereTold before (λ file. FaultsAt (file_leaves file scan.locations) scan.projection rows row)
-CausedBy scan limit rows Memory before after = Unit {0}
-CausedBy scan limit rows error before after = ⊥
+CausedBy scan limit rows error before after = CausedIn (WhereTold before) scan limit rows error before after
+
+-- by the file that all sources tell
+abbrev pub CausedByAll : FileScan → ℕ → List ℕ → ScanError → List SourceState → SourceState → SourceState → Type 0
+CausedByAll scan limit rows error sources before after = CausedIn (WhereAllTell sources) scan limit rows error before after
 
 -- the rows have an answer
 abbrev pub HasAnswer : Leaves → Projection → List ℕ → Type 0
@@ -108,6 +138,14 @@ pub record RunsPieces (scan : FileScan) (numbers : List ℕ) (before after : Sou
   pub reasons : List Reason
   pub gains : Gains scan reasons before after
   pub own : AllByRecursion (λ (reason : Reason). IsAmong reason.chunk numbers) reasons
+  pub lasts : Lasts before after
+
+-- The first source was asked again, once all workers were done, for these pieces that ran again. Where a call on it failed,
+-- the error is that a read failed.
+pub record RunsAgain (scan : FileScan) (reruns : List ℕ) (error : ScanError) (before after : SourceState) : Type 0 where
+  pub gains : GainsAgain scan reruns before after
+  pub faults : KeepsFaults before after ⊎ (error ≡ ReadFault)
+  pub lasts : Lasts before after
 
 -- The piece at the place is the last that the worker of a source ran, and failed there, with its cause. Where a call on the
 -- source failed, the error is that a read failed.
@@ -116,13 +154,23 @@ pub record FailsPiece (scan : FileScan) (limit : ℕ) (place : ℕ) (rows : List
   pub cause : CausedBy scan limit rows error before after
   pub faults : KeepsFaults before after ⊎ (error ≡ ReadFault)
 
--- each of these pieces has an answer, or is the last of them
-abbrev pub HaveAnswersButLast : Leaves → FileScan → List ℕ → Type 0
-HaveAnswersButLast leaves scan numbers = (x : ℕ) → IsAmong x numbers → IsSomeAnd (slice_get (scan_pieces scan) x) (HasAnswer leaves scan.projection) ⊎ IsLast x numbers
+-- The piece failed on the first source, once all workers were done, with its cause by the file that all sources tell. Where a
+-- call on it failed, the error is that a read failed.
+pub record FailsPieceAgain (scan : FileScan) (limit : ℕ) (rows : List ℕ) (error : ScanError) (sources : List SourceState) (before after : SourceState) : Type 0 where
+  pub cause : CausedByAll scan limit rows error sources before after
+  pub faults : KeepsFaults before after ⊎ (error ≡ ReadFault)
+
+-- Each of these pieces has an answer, or is the last of them. Where values are shared, it may also lie no lower than that
+-- place.
+abbrev pub HaveAnswersButLast : Leaves → FileScan → Bool → ℕ → List ℕ → Type 0
+HaveAnswersButLast leaves scan shares place numbers =
+    (x : ℕ) → IsAmong x numbers → IsSomeAnd (slice_get (scan_pieces scan) x) (HasAnswer leaves scan.projection) ⊎ (IsLast x numbers ⊎ ((shares ≡ true) × (place ≤ x)))
 
 -- The lowest of the scan's pieces that has no batch, and why; those before it have answers. The workers ran these pieces, in
--- ascending order and each one time at most: all before it, and it was the last of the worker whose source is its cause. Those
--- of a worker have answers, but for its last, and no call on a source failed at a piece before it.
+-- ascending order and each one time at most: all before it, and it was the last of the worker whose source is its cause, or,
+-- with several sources, one that failed on the first one once all workers were done. Those of a worker have answers, but for
+-- its last and, with several sources, those that don't lie before the one that failed; and while the workers ran, no call
+-- on a source failed at a piece before it.
 pub record LowestCause (scan : FileScan) (limit : ℕ) (error : ScanError) (befores afters : List SourceState) : Type 0 where
   pub place : ℕ
   pub rows : List ℕ
@@ -131,11 +179,17 @@ pub record LowestCause (scan : FileScan) (limit : ℕ) (error : ScanError) (befo
   pub apart : AreApart (length (scan_pieces scan)) claims
   pub ascend : AllByRecursion Ascend claims
   pub all_before : (x : ℕ) → x < place → times_over x claims ≡ 1
-  pub ran : EachSourceBy (RunsPieces scan) claims befores afters
-  pub faults : EachSourceBy (FaultsFrom place) claims befores afters
-  pub cause : SomeSourceBy (FailsPiece scan limit place rows error) claims befores afters
+  -- what the sources were when all workers were done, and which pieces ran again then
+  pub middles : List SourceState
+  pub reruns : List ℕ
+  pub ran : EachSourceBy (RunsPieces scan) claims befores middles
+  pub again : FirstSource (RunsAgain scan reruns error) middles afters
+  pub alone : length befores ≡ 1 → (afters ≡ middles) × (reruns ≡ [])
+  pub faults : EachSourceBy (FaultsFrom place) claims befores middles
+  pub cause : SomeSourceBy (FailsPiece scan limit place rows error) claims befores middles
+      ⊎ ((1 < length befores) × (1 ≤ times_over place claims) × FirstSource (FailsPieceAgain scan limit rows error befores) middles afters)
   pub lower : WhereAllTell befores (λ file. AllByRecursion (HasAnswer (file_leaves file scan.locations) scan.projection) (take place (scan_pieces scan)))
-  pub stops : WhereAllTell befores (λ file. AllByRecursion (HaveAnswersButLast (file_leaves file scan.locations) scan) claims)
+  pub stops : WhereAllTell befores (λ file. AllByRecursion (HaveAnswersButLast (file_leaves file scan.locations) scan (nat_lt 1 (length befores)) place) claims)
 
 -- ---- the scan
 

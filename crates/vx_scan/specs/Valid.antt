@@ -1,5 +1,5 @@
 -- Which scans have no cause to fail but want of memory.
-use Rattle.std.specs.Prelude.{◌≡◌, ℕ, ◌+◌, ◌^◌, ◌<◌, IsTrue, Some, None, IsSome, Option}
+use Rattle.std.specs.Prelude.{ℕ, ◌+◌, ◌^◌, ◌<◌, IsTrue, Some, None, IsSome, Option}
 use Rattle.std.specs.List.{AllByRecursion}
 use Rattle.std.specs.declared.ops.Range.{Range}
 use Rattle.vx_expr.specs.Bound.{IsBoundTo}

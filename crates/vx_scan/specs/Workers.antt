@@ -1,15 +1,17 @@
 -- What one worker gives.
-use Rattle.std.specs.Prelude.{◌≡◌, ℕ, ◌⊎◌, Bool, true, List, [], ◌∷◌, ◌++◌, length, map, Option, Some, None, IsSomeAnd}
+use Rattle.std.specs.Prelude.{◌≡◌, ℕ, ◌+◌, ◌⊎◌, Bool, true, false, List, [], ◌∷◌, ◌++◌, length, map, Option, Some, None, IsSomeAnd}
 use Rattle.std.specs.List.{slice_get, flat_map, All, AllByRecursion}
 use Rattle.vx_base.specs.Masks.{Ascend, true_count}
 use Rattle.vx_base.specs.Sources.{SourceState}
 use Rattle.vx_claims.specs.declared.claims.Claims.{Claims}
+use Rattle.vx_claims.specs.Apart.{times}
 use Rattle.vx_claims.specs.Claims.{IsSeatOf, IsFresh, claimed, parts, was_told}
 use Rattle.vx_io.specs.Fetches.{asked_for}
 use Rattle.vx_rows.specs.Derivations.{Leaves}
 use Rattle.vx_rows.specs.Reads.{IsAmong}
 use Rattle.vx_rows.specs.SegmentLeaves.{leaves_of}
 use Rattle.vx_splits.specs.declared.selected_rows.SelectedRows.{SelectedRows}
+use Rattle.vx_steps.specs.Held.{AreMade, AreTyped}
 use Rattle.vx_scan.specs.declared.errors.ScanError.TheVariants.{ReadFault, Memory}
 use Rattle.vx_scan.specs.declared.lanes.ChunkError.{ChunkError}
 use Rattle.vx_scan.specs.declared.lanes.Lane.{Lane}
@@ -19,7 +21,8 @@ use Rattle.vx_scan.specs.Asks.{IsLeftClear, KeepsFaults, Lasts}
 use Rattle.vx_scan.specs.ChunkRows.{IsPiece}
 use Rattle.vx_scan.specs.Fetched.{AllLocated, AreDistinct, location_of}
 use Rattle.vx_scan.specs.LeafRows.{LeavesLieTogether}
-use Rattle.vx_scan.specs.Outcomes.{Causes, told_by}
+use Rattle.vx_scan.specs.Loans.{loaned_of, IsLoan, IsLoanBy}
+use Rattle.vx_scan.specs.Outcomes.{data_of, told_by, Causes}
 use Rattle.vx_scan.specs.Plans.{projection_node, projection_plan, AreInOrder}
 use Rattle.vx_scan.specs.Reasons.{Reason, leaf_of, segment_of, chunk_and_segment, take_and_segment, IsReasonAmong}
 
@@ -44,9 +47,8 @@ HasItsRows chunks piece = IsSomeAnd (slice_get chunks piece.chunk) (λ chunk. le
 -- ---- the source
 
 -- The source was asked for the ranges of these reasons' segments, in this order, and for nothing else; each is the
--- reason of one of the chunks with these numbers. No chunk has two reasons to ask for one segment; and where the chunks
--- are in order and the leaves of the plan lie together, no two reasons are of one leaf, and none of the takes has two
--- reasons to ask for one segment.
+-- reason of one of the chunks with these numbers. No chunk has two reasons to ask for one segment, and neither has any of
+-- the takes; and where the chunks are in order and the leaves of the plan lie together, no two reasons are of one leaf.
 pub record AsksReached (plans : ScanPlans) (chunks : List SelectedRows) (numbers : List ℕ) (reasons : List Reason) (before after : SourceState) : Type 0 where
   pub are : AllByRecursion (IsReasonAmong plans chunks) reasons
   pub own : AllByRecursion (λ (reason : Reason). IsAmong reason.chunk numbers) reasons
@@ -54,7 +56,7 @@ pub record AsksReached (plans : ScanPlans) (chunks : List SelectedRows) (numbers
   pub asked : after.asked ≡ asked_for (map (location_of plans.locations.items) (map segment_of reasons)) before.asked
   pub once_a_chunk : AreDistinct (map chunk_and_segment reasons)
   pub once_a_leaf : AreInOrder chunks → LeavesLieTogether (projection_plan plans) → AreDistinct (map leaf_of reasons)
-  pub once_a_take : AreInOrder chunks → LeavesLieTogether (projection_plan plans) → AreDistinct (flat_map take_and_segment reasons)
+  pub once_a_take : AreDistinct (flat_map take_and_segment reasons)
 
 -- What the worker of a source did to it: each ask is for a chunk that it claimed.
 pub record RunsSource (plans : ScanPlans) (chunks : List SelectedRows) (numbers : List ℕ) (before after : SourceState) : Type 0 where
@@ -64,6 +66,10 @@ pub record RunsSource (plans : ScanPlans) (chunks : List SelectedRows) (numbers 
   pub in_flight : IsLeftClear before after
 
 -- ---- how it ends
+
+-- each of these chunks is done, or ran with borrowed values
+abbrev pub AreDone : List ℕ → List ℕ → List ℕ → Type 0
+AreDone numbers done loaned = (x : ℕ) → times x numbers ≡ times x done + times x loaned
 
 -- the last of these numbers
 abbrev pub IsLast : ℕ → List ℕ → Type 0
@@ -82,20 +88,22 @@ pub record FailsLast (plans : ScanPlans) (chunks : List SelectedRows) (error : C
   pub fails : Fails plans chunks error before after
 
 -- The last chunk that was claimed failed, and those before it are done.
-pub record StopsAt (plans : ScanPlans) (chunks : List SelectedRows) (error : ChunkError) (numbers done : List ℕ) (before after : SourceState) : Type 0 where
-  pub last : numbers ≡ done ++ error.chunk ∷ []
+pub record StopsAt (plans : ScanPlans) (chunks : List SelectedRows) (error : ChunkError) (numbers done loaned : List ℕ) (before after : SourceState) : Type 0 where
+  pub earlier : List ℕ
+  pub last : numbers ≡ earlier ++ error.chunk ∷ []
+  pub all_done : AreDone earlier done loaned
   pub fails : Fails plans chunks error before after
 
 -- There was no memory to claim a further chunk.
-pub record WantsMemory (error : ChunkError) (numbers done : List ℕ) : Type 0 where
-  pub all : numbers ≡ done
+pub record WantsMemory (error : ChunkError) (numbers done loaned : List ℕ) : Type 0 where
+  pub all : AreDone numbers done loaned
   pub chunk : error.chunk ≡ 0
   pub memory : error.error ≡ Memory
 
 -- without an error it was told that no chunk is left, and all that it claimed are done
-abbrev pub Ends : ScanPlans → List SelectedRows → Option ChunkError → List ℕ → List ℕ → Bool → SourceState → SourceState → Type 0
-Ends plans chunks None numbers done told before after = (numbers ≡ done) × (told ≡ true)
-Ends plans chunks (Some error) numbers done told before after = StopsAt plans chunks error numbers done before after ⊎ WantsMemory error numbers done
+abbrev pub Ends : ScanPlans → List SelectedRows → Option ChunkError → List ℕ → List ℕ → List ℕ → Bool → SourceState → SourceState → Type 0
+Ends plans chunks None numbers done loaned told before after = AreDone numbers done loaned × (told ≡ true)
+Ends plans chunks (Some error) numbers done loaned told before after = StopsAt plans chunks error numbers done loaned before after ⊎ WantsMemory error numbers done loaned
 
 -- ---- the worker
 
@@ -104,9 +112,13 @@ pub record IsFreshLane (claims : Claims) (lane : Lane) : Type 0 where
   pub fresh : IsFresh claims 1 lane.seat
   pub claimed : lane.claimed.items ≡ []
   pub pieces : lane.pieces.items ≡ []
+  pub loans : lane.loans.items ≡ []
+  pub leaves : lane.handed.leaves.items ≡ []
+  pub made : lane.handed.made.items ≡ []
   pub error : lane.error ≡ None
 
-pub record Worked (claims : Claims) (plans : ScanPlans) (chunks : List SelectedRows) (lane : Lane) (before after : SourceState) : Type 0 where
+-- What one worker gives, which shares whole values with others, or is alone.
+pub record Worked (shares : Bool) (claims : Claims) (plans : ScanPlans) (chunks : List SelectedRows) (lane : Lane) (before after : SourceState) : Type 0 where
   pub own : IsSeatOf claims lane.seat
   pub parts : parts lane.seat ≡ 1
   pub claimed : lane.claimed.items ≡ claimed lane.seat
@@ -115,6 +127,13 @@ pub record Worked (claims : Claims) (plans : ScanPlans) (chunks : List SelectedR
   pub content : told_by plans before (λ bytes. All (IsPieceOf (leaves_of bytes) plans chunks) lane.pieces.items)
   pub dtype : All (HasDtype plans) lane.pieces.items
   pub rows : All (HasItsRows chunks) lane.pieces.items
+  -- chunks that ran with borrowed values have what comes of these by the file; a worker that is alone has none
+  pub loans : All (IsLoan plans chunks) lane.loans.items
+  pub loans_by : told_by plans before (λ bytes. All (IsLoanBy bytes plans chunks) lane.loans.items)
+  pub alone : shares ≡ false → lane.loans.items ≡ []
+  -- the whole values that it made are whole by the file
+  pub made : AreTyped plans.table (data_of lane.handed.made.items)
+  pub made_by : told_by plans before (λ bytes. AreMade plans.table plans.row_offset (data_of lane.handed.made.items) (leaves_of bytes))
   pub runs : RunsSource plans chunks lane.claimed.items before after
   pub faults : KeepsFaults before after ⊎ IsSomeAnd lane.error (λ error. error.error ≡ ReadFault)
-  pub ends : Ends plans chunks lane.error lane.claimed.items (numbers_of lane.pieces.items) (was_told lane.seat) before after
+  pub ends : Ends plans chunks lane.error lane.claimed.items (numbers_of lane.pieces.items) (loaned_of lane.loans.items) (was_told lane.seat) before after

@@ -1,9 +1,11 @@
 //! Whole values that workers share: a book of columns by plan, and a cache that keeps one under a lock.
 
-ghost use Rattle.std.specs.Prelude.{◌≡◌, [], map, IfOk, OnErr, option_copied};
+ghost use Rattle.std.specs.Prelude.{◌≡◌, [], map, IfOk, OnErr, OnOk, option_copied};
 ghost use Rattle.vx_plan.specs.Refs.{number_of};
 ghost use Rattle.vx_steps.specs.Kept.{kept_at, kept_data};
 ghost use Rattle.vx_scan.specs.Books.{Inserts};
+ghost use Rattle.vx_scan.specs.Certified.{Gives};
+ghost use Rattle.vx_scan.specs.Outcomes.{data_of};
 
 use std::alloc::{AllocError, Global};
 use std::marker::Model;
@@ -34,7 +36,7 @@ impl Model for Book {
 }
 
 /// The first column of a plan among these.
-fn first_for(entries: &[KeptValue], node: PlanRef) -> Option<&Column>
+pub(crate) fn first_for(entries: &[KeptValue], node: PlanRef) -> Option<&Column>
     ensures { option_copied result ≡ kept_at (map kept_data entries.now) (number_of node) }
 {
     for value in entries {
@@ -43,6 +45,24 @@ fn first_for(entries: &[KeptValue], node: PlanRef) -> Option<&Column>
         }
     }
     None
+}
+
+/// Puts a copy of the first column of the plan among these behind the others, if there is one.
+pub(crate) fn give(
+    alloc: Global,
+    node: PlanRef,
+    entries: &[KeptValue],
+    given: &mut Vec<KeptValue>,
+) -> Result<(), AllocError>
+    ensures { OnOk result (Gives (number_of node) (data_of entries.now) (data_of given.old.items) (data_of given.new.items)) }
+{
+    if let Some(column) = first_for(entries, node) {
+        given.push(KeptValue {
+            node,
+            column: column.copy(alloc)?,
+        })?;
+    }
+    Ok(())
 }
 
 impl Book {

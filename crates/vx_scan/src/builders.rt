@@ -24,6 +24,7 @@ use crate::settings::Settings;
 use std::alloc::{AllocError, Global};
 use std::marker::Model;
 use std::ops::Range;
+use std::sync::Wait;
 use std::thread::Threads;
 use vx_base::{Column, DType, SegmentSource};
 use vx_expr::BoundExpression;
@@ -154,9 +155,9 @@ impl ScanBuilder {
 
     /// Runs the scan over the sources, with a worker for each: the projection at the scan's rows, a column for each chunk
     /// with a row of the scan, in the order of the file. Each worker claims chunks and runs them on its own source; each
-    /// stops at a chunk that fails, and the lowest chunk that failed tells the error. It returns once all workers are
-    /// done.
-    pub fn into_batches<R: Threads + Sync, S: SegmentSource + Send>(
+    /// stops at a chunk that fails, and the lowest chunk that failed tells the error. Several workers share whole values
+    /// of dictionaries, which are tested on the first source once all are done. It returns when that is done too.
+    pub fn into_batches<R: Threads + Wait + Sync, S: SegmentSource + Send>(
         self,
         rt: &R,
         alloc: Global,
@@ -192,7 +193,7 @@ fn prepare_file(alloc: Global, file: ScanFile, settings: Settings) -> Result<Pre
 }
 
 /// Runs the scan of the file by the settings over the sources.
-fn scan_file<R: Threads + Sync, S: SegmentSource + Send>(
+fn scan_file<R: Threads + Wait + Sync, S: SegmentSource + Send>(
     rt: &R,
     alloc: Global,
     file: ScanFile,

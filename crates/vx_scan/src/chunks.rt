@@ -3,10 +3,11 @@
 ghost use Rattle.std.specs.Prelude.{◌<◌, [], length, IfOk};
 ghost use Rattle.vx_plan.specs.Refs.{number_of};
 ghost use Rattle.vx_scan.specs.ChunkScans.{IsChunkScan};
-ghost use Rattle.vx_scan.specs.Outcomes.{data_of, CanHandOn, RunsChunk, RunsOn};
+ghost use Rattle.vx_scan.specs.Outcomes.{data_of, AreOwn, CanHandOn, HasOwn, RunsChunk, RunsOnly};
 ghost use Rattle.vx_scan.specs.Pieces.{PieceOf};
 ghost use Rattle.vx_scan.specs.Plans.{with_projection, ArePlans, IsChunkOf};
 
+use crate::books::give;
 use crate::errors::ScanError;
 use crate::outcomes::{ChunkOutcome, HandedOn, Ran};
 use crate::plans::ScanPlans;
@@ -15,7 +16,7 @@ use std::alloc::{AllocError, Global};
 use vx_base::{Column, SegmentSource};
 use vx_plan::PlanRef;
 use vx_splits::SelectedRows;
-use vx_steps::{KeptValue, Scan, ScanBuildError, ScanKept, Split};
+use vx_steps::{KeptValue, Scan, ScanBuildError, ScanKept, Split, asked_wholes};
 
 /// The scan of a chunk's selected rows, as rows of a plan of the table.
 pub(crate) fn scan_of<'a>(
@@ -93,8 +94,51 @@ pub fn run_chunk<S: SegmentSource>(
     }
 }
 
+/// Of the values that the worker made, copies of those that the chunk asks for, which cost no rows where the columns are
+/// shared.
+fn made_for(
+    alloc: Global,
+    plans: &ScanPlans,
+    chosen: &SelectedRows,
+    made: &[KeptValue],
+) -> Result<Vec<KeptValue>, AllocError>
+    requires plans { ArePlans plans.now }
+    requires chunk { IsChunkOf plans.now chosen.now }
+    ensures { IfOk result (λ own. AreOwn plans.now chosen.now (data_of made.now) (data_of own.items)) }
+{
+    let mut own = Vec::new(alloc);
+    if made.is_empty() {
+        return Ok(own);
+    }
+    let rows = chosen.scope.rows.start;
+    let asked = asked_wholes(alloc, &plans.table, plans.projection, rows, &chosen.mask)?;
+    for node in &asked {
+        give(alloc, *node, made, &mut own)?;
+    }
+    Ok(own)
+}
+
+/// The given values, and behind them those that the worker made and the chunk asks for.
+fn given_and_made(
+    alloc: Global,
+    plans: &ScanPlans,
+    chosen: &SelectedRows,
+    given: Vec<KeptValue>,
+    made: &[KeptValue],
+) -> Result<Vec<KeptValue>, AllocError>
+    requires plans { ArePlans plans.now }
+    requires chunk { IsChunkOf plans.now chosen.now }
+    ensures { IfOk result (λ all. HasOwn plans.now chosen.now (data_of given.items) (data_of made.now) (data_of all.items)) }
+{
+    let mut all = given;
+    let mut own = made_for(alloc, plans, chosen, made)?;
+    all.append(&mut own)?;
+    Ok(all)
+}
+
 /// Runs a chunk with what earlier chunks of the worker handed on, and hands on what the later ones can use. The given
-/// values stand in place of the whole values of their plans, as in `run_chunk`, and are not handed on. Whatever it answers,
+/// values stand in place of the whole values of their plans, as in `run_chunk`, and are not handed on. Behind them so do
+/// the values that the worker made and the chunk asks for, so that no leaf is read for these again. Whatever it answers,
 /// nothing is in flight at the source afterwards.
 pub(crate) fn run_on<S: SegmentSource>(
     alloc: Global,
@@ -107,8 +151,15 @@ pub(crate) fn run_on<S: SegmentSource>(
     requires plans { ArePlans plans.now }
     requires chunk { IsChunkOf plans.now chosen.now }
     requires handed { CanHandOn plans.now handed }
-    ensures { RunsOn plans.now chosen.now handed (data_of given.items) result (S.state source.old) (S.state source.new) }
+    ensures { RunsOnly plans.now chosen.now handed (data_of given.items) result (S.state source.old) (S.state source.new) }
 {
+    let Ok(given) = given_and_made(alloc, plans, chosen, given, handed.made.as_slice()) else {
+        source.clear();
+        return Ran {
+            piece: Err(ScanError::Memory),
+            handed,
+        };
+    };
     let Ok(scan) = scan_of(alloc, plans, plans.projection, chosen) else {
         source.clear();
         return Ran {

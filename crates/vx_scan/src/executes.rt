@@ -2,23 +2,25 @@
 
 ghost use Rattle.std.specs.Prelude.{◌≡◌, ◌≤◌, ◌<◌, IfOk, length, map};
 ghost use Rattle.std.specs.List.{All, AllByRecursion};
-ghost use Rattle.std.specs.List.Sorted.{IsNonDecreasingBy};
 ghost use Rattle.vx_claims.specs.Claims.{count_of};
 ghost use Rattle.vx_claims.specs.Limits.{most_chunks};
-ghost use Rattle.vx_scan.specs.Executes.{Opens, AreJoined, CanRun, Sorts, Finishes, Executes as ExecutesAll};
+ghost use Rattle.vx_scan.specs.Executes.{Opens, CanRun, Executes as ExecutesAll};
+ghost use Rattle.vx_scan.specs.Joins.{JoinedAll};
 ghost use Rattle.vx_scan.specs.Lent.{EachSourceBy};
 ghost use Rattle.vx_scan.specs.Plans.{ArePlans, IsChunkOf};
 ghost use Rattle.vx_scan.specs.Workers.{IsFreshLane, Worked};
 
 use crate::books::ValueCache;
 use crate::claim_lists::ClaimList;
-use crate::errors::ScanError;
-use crate::gathers::{gather, open_lanes};
-use crate::lanes::{ChunkError, Lane, Piece};
+use crate::gathers::open_lanes;
+use crate::joins::{Joined, join_lanes};
+use crate::lanes::{Lane, want_of_memory};
 use crate::outcomes::Outcome;
 use crate::plans::ScanPlans;
+use crate::settling::settle;
 use crate::workers::spread;
 use std::alloc::{AllocError, Global};
+use std::sync::Wait;
 use std::thread::Threads;
 use vx_base::SegmentSource;
 use vx_claims::{ClaimSeat, Claiming, Claims};
@@ -51,11 +53,13 @@ fn open(alloc: Global, count: usize, workers: usize) -> Result<Opened, AllocErro
 }
 
 /// The lanes after the run of all workers.
-fn run<R: Threads + Sync, S: SegmentSource + Send>(
+fn run<R: Threads + Wait + Sync, S: SegmentSource + Send>(
     rt: &R,
     plans: &ScanPlans,
     chunks: &[SelectedRows],
     claims: &Claims,
+    cache: &ValueCache,
+    shares: bool,
     mut lanes: Vec<Lane>,
     sources: &mut [S],
 ) -> Vec<Lane>
@@ -64,65 +68,56 @@ fn run<R: Threads + Sync, S: SegmentSource + Send>(
     requires count { count_of claims.now ≡ length chunks.now }
     requires lanes { All (IsFreshLane claims.now) lanes.items }
     requires sources { length sources.old ≡ length lanes.items }
-    ensures { EachSourceBy (Worked claims.now plans.now chunks.now) result.items (map S.state sources.old) (map S.state sources.new) }
+    ensures { EachSourceBy (Worked shares claims.now plans.now chunks.now) result.items (map S.state sources.old) (map S.state sources.new) }
 {
-    spread(rt, plans, chunks, claims, lanes.as_mut_slice(), sources);
+    let lent = lanes.as_mut_slice();
+    spread(rt, plans, chunks, claims, cache, shares, lent, sources);
     lanes
 }
 
-/// Brings the pieces into the order of their chunks. Where there is no memory for it, no piece is left.
-fn sort(pieces: &mut Vec<Piece>) -> bool
-    ensures sorted { IsNonDecreasingBy (λ piece. piece.chunk) pieces.new.items }
-    ensures gives { Sorts result pieces.old.items pieces.new.items }
-{
-    match pieces.sort_by_key(|piece| piece.chunk) {
-        Ok(()) => true,
-        Err(_) => {
-            pieces.clear();
-            false
-        }
-    }
-}
-
-/// What the lanes gave, after the claims are closed.
-fn finish(
+/// What all workers gave, once they are done: with more than one source they share whole values by the cache.
+fn work_all<R: Threads + Wait + Sync, S: SegmentSource + Send>(
+    rt: &R,
     alloc: Global,
-    claims: Claims,
-    mut seat: ClaimSeat,
-    lanes: Vec<Lane>,
-    mut lists: Vec<ClaimList>,
-) -> Outcome
-    requires { AreJoined claims seat lanes.items lists }
-    ensures { Finishes (count_of claims) lanes.items result }
+    plans: &ScanPlans,
+    chunks: &[SelectedRows],
+    opened: Opened,
+    sources: &mut [S],
+    cache: &ValueCache,
+) -> Joined
+    requires some { 0 < length sources.old }
+    requires workers { length sources.old ≤ 64 }
+    requires plans { ArePlans plans.now }
+    requires chunks { AllByRecursion (IsChunkOf plans.now) chunks.now }
+    requires opened { Opens (length chunks.now) (length sources.old) opened }
+    ensures { JoinedAll plans.now chunks.now result (map S.state sources.old) (map S.state sources.new) }
 {
-    let mut pieces: Vec<Piece> = Vec::new(alloc);
-    let mut error = gather(&claims, &mut seat, lanes, &mut lists, &mut pieces);
-    let _word = claims.close(seat);
-    if !sort(&mut pieces) {
-        error = Some(ChunkError {
-            chunk: 0,
-            error: ScanError::Memory,
-        });
-    }
-    Outcome {
-        pieces,
-        claimed: lists,
-        reruns: Vec::new(alloc),
-        error,
-    }
+    let Opened {
+        claims,
+        seat,
+        lanes,
+        lists,
+    } = opened;
+    let shares = sources.len() > 1;
+    let lanes = run(rt, plans, chunks, &claims, cache, shares, lanes, sources);
+    join_lanes(alloc, claims, seat, lanes, lists)
 }
 
 /// Runs all chunks over the sources, with a worker for each source, which claims a chunk, runs it on its own source and
 /// goes on until none is left or one fails. It returns once all workers are done, and leaves nothing in flight. The lowest
-/// chunk that failed tells the error; want of memory outside of a chunk's run is told of chunk 0. The cache isn't looked
-/// at.
-pub fn execute<R: Threads + Sync, S: SegmentSource + Send>(
+/// chunk that failed tells the error; want of memory outside of a chunk's run is told of chunk 0. Borrowing for a chunk,
+/// testing what it borrowed and running it again belong to its run.
+///
+/// With more than one source the workers share whole values of dictionaries by the cache, whatever it holds. Once all are
+/// done, each value that was borrowed is tested on the first source: against what a worker made, or else against what is
+/// read now; and a chunk that rests on a value that is wrong runs again there. With one source nothing is shared.
+pub fn execute<R: Threads + Wait + Sync, S: SegmentSource + Send>(
     rt: &R,
     alloc: Global,
     plans: &ScanPlans,
     chunks: &[SelectedRows],
     sources: &mut [S],
-    _cache: &ValueCache,
+    cache: &ValueCache,
 ) -> Outcome
     requires some { 0 < length sources.old }
     requires workers { length sources.old ≤ 64 }
@@ -135,18 +130,9 @@ pub fn execute<R: Threads + Sync, S: SegmentSource + Send>(
             pieces: Vec::new(alloc),
             claimed: Vec::new(alloc),
             reruns: Vec::new(alloc),
-            error: Some(ChunkError {
-                chunk: 0,
-                error: ScanError::Memory,
-            }),
+            error: Some(want_of_memory()),
         };
     };
-    let Opened {
-        claims,
-        seat,
-        lanes,
-        lists,
-    } = opened;
-    let joined = run(rt, plans, chunks, &claims, lanes, sources);
-    finish(alloc, claims, seat, joined, lists)
+    let joined = work_all(rt, alloc, plans, chunks, opened, sources, cache);
+    settle(alloc, plans, chunks, joined, &mut sources[0])
 }

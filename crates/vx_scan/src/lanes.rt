@@ -1,9 +1,14 @@
 //! What one worker is given, and what it gives.
 
+ghost use Rattle.std.specs.Prelude.{◌≡◌};
+ghost use Rattle.vx_scan.specs.Gathers.{no_memory};
+
 use crate::errors::ScanError;
+use crate::outcomes::HandedOn;
 use std::alloc::Global;
 use vx_base::Column;
 use vx_claims::ClaimSeat;
+use vx_steps::KeptValue;
 
 /// The column of a chunk, by the chunk's number.
 #[derive(Drop)]
@@ -12,20 +17,42 @@ pub struct Piece {
     pub column: Column,
 }
 
-/// The number of a chunk that failed, and why. Want of memory outside of a chunk's run is told of chunk 0.
+/// The number of a chunk that failed, and why. Want of memory outside of a chunk's run is told of chunk 0; borrowing for a
+/// chunk, testing what it borrowed and running it again belong to its run.
 #[derive(Clone, Copy, Debug)]
 pub struct ChunkError {
     pub chunk: u64,
     pub error: ScanError,
 }
 
-/// A worker's seat at the claims, the numbers of the chunks that it claimed, the pieces of those that ran, and why it
-/// stopped, if not at the end.
+/// Want of memory outside of a chunk's run.
+pub(crate) fn want_of_memory() -> ChunkError
+    ensures { result ≡ no_memory }
+{
+    ChunkError {
+        chunk: 0,
+        error: ScanError::Memory,
+    }
+}
+
+/// A chunk that ran with whole values that its worker borrowed: these values, and what came of it with them in place of the
+/// plan's own: its column, or an error that may come of a value that is wrong.
+#[derive(Drop)]
+pub(crate) struct Loan {
+    pub(crate) chunk: u64,
+    pub(crate) borrowed: Vec<KeptValue>,
+    pub(crate) result: Result<Column, ScanError>,
+}
+
+/// A worker's seat at the claims, the numbers of the chunks that it claimed, the pieces of those that ran, those that ran
+/// with borrowed values, what it hands on from chunk to chunk, and why it stopped, if not at the end.
 #[derive(Drop)]
 pub(crate) struct Lane {
     pub(crate) alloc: Global,
     pub(crate) seat: ClaimSeat,
     pub(crate) claimed: Vec<u64>,
     pub(crate) pieces: Vec<Piece>,
+    pub(crate) loans: Vec<Loan>,
+    pub(crate) handed: HandedOn,
     pub(crate) error: Option<ChunkError>,
 }

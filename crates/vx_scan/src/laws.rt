@@ -1,7 +1,8 @@
 //! The laws of what scans answer. Each is the contract of a function that does nothing.
 
-ghost use Rattle.vx_scan.specs.Counts.{AsksAreCounted};
+ghost use Rattle.vx_scan.specs.Counts.{AllSourcesAreCounted, AsksAgainAreCounted, AsksAreCounted, OneSourceIsCounted};
 ghost use Rattle.vx_scan.specs.Laws.{AnswerIsOne, ValidScanIsAnswered, ValidScanBegins, FaultyReadIsNoAnswer, FaultIsNoAnswer, PiecesJoin, PiecesAnswer, PlanTextIsOne};
+ghost use Rattle.vx_scan.specs.SourceCounts.{FirstIsCountedAgain, SourceIsCounted, SourceIsCountedByChunks};
 
 /// A valid scan is not refused before it begins, and has an answer; no scan has two. There is none where a row has a
 /// faulty read, or where its meaning is a fault.
@@ -25,7 +26,21 @@ pub fn plans_have_one_text()
 {}
 
 /// A source is asked for one range at most as often as pairs of a chunk and a segment reach it directly, and pairs of an
-/// outermost dictionary and a segment through values.
+/// outermost dictionary and a segment through values, while its worker runs; and with one source that is all. With more, the
+/// first one is asked again at most as often as there are such pairs of chunks that ran again, and of dictionaries; and all
+/// together at most twice for each pair of a chunk, and for each pair of a dictionary once more than there are sources.
 pub fn asks_are_counted()
-    ensures { AsksAreCounted }
+    ensures worker { AsksAreCounted }
+    ensures one { OneSourceIsCounted }
+    ensures again { AsksAgainAreCounted }
+    ensures all { AllSourcesAreCounted }
+{}
+
+/// The same of the sources of [`execute`](crate::execute), each by the chunks that its own worker claimed, and of the first
+/// one once more by the chunks that ran again. And a source is asked at most as often as pairs of a claimed chunk and a
+/// segment reach the range, directly or through values.
+pub fn claimed_asks_are_counted()
+    ensures worker { SourceIsCounted }
+    ensures again { FirstIsCountedAgain }
+    ensures chunks { SourceIsCountedByChunks }
 {}

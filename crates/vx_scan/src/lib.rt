@@ -10,8 +10,9 @@
 //! - Whole values by plan: [`Book`], and [`ValueCache`], which keeps one under a lock.
 //! - The plan of a projection as a text: [`plan_text`].
 //! - Why there are no rows: [`ScanError`].
-//! - The laws of answers: [`scans_have_answers`], [`pieces_are_the_answer`]; of asks: [`asks_are_counted`]; of texts:
-//!   [`plans_have_one_text`]; by hand: [`answers_by_hand`], [`faults_by_hand`], [`pieces_by_hand`].
+//! - The laws of answers: [`scans_have_answers`], [`pieces_are_the_answer`]; of asks: [`asks_are_counted`],
+//!   [`claimed_asks_are_counted`]; of texts: [`plans_have_one_text`]; by hand: [`answers_by_hand`], [`faults_by_hand`],
+//!   [`pieces_by_hand`].
 #![tactic(auto)]
 
 mod adaptor_errors;
@@ -19,6 +20,7 @@ mod adaptors;
 mod batches;
 mod beginning;
 mod books;
+mod borrowing;
 mod builders;
 mod by_hand;
 mod chunks;
@@ -28,6 +30,7 @@ mod executes;
 mod files;
 mod gathering;
 mod gathers;
+mod joins;
 mod lanes;
 mod laws;
 mod outcomes;
@@ -35,8 +38,10 @@ mod plan_texts;
 mod plans;
 mod prepares;
 mod preparing;
+mod rerunning;
 mod runs;
 mod settings;
+mod settling;
 mod values;
 mod waits;
 mod workers;
@@ -52,7 +57,10 @@ pub use errors::ScanError;
 pub use executes::execute;
 pub use files::ScanFile;
 pub use lanes::{ChunkError, Piece};
-pub use laws::{asks_are_counted, pieces_are_the_answer, plans_have_one_text, scans_have_answers};
+pub use laws::{
+    asks_are_counted, claimed_asks_are_counted, pieces_are_the_answer, plans_have_one_text,
+    scans_have_answers,
+};
 pub use outcomes::{ChunkOutcome, Outcome, Rerun};
 pub use plan_texts::plan_text;
 pub use plans::ScanPlans;

@@ -1,8 +1,11 @@
 //! What the run of a chunk gives, and what the run of all chunks gives.
 
+ghost use Rattle.std.specs.Prelude.{◌≡◌, []};
+
 use crate::claim_lists::ClaimList;
 use crate::errors::ScanError;
 use crate::lanes::{ChunkError, Piece};
+use std::alloc::Global;
 use vx_base::Column;
 use vx_plan::PlanRef;
 use vx_steps::KeptValue;
@@ -20,6 +23,17 @@ pub struct ChunkOutcome {
 pub(crate) struct HandedOn {
     pub(crate) leaves: Vec<KeptValue>,
     pub(crate) made: Vec<KeptValue>,
+}
+
+/// What there is before the first chunk. It takes no memory.
+pub(crate) fn nothing_handed(alloc: Global) -> HandedOn
+    ensures leaves { result.leaves.items ≡ [] }
+    ensures made { result.made.items ≡ [] }
+{
+    HandedOn {
+        leaves: Vec::new(alloc),
+        made: Vec::new(alloc),
+    }
 }
 
 /// The piece of a chunk, or why it has none, and what it hands on.

@@ -8,22 +8,29 @@ ghost use Rattle.vx_scan.specs.Lent.{EachSourceBy};
 ghost use Rattle.vx_scan.specs.Plans.{ArePlans, IsChunkOf};
 ghost use Rattle.vx_scan.specs.Workers.{IsFreshLane, Worked};
 
-use crate::chunks::run_on;
-use crate::errors::ScanError;
-use crate::lanes::{ChunkError, Lane, Piece};
-use crate::outcomes::{HandedOn, Ran};
+use crate::books::ValueCache;
+use crate::borrowing::{Shared, enlist, run_shared};
+use crate::lanes::{Lane, want_of_memory};
+use crate::outcomes::{Ran, nothing_handed};
 use crate::plans::ScanPlans;
+use std::mem;
+use std::sync::Wait;
 use std::thread::{Threads, join_mut};
 use vx_base::SegmentSource;
 use vx_claims::Claims;
 use vx_splits::SelectedRows;
 
 /// Claims chunks and runs them on the source, until none is left or one fails. What a chunk decoded and made is handed on
-/// to the next one of this worker, so that it reads no leaf and no whole values twice.
-fn work<S: SegmentSource>(
+/// to the next one of this worker, so that it reads no whole values twice, and no leaf that stays with it. Where values are
+/// shared, a chunk borrows from the cache what the worker lacks; a chunk that borrowed doesn't stop the worker where its
+/// error may come of a value that is wrong.
+fn work<R: Wait, S: SegmentSource>(
+    rt: &R,
     plans: &ScanPlans,
     chunks: &[SelectedRows],
     claims: &Claims,
+    cache: &ValueCache,
+    shares: bool,
     lane: &mut Lane,
     source: &mut S,
 )
@@ -31,61 +38,43 @@ fn work<S: SegmentSource>(
     requires chunks { AllByRecursion (IsChunkOf plans.now) chunks.now }
     requires count { count_of claims.now ≡ length chunks.now }
     requires lane { IsFreshLane claims.now lane.old }
-    ensures { Worked claims.now plans.now chunks.now lane.new (S.state source.old) (S.state source.new) }
+    ensures { Worked shares claims.now plans.now chunks.now lane.new (S.state source.old) (S.state source.new) }
 {
-    let mut handed = HandedOn {
-        leaves: Vec::new(lane.alloc),
-        made: Vec::new(lane.alloc),
-    };
+    // The contract of `len` says that the table keeps its rules.
+    let _plans = plans.table.len();
     'working: loop {
-        if lane.claimed.reserve(1).is_err() || lane.pieces.reserve(1).is_err() {
-            lane.error = Some(ChunkError {
-                chunk: 0,
-                error: ScanError::Memory,
-            });
+        if lane.claimed.reserve(1).is_err()
+            || lane.pieces.reserve(1).is_err()
+            || lane.loans.reserve(1).is_err()
+        {
+            lane.error = Some(want_of_memory());
             return;
         }
         let Some(number) = lane.seat.claim(claims) else {
             return;
         };
         lane.claimed.push_reserved(number);
-        let given = Vec::new(lane.alloc); // so far no values are borrowed
-        let Ran {
-            piece,
-            handed: more,
-        } = run_on(
-            lane.alloc,
-            plans,
-            &chunks[number as usize],
-            source,
-            handed,
-            given,
+        let handed = mem::replace(&mut lane.handed, nothing_handed(lane.alloc));
+        let chunk = &chunks[number as usize];
+        let Shared { ran, borrowed } = run_shared(
+            rt, lane.alloc, plans, chunk, cache, shares, source, handed,
         );
-        match piece {
-            Ok(column) => lane.pieces.push_reserved(Piece {
-                chunk: number,
-                column,
-            }),
-            Err(error) => {
-                lane.error = Some(ChunkError {
-                    chunk: number,
-                    error,
-                });
-                return; // a worker stops at a chunk that fails
-            }
+        let Ran { piece, handed } = ran;
+        lane.handed = handed;
+        if !enlist(lane, number, piece, borrowed) {
+            return; // a worker stops at a chunk that fails
         }
-        handed = more;
     }
 }
 
-/// A worker for each lane and its source, each in a thread of its own. Where no thread can be started, this one does
-/// that work.
-#[cycle(spread)]
-pub(crate) fn spread<R: Threads + Sync, S: SegmentSource + Send>(
+/// A worker for each lane and its source, side by side, by no more threads than there are chunks.
+pub(crate) fn spread<R: Threads + Wait + Sync, S: SegmentSource + Send>(
     rt: &R,
     plans: &ScanPlans,
     chunks: &[SelectedRows],
     claims: &Claims,
+    cache: &ValueCache,
+    shares: bool,
     lanes: &mut [Lane],
     sources: &mut [S],
 )
@@ -94,61 +83,90 @@ pub(crate) fn spread<R: Threads + Sync, S: SegmentSource + Send>(
     requires count { count_of claims.now ≡ length chunks.now }
     requires lanes { All (IsFreshLane claims.now) lanes.old }
     requires sources { length sources.old ≡ length lanes.old }
-    ensures { EachSourceBy (Worked claims.now plans.now chunks.now) lanes.new (map S.state sources.old) (map S.state sources.new) }
+    ensures { EachSourceBy (Worked shares claims.now plans.now chunks.now) lanes.new (map S.state sources.old) (map S.state sources.new) }
 {
-    if lanes.len() == 0 {
-        return;
-    }
-    if lanes.len() == 1 {
-        work(plans, chunks, claims, &mut lanes[0], &mut sources[0]);
-        return;
-    }
-    let middle = lanes.len() / 2;
-    let (front_lanes, back_lanes) = lanes.split_at_mut(middle);
-    let (front_sources, back_sources) = sources.split_at_mut(middle);
-    halves(
-        rt,
-        plans,
-        chunks,
-        claims,
-        front_lanes,
-        front_sources,
-        back_lanes,
-        back_sources,
+    let threads = chunks.len();
+    spread_over(
+        rt, plans, chunks, claims, cache, shares, threads, lanes, sources,
     );
 }
 
-/// The workers of both halves, side by side.
-#[cycle(spread)]
-fn halves<R: Threads + Sync, S: SegmentSource + Send>(
+/// The workers of these lanes, by so many threads at most. This thread is one of them, and starts all others: one that a
+/// new thread starts mostly comes behind that one on its processor, though another has nothing to do. The lanes for which
+/// no thread is left are worked through by this one, one after another: as a rule they find no chunk left.
+#[cycle(spreading)]
+fn spread_over<R: Threads + Wait + Sync, S: SegmentSource + Send>(
     rt: &R,
     plans: &ScanPlans,
     chunks: &[SelectedRows],
     claims: &Claims,
-    front_lanes: &mut [Lane],
-    front_sources: &mut [S],
-    back_lanes: &mut [Lane],
-    back_sources: &mut [S],
+    cache: &ValueCache,
+    shares: bool,
+    threads: usize,
+    lanes: &mut [Lane],
+    sources: &mut [S],
 )
     requires plans { ArePlans plans.now }
     requires chunks { AllByRecursion (IsChunkOf plans.now) chunks.now }
     requires count { count_of claims.now ≡ length chunks.now }
-    requires front { All (IsFreshLane claims.now) front_lanes.old }
-    requires back { All (IsFreshLane claims.now) back_lanes.old }
-    requires some_front { 0 < length front_lanes.old }
-    requires some_back { 0 < length back_lanes.old }
-    requires front_sources { length front_sources.old ≡ length front_lanes.old }
-    requires back_sources { length back_sources.old ≡ length back_lanes.old }
-    ensures front { EachSourceBy (Worked claims.now plans.now chunks.now) front_lanes.new (map S.state front_sources.old) (map S.state front_sources.new) }
-    ensures back { EachSourceBy (Worked claims.now plans.now chunks.now) back_lanes.new (map S.state back_sources.old) (map S.state back_sources.new) }
+    requires lanes { All (IsFreshLane claims.now) lanes.old }
+    requires sources { length sources.old ≡ length lanes.old }
+    ensures { EachSourceBy (Worked shares claims.now plans.now chunks.now) lanes.new (map S.state sources.old) (map S.state sources.new) }
 {
-    let mut front = ||
-        requires { IsSync R.row × IsSend S.row × (length front_sources.now ≡ length front_lanes.now) × (count_of claims.now ≡ length chunks.now) × All (IsFreshLane claims.now) front_lanes.now × ArePlans plans.now × AllByRecursion (IsChunkOf plans.now) chunks.now }
-        ensures { EachSourceBy (Worked claims.entry.now plans.entry.now chunks.entry.now) front_lanes.exit.now (map S.state front_sources.entry.now) (map S.state front_sources.exit.now) }
-    { spread(rt, plans, chunks, claims, front_lanes, front_sources) };
-    let mut back = ||
-        requires { IsSync R.row × IsSend S.row × (length back_sources.now ≡ length back_lanes.now) × (count_of claims.now ≡ length chunks.now) × All (IsFreshLane claims.now) back_lanes.now × ArePlans plans.now × AllByRecursion (IsChunkOf plans.now) chunks.now }
-        ensures { EachSourceBy (Worked claims.entry.now plans.entry.now chunks.entry.now) back_lanes.exit.now (map S.state back_sources.entry.now) (map S.state back_sources.exit.now) }
-    { spread(rt, plans, chunks, claims, back_lanes, back_sources) };
-    join_mut(rt, &mut front, &mut back);
+    let Some((lane, lanes)) = lanes.split_first_mut() else {
+        return;
+    };
+    let Some((source, sources)) = sources.split_first_mut() else {
+        unreachable!()
+    };
+    if threads <= 1 || lanes.is_empty() {
+        work(rt, plans, chunks, claims, cache, shares, lane, source);
+        spread_over(
+            rt, plans, chunks, claims, cache, shares, threads, lanes, sources,
+        );
+        return;
+    }
+    let left = threads - 1;
+    first_and_others(
+        rt, plans, chunks, claims, cache, &shares, lane, source, &left, lanes, sources,
+    );
+}
+
+/// The first worker in a thread of its own, and the others from this one.
+#[cycle(spreading)]
+fn first_and_others<R: Threads + Wait + Sync, S: SegmentSource + Send>(
+    rt: &R,
+    plans: &ScanPlans,
+    chunks: &[SelectedRows],
+    claims: &Claims,
+    cache: &ValueCache,
+    shares: &bool,
+    lane: &mut Lane,
+    source: &mut S,
+    threads: &usize,
+    lanes: &mut [Lane],
+    sources: &mut [S],
+)
+    requires plans { ArePlans plans.now }
+    requires chunks { AllByRecursion (IsChunkOf plans.now) chunks.now }
+    requires count { count_of claims.now ≡ length chunks.now }
+    requires lane { IsFreshLane claims.now lane.old }
+    requires lanes { All (IsFreshLane claims.now) lanes.old }
+    requires sources { length sources.old ≡ length lanes.old }
+    ensures first { Worked shares.now claims.now plans.now chunks.now lane.new (S.state source.old) (S.state source.new) }
+    ensures others { EachSourceBy (Worked shares.now claims.now plans.now chunks.now) lanes.new (map S.state sources.old) (map S.state sources.new) }
+{
+    let mut first = ||
+        requires { ArePlans plans.now × AllByRecursion (IsChunkOf plans.now) chunks.now × (count_of claims.now ≡ length chunks.now) × IsFreshLane claims.now lane.now }
+        ensures { Worked shares.entry.now claims.entry.now plans.entry.now chunks.entry.now lane.exit.now (S.state source.entry.now) (S.state source.exit.now) }
+    { work(rt, plans, chunks, claims, cache, *shares, lane, source) };
+    let mut others = ||
+        requires { IsSync R.row × IsSend S.row × (length sources.now ≡ length lanes.now) × (count_of claims.now ≡ length chunks.now) × All (IsFreshLane claims.now) lanes.now × ArePlans plans.now × AllByRecursion (IsChunkOf plans.now) chunks.now }
+        ensures { EachSourceBy (Worked shares.entry.now claims.entry.now plans.entry.now chunks.entry.now) lanes.exit.now (map S.state sources.entry.now) (map S.state sources.exit.now) }
+    {
+        spread_over(
+            rt, plans, chunks, claims, cache, *shares, *threads, lanes, sources,
+        )
+    };
+    join_mut(rt, &mut first, &mut others);
 }

@@ -5,4 +5,4 @@ use Rattle.vx_scan.proofs.gathers.gather.Given as goal
 
 abbrev pub invariant-loop-lane : goal.invariant-loop-lane
 invariant-loop-lane l =
-    Gathers l.claims (parts l.fn.seat) l.yielded l.seat l.lists.items l.pieces.items l.error × (l.yielded ++ l.lane-iterator.rest.items ≡ l.fn.lanes.items) × (l.lists.cap ≡ l.fn.lists.cap)
+    Gathers l.claims (parts l.fn.seat) l.yielded l.seat l.joined × (l.yielded ++ l.lane-iterator.rest.items ≡ l.fn.lanes.items) × (l.joined.claimed.cap ≡ l.fn.joined.claimed.cap)
