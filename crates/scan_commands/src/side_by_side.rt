@@ -11,14 +11,15 @@ use crate::column_lines::append_column_lines;
 use crate::row_writing::write_batches;
 use crate::writing::write_all;
 use std::alloc::{AllocError, Global};
+use std::mem;
 use std::thread::{Threads, join_mut};
 use vx_base::{Column, Sink, StreamError};
 
 /// About so many rows have their lines made by one thread at a time.
-const ROWS_AT_ONCE: u64 = 65536;
+const ROWS_AT_ONCE: u64 = 262144;
 
 /// Fills the text with the lines of batches, one batch after another; what it had before is gone.
-fn make_text(alloc: Global, batches: &[Column], text: &mut Vec<u8>) -> Result<(), AllocError>
+fn fill_text(alloc: Global, batches: &[Column], text: &mut Vec<u8>) -> Result<(), AllocError>
     ensures { OnOk result (text.new.items ≡ batch_lines batches.now) }
 {
     text.clear();
@@ -26,6 +27,17 @@ fn make_text(alloc: Global, batches: &[Column], text: &mut Vec<u8>) -> Result<()
         append_column_lines(alloc, batch, text)?;
     }
     Ok(())
+}
+
+/// Fills one of several texts that lie side by side. While it grows it lies in a place of this thread's own: its length is
+/// written with each cell, and where it lay, in a cache line that other threads write the lengths of theirs to.
+fn make_text(alloc: Global, batches: &[Column], text: &mut Vec<u8>) -> Result<(), AllocError>
+    ensures { OnOk result (text.new.items ≡ batch_lines batches.now) }
+{
+    let mut own = mem::replace(text, Vec::new(alloc));
+    let made = fill_text(alloc, batches, &mut own);
+    *text = own;
+    made
 }
 
 /// Fills the texts with the lines of a group of batches, so many of which make a part: each text with those of a part, and
