@@ -8,10 +8,10 @@ use crate::trees::{tree_of, type_of};
 use std::alloc::{AllocError, Global};
 use std::ops::Range;
 use vx_base::DType;
-use vx_expr::{BindError, BoundExpression, Expr, bind};
+use vx_expr::{ArithOp, BindError, BoundExpression, Expr, bind};
 use vx_layout::LayoutTree;
 use vx_scan::{ScanBuilder, ScanFile};
-use vx_splits::StrictSorted;
+use vx_splits::{Selection, StrictSorted};
 
 /// The builder of a scan of the tree, whose segments lie at these places.
 fn scan_of(alloc: Global, layout: LayoutTree, places: &str) -> Result<ScanBuilder, AllocError>
@@ -31,11 +31,16 @@ pub(crate) fn builder_of(alloc: Global, desk: Desk<'_>) -> Result<Option<ScanBui
     }
 }
 
-/// The row's number for `row`, the root for `root`, and for any other word the root of that dtype.
+/// The row's number for `row`, the root for `root`, the root less the row's number for `less`, and for any other word the
+/// root of that dtype.
 fn projection_of(alloc: Global, dtype: &DType, word: &str) -> Result<BoundExpression, BindError> {
     match word {
         "row" => bind(alloc, &Expr::RowIdx, dtype),
         "root" => bind(alloc, &Expr::Root, dtype),
+        "less" => {
+            let less = Expr::arith(alloc, ArithOp::Sub, Expr::Root, Expr::RowIdx)?;
+            bind(alloc, &less, dtype)
+        }
         other => bind(alloc, &Expr::Root, &type_of(alloc, other)),
     }
 }
@@ -55,6 +60,14 @@ fn indices_of(alloc: Global, words: &str) -> Option<StrictSorted> {
     StrictSorted::try_new(numbers_of(alloc, words).ok()?).ok()
 }
 
+/// The selection that is written so: `all` is every row, and numbers are the rows that have them.
+fn selection_of(alloc: Global, words: &str) -> Option<Selection> {
+    if words == "all" {
+        return Some(Selection::All);
+    }
+    Some(Selection::IncludeByIndex(indices_of(alloc, words)?))
+}
+
 /// The range that is written so, as `1..4`.
 fn range_of(words: &str) -> Range<u64> {
     let (start, end) = words.split_once("..").unwrap_or((words, ""));
@@ -62,7 +75,8 @@ fn range_of(words: &str) -> Range<u64> {
 }
 
 /// The scan of the file with settings that are written so: `1..4 0,3 7 row` is of the rows 0 and 3 in a range, counted
-/// from 7, and projects their numbers. None where there is no tree, or they can't be set.
+/// from 7, and projects their numbers; `1..4 all 7 row` is of all rows of the range. None where there is no tree, or they
+/// can't be set.
 pub(crate) fn set_of(alloc: Global, desk: Desk<'_>, words: &str) -> Option<ScanBuilder>
     ensures { IfSome result (λ builder. length builder.locations ≤ 2 ^ 32 - 1) }
 {
@@ -70,12 +84,12 @@ pub(crate) fn set_of(alloc: Global, desk: Desk<'_>, words: &str) -> Option<ScanB
     let (indices, words) = words.split_once(' ').unwrap_or((words, ""));
     let (offset, root) = words.split_once(' ').unwrap_or((words, ""));
     let offset = offset.parse::<u64>().unwrap_or(0);
-    let rows = indices_of(alloc, indices)?;
+    let selection = selection_of(alloc, indices)?;
     let builder = projected(alloc, desk, root)?
         .with_ordered(false)
         .with_concurrency(2)
         .with_row_range(range_of(range))
-        .with_row_indices(rows)
+        .with_selection(selection)
         .with_row_offset(offset);
     Some(builder)
 }

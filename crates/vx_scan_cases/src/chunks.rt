@@ -53,7 +53,7 @@ pub(crate) fn value_of(alloc: Global, text: &str) -> Option<KeptValue> {
 }
 
 /// The values that the words between ` | ` give.
-fn given_of(alloc: Global, text: &str) -> Result<Vec<KeptValue>, AllocError> {
+pub(crate) fn given_of(alloc: Global, text: &str) -> Result<Vec<KeptValue>, AllocError> {
     let mut given = Vec::new(alloc);
     for part in text.split(" | ") {
         if let Some(value) = value_of(alloc, part) {
@@ -81,7 +81,7 @@ fn write_outcome(
 }
 
 /// The rows of a chunk.
-fn chosen_of(alloc: Global, rows: &str) -> Result<SelectedRows, AllocError> {
+pub(crate) fn chosen_of(alloc: Global, rows: &str) -> Result<SelectedRows, AllocError> {
     let Split { rows, mask } = split_of(alloc, rows)?;
     let scope = WorkScope {
         file_ordinal: 0,
@@ -91,7 +91,7 @@ fn chosen_of(alloc: Global, rows: &str) -> Result<SelectedRows, AllocError> {
 }
 
 /// Whether the rows are inside the plans, with a mask of their length.
-fn is_chunk(plans: &ScanPlans, chosen: &SelectedRows) -> bool
+pub(crate) fn is_chunk(plans: &ScanPlans, chosen: &SelectedRows) -> bool
     requires { ArePlans plans.now }
     ensures { IsTrue result → IsChunkOf plans.now chosen.now }
 {

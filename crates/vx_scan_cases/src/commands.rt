@@ -1,12 +1,15 @@
 //! The commands, over one file.
 
 use crate::adaptors::write_adaptor;
+use crate::caches::write_cache;
 use crate::chunks::write_chunk;
 use crate::scans::{write_dtype, write_scan, write_selected};
+use crate::shares::write_shared;
 use crate::trees::write_tree;
-use crate::values::write_values;
+use crate::values::{write_asks, write_values};
 use crate::workers::{write_book, write_executed, write_prepared};
 use std::alloc::AllocError;
+use std::sync::Wait;
 use std::thread::Threads;
 
 /// The file in words: the nodes of its tree, where its segments lie, its bytes, and the script that its source keeps
@@ -33,7 +36,7 @@ fn set<'a>(desk: &mut Desk<'a>, command: &str, words: &'a str) {
 }
 
 /// Appends the answer to a line.
-fn write_answer<R: AllocGlobal + Threads + Sync>(
+fn write_answer<R: AllocGlobal + Threads + Wait + Sync>(
     rt: &R,
     desk: Desk<'_>,
     command: &str,
@@ -48,17 +51,20 @@ fn write_answer<R: AllocGlobal + Threads + Sync>(
         "scan" => write_scan(rt, desk, out),
         "select" => write_selected(rt, desk, words, out),
         "chunk" => write_chunk(alloc, desk, words, out),
+        "asks" => write_asks(alloc, desk, words, out),
         "values" => write_values(alloc, desk, words, out),
         "prepare" => write_prepared(alloc, desk, words, out),
         "execute" => write_executed(rt, desk, words, out),
+        "share" => write_shared(rt, desk, words, out),
         "book" => write_book(alloc, words, out),
+        "cache" => write_cache(rt, words, out),
         "adaptor" => write_adaptor(alloc, desk, words, out),
         _ => out.push_str(" no command"),
     }
 }
 
 /// Appends each line with its answer.
-pub(crate) fn write_lines<R: AllocGlobal + Threads + Sync>(
+pub(crate) fn write_lines<R: AllocGlobal + Threads + Wait + Sync>(
     rt: &R,
     lines: &str,
     out: &mut String,

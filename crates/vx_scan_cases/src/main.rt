@@ -6,10 +6,12 @@
 mod adaptors;
 mod answers;
 mod builders;
+mod caches;
 mod chunks;
 mod commands;
 mod files;
 mod scans;
+mod shares;
 mod splits;
 mod trees;
 mod values;

@@ -7,6 +7,7 @@ use crate::builders::{builder_of, set_of};
 use crate::commands::Desk;
 use crate::files::source_of;
 use std::alloc::{AllocError, Global};
+use std::sync::Wait;
 use std::thread::Threads;
 use vx_base::{Column, DType, ScriptSource};
 use vx_notation::dtype_text;
@@ -31,7 +32,7 @@ fn write_batches(
 }
 
 /// Appends the batches of a scan over the source, and what that was asked.
-fn write_run<R: AllocGlobal + Threads + Sync>(
+fn write_run<R: AllocGlobal + Threads + Wait + Sync>(
     rt: &R,
     builder: ScanBuilder,
     source: ScriptSource,
@@ -47,7 +48,7 @@ fn write_run<R: AllocGlobal + Threads + Sync>(
 }
 
 /// Appends the batches of a scan of the file, and what its source was asked.
-pub(crate) fn write_scan<R: AllocGlobal + Threads + Sync>(
+pub(crate) fn write_scan<R: AllocGlobal + Threads + Wait + Sync>(
     rt: &R,
     desk: Desk<'_>,
     out: &mut String,
@@ -60,7 +61,7 @@ pub(crate) fn write_scan<R: AllocGlobal + Threads + Sync>(
 }
 
 /// Appends the batches of a scan of the file with these settings, and what its source was asked.
-pub(crate) fn write_selected<R: AllocGlobal + Threads + Sync>(
+pub(crate) fn write_selected<R: AllocGlobal + Threads + Wait + Sync>(
     rt: &R,
     desk: Desk<'_>,
     words: &str,

@@ -9,6 +9,7 @@ use crate::chunks::value_of;
 use crate::commands::Desk;
 use crate::files::source_of;
 use std::alloc::{AllocError, Global};
+use std::sync::Wait;
 use std::thread::Threads;
 use vx_base::ScriptSource;
 use vx_plan::PlanRef;
@@ -40,7 +41,11 @@ pub(crate) fn write_prepared(
 }
 
 /// Appends the pieces of the chunks, the numbers of the chunks that were claimed, how many ran again, and the error.
-fn write_outcome(alloc: Global, outcome: &Outcome, out: &mut String) -> Result<(), AllocError> {
+pub(crate) fn write_outcome(
+    alloc: Global,
+    outcome: &Outcome,
+    out: &mut String,
+) -> Result<(), AllocError> {
     for piece in &outcome.pieces {
         write!(out, " chunk {}", piece.chunk)?;
         write_column(alloc, &piece.column, out)?;
@@ -61,7 +66,11 @@ fn write_outcome(alloc: Global, outcome: &Outcome, out: &mut String) -> Result<(
 }
 
 /// Sources of the file, so many, and one at least.
-fn sources_of(alloc: Global, desk: Desk<'_>, count: u64) -> Result<Vec<ScriptSource>, AllocError> {
+pub(crate) fn sources_of(
+    alloc: Global,
+    desk: Desk<'_>,
+    count: u64,
+) -> Result<Vec<ScriptSource>, AllocError> {
     let mut sources = Vec::new(alloc);
     for _source in 0..count.clamp(1, 64) {
         sources.push(source_of(alloc, desk.bytes, desk.script)?)?;
@@ -70,7 +79,7 @@ fn sources_of(alloc: Global, desk: Desk<'_>, count: u64) -> Result<Vec<ScriptSou
 }
 
 /// Runs a prepared scan over the sources.
-fn write_run<R: AllocGlobal + Threads + Sync>(
+fn write_run<R: AllocGlobal + Threads + Wait + Sync>(
     rt: &R,
     prepared: &Prepared,
     sources: &mut [ScriptSource],
@@ -96,7 +105,7 @@ fn write_run<R: AllocGlobal + Threads + Sync>(
 }
 
 /// Runs a prepared scan over so many sources of the file.
-fn write_over<R: AllocGlobal + Threads + Sync>(
+fn write_over<R: AllocGlobal + Threads + Wait + Sync>(
     rt: &R,
     desk: Desk<'_>,
     prepared: &Prepared,
@@ -111,7 +120,7 @@ fn write_over<R: AllocGlobal + Threads + Sync>(
 }
 
 /// Appends what a prepared scan gives over so many sources.
-pub(crate) fn write_executed<R: AllocGlobal + Threads + Sync>(
+pub(crate) fn write_executed<R: AllocGlobal + Threads + Wait + Sync>(
     rt: &R,
     desk: Desk<'_>,
     words: &str,
