@@ -3,10 +3,11 @@
 
     python3 bench/workers.py PROGRAM [--seed N] [--runs N] [--only NAME ..]
 
-It makes the data of run.py and one more set into bench/data/, checks each output, and runs all in turns with the output
+It makes the data of run.py and two more sets into bench/data/, checks each output, and runs all in turns with the output
 thrown away. `plain` is the plain program of run.py, which has one thread.
 """
 import argparse
+import array
 import json
 import random
 import subprocess
@@ -18,12 +19,14 @@ from run import MILLION, DATA_SETS, DataSet, bytes_of, bytes_of_texts, is_right,
 
 COUNTS = [1, 2, 4]
 # How much of one worker's time four may take at the most.
-MOST = {"ten_chunks": 0.45, "texts_and_sums": 0.35, "ten_flat": 1.0}
+MOST = {"ten_chunks": 0.45, "texts_and_sums": 0.35, "ten_flat": 1.0, "many_texts": 0.5}
 PLACES = 64
+TIMES = 10
+CODES = 65536
 
 
 def make_texts_and_sums(seed):
-    """A struct of numbers and texts in chunks, of which a text, a sum and a test are projected."""
+    """A struct of numbers and texts in chunks, of which a text, a sum and a test are projected: a million rows, ten times."""
     rng = random.Random(seed + 1)
     size = MILLION // PLACES
     numbers = [rng.randrange(-(10**9), 10**9) for _ in range(MILLION)]
@@ -35,17 +38,19 @@ def make_texts_and_sums(seed):
         segments.append(bytes_of("q", numbers[part]))
         columns["text"].append(len(segments))
         segments.append(bytes_of_texts(texts[part]))
-    nodes = [{"kind": "struct", "dtype": {"struct": [["number", "i64"], ["text", "utf8"]]}, "rows": MILLION, "children": []}]
+    rows, shared = TIMES * MILLION, len(segments)
+    nodes = [{"kind": "struct", "dtype": {"struct": [["number", "i64"], ["text", "utf8"]]}, "rows": rows, "children": []}]
     for name, dtype in (("number", "i64"), ("text", "utf8")):
         nodes[0]["children"].append(len(nodes))
         first = len(nodes) + 1
-        nodes.append({"kind": "chunked", "dtype": dtype, "rows": MILLION, "children": list(range(first, first + PLACES))})
-        nodes += [run.flat(size, segment, dtype) for segment in columns[name]]
+        leaves = [run.flat(size, turn * shared + segment, dtype) for turn in range(TIMES) for segment in columns[name]]
+        nodes.append({"kind": "chunked", "dtype": dtype, "rows": rows, "children": list(range(first, first + len(leaves)))})
+        nodes += leaves
     number, text = {"get": ["number", "root"]}, {"get": ["text", "root"]}
     total = {"add": [{"mul": [number, {"lit": 3, "type": "i64"}]}, {"lit": 7, "type": "i64"}]}
     positive = {"gt": [number, {"lit": 0, "type": "i64"}]}
     request = {
-        "locations": one_after_another(map(len, segments)),
+        "locations": one_after_another([len(segment) for segment in segments] * TIMES),
         "nodes": nodes,
         "projection": {"pack": [["sum", total], ["text", text], ["positive", positive]]},
     }
@@ -54,7 +59,25 @@ def make_texts_and_sums(seed):
         '{"sum":%d,"text":%s,"positive":%s}\n' % (n * 3 + 7, json.dumps(t, ensure_ascii=False), "true" if n > 0 else "false")
         for n, t in zip(numbers, texts)
     )
-    run.write_values("texts_and_sums", segments, ["".join(lines).encode()])
+    run.write_values("texts_and_sums", segments * TIMES, ["".join(lines).encode()] * TIMES)
+
+
+def make_many_texts(seed):
+    """A dictionary of a million texts under ten million codes, the texts in one segment and the codes in many."""
+    rng = random.Random(seed + 2)
+    texts = run.random_texts(rng, MILLION)
+    sizes = [min(CODES, 10 * MILLION - start) for start in range(0, 10 * MILLION, CODES)]
+    codes = [array.array("I", rng.choices(range(MILLION), k=size)) for size in sizes]
+    segments = [bytes_of_texts(texts)] + [bytes_of("I", part) for part in codes]
+    lines = [run.lines_of([text]) for text in texts]
+    run.write_values("many_texts", segments, (b"".join([lines[code] for code in part]) for part in codes))
+    nodes = [
+        {"kind": "dict", "dtype": "utf8", "rows": 10 * MILLION, "children": [1, 2]},
+        run.flat(MILLION, 0, "utf8"),
+        {"kind": "chunked", "dtype": "u32", "rows": 10 * MILLION, "children": list(range(3, 3 + len(sizes)))},
+    ]
+    nodes += [run.flat(size, place + 1, "u32") for place, size in enumerate(sizes)]
+    run.write_request("many_texts", one_after_another(map(len, segments)), nodes)
 
 
 def seconds(command):
@@ -88,11 +111,13 @@ def main():
     parser.add_argument("--runs", type=int, default=5)
     parser.add_argument("--only", nargs="+")
     options = parser.parse_args()
-    DATA_SETS["texts_and_sums"] = DataSet("texts_and_sums", MILLION, 5, None)
+    DATA_SETS["texts_and_sums"] = DataSet("texts_and_sums", TIMES * MILLION, 5, None)
+    DATA_SETS["many_texts"] = DataSet("many_texts", 10 * MILLION, 5, None)
     run.make_all(options.seed)
     make_texts_and_sums(options.seed)
+    make_many_texts(options.seed)
     plain = run.build_plain()
-    names = options.only or ["ten_chunks", "ten_flat", "chunks_128", "struct_50", "dict_texts", "texts", "texts_and_sums"]
+    names = options.only or ["ten_chunks", "ten_flat", "chunks_128", "struct_50", "dict_texts", "texts", "texts_and_sums", "many_texts"]
     for name in names:
         measure(options.program, plain, name, options.runs)
 
