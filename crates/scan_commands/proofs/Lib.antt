@@ -17,6 +17,7 @@ pub mod Buffering
 pub mod Scanning
 pub mod Serving
 pub mod SideBySides
+mod ColumnCrossing
 pub mod Drawing
 pub mod Demonstrating
 pub mod Running

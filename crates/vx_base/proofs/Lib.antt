@@ -2,7 +2,6 @@ pub mod ColumnRows
 pub mod KeptRuns
 pub mod RunRows
 pub mod ScriptTurns
-pub mod SharedRows
 pub mod SpreadRuns
 pub mod Tickets
 pub use Rattle.vx_types.proofs.AllFit

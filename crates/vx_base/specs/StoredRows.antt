@@ -1,5 +1,4 @@
 -- The rows of a column, whatever way they are stored, as data.
-use Rattle.std.specs.Arc.{arc_value}
 use Rattle.vx_base.specs.Columns.{ColumnData}
 use Rattle.vx_base.specs.declared.stored_rows.Laid.{Laid}
 use Rattle.vx_base.specs.declared.stored_rows.Laid.TheVariants as laid
@@ -8,7 +7,7 @@ use Rattle.vx_base.specs.declared.stored_rows.Rows.TheVariants as variants
 
 abbrev pub row_data : Rows → ColumnData
 row_data (variants.Plain part) = part
-row_data (variants.Shared part) = arc_value part
+row_data (variants.Shared part) = part
 row_data (variants.Runs runs) = runs
 
 -- the same rows as they lie

@@ -13,7 +13,7 @@ ghost use Rattle.vx_packed.specs.PackedColumns.{bare_column, IsColumn};
 
 use crate::columns::Column;
 use std::alloc::{AllocError, Global};
-use vx_packed::{Part, Parts};
+use vx_packed::{Part, Parts, SharedPart};
 use vx_types::{DType, Fields, Nullability};
 use vx_words::Mask;
 
@@ -64,25 +64,25 @@ fn looked_up_dtype(alloc: Global, codes: &DType, values: &DType) -> Result<DType
     }
 }
 
-/// The rows of a part alone, packed.
-fn rows_alone(alloc: Global, part: Column) -> Result<Part, AllocError>
+/// The rows of a part, packed and behind a handle.
+fn shared_rows(alloc: Global, part: Column) -> Result<SharedPart, AllocError>
     ensures rows { IfOk result (λ rows. rows ≡ bare_column part) }
     ensures fit { IsFitting part }
 {
     let _fit = part.len();
-    let rows = part.into_part(alloc)?;
+    let rows = part.into_shared(alloc)?;
     Ok(rows)
 }
 
-/// The rows of each part. It moves those that are packed and not shared.
-fn all_rows_alone(alloc: Global, parts: Vec<Column>) -> Result<Vec<Part>, AllocError>
+/// The rows of each part. It moves those that are packed, and copies none that are shared.
+fn all_shared_rows(alloc: Global, parts: Vec<Column>) -> Result<Vec<SharedPart>, AllocError>
     ensures rows { IfOk result (λ rows. rows.items ≡ map bare_column parts.items) }
     ensures fit { OnOk result (AllByRecursion IsFitting parts.items) }
 {
     let mut rows = Vec::with_capacity(alloc, parts.len())?;
     for part in parts {
-        let alone = rows_alone(alloc, part)?;
-        rows.push(alone)?;
+        let shared = shared_rows(alloc, part)?;
+        rows.push(shared)?;
     }
     Ok(rows)
 }
@@ -170,7 +170,7 @@ impl Column {
 
     /// The structs of the parts' values, with that many rows, which a struct of no parts has too. A row
     /// that is not valid is null, and the dtype takes nulls exactly where a validity is given. It moves
-    /// the parts, but copies shared rows on which there are other handles.
+    /// the parts, copies none of their rows but those that lie in runs, and takes memory for a handle on each.
     pub fn pack(
         alloc: Global,
         fields: Fields,
@@ -184,7 +184,7 @@ impl Column {
         ensures values { IfOk result (λ column. column.values ≡ map (packed_at validity parts.items) (range_with_len 0 rows)) }
     {
         let nullability = nullability_for(&validity);
-        let parts = all_rows_alone(alloc, parts)?;
+        let parts = all_shared_rows(alloc, parts)?;
         let structs = Parts::of(rows as usize, parts);
         let validity = valid_rows(alloc, validity, rows)?;
         let packed = Part::of_structs(validity, structs);

@@ -15,7 +15,7 @@ use crate::stored_rows::{Laid, Rows};
 use std::alloc::{AllocError, Global};
 use std::marker::Model;
 use thiserror::Error;
-use vx_packed::{Cell, Part};
+use vx_packed::{Cell, Part, SharedPart};
 use vx_types::{DType, Value, fits};
 use vx_words::Mask;
 
@@ -117,12 +117,12 @@ impl Column {
         Ok(Column { dtype, rows })
     }
 
-    /// What the rows hold, alone and packed. It moves what is packed already, unless it is shared.
-    pub(crate) fn into_part(self, alloc: Global) -> Result<Part, AllocError>
+    /// What the rows hold, packed and behind a handle. It moves what is packed already, and copies no row that is shared.
+    pub(crate) fn into_shared(self, alloc: Global) -> Result<SharedPart, AllocError>
         ensures values { IfOk result (λ part. part.values ≡ self.values) }
         ensures column { IfOk result (λ part. IsColumn self.dtype part) }
     {
-        let part = self.rows.into_part(alloc)?;
+        let part = self.rows.into_shared(alloc)?;
         Ok(part)
     }
 

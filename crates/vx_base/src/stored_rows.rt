@@ -3,7 +3,6 @@
 //! that are shared: what is asked of them is answered as of packed rows, and a range of all of them is another handle.
 
 ghost use Rattle.std.specs.Prelude.{◌≡◌, ◌-◌, ◌<◌, ◌≤◌, ◌↔◌, ◌++◌, Some, length, map, slice_get, IsTrue, IfOk, OnOk};
-ghost use Rattle.std.specs.Arc.{arc_value};
 ghost use Rattle.std.specs.List.{AllByRecursion};
 ghost use Rattle.vx_base.specs.ColumnCalls.{IsBool, IsUnsigned};
 ghost use Rattle.vx_base.specs.Leaf.{IsLeaf, slot_bytes};
@@ -17,8 +16,7 @@ ghost use Rattle.vx_packed.specs.PartRows.{sliced, filtered, joined, picked_at};
 use crate::run_rows::Runs;
 use std::alloc::{AllocError, Global};
 use std::ops::Range;
-use std::sync::Arc;
-use vx_packed::{Cell, Part};
+use vx_packed::{Cell, Part, SharedPart};
 use vx_types::Value;
 use vx_words::Mask;
 
@@ -28,7 +26,7 @@ pub(crate) enum Rows {
     /// Packed, and this column's alone.
     Plain(Part),
     /// Packed, and perhaps other columns' too.
-    Shared(Arc<Part, Global>),
+    Shared(SharedPart),
     /// In runs.
     Runs(Runs),
 }
@@ -40,40 +38,6 @@ pub(crate) enum Laid<'a> {
     Runs(&'a Runs),
 }
 
-/// The rows of a range of shared ones: another handle on them where it is all of them, which takes no memory, and else
-/// copies.
-#[tactic(auto, using(crate::proofs::SharedRows::whole_sliced))]
-fn range_of_shared(
-    alloc: Global,
-    part: &Arc<Part, Global>,
-    rows: Range<usize>,
-) -> Result<Rows, AllocError>
-    requires forwards { rows.start ≤ rows.end }
-    requires inside { rows.end ≤ length (arc_value part.now).values }
-    ensures { IfOk result (λ made. row_data made ≡ sliced rows.start rows.end (arc_value part.now)) }
-{
-    if rows.end - rows.start == part.len() {
-        let handle = Arc::try_clone(part)?;
-        return Ok(Rows::Shared(handle));
-    }
-    let copied = part.slice(alloc, rows)?;
-    Ok(Rows::Plain(copied))
-}
-
-/// Shared rows alone: the rows themselves where this is the last handle on them, and else copies.
-#[tactic(auto, using(crate::proofs::SharedRows::whole_sliced))]
-fn unshared(alloc: Global, part: Arc<Part, Global>) -> Result<Part, AllocError>
-    ensures { IfOk result (λ rows. rows ≡ arc_value part) }
-{
-    match Arc::try_unwrap(part) {
-        Ok(rows) => Ok(rows),
-        Err(part) => {
-            let rows = part.slice(alloc, 0..part.len())?;
-            Ok(rows)
-        }
-    }
-}
-
 impl Rows {
     /// How the rows lie. It takes no memory.
     pub(crate) fn laid(&self) -> Laid<'_>
@@ -81,7 +45,7 @@ impl Rows {
     {
         match self {
             Rows::Plain(part) => Laid::Packed(part),
-            Rows::Shared(part) => Laid::Packed(part),
+            Rows::Shared(shared) => Laid::Packed(shared.part()),
             Rows::Runs(runs) => Laid::Runs(runs),
         }
     }
@@ -93,8 +57,8 @@ impl Rows {
     {
         match self {
             Rows::Plain(part) => {
-                let handle = Arc::new(alloc, part)?;
-                Ok(Rows::Shared(handle))
+                let shared = SharedPart::new(alloc, part)?;
+                Ok(Rows::Shared(shared))
             }
             rows => Ok(rows),
         }
@@ -163,7 +127,10 @@ impl Rows {
                 let copied = part.slice(alloc, rows)?;
                 Ok(Rows::Plain(copied))
             }
-            Rows::Shared(part) => range_of_shared(alloc, part, rows),
+            Rows::Shared(shared) => {
+                let range = shared.slice(alloc, rows)?;
+                Ok(Rows::Shared(range))
+            }
             Rows::Runs(runs) => {
                 let copied = runs.slice(alloc, rows)?;
                 Ok(Rows::Runs(copied))
@@ -252,14 +219,17 @@ impl Rows {
         }
     }
 
-    /// All rows, each with a value of its own. It moves what lies so already, and isn't shared.
-    pub(crate) fn into_part(self, alloc: Global) -> Result<Part, AllocError>
-        ensures { IfOk result (λ part. part ≡ row_data self) }
+    /// All rows, packed and behind a handle. It moves what is packed already, and copies no row that is shared.
+    pub(crate) fn into_shared(self, alloc: Global) -> Result<SharedPart, AllocError>
+        ensures { IfOk result (λ shared. shared ≡ row_data self) }
     {
         match self {
-            Rows::Plain(part) => Ok(part),
-            Rows::Shared(part) => unshared(alloc, part),
-            Rows::Runs(runs) => runs.spread(alloc),
+            Rows::Plain(part) => SharedPart::new(alloc, part),
+            Rows::Shared(shared) => Ok(shared),
+            Rows::Runs(runs) => {
+                let part = runs.spread(alloc)?;
+                SharedPart::new(alloc, part)
+            }
         }
     }
 

@@ -16,7 +16,7 @@ use crate::packing::{fewest_rows, rows_of_worths, struct_cells};
 use std::alloc::{AllocError, Global};
 use vx_base::{DType, Fields, Value};
 use vx_operators::{Single, Worth};
-use vx_packed::{Look, Part, Parts};
+use vx_packed::{Look, Part, Parts, SharedPart};
 use vx_words::Mask;
 
 /// The values of the cells, in memory of their own.
@@ -138,7 +138,7 @@ fn fitting_worths(
     fields: &Fields,
     worths: Vec<Worth<'_>>,
     rows: usize,
-) -> Result<Vec<Part>, AllocError>
+) -> Result<Vec<SharedPart>, AllocError>
     requires { FitEach rows fields.now (map worth_rows worths.items) }
     ensures { IfOk result (λ parts. parts.items ≡ typed_columns rows fields.now (map worth_rows worths.entry.items)) }
 {
@@ -149,7 +149,8 @@ fn fitting_worths(
         match rest.next() {
             Some(worth) => {
                 let part = fitting_worth(alloc, &field.dtype, worth, rows)?;
-                parts.push(part)?;
+                let shared = SharedPart::new(alloc, part)?;
+                parts.push(shared)?;
             }
             None => return Ok(parts),
         }

@@ -14,6 +14,7 @@ mod PartRows
 mod PickedRows
 mod ReadBits
 pub mod SameRows
+mod SharedParts
 mod SlotRows
 mod SpelledNumbers
 mod TextEnds

@@ -63,7 +63,10 @@ joined_each (one ∷ ones) (two ∷ others) = joined one two ∷ joined_each one
 
 -- how deep parts nest, as a number that what they hold has less of
 abbrev pub part_size : ColumnData → ℕ
-part_size part = 2 * type_size part.dtype + 1
+part_size part = 3 * type_size part.dtype + 1
+
+abbrev pub shared_size : ColumnData → ℕ
+shared_size part = 3 * type_size part.dtype + 2
 
 abbrev pub struct_size : StructRows → ℕ
-struct_size structs = 2 * members_size structs.members + 2
+struct_size structs = 3 * members_size structs.members + 3

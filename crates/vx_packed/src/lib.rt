@@ -25,6 +25,6 @@ pub use decoded_texts::decode_texts;
 pub use decoded_truths::decode_truths;
 pub use kinds::Kind;
 pub use numbers::Numbers;
-pub use parts::{Look, Part, Parts, Slots};
+pub use parts::{Look, Part, Parts, SharedPart, Slots};
 pub use primitives::Primitive;
 pub use texts::Texts;

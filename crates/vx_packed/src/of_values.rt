@@ -16,7 +16,7 @@ ghost use Rattle.vx_packed.specs.Slots.{bare};
 
 use crate::kinds::Kind;
 use crate::numbers::Numbers;
-use crate::parts::{Part, Parts};
+use crate::parts::{Part, Parts, SharedPart};
 use crate::primitives::Primitive;
 use crate::texts::Texts;
 use std::alloc::{AllocError, Global};
@@ -193,7 +193,8 @@ impl Parts {
         for (place, field) in members.iter().enumerate() {
             let column = fields_of(alloc, values, place)?;
             let part = Part::of_values(alloc, &field.dtype, column.as_slice())?;
-            parts.push(part)?;
+            let shared = SharedPart::new(alloc, part)?;
+            parts.push(shared)?;
         }
         Ok(Parts::of(values.len(), parts))
     }
@@ -242,7 +243,8 @@ impl Parts {
         let mut parts = Vec::with_capacity(alloc, members.len())?;
         for field in members {
             let part = Part::with_room(alloc, &field.dtype, rows)?;
-            parts.push(part)?;
+            let shared = SharedPart::new(alloc, part)?;
+            parts.push(shared)?;
         }
         Ok(Parts::of(0, parts))
     }

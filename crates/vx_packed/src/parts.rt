@@ -15,23 +15,26 @@ mod appended;
 mod compared;
 mod looked;
 mod picked;
+mod shared;
 mod shown;
 mod written;
 
 use crate::numbers::Numbers;
 use crate::texts::Texts;
 pub use looked::Look;
+pub use shared::SharedPart;
 use std::alloc::{AllocError, Global};
 use std::marker::Model;
 use vx_types::Value;
 use vx_words::Mask;
 
-/// The parts of structs, one for each field, with that many rows, which a struct of no parts has too.
+/// The parts of structs, one for each field, with that many rows, which a struct of no parts has too. Other structs and
+/// columns can have the same parts.
 #[cycle(parts)]
 #[derive(Drop)]
 pub struct Parts {
     rows: usize,
-    parts: Vec<Part>,
+    parts: Vec<SharedPart>,
 }
 
 impl Model for Parts {
@@ -98,7 +101,7 @@ pub enum Slots {
 
 impl Parts {
     /// The structs of these parts, with that many rows. It takes no memory.
-    pub fn of(rows: usize, parts: Vec<Part>) -> Parts
+    pub fn of(rows: usize, parts: Vec<SharedPart>) -> Parts
         requires { HaveRows rows parts.items }
         ensures { result ≡ struct_rows rows parts.items }
     {

@@ -22,6 +22,7 @@ use Rattle.vx_packed.proofs.numbers.Numbers.TheSendSync as numbers
 use Rattle.vx_packed.proofs.texts.Texts.TheSendSync as packed_texts
 use Rattle.vx_packed.proofs.parts.Part.TheLaws.TheKnot.{crosses as parts_cross}
 use Rattle.vx_packed.specs.contracts.parts.Part as parts
+use Rattle.vx_packed.specs.contracts.parts.shared.SharedPart as shared
 use Rattle.vx_base.specs.contracts.run_rows.Runs as runs
 use Rattle.vx_base.specs.contracts.run_rows.Runs.TheInside as inside_runs
 use Rattle.vx_base.specs.contracts.stored_rows.Rows as stored
@@ -54,8 +55,8 @@ sync_dtype = search (dtypes_cross, crosses, nullable.the_sync, kinds.the_sync, t
 send_part : IsSend parts.the_row
 send_part = search (parts_cross, crosses, masks.the_send, numbers.the_send, packed_texts.the_send, sendable) depth 60
 
-sync_part : IsSync parts.the_row
-sync_part = search (parts_cross, crosses, masks.the_sync, numbers.the_sync, packed_texts.the_sync, sendable) depth 60
+send_shared : IsSend shared.the_row
+send_shared = search (parts_cross, crosses, masks.the_send, numbers.the_send, packed_texts.the_send, masks.the_sync, numbers.the_sync, packed_texts.the_sync, sendable) depth 60
 
 send_runs : IsSend runs.the_row
 send_runs = view_send inside_runs.the_row _ _ _ _ (declared_send inside_runs.the_type (
@@ -73,7 +74,7 @@ send_rows : IsSend stored.the_row
 send_rows = variants_send stored.enum (
   (as_row_send (row_field _) send_part, tt),
   (
-    (arc.the_send parts.the_row alloc.the_row impl.ghosts send_part global.the_send sync_part global.the_sync heap.the_frees, tt),
+    (as_row_send (row_field _) send_shared, tt),
     ((send_runs, tt), tt),
   ),
 )

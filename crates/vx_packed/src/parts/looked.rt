@@ -24,7 +24,10 @@ impl Parts {
     pub fn part(&self, place: usize) -> Option<&Part>
         ensures { IfSome result (λ part. map (λ vs. slice_get (data_in vs) place) self.now.rows ≡ map Some part.now.values) }
     {
-        self.parts.as_slice().get(place)
+        match self.parts.as_slice().get(place) {
+            Some(shared) => Some(shared.part()),
+            None => None,
+        }
     }
 }
 

@@ -5,13 +5,16 @@ use Rattle.vx_packed.specs.Slots.{slot_type}
 use Rattle.vx_packed.proofs.parts.+filter.Given as goal
 
 abbrev pub decreases-Part::filter : goal.decreases-Part::filter
-decreases-Part::filter l = 3 * type_size l.self.now.dtype + 2
+decreases-Part::filter l = 4 * type_size l.self.now.dtype + 2
 
 abbrev pub decreases-Slots::filter : goal.decreases-Slots::filter
-decreases-Slots::filter l = 3 * type_size (slot_type l.self.now) + 1
+decreases-Slots::filter l = 4 * type_size (slot_type l.self.now) + 1
 
 abbrev pub decreases-Parts::filter : goal.decreases-Parts::filter
-decreases-Parts::filter l = 3 * members_size l.self.now.members + 3
+decreases-Parts::filter l = 4 * members_size l.self.now.members + 4
 
 abbrev pub invariant-Parts::filter-loop-part : goal.invariant-Parts::filter-loop-part
 invariant-Parts::filter-loop-part l = l.parts.items ≡ map (filtered l.mask) (take l.part-index l.items)
+
+abbrev pub decreases-shared::SharedPart::filter : goal.decreases-shared::SharedPart::filter
+decreases-shared::SharedPart::filter l = 4 * type_size l.self.now.dtype + 3

@@ -6,13 +6,16 @@ use Rattle.vx_packed.specs.Slots.{slot_type}
 use Rattle.vx_packed.proofs.parts.+get.Given as goal
 
 abbrev pub decreases-Part::get : goal.decreases-Part::get
-decreases-Part::get l = 3 * type_size l.self.now.dtype + 2
+decreases-Part::get l = 4 * type_size l.self.now.dtype + 2
 
 abbrev pub decreases-Slots::get : goal.decreases-Slots::get
-decreases-Slots::get l = 3 * type_size (slot_type l.self.now) + 1
+decreases-Slots::get l = 4 * type_size (slot_type l.self.now) + 1
 
 abbrev pub decreases-Parts::get : goal.decreases-Parts::get
-decreases-Parts::get l = 3 * members_size l.self.now.members + 3
+decreases-Parts::get l = 4 * members_size l.self.now.members + 4
 
 abbrev pub invariant-Parts::get-loop-part : goal.invariant-Parts::get-loop-part
 invariant-Parts::get-loop-part l = map datum l.values.items ≡ map (in_row l.row) (take l.part-index l.items)
+
+abbrev pub decreases-shared::SharedPart::get : goal.decreases-shared::SharedPart::get
+decreases-shared::SharedPart::get l = 4 * type_size l.self.now.dtype + 3

@@ -3,7 +3,7 @@ use Rattle.std.specs.List.{AllByRecursion}
 use Rattle.std.specs.Vec.Iter.{into_iter_items}
 use Rattle.vx_types.specs.ColumnCalls.{IsFitting}
 use Rattle.vx_packed.specs.PackedColumns.{bare_column}
-use Rattle.vx_base.proofs.built_columns.all_rows_alone.Given as goal
+use Rattle.vx_base.proofs.built_columns.all_shared_rows.Given as goal
 
 abbrev pub invariant-loop-part : goal.invariant-loop-part
 invariant-loop-part l = record {

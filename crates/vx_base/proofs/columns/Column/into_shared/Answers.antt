@@ -2,7 +2,7 @@ use Rattle.std.proofs.Common.{◌∙◌, sym, ap, subst}
 use Rattle.vx_types.specs.Columns.{ColumnData}
 use Rattle.vx_base.specs.Views.{data_type}
 use Rattle.vx_packed.specs.PackedColumns.{IsColumn}
-use Rattle.vx_base.proofs.columns.Column.into_part.Goals as goal
+use Rattle.vx_base.proofs.columns.Column.into_shared.Goals as goal
 
 pub returns-clause-values : goal.returns-clause-values
 returns-clause-values c = ap (λ (a : ColumnData). a.values) c.in_ok-part.ensures ∙ ap (λ (a : ColumnData). a.values) c.self.view_is

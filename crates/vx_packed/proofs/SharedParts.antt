@@ -1,6 +1,6 @@
--- Rows that are shared.
+-- Parts that are shared.
 use Rattle.std.proofs.Common.{◌≡◌, ℕ, ◌-◌, ◌≤◌, ◌∙◌, length, refl, arith}
-use Rattle.vx_base.specs.Columns.{ColumnData}
+use Rattle.vx_types.specs.Columns.{ColumnData}
 use Rattle.vx_packed.specs.PartRows.{sliced}
 use Rattle.vx_packed.proofs.PackedRows.{same_column}
 
