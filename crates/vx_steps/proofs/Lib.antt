@@ -10,6 +10,7 @@ pub mod Chunking
 pub mod CodeVisits
 pub mod ComputedChunks
 pub mod ComputedRows
+pub mod Counting
 pub mod Decoding
 pub mod EachOnce
 pub mod Delivering
@@ -21,7 +22,6 @@ pub mod HeldBytes
 pub mod Indexing
 pub mod Keeping
 pub mod LeavingRows
-pub mod Marking
 pub mod MaskRanges
 pub mod Needing
 pub mod Offering

@@ -12,9 +12,9 @@ use Rattle.vx_plan.specs.Nodes.{Node}
 use Rattle.vx_steps.specs.Delivered.{KeepsLeaves}
 use Rattle.vx_steps.specs.Jobs.{IsLast, KeepsColumns}
 use Rattle.vx_steps.specs.Kept.{kept_at, IsKept}
-use Rattle.vx_steps.specs.Lone.{IsLeafOver, IsLone}
 use Rattle.vx_steps.specs.KeptData.{Kept}
 use Rattle.vx_steps.specs.Needs.{Among, AreLeaves}
+use Rattle.vx_steps.specs.OpenSegments.{IsLeafOver}
 use Rattle.vx_steps.specs.ReadTable.{IsGone, IsNamed, KeepsStored, LetsGo, Passes}
 use Rattle.vx_steps.specs.ReadTableData.{ReadsData, Stored, Wanted}
 use Rattle.vx_steps.specs.Releasing.{AreHeld, AreNamed, IsServed, IsSpent, LetsSpentGo, ServesAll}
@@ -102,18 +102,15 @@ lets_then nodes kept new first mid last keeps before after = record {
   gone = λ segment gone. ⊎_elim (λ (g : IsGone mid.stored segment). ⊎_elim (λ (h : IsGone first.stored segment). inl h) (λ (spent : IsSpent nodes kept segment). inr (spent_kept nodes kept new segment keeps spent)) (before.gone segment g)) (λ (spent : IsSpent nodes new segment). inr spent) (after.gone segment gone);
 }
 
--- the bytes of a segment that one leaf alone is over, which is kept
-pub lets_lone : (nodes : List Node) (leaves : List Kept) (old new : ReadsData) (segment n : ℕ) → IsLone nodes segment → IsLeafOver nodes segment n → IsKept leaves n → LetsGo segment old new → LetsSpentGo nodes leaves old new
-lets_lone nodes leaves old new segment n lone here kept lets = record {
+-- the bytes of a segment each of whose leaves is kept
+pub lets_spent : (nodes : List Node) (leaves : List Kept) (old new : ReadsData) (segment : ℕ) → IsSpent nodes leaves segment → LetsGo segment old new → LetsSpentGo nodes leaves old new
+lets_spent nodes leaves old new segment spent lets = record {
   wanted = lets.wanted;
   handed = lets.handed;
   passed = lets.passed;
   named = lets.named;
   gone = λ s gone. ⊎_elim (λ (g : IsGone old.stored s). inl g) (λ (e : segment ≡ s). inr (subst (IsSpent nodes leaves) e spent)) (lets.gone s gone);
 }
-  where
-    spent : IsSpent nodes leaves segment
-    spent m leaf = subst (IsKept leaves) (lone n m here leaf) kept
 
 -- where bytes are gone, a need's leaf is kept
 pub held_let : (nodes : List Node) (old new : List Kept) (before after : ReadsData) (needs : List LeafRead) → AreLeaves nodes needs → KeepsColumns old new → LetsSpentGo nodes new before after → AreHeld old before.stored needs → AreHeld new after.stored needs

@@ -13,9 +13,9 @@ pub mod Kept
 pub mod KeptData
 pub mod Laws
 pub mod Leavings
-pub mod Lone
 pub mod Needs
 pub mod Offers
+pub mod OpenSegments
 pub mod Places
 pub mod ReadTable
 pub mod ReadTableData

@@ -8,8 +8,8 @@ use Rattle.vx_steps.specs.declared.jobs.Progress.{Progress}
 use Rattle.vx_steps.specs.declared.leaf_reads.LeafRead.{LeafRead}
 use Rattle.vx_steps.specs.Kept.{kept_at, IsKept}
 use Rattle.vx_steps.specs.KeptData.{Kept}
-use Rattle.vx_steps.specs.Lone.{IsLeafOver}
 use Rattle.vx_steps.specs.Needs.{Among}
+use Rattle.vx_steps.specs.OpenSegments.{IsLeafOver}
 use Rattle.vx_steps.specs.ReadTable.{IsGone, IsNamed}
 use Rattle.vx_steps.specs.ReadTableData.{ReadsData, Stored}
 

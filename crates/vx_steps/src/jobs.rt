@@ -1,11 +1,11 @@
 //! What a scan is to do, and how far it is.
 
 ghost use Rattle.std.specs.Prelude.{◌≡◌, []};
-ghost use Rattle.vx_steps.specs.Lone.{AreLone};
+ghost use Rattle.vx_steps.specs.OpenSegments.{AreCounted};
 
 use crate::kept::KeptColumns;
 use crate::leaves::NeededLeaves;
-use crate::lone::LoneSegments;
+use crate::open_segments::OpenSegments;
 use crate::reads::ReadTable;
 use crate::splits::Split;
 use crate::wholes::Wholes;
@@ -118,17 +118,17 @@ fn index_handed(job: &mut Job, progress: &mut Progress) -> Result<(), AllocError
     progress.wholes.made.index()
 }
 
-/// Indexes what was handed in, and finds the segments that one leaf alone is over, if there is a split after the first:
-/// their bytes can go before it. Where memory is wanting, all is as before.
+/// Indexes what was handed in, and counts for each segment the leaves over it whose columns are not kept, if there is a
+/// split after the first: the segment's bytes can go before it. Where memory is wanting, all is as before.
 pub(crate) fn make_ready(
     alloc: Global,
     table: &PlanTable,
     job: &mut Job,
-    lone: &mut LoneSegments,
+    segments: &mut OpenSegments,
     progress: &mut Progress,
 ) -> Result<(), AllocError>
-    requires { AreLone table.now lone.old }
-    ensures lone { AreLone table.now lone.new }
+    requires { AreCounted table.now progress.old.leaves segments.old }
+    ensures counted { AreCounted table.now progress.new.leaves segments.new }
     ensures job { job.new ≡ job.old }
     ensures progress { progress.new ≡ progress.old }
 {
@@ -136,5 +136,5 @@ pub(crate) fn make_ready(
     if job.splits.len() < 2 {
         return Ok(());
     }
-    lone.find(alloc, table)
+    segments.find(alloc, table, &progress.leaves)
 }

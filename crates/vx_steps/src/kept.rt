@@ -9,9 +9,6 @@ use std::marker::Model;
 use vx_base::Column;
 use vx_plan::PlanRef;
 
-/// From how many rows on a column is shared where it is kept: a copy of fewer is as cheap as a handle on them.
-const SHARED_ROWS: u64 = 64;
-
 /// The whole column of a plan: its values at all of its rows.
 #[derive(Drop)]
 pub struct KeptValue {
@@ -137,8 +134,8 @@ impl KeptColumns {
         Ok(())
     }
 
-    /// Keeps the column of a plan of which none is kept yet, shared where it has many rows: copies of it, and ranges of
-    /// all its rows, then copy none.
+    /// Keeps the column of a plan of which none is kept yet, so that others can share its rows: copies of it, and ranges
+    /// of all its rows, then copy none.
     pub(crate) fn keep_shared(
         &mut self,
         alloc: Global,
@@ -149,9 +146,6 @@ impl KeptColumns {
         ensures kept { OnOk result (self.new ≡ self.old ++ record { node = node; column = column } ∷ []) }
         ensures as_before { OnErr result (self.new ≡ self.old) }
     {
-        if column.len() < SHARED_ROWS {
-            return self.keep(node, column);
-        }
         let shared = column.share(alloc)?;
         self.keep(node, shared)
     }

@@ -8,7 +8,7 @@ ghost use Rattle.vx_steps.specs.declared.leaf_reads.LeafRead.{LeafRead};
 ghost use Rattle.vx_steps.specs.Delivered.{KeepsLeaves, LacksNeed, HasTornCause, SomeTornCause};
 ghost use Rattle.vx_steps.specs.Kept.{kept_at, IsKept};
 ghost use Rattle.vx_steps.specs.Needs.{Among, AreLeaves};
-ghost use Rattle.vx_steps.specs.Lone.{AreLone};
+ghost use Rattle.vx_steps.specs.OpenSegments.{AreCounted};
 ghost use Rattle.vx_steps.specs.ReadTable.{IsGone, bytes_of};
 ghost use Rattle.vx_steps.specs.Releasing.{AreHeld, IsServed, LetsSpentGo};
 ghost use Rattle.vx_steps.specs.Wants.{IsNeededLeaf};
@@ -17,7 +17,7 @@ ghost use Rattle.vx_steps.specs.Wholes.{AddsOnly};
 use crate::errors::StepError;
 use crate::kept::KeptColumns;
 use crate::leaf_reads::LeafRead;
-use crate::lone::LoneSegments;
+use crate::open_segments::OpenSegments;
 use crate::reads::ReadTable;
 use std::alloc::Global;
 use std::marker::Model;
@@ -60,11 +60,11 @@ fn decode_need(
 }
 
 /// Decodes a needed leaf, unless its column is kept already, and says whether its column is there. The bytes of its
-/// segment are let go where no other leaf is over it: nothing is decoded from them any more.
-fn decode_alone(
+/// segment are let go where it was the last leaf over it without a column: nothing is decoded from them any more.
+fn decode_open(
     alloc: Global,
     table: &PlanTable,
-    lone: &LoneSegments,
+    segments: &mut OpenSegments,
     need: LeafRead,
     reads: &mut ReadTable,
     leaves: &mut KeptColumns,
@@ -72,7 +72,8 @@ fn decode_alone(
     requires known { need.leaf < length table.now }
     requires leaf { HasShape table.now need.leaf (Leaf need.segment) }
     requires held { IsGone reads.old.stored need.segment → IsKept leaves.old need.leaf }
-    requires lone { AreLone table.now lone.now }
+    requires counted { AreCounted table.now leaves.old segments.old }
+    ensures counted { AreCounted table.now leaves.new segments.new }
     ensures keeps { KeepsLeaves table.now reads.old.wanted leaves.old leaves.new }
     ensures only { AddsOnly (λ n. need.leaf ≡ n) leaves.old leaves.new }
     ensures lets { LetsSpentGo table.now leaves.new reads.old reads.new }
@@ -87,7 +88,7 @@ fn decode_alone(
         Ok(false) => return Ok(false),
         Err(error) => return Err(error),
     }
-    if !lone.has(need.segment) {
+    if !segments.close(need.segment) {
         return Ok(true);
     }
     reads.let_go(need.segment);
@@ -95,11 +96,11 @@ fn decode_alone(
 }
 
 /// Decodes the needed leaves from a place on, and gives the place of the first whose column isn't there, which is past
-/// the last where there is none. The bytes of segments are let go that no other leaf is over.
+/// the last where there is none. The bytes of a segment are let go once each leaf over it has its column.
 fn decode_from(
     alloc: Global,
     table: &PlanTable,
-    lone: &LoneSegments,
+    segments: &mut OpenSegments,
     needs: &[LeafRead],
     first: usize,
     reads: &mut ReadTable,
@@ -107,7 +108,8 @@ fn decode_from(
 ) -> Result<usize, StepError>
     requires known { AreLeaves table.now needs.now }
     requires held { AreHeld leaves.old reads.old.stored needs.now }
-    requires lone { AreLone table.now lone.now }
+    requires counted { AreCounted table.now leaves.old segments.old }
+    ensures counted { AreCounted table.now leaves.new segments.new }
     ensures keeps { KeepsLeaves table.now reads.old.wanted leaves.old leaves.new }
     ensures only { AddsOnly (IsNeededLeaf needs.now) leaves.old leaves.new }
     ensures lets { LetsSpentGo table.now leaves.new reads.old reads.new }
@@ -115,7 +117,7 @@ fn decode_from(
     ensures torn { IfErr result (SomeTornCause table.now reads.old.wanted needs.now) }
 {
     for place in first..needs.len() {
-        match decode_alone(alloc, table, lone, needs[place], reads, leaves) {
+        match decode_open(alloc, table, segments, needs[place], reads, leaves) {
             Ok(true) => {}
             Ok(false) => return Ok(place),
             Err(error) => return Err(error),
@@ -206,20 +208,21 @@ impl NeededLeaves {
     }
 
     /// Decodes the leaves, and says whether all their columns are there. A try goes on where the last one stopped, and
-    /// looks all of them up once that came to the end. The bytes of a segment that one leaf alone is over are let go once
-    /// it is decoded; in the last split, while no other is active, those of any once the leaves that it needs are.
+    /// looks all of them up once that came to the end. The bytes of a segment are let go once the last leaf over it is
+    /// decoded; in the last split, while no other is active, once the last one over it that it needs is.
     pub(crate) fn decode(
         &mut self,
         alloc: Global,
         table: &PlanTable,
-        lone: &LoneSegments,
+        segments: &mut OpenSegments,
         last: bool,
         reads: &mut ReadTable,
         leaves: &mut KeptColumns,
     ) -> Result<bool, StepError>
         requires known { AreLeaves table.now self.old }
         requires served { IsServed leaves.old reads.old self.old }
-        requires lone { AreLone table.now lone.now }
+        requires counted { AreCounted table.now leaves.old segments.old }
+        ensures counted { AreCounted table.now leaves.new segments.new }
         ensures same { self.new ≡ self.old }
         ensures served { IsServed leaves.new reads.new self.old }
         ensures wanted { reads.new.wanted ≡ reads.old.wanted }
@@ -234,7 +237,15 @@ impl NeededLeaves {
         if last {
             return decode_last(alloc, table, &self.reads, reads, leaves);
         }
-        let next = decode_from(alloc, table, lone, &self.reads, self.next, reads, leaves)?;
+        let next = decode_from(
+            alloc,
+            table,
+            segments,
+            &self.reads,
+            self.next,
+            reads,
+            leaves,
+        )?;
         if next < self.reads.len() {
             self.next = next;
             return Ok(false);

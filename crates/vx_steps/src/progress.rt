@@ -3,15 +3,15 @@
 ghost use Rattle.std.specs.Prelude.{◌≡◌, ◌+◌, ◌<◌, ◌≤◌, ℕ, [], length, Some, None, true, IfOk, IfErr, IfSome, OnOk};
 ghost use Rattle.std.specs.Bool.{MatchBool};
 ghost use Rattle.vx_steps.specs.Jobs.{active_of, AddsLeaves, IsGood, IsLast, KeepsBound, KeepsColumns, KeepsTold, KeepsWholesFor, OnlyKeeps, Starts, CanStart, WantsFor};
-ghost use Rattle.vx_steps.specs.Lone.{AreLone};
 ghost use Rattle.vx_steps.specs.Needs.{AreAmong};
+ghost use Rattle.vx_steps.specs.OpenSegments.{AreCounted};
 ghost use Rattle.vx_steps.specs.Steps.{active_in, tried_in, GivesOutput, HoldsAll, IsActiveOutput, IsHeldAt, IsStepRefusal, TakesTurn};
 ghost use Rattle.vx_steps.specs.Wants.{Grows};
 
 use crate::errors::StepError;
 use crate::jobs::{ActiveSplit, Job, Progress, make_ready};
 use crate::leaves::NeededLeaves;
-use crate::lone::LoneSegments;
+use crate::open_segments::OpenSegments;
 use crate::reads::ReadRequest;
 use crate::turns::{finish_split, start_split};
 use std::alloc::{AllocError, Global};
@@ -113,13 +113,14 @@ fn finish_at(
     alloc: Global,
     table: &PlanTable,
     job: &Job,
-    lone: &LoneSegments,
+    segments: &mut OpenSegments,
     place: usize,
     progress: &mut Progress,
 ) -> Result<Option<Column>, StepError>
     requires place { place < length progress.old.active.items }
     requires good { IsGood table.now job.now progress.old }
-    requires lone { AreLone table.now lone.now }
+    requires counted { AreCounted table.now progress.old.leaves segments.old }
+    ensures counted { AreCounted table.now progress.new.leaves segments.new }
     ensures good { IsGood table.now job.now progress.new }
     ensures keeps { OnlyKeeps table.now job.now progress.old progress.new }
     ensures output { IfOk result (λ output. IfSome output (IsActiveOutput table.now job.now progress.old progress.new place)) }
@@ -133,7 +134,7 @@ fn finish_at(
         table,
         job,
         split,
-        lone,
+        segments,
         last,
         &mut progress.active[place].needs,
         &mut progress.reads,
@@ -147,11 +148,12 @@ fn finish_some(
     alloc: Global,
     table: &PlanTable,
     job: &Job,
-    lone: &LoneSegments,
+    segments: &mut OpenSegments,
     progress: &mut Progress,
 ) -> Result<Option<(usize, Column)>, StepError>
     requires good { IsGood table.now job.now progress.old }
-    requires lone { AreLone table.now lone.now }
+    requires counted { AreCounted table.now progress.old.leaves segments.old }
+    ensures counted { AreCounted table.now progress.new.leaves segments.new }
     ensures good { IsGood table.now job.now progress.new }
     ensures told { KeepsTold table.now job.now progress.old progress.new }
     ensures wholes { KeepsWholesFor table.now job.now (active_of progress.old) progress.old.wholes progress.new.wholes }
@@ -167,7 +169,7 @@ fn finish_some(
     ensures refused { IfErr result (λ _. progress.new.active.items ≡ progress.old.active.items) }
 {
     for place in 0..progress.active.len() {
-        match finish_at(alloc, table, job, lone, place, progress) {
+        match finish_at(alloc, table, job, segments, place, progress) {
             Ok(Some(column)) => {
                 let active = progress.active.remove(place);
                 return Ok(Some((active.split, column)));
@@ -184,11 +186,12 @@ fn advance(
     alloc: Global,
     table: &PlanTable,
     job: &Job,
-    lone: &LoneSegments,
+    segments: &mut OpenSegments,
     progress: &mut Progress,
 ) -> Result<Turn, StepError>
     requires good { IsGood table.now job.now progress.old }
-    requires lone { AreLone table.now lone.now }
+    requires counted { AreCounted table.now progress.old.leaves segments.old }
+    ensures counted { AreCounted table.now progress.new.leaves segments.new }
     ensures good { IsGood table.now job.now progress.new }
     ensures told { KeepsTold table.now job.now progress.old progress.new }
     ensures grows { Grows progress.old.reads.wanted progress.new.reads.wanted }
@@ -207,7 +210,7 @@ fn advance(
     if let Some(read) = progress.reads.hand_out() {
         return Ok(Turn::Read(read));
     }
-    match finish_some(alloc, table, job, lone, progress) {
+    match finish_some(alloc, table, job, segments, progress) {
         Ok(Some((number, column))) => Ok(Turn::Output(number, column)),
         Ok(None) => Ok(Turn::Waiting),
         Err(error) => Err(error),
@@ -219,13 +222,13 @@ pub(crate) fn next_turn(
     alloc: Global,
     table: &PlanTable,
     job: &mut Job,
-    lone: &mut LoneSegments,
+    segments: &mut OpenSegments,
     progress: &mut Progress,
 ) -> Result<Turn, StepError>
     requires good { IsGood table.now job.old progress.old }
-    requires lone { AreLone table.now lone.old }
+    requires counted { AreCounted table.now progress.old.leaves segments.old }
+    ensures counted { AreCounted table.now progress.new.leaves segments.new }
     ensures job { job.new ≡ job.old }
-    ensures lone { AreLone table.now lone.new }
     ensures good { IsGood table.now job.old progress.new }
     ensures told { KeepsTold table.now job.old progress.old progress.new }
     ensures grows { Grows progress.old.reads.wanted progress.new.reads.wanted }
@@ -237,6 +240,6 @@ pub(crate) fn next_turn(
     ensures turn { IfOk result (TakesTurn table.now job.old progress.old progress.new) }
     ensures cause { IfErr result (IsStepRefusal table.now job.old progress.old progress.new) }
 {
-    make_ready(alloc, table, job, lone, progress)?;
-    advance(alloc, table, job, lone, progress)
+    make_ready(alloc, table, job, segments, progress)?;
+    advance(alloc, table, job, segments, progress)
 }

@@ -76,9 +76,9 @@ pub(crate) struct WantedSegment {
 }
 
 /// The segments that a scan wants, each once, in the order in which they are handed out. A read's number
-/// is its segment's place. The bytes of a segment that one leaf alone is over are let go when that leaf is decoded, and
-/// those of any other, once the last split is the only active one, when its last need is passed: `passed` counts the
-/// needs whose columns are there.
+/// is its segment's place. The bytes of a segment are let go when the last leaf over it is decoded, and, once the last
+/// split is the only active one, when its last need that names the segment is passed: `passed` counts the needs whose
+/// columns are there.
 #[derive(Drop)]
 pub(crate) struct ReadTable {
     wanted: Vec<WantedSegment>,

@@ -21,8 +21,8 @@ use crate::errors::{DeliverError, StepError};
 use crate::jobs::{Job, Progress};
 use crate::kept::{KeptColumns, KeptValue};
 use crate::leavings::{ScanKept, leaves_behind};
-use crate::lone::LoneSegments;
 use crate::offers::{for_leaves, for_plans};
+use crate::open_segments::OpenSegments;
 use crate::progress::{Turn, next_turn};
 use crate::reads::ReadId;
 use crate::splits::{ScanBuildError, Split, check_splits};
@@ -37,7 +37,7 @@ pub struct Scan<'a> {
     alloc: Global,
     table: &'a PlanTable,
     job: Job,
-    lone: LoneSegments,
+    segments: OpenSegments,
     progress: Progress,
     refused: bool,
 }
@@ -53,11 +53,11 @@ impl<'a> Model for Scan<'a> {
     ghost coded = { Prim.hlevel (codes, coded_nodes, coded_kept_list) };
 
     ghost use Rattle.vx_steps.specs.Jobs.{IsGood};
-    ghost use Rattle.vx_steps.specs.Lone.{AreLone};
+    ghost use Rattle.vx_steps.specs.OpenSegments.{AreCounted};
 
     ghost view = { λ a. record { nodes = a.table.now; job = a.job; progress = a.progress; refused = a.refused } };
 
-    ghost invariant = { λ a. IsGood a.table.now a.job a.progress × AreLone a.table.now a.lone };
+    ghost invariant = { λ a. IsGood a.table.now a.job a.progress × AreCounted a.table.now a.progress.leaves a.segments };
 }
 
 impl<'a> Scan<'a> {
@@ -78,7 +78,7 @@ impl<'a> Scan<'a> {
             alloc,
             table,
             job: Job::new(alloc, plan.0, splits),
-            lone: LoneSegments::new(alloc),
+            segments: OpenSegments::new(alloc),
             progress: Progress::new(alloc),
             refused: false,
         })
@@ -129,6 +129,7 @@ impl<'a> Scan<'a> {
     {
         let leaves = KeptColumns::of(self.alloc, for_leaves(self.table, leaves));
         self.progress.hand_in(leaves);
+        self.segments = OpenSegments::new(self.alloc);
         self
     }
 
@@ -279,7 +280,7 @@ impl<'a> Scan<'a> {
             self.alloc,
             self.table,
             &mut self.job,
-            &mut self.lone,
+            &mut self.segments,
             &mut self.progress,
         ) {
             Ok(turn) => Ok(turn),

@@ -7,8 +7,8 @@ ghost use Rattle.vx_steps.specs.Agreement.{KeepsAgreeing};
 ghost use Rattle.vx_steps.specs.Delivered.{KeepsLeaves, LacksNeed};
 ghost use Rattle.vx_steps.specs.Held.{AreTyped, FitsOffset};
 ghost use Rattle.vx_steps.specs.Kept.{kept_at};
-ghost use Rattle.vx_steps.specs.Lone.{AreLone};
 ghost use Rattle.vx_steps.specs.Needs.{Among, AreLeaves};
+ghost use Rattle.vx_steps.specs.OpenSegments.{AreCounted};
 ghost use Rattle.vx_steps.specs.ReadTable.{KeepsStored};
 ghost use Rattle.vx_steps.specs.Releasing.{AreNamed, IsServed, LetsSpentGo};
 ghost use Rattle.vx_steps.specs.Turns.{AreLeavesKept, IsOutput, IsRefusal, LeavesLeaves, LeavesWholes, ReadsFor};
@@ -20,8 +20,8 @@ use crate::jobs::Job;
 use crate::kept::KeptColumns;
 use crate::leaf_reads::LeafRead;
 use crate::leaves::NeededLeaves;
-use crate::lone::LoneSegments;
 use crate::needs::{needs_of, want_needs};
+use crate::open_segments::OpenSegments;
 use crate::outputs::output_of;
 use crate::reads::ReadTable;
 use crate::splits::Split;
@@ -70,7 +70,7 @@ pub(crate) fn finish_split(
     table: &PlanTable,
     job: &Job,
     split: &Split,
-    lone: &LoneSegments,
+    segments: &mut OpenSegments,
     last: bool,
     needs: &mut NeededLeaves,
     reads: &mut ReadTable,
@@ -86,7 +86,8 @@ pub(crate) fn finish_split(
     requires typed_given { AreTyped table.now job.now.given }
     requires typed_made { AreTyped table.now wholes.old.made }
     requires served { IsServed leaves.old reads.old needs.old }
-    requires lone { AreLone table.now lone.now }
+    requires counted { AreCounted table.now leaves.old segments.old }
+    ensures counted { AreCounted table.now leaves.new segments.new }
     ensures same { needs.new ≡ needs.old }
     ensures served { IsServed leaves.new reads.new needs.old }
     ensures wanted { reads.new.wanted ≡ reads.old.wanted }
@@ -104,7 +105,7 @@ pub(crate) fn finish_split(
     ensures left { IfErr result (LeavesWholes table.now job.now split.now reads.old.wanted leaves.old wholes.old.made wholes.new) }
     ensures left_leaves { IfErr result (LeavesLeaves table.now job.now split.now leaves.new) }
 {
-    match needs.decode(alloc, table, lone, last, reads, leaves) {
+    match needs.decode(alloc, table, segments, last, reads, leaves) {
         Ok(true) => {}
         Ok(false) => return Ok(None),
         Err(error) => return Err(error),

@@ -8,6 +8,7 @@ use Rattle.vx_steps.specs.declared.jobs.Progress.{Progress}
 use Rattle.vx_steps.specs.Jobs.{active_of, IsGood}
 use Rattle.vx_steps.specs.KeptData.{Kept}
 use Rattle.vx_steps.specs.Needs.{Among}
+use Rattle.vx_steps.specs.OpenSegments.{AreCounted}
 use Rattle.vx_steps.specs.Steps.{IsHeldUp}
 use Rattle.vx_steps.proofs.Finishing.{starts_reads, told_reads, gives_later, hands_read, leaves_for, refusal_before, same_among, wants_for, wholes_for}
 use Rattle.vx_steps.proofs.Starting.{good_wanted}
@@ -147,3 +148,23 @@ finish_some-requires-clause-good c =
     let started = c.start_splits.new.progress in
     let P : ReadsData → Type 0 = λ reads. IsGood c.args.table.now c.args.job.now (record { next = started.next; active = started.active; reads = reads; leaves = started.leaves; wholes = started.wholes }) in
     subst P (sym c.in_default.ensures.turn.1) c.in_ok-start_splits.ensures.good
+
+pub returns-in_err-start_splits-clause-counted : goal.returns-in_err-start_splits-clause-counted
+returns-in_err-start_splits-clause-counted c =
+    let P : List Kept → Type 0 = λ leaves. AreCounted c.args.table.now leaves c.args.segments.now in
+    subst P (sym c.in_err-start_splits.ensures.leaves) c.requires.counted
+
+pub returns-then-is_empty-clause-counted : goal.returns-then-is_empty-clause-counted
+returns-then-is_empty-clause-counted c =
+    let P : List Kept → Type 0 = λ leaves. AreCounted c.args.table.now leaves c.args.segments.now in
+    subst P (sym c.in_ok-start_splits.ensures.leaves) c.requires.counted
+
+pub returns-in-Some-clause-counted : goal.returns-in-Some-clause-counted
+returns-in-Some-clause-counted c =
+    let P : List Kept → Type 0 = λ leaves. AreCounted c.args.table.now leaves c.args.segments.now in
+    subst P (sym c.in_ok-start_splits.ensures.leaves) c.requires.counted
+
+pub finish_some-requires-clause-counted : goal.finish_some-requires-clause-counted
+finish_some-requires-clause-counted c =
+    let P : List Kept → Type 0 = λ leaves. AreCounted c.args.table.now leaves c.args.segments.now in
+    subst P (sym c.in_ok-start_splits.ensures.leaves) c.requires.counted

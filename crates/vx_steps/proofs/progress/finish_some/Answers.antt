@@ -44,6 +44,7 @@ returns-in-Err-clause-cause c = refusal_before c.args.table.now c.args.job.now c
 
 pub loop-place-preserved : goal.loop-place-preserved
 loop-place-preserved c = record {
+  counted = c.in-Ok-None.ensures.counted;
   good = c.in-Ok-None.ensures.good;
   keeps = only_keeps_then c.args.table.now c.args.job.now c.args.progress.now c.loop-place.progress c.finish_at.new.progress c.loop-place.invariant.keeps c.in-Ok-None.ensures.keeps;
   held = below_more (IsHeldAt c.args.progress.now) c.loop-place.place c.loop-place.invariant.held (held_before c.args.table.now c.args.job.now c.args.progress.now c.loop-place.progress c.loop-place.place c.loop-place.invariant.keeps (c.in-Ok-None.ensures.held c.in-Ok-None.field-0-is));

@@ -8,6 +8,7 @@ use Rattle.vx_steps.specs.ReadTableData.{Wanted}
 use Rattle.vx_steps.specs.Releasing.{AreHeld}
 use Rattle.vx_steps.specs.Wants.{IsNeededLeaf}
 use Rattle.vx_steps.specs.Wholes.{AddsOnly}
+use Rattle.vx_steps.proofs.Counting.{counted_kept}
 use Rattle.vx_steps.proofs.Decoding.{adds_then, keeps_then}
 use Rattle.vx_steps.proofs.Releasing.{held_let, lets_none, lets_then, served_kept, served_let}
 use Rattle.vx_steps.proofs.leaves.NeededLeaves.decode.Goals as goal
@@ -61,3 +62,9 @@ pub decode_needs-requires-clause-held : goal.decode_needs-requires-clause-held
 decode_needs-requires-clause-held c =
     let N : List LeafRead → Type 0 = λ needs. AreHeld c.decode_from.new.leaves c.decode_from.new.reads.stored needs in
     subst N (sym (c.deref-3.ensures.value ∙ c.self.view_is)) (held_let c.args.table.now c.args.leaves.now c.decode_from.new.leaves c.args.reads.now c.decode_from.new.reads c.args.self.now c.requires.known c.in_ok-next.ensures.keeps.grows c.in_ok-next.ensures.lets c.requires.served.held)
+
+pub returns-then-last-clause-counted : goal.returns-then-last-clause-counted
+returns-then-last-clause-counted c = counted_kept c.args.table.now c.args.leaves.now c.decode_last.new.leaves c.args.segments.now c.decode_last.ensures.keeps.grows c.requires.counted
+
+pub returns-clause-counted : goal.returns-clause-counted
+returns-clause-counted c = counted_kept c.args.table.now c.decode_from.new.leaves c.decode_needs.new.leaves c.decode_from.new.segments c.decode_needs.ensures.keeps.grows c.in_ok-next.ensures.counted

@@ -13,4 +13,4 @@ invariant_of-self c =
     let nodes = c.self.inside.table.now in
     let P : ScanData → Type 0 = λ scan. IsUnstarted scan.progress in
     let typed = typed_kept nodes (IsForLeaf nodes) (λ k is. is.plan) (map kept_data c.args.leaves.items) (map kept_data c.for_leaves.result.items) c.for_leaves.ensures in
-    (good_with_leaves nodes c.self.inside.job c.self.inside.progress c.hand_in.new.self c.of-leaves.result (subst P (sym c.self.view_is) c.requires) c.self.invariant.0 (subst (AreTyped nodes) (sym c.of-leaves.ensures) typed) c.hand_in.ensures, c.self.invariant.1)
+    (good_with_leaves nodes c.self.inside.job c.self.inside.progress c.hand_in.new.self c.of-leaves.result (subst P (sym c.self.view_is) c.requires) c.self.invariant.0 (subst (AreTyped nodes) (sym c.of-leaves.ensures) typed) c.hand_in.ensures, c.new.ensures nodes c.hand_in.new.self.leaves)
