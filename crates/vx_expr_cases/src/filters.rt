@@ -6,10 +6,10 @@ ghost use Rattle.vx_base.specs.Views.{data_type};
 
 use crate::desks::Desk;
 use crate::queries::{write_dtype, write_text};
-use crate::words::{counted, spelled};
 use std::alloc::{AllocError, Global};
 use vx_base::DType;
 use vx_expr::{BindError, BoundExpression, FilterExpr, bind};
+use vx_expr_notation::spelled;
 use vx_notation::bits_of;
 
 /// Whether it is a dtype of truth values.
@@ -41,11 +41,11 @@ fn filter_of(alloc: Global, root: &DType, words: &str) -> Option<FilterExpr> {
 /// Reports to a conjunct, as the number of it and the permille, `0:900`, or so many times the same,
 /// `0:900^10`. To no such conjunct there is none.
 fn report(filter: &mut FilterExpr, word: &str) -> Result<(), AllocError> {
-    let (word, times) = counted(word);
+    let (word, times) = word.split_once('^').unwrap_or((word, "1"));
     let (conjunct, permille) = word.split_once(':').unwrap_or((word, ""));
     let conjunct = conjunct.parse::<usize>().unwrap_or(usize::MAX);
     let permille = permille.parse::<u64>().unwrap_or(0);
-    for _time in 0..times {
+    for _time in 0..times.parse::<u64>().unwrap_or(0) {
         if filter.conjuncts().len() <= conjunct {
             return Ok(());
         }

@@ -9,7 +9,6 @@ mod desks;
 mod errors;
 mod filters;
 mod queries;
-mod words;
 
 use commands::write_answers;
 use std::io;

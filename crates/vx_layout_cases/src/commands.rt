@@ -1,12 +1,13 @@
 //! The commands, and the tree that the last good list of nodes made.
 
-use crate::expressions::expression_of;
 use crate::large::large;
-use crate::nodes::{nodes_of, write_node};
+use crate::nodes::write_node;
 use std::alloc::{AllocError, Global};
 use vx_expr::bind;
+use vx_expr_notation::spelled;
 use vx_layout::{Kept, LayoutError, LayoutNode, LayoutTree};
 use vx_notation::dtype_text;
+use vx_tree_notation::nodes_of;
 
 /// Whether the nodes are a tree, which then stands, or which rule is broken first.
 fn write_made(
@@ -32,7 +33,7 @@ fn write_made(
 
 /// The fields of the root that an expression over it keeps.
 fn kept(alloc: Global, tree: &LayoutTree, words: &str) -> Option<Kept> {
-    let expression = expression_of(alloc, words)?;
+    let expression = spelled(alloc, words).ok()?;
     let expression = bind(alloc, &expression, tree.dtype()).ok()?;
     tree.kept(alloc, &expression).ok()
 }

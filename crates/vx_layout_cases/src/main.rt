@@ -4,8 +4,6 @@
 #![tactic(auto)]
 
 mod commands;
-mod dtypes;
-mod expressions;
 mod kinds;
 mod large;
 mod nodes;

@@ -1,43 +1,22 @@
 //! The commands, over one tree and the plans that it was lowered to.
 
-ghost use Rattle.std.specs.Prelude.{◌<◌, length, slice_get, IfOk, IsSomeAnd};
-ghost use Rattle.vx_layout.specs.Kept.{kept_data};
-ghost use Rattle.vx_lower.specs.KeptRows.{MayKeep};
+ghost use Rattle.std.specs.Prelude.{◌<◌, length};
 ghost use Rattle.vx_plan.specs.Refs.{number_of};
 
-use crate::expressions::spelled;
 use crate::texts::write_text;
-use crate::trees::{push_nodes, type_of};
 use std::alloc::{AllocError, Global};
-use vx_expr::{BoundExpression, Expr, bind};
-use vx_layout::{Kept, LayoutTree};
-use vx_lower::{Lowered, lower, plan_row_idx_expression};
+use vx_expr::{BoundExpression, bind};
+use vx_expr_notation::spelled;
+use vx_layout::LayoutTree;
+use vx_lower::{Lowered, plan_row_idx_expression};
 use vx_plan::{PlanError, PlanRef, PlanTable, SharePlan};
+use vx_tree_notation::{dtype_in, lowered, tree_of};
 
 /// The tree, and the plans that it was lowered to, of which the root is spoken of.
 #[derive(Drop)]
 struct Desk {
     tree: Option<LayoutTree>,
     plans: Lowered,
-}
-
-/// The fields that an expression over the tree's rows keeps; all where it isn't one.
-#[tactic(auto, using(crate::proofs::Keeping::kept_may, crate::proofs::Keeping::all_may))]
-fn kept_of(alloc: Global, tree: &LayoutTree, expr: &Expr) -> Result<Kept, AllocError>
-    ensures { IfOk result (λ kept. IsSomeAnd (slice_get tree.now 0) (λ root. MayKeep (kept_data kept) root.dtype)) }
-{
-    let dtype = tree.dtype();
-    match bind(alloc, expr, dtype) {
-        Ok(bound) => tree.kept(alloc, &bound),
-        Err(_) => Ok(Kept::All),
-    }
-}
-
-/// Lowers the tree, whole or with the fields that an expression keeps.
-fn lowered(alloc: Global, tree: &LayoutTree, words: &str) -> Result<Lowered, AllocError> {
-    let expr = spelled(alloc, words)?;
-    let kept = kept_of(alloc, tree, &expr)?;
-    lower(alloc, tree, &kept)
 }
 
 /// Says that a plan breaks a rule, and how many plans there are.
@@ -79,10 +58,9 @@ fn write_over(
 {
     let (dtype, words) = words.split_once(" | ").unwrap_or(("", words));
     let expr = spelled(alloc, words)?;
-    let bound = if dtype.is_empty() {
-        bind(alloc, &expr, plans.table.dtype(plans.root))
-    } else {
-        bind(alloc, &expr, &type_of(alloc, dtype))
+    let bound = match dtype_in(alloc, dtype) {
+        Some(dtype) => bind(alloc, &expr, &dtype),
+        None => bind(alloc, &expr, plans.table.dtype(plans.root)),
     };
     match bound {
         Ok(bound) => write_planned(alloc, plans, command, &bound, out),
@@ -128,18 +106,10 @@ fn write_tree(
     words: &str,
     out: &mut String,
 ) -> Result<(), AllocError> {
-    let mut nodes = Vec::new(alloc);
-    push_nodes(alloc, words, &mut nodes)?;
-    if 1000 < nodes.len() {
-        return Ok(());
-    }
-    match LayoutTree::try_new(alloc, nodes) {
-        Ok(tree) => {
-            write!(out, " {} nodes", tree.len())?;
-            desk.tree = Some(tree);
-            Ok(())
-        }
-        Err(_) => out.push_str(" no tree"),
+    desk.tree = tree_of(alloc, words);
+    match &desk.tree {
+        Some(tree) => write!(out, " {} nodes", tree.len()),
+        None => out.push_str(" no tree"),
     }
 }
 

@@ -5,9 +5,7 @@
 #![tactic(auto)]
 
 mod commands;
-mod expressions;
 mod texts;
-mod trees;
 
 use commands::write_answers;
 use std::io;

@@ -6,7 +6,6 @@
 
 mod asking;
 mod commands;
-mod expressions;
 mod making;
 mod reaching;
 mod words;

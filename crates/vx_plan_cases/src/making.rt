@@ -3,11 +3,11 @@
 ghost use Rattle.std.specs.Prelude.{◌<◌, length};
 ghost use Rattle.vx_plan.specs.Refs.{number_of};
 
-use crate::expressions::expression_of;
-use crate::words::{UNREAD, number_at, plan_at, plans_from, statistics_of, times};
+use crate::words::{UNREAD, number_at, plan_at, plans_from, times};
 use std::alloc::Global;
 use vx_base::{DType, Nullability};
 use vx_expr::{BoundExpression, bind};
+use vx_expr_notation::{spelled, statistics_of};
 use vx_notation::dtype_of;
 use vx_plan::{
     ConcatPlan, EvalPlan, FilterPlan, LegacyStatsPlan, ListPackPlan, PackPlan, PlanError, PlanRef,
@@ -40,10 +40,7 @@ fn scan(
 /// The expression that is spelled so, bound to a dtype.
 fn bound_of(alloc: Global, dtype: &str, words: &str) -> Result<BoundExpression, PlanError> {
     let dtype = dtype_in(alloc, dtype)?;
-    let Some(expression) = expression_of(alloc, words) else {
-        return Err(UNREAD);
-    };
-    match bind(alloc, &expression, &dtype) {
+    match bind(alloc, &spelled(alloc, words)?, &dtype) {
         Ok(bound) => Ok(bound),
         Err(_) => Err(UNREAD),
     }

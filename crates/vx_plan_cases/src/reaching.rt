@@ -8,6 +8,7 @@ use crate::words::number_at;
 use std::alloc::{AllocError, Global};
 use std::ops::Range;
 use vx_base::Mask;
+use vx_notation::bits_of;
 use vx_plan::{PlanRef, PlanTable, Reach, SegmentReach, reach, selected};
 
 /// Behind so many rows, as `+5`, or in a fixed range, as `3..7`.
@@ -44,15 +45,6 @@ fn write_found(found: &[SegmentReach], out: &mut String) -> Result<(), AllocErro
     Ok(())
 }
 
-/// The mask that is written so, as `101`.
-fn mask_of(alloc: Global, word: &str) -> Result<Mask, AllocError> {
-    let mut bits = Vec::new(alloc);
-    for sign in word.bytes() {
-        bits.push(sign == b'1')?;
-    }
-    Mask::of(alloc, bits)
-}
-
 /// What rows of a plan reach: all of a range, or those that a mask selects.
 pub(crate) fn write_reached(
     alloc: Global,
@@ -73,7 +65,7 @@ pub(crate) fn write_reached(
     if bits.is_empty() {
         return write_found(&reach(alloc, table, plan, start..end, &at)?, out);
     }
-    let mask = mask_of(alloc, bits)?;
+    let mask = Mask::of(alloc, bits_of(alloc, bits).unwrap_or(Vec::new(alloc)))?;
     if mask.len() != end - start {
         return Ok(());
     }

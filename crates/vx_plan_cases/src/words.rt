@@ -1,11 +1,10 @@
-//! The words of a command: numbers, plans of the table, statistics.
+//! The words of a command: numbers, and plans of the table.
 
 ghost use Rattle.std.specs.Prelude.{◌<◌, length, IfOk};
 ghost use Rattle.vx_plan.specs.Refs.{number_of};
 ghost use Rattle.vx_plan.specs.Tables.{AreIn};
 
 use std::alloc::{AllocError, Global};
-use vx_expr::{Statistic, Statistics};
 use vx_plan::{PlanChildren, PlanError, PlanRef, PlanTable};
 
 /// What a line that can't be read is refused by: the rules of plans are counted from 1.
@@ -72,19 +71,4 @@ pub(crate) fn times(
     }
     let _ = table.len();
     Ok(PlanChildren::from(plans))
-}
-
-/// The statistics of these names, between commas; a word that names none is none.
-pub(crate) fn statistics_of(alloc: Global, names: &str) -> Result<Statistics, AllocError> {
-    let mut statistics = Vec::new(alloc);
-    for name in names.split(',') {
-        let statistic = match name {
-            "min" => Statistic::Min,
-            "max" => Statistic::Max,
-            "null_count" => Statistic::NullCount,
-            _ => continue,
-        };
-        statistics.push(statistic)?;
-    }
-    Ok(Statistics::from_vec(statistics))
 }

@@ -7,7 +7,6 @@ use crate::answers::{write_column, write_error};
 use crate::commands::Desk;
 use crate::files::{bytes_of, places_of};
 use crate::splits::splits_of;
-use crate::trees::{lowered, tree_of};
 use std::alloc::{AllocError, Global};
 use vx_base::SegmentLocation;
 use vx_io::{IoRequest, IoRequestId, IoTarget};
@@ -15,6 +14,7 @@ use vx_layout::LayoutTree;
 use vx_lower::Lowered;
 use vx_scan::{AdaptorError, AdaptorStep, ScanAdaptor, ScanError, State};
 use vx_steps::{Scan, StepError};
+use vx_tree_notation::{lowered, tree_of};
 
 /// The error of a scan whose adaptor refused so.
 fn refusal(error: AdaptorError) -> ScanError {
@@ -144,7 +144,7 @@ fn write_told(
     out: &mut String,
 ) -> Result<(), AllocError> {
     let locations = places_of(alloc, places)?;
-    let plans = lowered(alloc, tree)?;
+    let plans = lowered(alloc, tree, "")?;
     write_planned(alloc, &plans, &locations, words, out)
 }
 
@@ -155,7 +155,7 @@ pub(crate) fn write_adaptor(
     words: &str,
     out: &mut String,
 ) -> Result<(), AllocError> {
-    match tree_of(alloc, desk.nodes)? {
+    match tree_of(alloc, desk.nodes) {
         Some(tree) => write_told(alloc, &tree, desk.places, words, out),
         None => out.push_str(" no tree;"),
     }

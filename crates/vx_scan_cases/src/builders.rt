@@ -4,7 +4,6 @@ ghost use Rattle.std.specs.Prelude.{◌≤◌, ◌-◌, ◌^◌, length, IfOk, I
 
 use crate::commands::Desk;
 use crate::files::{numbers_of, places_of};
-use crate::trees::{tree_of, type_of};
 use std::alloc::{AllocError, Global};
 use std::ops::Range;
 use vx_base::DType;
@@ -12,6 +11,7 @@ use vx_expr::{ArithOp, BindError, BoundExpression, Expr, bind};
 use vx_layout::LayoutTree;
 use vx_scan::{ScanBuilder, ScanFile};
 use vx_splits::{Selection, StrictSorted};
+use vx_tree_notation::{dtype_in, tree_of};
 
 /// The builder of a scan of the tree, whose segments lie at these places.
 fn scan_of(alloc: Global, layout: LayoutTree, places: &str) -> Result<ScanBuilder, AllocError>
@@ -25,7 +25,7 @@ fn scan_of(alloc: Global, layout: LayoutTree, places: &str) -> Result<ScanBuilde
 pub(crate) fn builder_of(alloc: Global, desk: Desk<'_>) -> Result<Option<ScanBuilder>, AllocError>
     ensures { IfOk result (λ made. IfSome made (λ builder. length builder.locations ≤ 2 ^ 32 - 1)) }
 {
-    match tree_of(alloc, desk.nodes)? {
+    match tree_of(alloc, desk.nodes) {
         Some(layout) => Ok(Some(scan_of(alloc, layout, desk.places)?)),
         None => Ok(None),
     }
@@ -41,7 +41,10 @@ fn projection_of(alloc: Global, dtype: &DType, word: &str) -> Result<BoundExpres
             let less = Expr::arith(alloc, ArithOp::Sub, Expr::Root, Expr::RowIdx)?;
             bind(alloc, &less, dtype)
         }
-        other => bind(alloc, &Expr::Root, &type_of(alloc, other)),
+        other => match dtype_in(alloc, other) {
+            Some(root) => bind(alloc, &Expr::Root, &root),
+            None => bind(alloc, &Expr::Root, dtype),
+        },
     }
 }
 
@@ -49,7 +52,7 @@ fn projection_of(alloc: Global, dtype: &DType, word: &str) -> Result<BoundExpres
 fn projected(alloc: Global, desk: Desk<'_>, word: &str) -> Option<ScanBuilder>
     ensures { IfSome result (λ builder. length builder.locations ≤ 2 ^ 32 - 1) }
 {
-    let layout = tree_of(alloc, desk.nodes).ok()??;
+    let layout = tree_of(alloc, desk.nodes)?;
     let projection = projection_of(alloc, layout.dtype(), word).ok()?;
     let builder = scan_of(alloc, layout, desk.places).ok()?;
     Some(builder.with_projection(projection))

@@ -7,17 +7,17 @@ use crate::answers::{write_column, write_columns, write_error, write_source};
 use crate::commands::Desk;
 use crate::files::{places_of, source_of};
 use crate::splits::split_of;
-use crate::trees::{lowered, tree_of, type_of};
 use std::alloc::{AllocError, Global};
 use vx_base::ScriptSource;
 use vx_io::segment_ranges;
 use vx_layout::LayoutTree;
 use vx_lower::Lowered;
-use vx_notation::column_of;
+use vx_notation::{column_of, dtype_of};
 use vx_plan::PlanRef;
 use vx_scan::{ChunkOutcome, ScanPlans, run_chunk};
 use vx_splits::{SelectedRows, WorkScope};
 use vx_steps::{KeptValue, Split};
+use vx_tree_notation::{lowered, tree_of};
 
 /// What the chunks of the tree share.
 pub(crate) fn plans_of(
@@ -29,7 +29,7 @@ pub(crate) fn plans_of(
 {
     let locations = places_of(alloc, desk.places)?;
     let ranges = segment_ranges(alloc, &locations)?;
-    let Lowered { table, root } = lowered(alloc, tree)?;
+    let Lowered { table, root } = lowered(alloc, tree, "")?;
     Ok(ScanPlans {
         table,
         projection: root,
@@ -46,10 +46,9 @@ pub(crate) fn value_of(alloc: Global, text: &str) -> Option<KeptValue> {
     let (number, words) = words.split_once(' ').unwrap_or((words, ""));
     let (dtype, values) = words.split_once(':').unwrap_or((words, ""));
     let node = PlanRef(number.parse::<u32>().unwrap_or(0));
-    match column_of(alloc, type_of(alloc, dtype), values) {
-        Ok(column) => Some(KeptValue { node, column }),
-        Err(_) => None,
-    }
+    let dtype = dtype_of(alloc, dtype).ok()?;
+    let column = column_of(alloc, dtype, values).ok()?;
+    Some(KeptValue { node, column })
 }
 
 /// The values that the words between ` | ` give.
@@ -159,7 +158,7 @@ pub(crate) fn write_chunk(
     words: &str,
     out: &mut String,
 ) -> Result<(), AllocError> {
-    match tree_of(alloc, desk.nodes)? {
+    match tree_of(alloc, desk.nodes) {
         Some(tree) => write_over(alloc, desk, &tree, words, out),
         None => out.push_str(" no tree;"),
     }

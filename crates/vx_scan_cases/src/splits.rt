@@ -2,18 +2,8 @@
 
 use std::alloc::{AllocError, Global};
 use vx_base::Mask;
+use vx_notation::bits_of;
 use vx_steps::Split;
-
-/// The mask of these signs; `-` is none.
-fn mask_of(alloc: Global, signs: &str) -> Result<Mask, AllocError> {
-    let mut bits = Vec::new(alloc);
-    for sign in signs.bytes() {
-        if sign != b'-' {
-            bits.push(sign == b'1')?;
-        }
-    }
-    Mask::of(alloc, bits)
-}
 
 /// The split that is written so. A reversed one without a mask has one of no rows.
 pub(crate) fn split_of(alloc: Global, word: &str) -> Result<Split, AllocError> {
@@ -23,8 +13,11 @@ pub(crate) fn split_of(alloc: Global, word: &str) -> Result<Split, AllocError> {
     if signs.is_empty() && rows.start <= rows.end {
         return Split::all(alloc, rows);
     }
-    let mask = mask_of(alloc, signs)?;
-    Ok(Split { rows, mask })
+    let bits = bits_of(alloc, signs).unwrap_or(Vec::new(alloc));
+    Ok(Split {
+        rows,
+        mask: Mask::of(alloc, bits)?,
+    })
 }
 
 /// Adds the splits that the words write, so many times.

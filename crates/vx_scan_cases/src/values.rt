@@ -8,12 +8,12 @@ use crate::answers::{write_column, write_error, write_source};
 use crate::chunks::{chosen_of, is_chunk, plans_of};
 use crate::commands::Desk;
 use crate::files::source_of;
-use crate::trees::tree_of;
 use std::alloc::{AllocError, Global};
 use vx_plan::PlanRef;
 use vx_scan::{ScanPlans, run_values};
 use vx_splits::SelectedRows;
 use vx_steps::asked_wholes;
+use vx_tree_notation::tree_of;
 
 /// Appends the whole values of a plan, or why there are none, and what their source was asked.
 fn write_plan(
@@ -44,7 +44,7 @@ pub(crate) fn write_values(
     words: &str,
     out: &mut String,
 ) -> Result<(), AllocError> {
-    let Some(tree) = tree_of(alloc, desk.nodes)? else {
+    let Some(tree) = tree_of(alloc, desk.nodes) else {
         return out.push_str(" no tree;");
     };
     let plans = plans_of(alloc, &tree, desk)?;
@@ -82,7 +82,7 @@ pub(crate) fn write_asks(
     words: &str,
     out: &mut String,
 ) -> Result<(), AllocError> {
-    let Some(tree) = tree_of(alloc, desk.nodes)? else {
+    let Some(tree) = tree_of(alloc, desk.nodes) else {
         return out.push_str(" no tree;");
     };
     let chosen = chosen_of(alloc, words)?;

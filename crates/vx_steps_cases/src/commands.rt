@@ -1,20 +1,17 @@
 //! The commands, over one tree, a plan of it, and the bytes of its segments.
 
-ghost use Rattle.std.specs.Prelude.{◌<◌, length, slice_get, IfOk, IsSomeAnd};
-ghost use Rattle.vx_layout.specs.Kept.{kept_data};
-ghost use Rattle.vx_lower.specs.KeptRows.{MayKeep};
+ghost use Rattle.std.specs.Prelude.{◌<◌, length};
 ghost use Rattle.vx_plan.specs.Refs.{number_of};
 
 use crate::answers::write_columns;
-use crate::expressions::spelled;
 use crate::scans::write_scan;
-use crate::trees::push_nodes;
 use std::alloc::{AllocError, Global};
-use vx_expr::{BoundExpression, Expr, bind};
-use vx_layout::{Kept, LayoutTree};
-use vx_lower::{Lowered, lower, plan_row_idx_expression};
+use vx_expr::{BoundExpression, bind};
+use vx_expr_notation::spelled;
+use vx_lower::{Lowered, plan_row_idx_expression};
 use vx_plan::{PlanError, PlanRef, PlanTable, SharePlan};
 use vx_steps::KeptValue;
+use vx_tree_notation::{lowered, tree_of};
 
 /// The bytes of a segment.
 #[derive(Drop)]
@@ -91,25 +88,6 @@ fn write_shared(alloc: Global, plans: &mut Lowered, out: &mut String) -> Result<
     write_planned(plans, made, out)
 }
 
-/// The fields that an expression over the tree's rows keeps; all where it isn't one.
-#[tactic(auto, using(crate::proofs::Keeping::kept_may, crate::proofs::Keeping::all_may))]
-fn kept_of(alloc: Global, tree: &LayoutTree, expr: &Expr) -> Result<Kept, AllocError>
-    ensures { IfOk result (λ kept. IsSomeAnd (slice_get tree.now 0) (λ root. MayKeep (kept_data kept) root.dtype)) }
-{
-    let dtype = tree.dtype();
-    match bind(alloc, expr, dtype) {
-        Ok(bound) => tree.kept(alloc, &bound),
-        Err(_) => Ok(Kept::All),
-    }
-}
-
-/// Lowers the tree, whole or with the fields that an expression keeps.
-fn lowered(alloc: Global, tree: &LayoutTree, words: &str) -> Result<Lowered, AllocError> {
-    let expr = spelled(alloc, words)?;
-    let kept = kept_of(alloc, tree, &expr)?;
-    lower(alloc, tree, &kept)
-}
-
 /// Lowers the tree of the nodes, of which there are few, and says the number of its plan. An expression behind ` | `
 /// says which fields are kept.
 fn write_tree(
@@ -119,18 +97,11 @@ fn write_tree(
     out: &mut String,
 ) -> Result<(), AllocError> {
     let (text, words) = words.split_once(" | ").unwrap_or((words, ""));
-    let mut nodes = Vec::new(alloc);
-    push_nodes(alloc, text, &mut nodes)?;
-    if 1000 < nodes.len() {
-        return Ok(());
-    }
-    match LayoutTree::try_new(alloc, nodes) {
-        Ok(tree) => {
-            *plans = lowered(alloc, &tree, words)?;
-            write!(out, " plan {}", plans.root.0)
-        }
-        Err(_) => out.push_str(" no tree"),
-    }
+    let Some(tree) = tree_of(alloc, text) else {
+        return out.push_str(" no tree");
+    };
+    *plans = lowered(alloc, &tree, words)?;
+    write!(out, " plan {}", plans.root.0)
 }
 
 /// Adds the bytes of the hexadecimal digits, so many times.

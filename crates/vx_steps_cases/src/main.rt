@@ -5,12 +5,10 @@
 
 mod answers;
 mod commands;
-mod expressions;
 mod options;
 mod runs;
 mod scans;
 mod splits;
-mod trees;
 
 use commands::write_lines;
 use std::io;

@@ -1,8 +1,8 @@
 //! How a scan is run, as words.
 
-use crate::trees::type_of;
 use std::alloc::{AllocError, Global};
-use vx_notation::column_of;
+use vx_base::{DType, Nullability};
+use vx_notation::{column_of, dtype_of};
 use vx_plan::PlanRef;
 use vx_steps::KeptValue;
 
@@ -48,7 +48,8 @@ fn push_column(alloc: Global, words: &str, columns: &mut Vec<KeptValue>) -> Resu
     let (number, words) = words.split_once(' ').unwrap_or((words, ""));
     let (dtype, values) = words.split_once(':').unwrap_or((words, ""));
     let node = PlanRef(number.parse::<u32>().unwrap_or(0));
-    match column_of(alloc, type_of(alloc, dtype), values) {
+    let dtype = dtype_of(alloc, dtype).unwrap_or(DType::Bool(Nullability::NonNullable));
+    match column_of(alloc, dtype, values) {
         Ok(column) => {
             columns.push(KeptValue { node, column })?;
             Ok(())

@@ -1,4 +1,4 @@
-//! Dtypes as words, each part before the whole.
+//! Dtypes of any depth as words.
 
 use std::alloc::Global;
 use vx_base::{DType, Element, Field, Fields, Nullability};
@@ -49,8 +49,12 @@ fn push_made(alloc: Global, word: &str, parts: &mut Vec<DType>) -> Option<()> {
     Some(())
 }
 
-/// The dtype that the words spell.
-pub(crate) fn dtype_in(alloc: Global, words: &str) -> Option<DType> {
+/// The dtype that the words spell: the printed form of one that `vx_notation` reads, or words with each part before the
+/// whole, as `i64 utf8? (a,n)` or `i64 list^3`.
+pub fn dtype_in(alloc: Global, words: &str) -> Option<DType> {
+    if let Ok(dtype) = dtype_of(alloc, words) {
+        return Some(dtype);
+    }
     let mut parts = Vec::new(alloc);
     for word in words.split_whitespace() {
         push_made(alloc, word, &mut parts)?;

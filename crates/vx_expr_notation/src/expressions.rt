@@ -1,4 +1,4 @@
-//! Expressions as words, each part before the whole. A word that is none ends all output.
+//! Expressions as words, each part before the whole.
 
 use std::alloc::{AllocError, Global};
 use vx_base::{DType, Nullability, Text, Value};
@@ -33,17 +33,16 @@ fn sign_of(word: &str) -> Option<Sign> {
     }
 }
 
-/// The literal that is written as value and dtype; what is none has no dtype.
+/// The literal that is written as value and dtype, as `5:i64`; what is no value is null, what is no dtype `bool`.
 fn literal(alloc: Global, value: &str, dtype: &str) -> Expr {
     let value = value_of(alloc, value).unwrap_or(Value::Null);
     let dtype = dtype_of(alloc, dtype).unwrap_or(DType::Bool(Nullability::NonNullable));
     Expr::Lit(value, dtype)
 }
 
-/// The last of the parts; where there is none, an expression that has no dtype.
+/// The last of the parts; the root where there is none.
 fn popped(parts: &mut Vec<Expr>) -> Expr {
-    let none = Expr::Lit(Value::Null, DType::Bool(Nullability::NonNullable));
-    parts.pop().unwrap_or(none)
+    parts.pop().unwrap_or(Expr::Root)
 }
 
 /// The expression that a sign makes of the last two parts.
@@ -58,7 +57,7 @@ fn of_two(alloc: Global, sign: Sign, parts: &mut Vec<Expr>) -> Result<Expr, Allo
     }
 }
 
-/// The expression that a word makes of one part.
+/// The expression that a word makes of one part. A word that is none is refused.
 fn of_one(alloc: Global, word: &str, part: Expr) -> Result<Expr, AllocError> {
     match word {
         "not" => Expr::negation(alloc, part),
@@ -113,26 +112,21 @@ fn made_of(alloc: Global, word: &str, parts: &mut Vec<Expr>) -> Result<Expr, All
     }
 }
 
-/// The word without its count, and how often it is meant, as a number: `not^3` is `not not not`.
-pub(crate) fn counted(word: &str) -> (&str, u64) {
-    match word.split_once('^') {
-        Some((word, times)) => (word, times.parse::<u64>().unwrap_or(0)),
-        None => (word, 1),
-    }
-}
-
-/// Puts what a word makes in the place of its parts, as often as it is meant.
+/// Puts what a word makes in the place of its parts, as often as it is meant: `not^3` is `not not not`.
 fn push_word(alloc: Global, word: &str, parts: &mut Vec<Expr>) -> Result<(), AllocError> {
-    let (word, times) = counted(word);
-    for _time in 0..times {
+    let (word, times) = word.split_once('^').unwrap_or((word, "1"));
+    for _time in 0..times.parse::<u64>().unwrap_or(0) {
         let made = made_of(alloc, word, parts)?;
         parts.push(made)?;
     }
     Ok(())
 }
 
-/// The expression that the words spell.
-pub(crate) fn spelled(alloc: Global, words: &str) -> Result<Expr, AllocError> {
+/// The expression that the words spell; no words are the root. Words are `$`, `#row_idx`, a literal as `5:i64`, a field
+/// as `.a`, the struct of the last parts as `{a,b}`, a sign between the last two parts, as `and`, `<=` or `+`, and
+/// `not`, `is_null`, `is_not_null` and `at_most_bound`. A word that is none of these, and parts that are left over, are
+/// refused, as want of memory is.
+pub fn spelled(alloc: Global, words: &str) -> Result<Expr, AllocError> {
     let mut parts = Vec::new(alloc);
     for word in words.split_whitespace() {
         push_word(alloc, word, &mut parts)?;
