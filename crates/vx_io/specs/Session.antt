@@ -90,6 +90,10 @@ waiting_or_none (Some reads) = waiting_reads reads
 abbrev pub waits : BTreeMap ℕ WaitingReads → ℕ → Waiting
 waits waiting segment = waiting_or_none (get nat_cmp waiting segment)
 
+-- a map of what waits keeps nothing of a segment at which nothing waits
+abbrev pub KeepsNothingInVain : BTreeMap ℕ WaitingReads → ℕ → Type 0
+KeepsNothingInVain waiting segment = waits waiting segment ≡ nothing_waits → get nat_cmp waiting segment ≡ None
+
 -- What a session is to its callers: its table, and the state of its source.
 pub record SessionState : Type 0 where
   pub table : Table

@@ -1,9 +1,9 @@
 //! The reads that no fetch has taken yet, of one segment and of all.
 
-ghost use Rattle.std.specs.Prelude.{◌≡◌, ◌≢◌, ℕ, [], IsTrue, IsSome, OnOk};
+ghost use Rattle.std.specs.Prelude.{◌≡◌, ◌≢◌, ◌↔◌, ℕ, [], IsTrue, IsFalse, IsSome, OnOk};
 ghost use Rattle.std.specs.BTreeMap.{get};
 ghost use Rattle.std.specs.Ordering.{nat_cmp};
-ghost use Rattle.vx_io.specs.Session.{waiting_reads, nothing_waits, waits};
+ghost use Rattle.vx_io.specs.Session.{waiting_reads, nothing_waits, waits, KeepsNothingInVain};
 ghost use Rattle.vx_io.specs.Waits.{TakesRequest, TakesFetch, TakesAnnounced, Takes, TakesAt};
 
 use crate::requests::IoIntent;
@@ -121,7 +121,7 @@ impl WaitingReads {
 
     /// Whether no read waits.
     fn is_empty(&self) -> bool
-        ensures { IsTrue result → waiting_reads self.now ≡ nothing_waits }
+        ensures { IsTrue result ↔ waiting_reads self.now ≡ nothing_waits }
     {
         self.prefetched.is_none() && self.announced.is_empty()
     }
@@ -177,23 +177,29 @@ impl WaitingTable {
         reads.take(source, intent, segment, at)
     }
 
-    /// Lets go of a segment at which nothing waits.
-    fn drop_empty(&mut self, segment: u32)
-        ensures { (other : ℕ) → waits self.new.segments other ≡ waits self.old.segments other }
+    /// Whether a segment is kept at which nothing waits.
+    fn keeps_in_vain(&self, segment: u32) -> bool
+        ensures empty { IsTrue result → waits self.now.segments segment ≡ nothing_waits }
+        ensures good { IsFalse result → KeepsNothingInVain self.now.segments segment }
     {
-        let is_empty = match self.segments.get(&segment) {
+        match self.segments.get(&segment) {
             Some(reads) => reads.is_empty(),
             None => false,
-        };
-        if is_empty {
+        }
+    }
+
+    /// Lets go of a segment at which nothing waits.
+    fn drop_empty(&mut self, segment: u32)
+        ensures same { (other : ℕ) → waits self.new.segments other ≡ waits self.old.segments other }
+        ensures gone { KeepsNothingInVain self.new.segments segment }
+    {
+        if self.keeps_in_vain(segment) {
             self.segments.remove(&segment);
         }
     }
 
-    /// Does a request at its segment, and gives the read that a fetch takes. Room is made first, so that no read is
-    /// started in vain; a fetch where nothing waits needs none. Nothing is kept of a segment at which nothing waits
-    /// afterwards.
-    pub(crate) fn take<S: SegmentSource>(
+    /// Does a request at its segment, for which room is made first, so that no read is started in vain.
+    fn take_with_room<S: SegmentSource>(
         &mut self,
         source: &mut S,
         intent: IoIntent,
@@ -203,14 +209,30 @@ impl WaitingTable {
         ensures { TakesAt intent segment at result
             (waits self.old.segments) (S.state source.old) (waits self.new.segments) (S.state source.new) }
     {
+        if self.make_room(segment).is_err() {
+            return Err(SourceError::Memory);
+        }
+        self.take_in(source, intent, segment, at)
+    }
+
+    /// Does a request at its segment, and gives the read that a fetch takes. A fetch where nothing waits needs no room.
+    /// Nothing is kept of a segment at which nothing waits afterwards, also where the request is refused.
+    pub(crate) fn take<S: SegmentSource>(
+        &mut self,
+        source: &mut S,
+        intent: IoIntent,
+        segment: u32,
+        at: SegmentLocation,
+    ) -> Result<Option<u64>, SourceError>
+        ensures takes { TakesAt intent segment at result
+            (waits self.old.segments) (S.state source.old) (waits self.new.segments) (S.state source.new) }
+        ensures gone { KeepsNothingInVain self.new.segments segment }
+    {
         if intent == IoIntent::Fetch && !self.segments.contains_key(&segment) {
             let ticket = source.request(segment, at)?;
             return Ok(Some(ticket));
         }
-        if self.make_room(segment).is_err() {
-            return Err(SourceError::Memory);
-        }
-        let taken = self.take_in(source, intent, segment, at);
+        let taken = self.take_with_room(source, intent, segment, at);
         self.drop_empty(segment);
         taken
     }

@@ -6,7 +6,7 @@ use Rattle.vx_io.proofs.sessions.SegmentIoSource.start.Goals as goal
 
 pub invariant_of-self-in-Ok : goal.invariant_of-self-in-Ok
 invariant_of-self-in-Ok g c =
-    let done = c.in-Ok.ensures in
+    let done = c.in-Ok.ensures.takes in
     let known = known_segment c.args.self.now.ranges.now c.args.request.target c.location-at.result c.find.result c.unwrap-segment.result c.location-at.ensures c.find.ensures (search rules) in
     let added = rw c.reserve.ensures.items at c.add_fetch.ensures in
     record {
@@ -20,5 +20,5 @@ invariant_of-self-in-Err-1 g c =
     record {
       sound = sound_refused c.args.self.now.ranges.now (waits c.args.self.now.waiting.segments) (waits c.take.new.self.segments) c.args.self.now.fetches.items c.reserve.new.self.items
           (g.S.SegmentSource.state c.args.self.now.source.now) (g.S.SegmentSource.state c.take.new.source) c.args.request.intent c.unwrap-segment.result c.location-at.result c.in-Err.error
-          c.args.self.now.sound c.in-Err.ensures c.reserve.ensures.items;
+          c.args.self.now.sound c.in-Err.ensures.takes c.reserve.ensures.items;
     }

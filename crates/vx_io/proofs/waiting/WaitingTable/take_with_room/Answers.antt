@@ -2,7 +2,7 @@ use Rattle.std.proofs.Common.{rules}
 use Rattle.vx_io.specs.Session.{waits}
 use Rattle.vx_io.specs.Session.{asks}
 use Rattle.vx_io.proofs.TakenReads.{no_room}
-use Rattle.vx_io.proofs.waiting.WaitingTable.take.Goals as goal
+use Rattle.vx_io.proofs.waiting.WaitingTable.take_with_room.Goals as goal
 
 pub returns-then-is_err : goal.returns-then-is_err
 returns-then-is_err g c =
