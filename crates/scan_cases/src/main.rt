@@ -12,10 +12,13 @@ mod runs;
 use demo_scans::demo_rows;
 use gates::gate_outcome;
 use outcomes::outcome;
-use scan_commands::status_text;
+use scan_commands::{RequestError, status_text};
+use scan_words::WordsError;
+use std::alloc::Global;
 use std::io;
 use std::sync::Wait;
 use std::thread::Threads;
+use vx_expr::BindError;
 
 fn main(rt: HostRuntime) -> io::Result<()> {
     let alloc = rt.alloc();
@@ -31,6 +34,25 @@ fn main(rt: HostRuntime) -> io::Result<()> {
         }
     }
     Ok(())
+}
+
+/// The text of the error of that name.
+fn error_text(alloc: Global, name: &str) -> Option<String> {
+    match name {
+        "usage" => format!(in alloc; "{}", WordsError::Usage).ok(),
+        "words_memory" => format!(in alloc; "{}", WordsError::Memory).ok(),
+        "bad_request" => format!(in alloc; "{}", RequestError::BadRequest).ok(),
+        "bad_layout" => {
+            let error = RequestError::BadLayout { node: 3, rule: 7 };
+            format!(in alloc; "{error}").ok()
+        }
+        "bad_projection" => {
+            let error = RequestError::BadProjection(BindError::TooDeep);
+            format!(in alloc; "{error}").ok()
+        }
+        "request_memory" => format!(in alloc; "{}", RequestError::Memory).ok(),
+        _ => None,
+    }
 }
 
 /// The answer to a line that has one, where the line `file` tells the file.
@@ -50,6 +72,7 @@ fn answer<R: AllocGlobal + Threads + Wait + Sync>(
             gate_outcome(rt, file, options, request.trim())
         }
         "demo_rows" => demo_rows(rt, rest),
+        "error" => error_text(rt.alloc(), rest),
         "status" => {
             let status = rest.parse::<u8>().ok()?;
             String::from_str(rt.alloc(), status_text(status)).ok()

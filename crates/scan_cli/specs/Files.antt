@@ -52,9 +52,13 @@ HasNoFile source = ¬ IsOpen source
 abbrev pub unwritten : WriteState
 unwritten = record { written = None; faults = 0 }
 
+-- how many sources a run is lent
+abbrev pub source_count : ℕ
+source_count = 8
+
 -- what a run over files begins with
 abbrev pub untouched : World
-untouched = record { request = unread; sources = are_unasked 8; sink = unwritten }
+untouched = record { request = unread; sources = are_unasked source_count; sink = unwritten }
 
 -- the status is the answer to these words, whatever is left behind
 pub record IsStatusOf (words : List (List ℕ)) (status : ℕ) : Type 0 where

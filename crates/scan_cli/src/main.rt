@@ -6,7 +6,7 @@ ghost use Rattle.std.specs.Prelude.{◌≡◌, ◌≢◌, ◌⊎◌, ◌<◌, �
 ghost use Rattle.std.specs.IoError.{error_kind};
 ghost use Rattle.std.specs.List.{AllByRecursion};
 ghost use Rattle.std.specs.Process.{exit_status};
-ghost use Rattle.scan_cli.specs.Files.{are_unasked, request_named, segments_named, HasNoFile, IsStatusOf};
+ghost use Rattle.scan_cli.specs.Files.{are_unasked, source_count, request_named, segments_named, HasNoFile, IsStatusOf};
 ghost use Rattle.scan_commands.specs.Commanded.{Runs};
 ghost use Rattle.scan_commands.specs.Statuses.{memory_status, usage_status};
 ghost use Rattle.scan_words.specs.Words.{command_of};
@@ -103,7 +103,7 @@ fn run_files<R: AllocGlobal + Threads + Wait + Sync>(
 
 /// The sources that a run is lent, of the segment file of that name. The error is for want of memory alone.
 fn file_sources(rt: &HostRuntime, name: Option<&str>) -> Result<Vec<FileSource>, AllocError>
-    ensures unasked { IfOk result (λ sources. map file_state sources.items ≡ are_unasked 8) }
+    ensures unasked { IfOk result (λ sources. map file_state sources.items ≡ are_unasked source_count) }
     // Where no file is named, none of them has one.
     ensures no_name { IsNone name.entry → IfOk result (λ sources. AllByRecursion HasNoFile sources.items) }
 {

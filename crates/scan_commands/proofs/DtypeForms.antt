@@ -12,7 +12,7 @@ use Rattle.vx_base.specs.declared.dtypes.Nullability.TheVariants.{NonNullable, N
 use Rattle.vx_base.specs.declared.dtypes.Field.{Field}
 use Rattle.vx_base.specs.Data.{DataType}
 use Rattle.vx_base.specs.Views.{FieldData, field_data}
-use Rattle.scan_commands.specs.JsonForms.{◌>>=◌}
+use Rattle.scan_words.specs.Words.{◌>>=◌}
 use Rattle.scan_commands.specs.DtypeForms.{is_marked, unmarked, dtype_form, nested_form, nested_named, fields_form, each_field, field_form, field_items}
 
 -- ---- names

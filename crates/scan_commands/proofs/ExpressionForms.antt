@@ -12,7 +12,8 @@ use Rattle.serde_json.proofs.Views.{Entry}
 use Rattle.vx_expr.specs.declared.expressions.Expr.{Expr}
 use Rattle.vx_expr.specs.Terms.{Term, pack, named}
 use Rattle.vx_expr.specs.TermViews.{term, terms_of}
-use Rattle.scan_commands.specs.JsonForms.{◌>>=◌, each_form}
+use Rattle.scan_commands.specs.JsonForms.{each_form}
+use Rattle.scan_words.specs.Words.{◌>>=◌}
 use Rattle.scan_commands.specs.ExpressionForms.{pair_names, terms_from, literal_form, joined_form, expression_form, object_form, named_form, named_items, all_named_form, each_named, pair_form, pair_items}
 use Rattle.scan_commands.specs.ExpressionViews.{named_term}
 

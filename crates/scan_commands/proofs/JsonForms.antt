@@ -7,7 +7,8 @@ use Rattle.serde_json.specs.Events.{items_len}
 use Rattle.serde_json.specs.View.{items_view, members_view}
 use Rattle.serde_json.specs.declared.value.Value.{Value}
 use Rattle.serde_json.proofs.Views.{Entry, items_len-items_view, members_len-members_view}
-use Rattle.scan_commands.specs.JsonForms.{◌>>=◌, few_items, has_members, each_form, list_form, most_items}
+use Rattle.scan_commands.specs.JsonForms.{few_items, has_members, each_form, list_form, most_items}
+use Rattle.scan_words.specs.Words.{◌>>=◌}
 
 -- a list of too many items
 pub few_none : (d : Data) (items : List Value) → Some (items_view items) ≡ as_array d → most_items < length items → None ≡ few_items d

@@ -19,7 +19,8 @@ use Rattle.vx_layout.specs.Shape.{IsGoodTree}
 use Rattle.scan_commands.specs.declared.request_errors.RequestError.TheVariants.{BadRequest}
 use Rattle.scan_commands.specs.BindRefusals.{of_bind}
 use Rattle.scan_commands.specs.ExpressionForms.{expression_form}
-use Rattle.scan_commands.specs.JsonForms.{◌>>=◌, has_members, list_form, most_items, optional_form}
+use Rattle.scan_commands.specs.JsonForms.{has_members, list_form, most_items, optional_form}
+use Rattle.scan_words.specs.Words.{◌>>=◌}
 use Rattle.scan_commands.specs.LocationForms.{location_form}
 use Rattle.scan_commands.specs.NodeForms.{node_form}
 use Rattle.scan_commands.specs.RequestForms.{Asked, Parts, members_of, request_form, json_value, requested, root_dtype, IsRequest, HasBadProjection, RefusedBy}

@@ -11,7 +11,7 @@ use Rattle.vx_base.specs.declared.dtypes.Nullability.{Nullability}
 use Rattle.vx_base.specs.declared.dtypes.Nullability.TheVariants.{NonNullable, Nullable}
 use Rattle.vx_base.specs.Data.{DataType, bool_type, int_type, utf8_type, struct_type, list_type}
 use Rattle.vx_base.specs.Views.{FieldData, members_from}
-use Rattle.scan_commands.specs.JsonForms.{◌>>=◌}
+use Rattle.scan_words.specs.Words.{◌>>=◌}
 
 -- ---- names
 

@@ -9,7 +9,8 @@ use Rattle.vx_base.specs.Data as values
 use Rattle.vx_expr.specs.Terms.{Term, root, literal, get_field, pack, negation, conjunction, disjunction, comparison, null_test, value_test, arithmetic, row_number, Terms, no_terms, named}
 use Rattle.vx_expr.specs.declared.operators.CompareOp.TheVariants.{Eq, Ne, Lt, Le, Gt, Ge}
 use Rattle.vx_expr.specs.declared.operators.ArithOp.TheVariants.{Add, Sub, Mul, Div}
-use Rattle.scan_commands.specs.JsonForms.{◌>>=◌, has_members}
+use Rattle.scan_commands.specs.JsonForms.{has_members}
+use Rattle.scan_words.specs.Words.{◌>>=◌}
 use Rattle.scan_commands.specs.DtypeForms.{dtype_form}
 
 -- ---- names

@@ -3,7 +3,8 @@ use Rattle.std.specs.Prelude.{◌^◌, Option, Some, None}
 use Rattle.serde_json.specs.Data.{Data, Items, no_items, item}
 use Rattle.serde_json.specs.Find.{as_array}
 use Rattle.vx_base.specs.declared.locations.SegmentLocation.{SegmentLocation}
-use Rattle.scan_commands.specs.JsonForms.{◌>>=◌, whole_form}
+use Rattle.scan_commands.specs.JsonForms.{whole_form}
+use Rattle.scan_words.specs.Words.{◌>>=◌}
 
 -- three whole numbers, the first of 64 bits and the others of 32
 abbrev pub location_items : Items → Option SegmentLocation

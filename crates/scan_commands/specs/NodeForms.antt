@@ -9,7 +9,8 @@ use Rattle.vx_expr.specs.declared.statistics.Statistic.TheVariants.{Min, Max, Nu
 use Rattle.vx_layout.specs.declared.nodes.LayoutKind.{LayoutKind}
 use Rattle.vx_layout.specs.declared.nodes.LayoutKind.TheVariants as kinds
 use Rattle.vx_layout.specs.Nodes.{Node}
-use Rattle.scan_commands.specs.JsonForms.{◌>>=◌, whole_form, has_members, each_form}
+use Rattle.scan_commands.specs.JsonForms.{whole_form, has_members, each_form}
+use Rattle.scan_words.specs.Words.{◌>>=◌}
 use Rattle.scan_commands.specs.DtypeForms.{dtype_form}
 
 -- ---- kinds

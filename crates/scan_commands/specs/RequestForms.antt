@@ -19,7 +19,8 @@ use Rattle.vx_layout.specs.Faults.{IsFirstFault}
 use Rattle.vx_splits.specs.declared.selections.Selection.{Selection}
 use Rattle.scan_commands.specs.declared.request_errors.RequestError.{RequestError}
 use Rattle.scan_commands.specs.declared.request_errors.RequestError.TheVariants.{BadRequest, BadLayout, BadProjection, Memory}
-use Rattle.scan_commands.specs.JsonForms.{◌>>=◌, has_members, list_form, optional_form}
+use Rattle.scan_commands.specs.JsonForms.{has_members, list_form, optional_form}
+use Rattle.scan_words.specs.Words.{◌>>=◌}
 use Rattle.scan_commands.specs.LocationForms.{location_form}
 use Rattle.scan_commands.specs.NodeForms.{node_form}
 use Rattle.scan_commands.specs.ExpressionForms.{expression_form}

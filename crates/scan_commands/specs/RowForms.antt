@@ -6,7 +6,8 @@ use Rattle.serde_json.specs.Data.{Data, Items, no_items, item}
 use Rattle.serde_json.specs.Find.{get, as_array}
 use Rattle.vx_splits.specs.declared.selections.Selection.{Selection}
 use Rattle.vx_splits.specs.declared.selections.Selection.TheVariants.{All, IncludeByIndex, ExcludeByIndex}
-use Rattle.scan_commands.specs.JsonForms.{◌>>=◌, whole_form, each_form, optional_form}
+use Rattle.scan_commands.specs.JsonForms.{whole_form, each_form, optional_form}
+use Rattle.scan_words.specs.Words.{◌>>=◌}
 use Rattle.scan_commands.specs.declared.row_forms.RowsAsked.{RowsAsked}
 
 -- a start and an end of 64 bits; the end may be the lower one

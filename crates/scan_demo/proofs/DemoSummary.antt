@@ -14,7 +14,8 @@ use Rattle.vx_base.specs.Segment.{is_value}
 use Rattle.vx_scan.specs.Answer.{in_front, pieces_of}
 use Rattle.scan_demo.specs.DemoRows.{demo_row, id_of, is_flagged, lacks_name, name_at}
 use Rattle.scan_demo.specs.Summary.{batches_text, demo_pieces, summary, summary_text}
-use Rattle.scan_demo.specs.Totals.{capped, count_of, id_in, is_flagged_in, lacks_name_in, natural_in}
+use Rattle.vx_expr.specs.Refusals.{capped}
+use Rattle.scan_demo.specs.Totals.{count_of, id_in, is_flagged_in, lacks_name_in, natural_in}
 
 -- ---- the pieces join to the rows
 

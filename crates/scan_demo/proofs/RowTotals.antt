@@ -5,8 +5,9 @@ use Rattle.std.specs.List.{flat_map, slice_get, sum_by}
 use Rattle.std.proofs.lemmas.List.Sums.{sum_by-cons}
 use Rattle.vx_base.specs.Columns.{ColumnData}
 use Rattle.vx_base.specs.Data.{Datum}
+use Rattle.vx_expr.specs.Refusals.{capped}
 use Rattle.scan_demo.specs.declared.row_totals.Totals.{Totals}
-use Rattle.scan_demo.specs.Totals.{capped, count_of, id_in, is_flagged_in, lacks_name_in, no_totals, totals_of, with_row, with_rows}
+use Rattle.scan_demo.specs.Totals.{count_of, id_in, is_flagged_in, lacks_name_in, no_totals, totals_of, with_row, with_rows}
 
 -- the totals with the rows from a place on
 abbrev pub with_rest : Totals → List Datum → ℕ → Totals

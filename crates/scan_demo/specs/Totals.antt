@@ -1,8 +1,9 @@
 -- What the summary counts over rows, whatever they are. Counts stop at the greatest number of 64 bits.
-use Rattle.std.specs.Prelude.{ℕ, ◌+◌, ◌-◌, ◌^◌, pos, nat_lt, min, Bool, false, not, if◌then◌else◌, List, [], ◌∷◌, count_by}
+use Rattle.std.specs.Prelude.{ℕ, ◌+◌, ◌^◌, pos, nat_lt, Bool, false, not, if◌then◌else◌, List, [], ◌∷◌, count_by}
 use Rattle.std.specs.List.{sum_by}
 use Rattle.vx_base.specs.Data.{Datum, number}
 use Rattle.vx_base.specs.Segment.{is_value, truth_in}
+use Rattle.vx_expr.specs.Refusals.{capped}
 use Rattle.vx_packed.specs.Fields.{field_at}
 use Rattle.scan_demo.specs.declared.row_totals.FieldFacts.{FieldFacts}
 use Rattle.scan_demo.specs.declared.row_totals.Totals.{Totals}
@@ -32,9 +33,6 @@ is_flagged_in row = truth_in (field_at 2 row)
 
 abbrev pub count_of : Bool → ℕ
 count_of told = if told then 1 else 0
-
-abbrev pub capped : ℕ → ℕ
-capped n = min n (2 ^ 64 - 1)
 
 -- of rows: the sum of their numbers, how many lack a name, and how many are flagged
 abbrev pub totals_of : List Datum → Totals

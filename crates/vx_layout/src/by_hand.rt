@@ -10,7 +10,7 @@ ghost use Rattle.vx_layout.specs.Children.{times_child};
 ghost use Rattle.vx_layout.specs.Depths.{depth_of, dtype_depth};
 ghost use Rattle.vx_layout.specs.Faults.{RefusedBy};
 ghost use Rattle.vx_layout.specs.Trees.{chunks, head_at, subtree};
-ghost use Rattle.vx_layout.specs.Rows.{value};
+ghost use Rattle.vx_layout.specs.Rows.{value, Reaches, ReachesDirectly, ReachesThroughValues};
 ghost use Rattle.vx_layout.specs.Kept.{all, only, kept_fields};
 ghost use Rattle.vx_layout.specs.WorkedRows.{i64, flat_node, chunked_node, two_chunks, two_leaves, two_truths, at, worth, segments_read, three_rows, null_structs, second_is_null, no_values, no_values_at, null_codes, code_zero, torn_value, torn_file, torn_at, one_range, one_segment, twice, signed_and_unsigned, with_list, list_field, list_file, field_a, seven_and_null, in_zones, zoned_file, zoned_at, one_two_three, nested};
 
@@ -46,6 +46,9 @@ pub fn dictionaries_by_hand()
     ensures code_of_no_value { worth code_zero no_values_at no_values all three_rows ≡ None ∷ Some null ∷ Some null ∷ [] }
     ensures torn { worth torn_file torn_at torn_value all (0 ∷ 1 ∷ []) ≡ None ∷ None ∷ [] }
     ensures each_value_is_read { segments_read torn_value all 0 ≡ (directly, 2) ∷ (through 0, 0) ∷ (through 0, 1) ∷ [] }
+    ensures reached { Reaches (subtree nested 0) all 0 0 }
+    ensures reached_directly { ReachesDirectly (subtree nested 0) all 0 2 }
+    ensures reached_through_values { ReachesThroughValues (subtree nested 0) all 0 0 1 }
     ensures outermost { segments_read nested all 0 ≡ (directly, 2) ∷ (through 0, 1) ∷ (through 0, 0) ∷ [] }
 {}
 

@@ -24,10 +24,7 @@ fn write_made(
             *tree = Some(made);
             out.push_str("ok")
         }
-        Err(LayoutError::BadLayout { node, rule }) => {
-            write!(out, "node {node} breaks rule {rule}")
-        }
-        Err(LayoutError::Memory) => Err(AllocError),
+        Err(error) => write!(out, "{error}"),
     }
 }
 

@@ -25,15 +25,14 @@ fn write_added(
     let before = state_text(alloc, table)?;
     match made(alloc, table, command, numbers, rest) {
         Ok(plan) => write!(out, "{}", plan.0),
-        Err(PlanError::BadPlan { rule }) => {
+        Err(error) => {
             let after = state_text(alloc, table)?;
             if before.as_str() == after.as_str() {
-                write!(out, "breaks rule {rule}")
+                write!(out, "{error}")
             } else {
                 out.push_str("another table")
             }
         }
-        Err(PlanError::Memory) => Err(AllocError),
     }
 }
 
@@ -108,6 +107,7 @@ fn write_answer(
             out.push_str("0 plans")
         }
         "len" => write!(out, "{} plans", table.len()),
+        "memory" => write!(out, "{}", PlanError::Memory),
         "at" => write_rooted(&numbers, rest, out),
         "plan" | "parts" | "child" | "children" | "reach" => {
             write_asked(alloc, table, command, &numbers, rest, out)

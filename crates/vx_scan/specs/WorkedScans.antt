@@ -1,16 +1,15 @@
 -- Scans that were written by hand, on which the definitions of answers and of causes are checked.
-use Rattle.std.specs.Prelude.{ℕ, List, [], ◌∷◌, map, Option}
+use Rattle.std.specs.Prelude.{ℕ, List, [], ◌∷◌}
 use Rattle.vx_base.specs.declared.locations.SegmentLocation.{SegmentLocation}
 use Rattle.vx_base.specs.declared.dtypes.IntKind.TheVariants.{I32}
 use Rattle.vx_base.specs.declared.dtypes.Nullability.TheVariants.{NonNullable}
-use Rattle.vx_base.specs.Data.{DataType, int_type, Datum}
+use Rattle.vx_base.specs.Data.{DataType, int_type}
 use Rattle.vx_expr.specs.Terms.{root}
 use Rattle.vx_layout.specs.declared.nodes.LayoutKind.TheVariants as kinds
 use Rattle.vx_layout.specs.Nodes.{Node}
-use Rattle.vx_layout.specs.Rows.{file_leaves}
 use Rattle.vx_layout.specs.Trees.{head_of, subtree}
 use Rattle.vx_layout.specs.WorkedRows.{at, flat_node, inner_node, i64}
-use Rattle.vx_lower.specs.Projected.{Projection, projected_at}
+use Rattle.vx_lower.specs.Projected.{Projection}
 
 -- the whole of each row of a layout
 abbrev pub whole_of : List Node → Projection
@@ -19,10 +18,6 @@ whole_of nodes = record {
   expression = record { term = root; root = (head_of (subtree nodes 0)).dtype; dtype = (head_of (subtree nodes 0)).dtype };
   offset = 0;
 }
-
--- what rows are worth by a file
-abbrev pub worth_by : List ℕ → List SegmentLocation → Projection → List ℕ → List (Option Datum)
-worth_by file locations p rows = map (projected_at (file_leaves file locations) p) rows
 
 -- ---- one leaf of three rows
 abbrev pub three_numbers : List Node

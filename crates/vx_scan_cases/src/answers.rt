@@ -6,8 +6,9 @@ use std::alloc::{AllocError, Global};
 use std::ops::Range;
 use vx_base::{Column, ScriptSource};
 use vx_notation::column_text;
-use vx_scan::ScanError;
-use vx_steps::KeptValue;
+use vx_plan::PlanRef;
+use vx_scan::{AdaptorError, ScanError};
+use vx_steps::{KeptValue, StepError};
 
 /// Appends the dtype of a column and the values of some rows.
 fn write_rows(
@@ -56,6 +57,31 @@ pub(crate) fn write_columns(
         write_column(alloc, &kept.column, out)?;
     }
     Ok(())
+}
+
+/// Appends the text of the error of a scan of that name: of plan 3, segment 4 and row 7.
+pub(crate) fn write_text(name: &str, out: &mut String) -> Result<(), AllocError> {
+    let node = PlanRef(3);
+    match name {
+        "unsupported" => write!(out, " {}", ScanError::Unsupported(node)),
+        "no_location" => write!(out, " {}", ScanError::NoLocation(4)),
+        "bad_segment" => write!(out, " {}", ScanError::BadSegment(4)),
+        "bad_code" => write!(out, " {}", ScanError::BadCode { node, row: 7 }),
+        "fault" => write!(out, " {}", ScanError::EvalFault(7)),
+        "memory" => write!(out, " {}", ScanError::Memory),
+        _ => write_adaptor_text(name, out),
+    }
+}
+
+/// Appends the text of the error of an adaptor of that name.
+fn write_adaptor_text(name: &str, out: &mut String) -> Result<(), AllocError> {
+    match name {
+        "adaptor_no_location" => write!(out, " {}", AdaptorError::NoLocation(4)),
+        "adaptor_step" => write!(out, " {}", AdaptorError::Step(StepError::BadSegment(4))),
+        "adaptor_not_outstanding" => write!(out, " {}", AdaptorError::NotOutstanding),
+        "adaptor_memory" => write!(out, " {}", AdaptorError::Memory),
+        _ => Ok(()),
+    }
 }
 
 /// Appends why there are no rows.

@@ -1,6 +1,7 @@
 //! The commands, over one file.
 
 use crate::adaptors::write_adaptor;
+use crate::answers::write_text;
 use crate::caches::write_cache;
 use crate::chunks::write_chunk;
 use crate::scans::{write_dtype, write_scan, write_selected};
@@ -59,6 +60,7 @@ fn write_answer<R: AllocGlobal + Threads + Wait + Sync>(
         "book" => write_book(alloc, words, out),
         "cache" => write_cache(rt, words, out),
         "adaptor" => write_adaptor(alloc, desk, words, out),
+        "error" => write_text(words, out),
         _ => out.push_str(" no command"),
     }
 }

@@ -3,7 +3,8 @@
 use std::alloc::{AllocError, Global};
 use vx_base::Column;
 use vx_notation::column_text;
-use vx_steps::{KeptValue, StepError};
+use vx_plan::PlanRef;
+use vx_steps::{DeliverError, KeptValue, ScanBuildError, StepError};
 
 /// Appends the dtype of a column and its values; of many values, how many there are.
 pub(crate) fn write_column(
@@ -33,6 +34,21 @@ pub(crate) fn write_columns(
         write_column(alloc, &kept.column, out)?;
     }
     Ok(())
+}
+
+/// Appends the text of the error of that name: of plan 3, segment 4 and row 7.
+pub(crate) fn write_error(name: &str, out: &mut String) -> Result<(), AllocError> {
+    let node = PlanRef(3);
+    match name {
+        "unsupported" => write!(out, " {}", StepError::Unsupported(node)),
+        "bad_segment" => write!(out, " {}", StepError::BadSegment(4)),
+        "bad_code" => write!(out, " {}", StepError::BadCode { node, row: 7 }),
+        "fault" => write!(out, " {}", StepError::EvalFault(7)),
+        "memory" => write!(out, " {}", StepError::Memory),
+        "unknown_read" => write!(out, " {}", DeliverError::UnknownRead),
+        "out_of_range" => write!(out, " {}", ScanBuildError::OutOfRange),
+        _ => Ok(()),
+    }
 }
 
 /// Appends why a step is refused.

@@ -3,7 +3,7 @@
 ghost use Rattle.std.specs.Prelude.{◌<◌, length};
 ghost use Rattle.vx_plan.specs.Refs.{number_of};
 
-use crate::answers::write_columns;
+use crate::answers::{write_columns, write_error};
 use crate::scans::write_scan;
 use std::alloc::{AllocError, Global};
 use vx_expr::{BoundExpression, bind};
@@ -158,6 +158,7 @@ fn write_answer(
         "tree" => write_tree(alloc, &mut desk.plans, words, out),
         "file" => take_segment(alloc, &mut desk.file, words),
         "leaves" => write_columns(alloc, "leaf", &desk.leaves, out),
+        "error" => write_error(words, out),
         _ => write_on_plans(alloc, desk, command, words, out),
     }
 }

@@ -1,4 +1,4 @@
-use Rattle.std.proofs.Common.{refl}
+use Rattle.std.proofs.Common.{inl, inr, refl}
 use Rattle.std.specs.Str.{is_utf8, chars}
 use Rattle.vx_base.specs.Reading.{decoded, numbers_read, lengths_read, texts_read}
 use Rattle.vx_layout.specs.Trees.{grow}
@@ -27,3 +27,15 @@ returns-clause-each_value_is_read c = refl
 pub returns-clause-outermost : goal.returns-clause-outermost
 unfolding grow
 returns-clause-outermost c = refl
+
+pub returns-clause-reached : goal.returns-clause-reached
+unfolding grow
+returns-clause-reached c = inr (inr (inr (inr (inl refl))))
+
+pub returns-clause-reached_directly : goal.returns-clause-reached_directly
+unfolding grow
+returns-clause-reached_directly c = inr (inl (refl, refl))
+
+pub returns-clause-reached_through_values : goal.returns-clause-reached_through_values
+unfolding grow
+returns-clause-reached_through_values c = inr (inr (inr (inl (refl, refl))))
