@@ -103,16 +103,26 @@ fn write_line(
 }
 
 /// Appends each line with its answer.
+fn write_lines(
+    alloc: Global,
+    desk: &mut Desk,
+    lines: &str,
+    out: &mut String,
+) -> Result<(), AllocError> {
+    for line in lines.lines() {
+        out.push_str(line)?;
+        write_line(alloc, desk, line, out)?;
+        out.push('\n')?;
+    }
+    Ok(())
+}
+
+/// Appends each line with its answer, where nothing is set at first.
 pub(crate) fn write_answers(
     alloc: Global,
     lines: &str,
     out: &mut String,
 ) -> Result<(), AllocError> {
     let mut desk = Desk::new(alloc)?;
-    for line in lines.lines() {
-        out.push_str(line)?;
-        write_line(alloc, &mut desk, line, out)?;
-        out.push('\n')?;
-    }
-    Ok(())
+    write_lines(alloc, &mut desk, lines, out)
 }

@@ -137,6 +137,16 @@ fn write_given(
     }
 }
 
+/// The column that the expression gives over the rows.
+fn write_applied(
+    alloc: Global,
+    desk: &Desk,
+    whole: bool,
+    out: &mut String,
+) -> Result<(), AllocError> {
+    write_given(alloc, &applied(alloc, desk), whole, out)
+}
+
 /// Whether the expression, and its copy, takes roots of a dtype.
 fn write_takes(
     alloc: Global,
@@ -152,6 +162,19 @@ fn write_takes(
     out.push_str(if takes { "yes" } else { "no" })
 }
 
+/// Whether the expression takes roots of the dtype that is written so; to what is none no answer.
+fn write_takes_written(
+    alloc: Global,
+    bound: &BoundExpression,
+    words: &str,
+    out: &mut String,
+) -> Result<(), AllocError> {
+    match dtype_of(alloc, words) {
+        Ok(dtype) => write_takes(alloc, bound, &dtype, out),
+        Err(_) => Ok(()),
+    }
+}
+
 /// The answer to a question about the expression.
 pub(crate) fn write_told(
     alloc: Global,
@@ -165,12 +188,8 @@ pub(crate) fn write_told(
         "text" | "as_root" | "over_row_idx" => write_text(alloc, &desk.expression, out),
         "looks" => write_looks(&desk.expression, out),
         "fields" => write_fields(alloc, &desk.expression, out),
-        "gives" => write_given(alloc, &applied(alloc, desk), true, out),
-        "ends" => write_given(alloc, &applied(alloc, desk), false, out),
-        "takes" => match dtype_of(alloc, rest) {
-            Ok(dtype) => write_takes(alloc, &desk.expression, &dtype, out),
-            Err(_) => Ok(()),
-        },
+        "gives" | "ends" => write_applied(alloc, desk, command == "gives", out),
+        "takes" => write_takes_written(alloc, &desk.expression, rest, out),
         _ => Ok(()),
     }
 }

@@ -126,19 +126,29 @@ fn write_answer(
 }
 
 /// Appends each line with its answer.
+fn write_lines(
+    alloc: Global,
+    tree: &mut Option<LayoutTree>,
+    lines: &str,
+    out: &mut String,
+) -> Result<(), AllocError> {
+    for line in lines.lines() {
+        out.push_str(line)?;
+        if !line.is_empty() && !line.starts_with("# ") {
+            out.push_str(" => ")?;
+            write_answer(alloc, tree, line, out)?;
+        }
+        out.push('\n')?;
+    }
+    Ok(())
+}
+
+/// Appends each line with its answer, where there is no tree at first.
 pub(crate) fn write_answers(
     alloc: Global,
     lines: &str,
     out: &mut String,
 ) -> Result<(), AllocError> {
     let mut tree = None;
-    for line in lines.lines() {
-        out.push_str(line)?;
-        if !line.is_empty() && !line.starts_with("# ") {
-            out.push_str(" => ")?;
-            write_answer(alloc, &mut tree, line, out)?;
-        }
-        out.push('\n')?;
-    }
-    Ok(())
+    write_lines(alloc, &mut tree, lines, out)
 }
