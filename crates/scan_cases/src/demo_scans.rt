@@ -79,10 +79,11 @@ fn batches_of<R: Threads + Wait + Sync>(
         return None;
     }
     let rows = number(options, "start", 0) as u64..number(options, "end", 0) as u64;
+    let indices = indices_of(alloc, options)?;
     let builder = ScanBuilder::new(alloc, file)
         .ok()?
         .with_row_range(rows)
-        .with_row_indices(indices_of(alloc, options)?);
+        .with_row_indices(indices);
     Some(builder.into_batches(rt, alloc, sources))
 }
 
@@ -111,6 +112,48 @@ fn asked_ranges(alloc: Global, sources: &[ScriptSource]) -> Option<usize> {
     Some(asked.len())
 }
 
+/// What is said of rows that were scanned, and of what was asked for. Where the last source fails or stalls, it is said
+/// whether the rows are there and that source did neither.
+fn told(
+    alloc: Global,
+    options: &str,
+    segments: usize,
+    batches: &[Column],
+    sources: &[ScriptSource],
+) -> Option<String> {
+    let last = sources.last()?;
+    let lines = lines_of(alloc, batches).ok()?;
+    if option(options, "request_fails").is_some() {
+        return rows_or(alloc, options, &lines, "a read fault", last.faults());
+    }
+    if option(options, "waits").is_some() {
+        return rows_or(alloc, options, &lines, "a stall", last.idle());
+    }
+    let asked = asked_ranges(alloc, sources)?;
+    let count = batches.len();
+    format!(in alloc; "{count} batches, asked {asked} of {segments}, {lines:?}").ok()
+}
+
+/// Scans rows of the file over the sources, and says them, or that a read failed or stalled.
+fn scanned<R: AllocGlobal + Threads + Wait + Sync>(
+    rt: &R,
+    file: ScanFile,
+    options: &str,
+    sources: &mut [ScriptSource],
+) -> Option<String> {
+    let alloc = rt.alloc();
+    if sources.is_empty() || sources.len() > 64 {
+        return None;
+    }
+    let segments = file.locations.len();
+    match batches_of(rt, alloc, file, options, sources)? {
+        Ok(batches) => told(alloc, options, segments, &batches, sources),
+        Err(ScanError::ReadFault) => String::from_str(alloc, "rows or a read fault").ok(),
+        Err(ScanError::Stalled) => String::from_str(alloc, "rows or a stall").ok(),
+        Err(error) => format!(in alloc; "{error}").ok(),
+    }
+}
+
 /// Scans rows of the demo's file, and says them, and what was asked for. Where the last source fails or stalls, it says
 /// whether the rows are there and that source did neither, or that a read failed or stalled.
 pub(crate) fn demo_rows<R: AllocGlobal + Threads + Wait + Sync>(
@@ -123,28 +166,8 @@ pub(crate) fn demo_rows<R: AllocGlobal + Threads + Wait + Sync>(
         return None;
     }
     let DemoFile { file, bytes } = demo_file(alloc, rows).ok()?;
-    let segments = file.locations.len();
     let mut sources = sources_of(alloc, &bytes, number(options, "sources", 1), options)?;
-    if sources.is_empty() || sources.len() > 64 {
-        return None;
-    }
-    let batches = match batches_of(rt, alloc, file, options, sources.as_mut_slice())? {
-        Ok(batches) => batches,
-        Err(ScanError::ReadFault) => return String::from_str(alloc, "rows or a read fault").ok(),
-        Err(ScanError::Stalled) => return String::from_str(alloc, "rows or a stall").ok(),
-        Err(error) => return format!(in alloc; "{error}").ok(),
-    };
-    let lines = lines_of(alloc, &batches).ok()?;
-    let last = sources.last()?;
-    if option(options, "request_fails").is_some() {
-        return rows_or(alloc, options, &lines, "a read fault", last.faults());
-    }
-    if option(options, "waits").is_some() {
-        return rows_or(alloc, options, &lines, "a stall", last.idle());
-    }
-    let asked = asked_ranges(alloc, &sources)?;
-    let count = batches.len();
-    format!(in alloc; "{count} batches, asked {asked} of {segments}, {lines:?}").ok()
+    scanned(rt, file, options, sources.as_mut_slice())
 }
 
 /// What is said of rows over a source that would have failed or stalled, where its count did not rise.

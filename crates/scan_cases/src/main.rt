@@ -14,7 +14,7 @@ use gates::gate_outcome;
 use outcomes::outcome;
 use scan_commands::{RequestError, status_text};
 use scan_words::WordsError;
-use std::alloc::Global;
+use std::alloc::{AllocError, Global};
 use std::io;
 use std::sync::Wait;
 use std::thread::Threads;
@@ -22,37 +22,61 @@ use vx_expr::BindError;
 
 fn main(rt: HostRuntime) -> io::Result<()> {
     let alloc = rt.alloc();
-    let mut file = String::new(alloc);
-    for line in rt.lines(alloc) {
-        let line = line?;
-        match answer(&rt, file.as_str(), line.as_str()) {
-            Some(answer) => println!(rt; "{line} => {answer}")?,
-            None => println!(rt; "{line}")?,
-        }
-        if line.as_str().starts_with("file ") {
+    let lines = io::read_to_string(alloc, rt.reader())?;
+    let mut out = String::new(alloc);
+    let _all = write_lines(&rt, lines.as_str(), &mut out);
+    print!(rt; "{out}")
+}
+
+/// Appends each line with its answer. A line `file` tells the file of the lines below it.
+fn write_lines<R: AllocGlobal + Threads + Wait + Sync>(
+    rt: &R,
+    lines: &str,
+    out: &mut String,
+) -> Result<(), AllocError> {
+    let mut file = "";
+    for line in lines.lines() {
+        out.push_str(line)?;
+        write_answer(rt, file, line, out)?;
+        out.push('\n')?;
+        if line.starts_with("file ") {
             file = line;
         }
     }
     Ok(())
 }
 
+/// Appends the answer to a line that has one.
+fn write_answer<R: AllocGlobal + Threads + Wait + Sync>(
+    rt: &R,
+    file: &str,
+    line: &str,
+    out: &mut String,
+) -> Result<(), AllocError> {
+    match answer(rt, file, line) {
+        Some(answer) => write!(out, " => {answer}"),
+        None => Ok(()),
+    }
+}
+
+/// Appends the text of the error of that name.
+fn write_error(name: &str, out: &mut String) -> Result<(), AllocError> {
+    match name {
+        "usage" => write!(out, "{}", WordsError::Usage),
+        "words_memory" => write!(out, "{}", WordsError::Memory),
+        "bad_request" => write!(out, "{}", RequestError::BadRequest),
+        "bad_layout" => write!(out, "{}", RequestError::BadLayout { node: 3, rule: 7 }),
+        "bad_projection" => write!(out, "{}", RequestError::BadProjection(BindError::TooDeep)),
+        "request_memory" => write!(out, "{}", RequestError::Memory),
+        _ => Err(AllocError),
+    }
+}
+
 /// The text of the error of that name.
 fn error_text(alloc: Global, name: &str) -> Option<String> {
-    match name {
-        "usage" => format!(in alloc; "{}", WordsError::Usage).ok(),
-        "words_memory" => format!(in alloc; "{}", WordsError::Memory).ok(),
-        "bad_request" => format!(in alloc; "{}", RequestError::BadRequest).ok(),
-        "bad_layout" => {
-            let error = RequestError::BadLayout { node: 3, rule: 7 };
-            format!(in alloc; "{error}").ok()
-        }
-        "bad_projection" => {
-            let error = RequestError::BadProjection(BindError::TooDeep);
-            format!(in alloc; "{error}").ok()
-        }
-        "request_memory" => format!(in alloc; "{}", RequestError::Memory).ok(),
-        _ => None,
-    }
+    let mut text = String::new(alloc);
+    write_error(name, &mut text).ok()?;
+    Some(text)
 }
 
 /// The answer to a line that has one, where the line `file` tells the file.

@@ -8,6 +8,22 @@ use std::sync::Wait;
 use std::thread::Threads;
 use vx_base::ScriptSource;
 
+/// Appends what came of a run; where it isn't the same by several workers, it is said so.
+fn write_outcome<R: AllocGlobal + Threads + Wait + Sync>(
+    rt: &R,
+    file: &str,
+    options: &str,
+    request: &str,
+    first: &Ran,
+    out: &mut String,
+) -> Option<()> {
+    write_report(rt.alloc(), options, first, out).ok()?;
+    if !has_own(options) && !is_same(rt, file, options, request, first)? {
+        out.push_str("; but not by several workers").ok()?;
+    }
+    Some(())
+}
+
 /// Runs a request over sources of a file, and says what came of it.
 pub(crate) fn outcome<R: AllocGlobal + Threads + Wait + Sync>(
     rt: &R,
@@ -17,12 +33,10 @@ pub(crate) fn outcome<R: AllocGlobal + Threads + Wait + Sync>(
 ) -> Option<String> {
     let words = option(options, "words").unwrap_or("scan,s,r");
     let count = number(options, "sources", 1);
+    let mut out = String::new(rt.alloc());
     let first = run_once(rt, file, options, words, count, request)?;
-    let mut report = report_of(rt.alloc(), options, &first).ok()?;
-    if !has_own(options) && !is_same(rt, file, options, request, &first)? {
-        report.push_str("; but not by several workers").ok()?;
-    }
-    Some(report)
+    write_outcome(rt, file, options, request, &first, &mut out)?;
+    Some(out)
 }
 
 /// Whether the line has words of its own, or says what its source does: such a line isn't run by several workers besides.
@@ -62,43 +76,51 @@ fn is_same<R: AllocGlobal + Threads + Wait + Sync>(
     Some(true)
 }
 
-/// What was written, whole.
-fn whole_text(alloc: Global, written: &[u8]) -> Result<String, AllocError> {
+/// Appends what was written, whole.
+fn write_whole(written: &[u8], out: &mut String) -> Result<(), AllocError> {
     let lines = str::from_utf8(written).unwrap_or("no text");
-    format!(in alloc; "{lines:?}")
+    write!(out, "{lines:?}")
 }
 
-/// How many bytes were written, and the sum of them.
-fn brief_text(alloc: Global, written: &[u8]) -> Result<String, AllocError> {
+/// Appends how many bytes were written, and the sum of them.
+fn write_brief(written: &[u8], out: &mut String) -> Result<(), AllocError> {
     let count = written.len();
     let mut sum: u64 = 0;
     for byte in written {
         sum = sum.wrapping_add(u64::from(*byte));
     }
-    format!(in alloc; "{count} bytes of sum {sum}")
+    write!(out, "{count} bytes of sum {sum}")
 }
 
-/// The status, what was written, the faults of the request and of the sink, and what the sources were asked.
-fn report_of(alloc: Global, options: &str, ran: &Ran) -> Result<String, AllocError> {
-    let written = match option(options, "brief") {
-        Some(_) => brief_text(alloc, ran.out.written())?,
-        None => whole_text(alloc, ran.out.written())?,
-    };
-    let (status, text) = (ran.status, status_text(ran.status));
-    let (faults, more) = (ran.request.faults(), ran.out.faults());
-    let mut report = format!(in alloc; "{status} {text}, wrote {written}, faults {faults} {more}")?;
-    match option(options, "together") {
-        Some(_) => write_together(alloc, &ran.sources, &mut report)?,
-        None => write_each(&ran.sources, &mut report)?,
+/// Appends the status, what was written, the faults of the request and of the sink, and what the sources were asked.
+fn write_report(
+    alloc: Global,
+    options: &str,
+    ran: &Ran,
+    out: &mut String,
+) -> Result<(), AllocError> {
+    write!(out, "{} {}, wrote ", ran.status, status_text(ran.status))?;
+    match option(options, "brief") {
+        Some(_) => write_brief(ran.out.written(), out)?,
+        None => write_whole(ran.out.written(), out)?,
     }
-    Ok(report)
+    write!(
+        out,
+        ", faults {} {}",
+        ran.request.faults(),
+        ran.out.faults()
+    )?;
+    match option(options, "together") {
+        Some(_) => write_together(alloc, &ran.sources, out),
+        None => write_each(&ran.sources, out),
+    }
 }
 
 /// Appends of each source the ranges that it was asked for, its faults, and how often a poll found nothing.
-fn write_each(sources: &[ScriptSource], report: &mut String) -> Result<(), AllocError> {
+fn write_each(sources: &[ScriptSource], out: &mut String) -> Result<(), AllocError> {
     for source in sources {
         let (asked, faults, idle) = (source.asked(), source.faults(), source.idle());
-        write!(report, "; asked {asked:?}, faults {faults}, idle {idle}")?;
+        write!(out, "; asked {asked:?}, faults {faults}, idle {idle}")?;
     }
     Ok(())
 }
@@ -108,7 +130,7 @@ fn write_each(sources: &[ScriptSource], report: &mut String) -> Result<(), Alloc
 fn write_together(
     alloc: Global,
     sources: &[ScriptSource],
-    report: &mut String,
+    out: &mut String,
 ) -> Result<(), AllocError> {
     let mut asked = Vec::new(alloc);
     let mut faults: u64 = 0;
@@ -119,5 +141,5 @@ fn write_together(
         faults = faults.saturating_add(source.faults());
     }
     asked.sort()?;
-    write!(report, "; asked {asked:?}, faults {faults}")
+    write!(out, "; asked {asked:?}, faults {faults}")
 }

@@ -29,20 +29,25 @@ pub(crate) fn repeated_bytes(alloc: Global, text: &str, times: usize) -> Option<
     Some(bytes)
 }
 
-/// A source of the file that keeps to the script of the options.
-fn source_of(alloc: Global, file: &str, options: &str) -> Option<ScriptSource> {
+/// The script of the options.
+fn script_of(alloc: Global, options: &str) -> Option<Script> {
     let fail_requests = list(alloc, options, "request_fails")?;
     let fail_polls = list(alloc, options, "poll_fails")?;
     let waits = list(alloc, options, "waits")?;
     let order = list(alloc, options, "order")?;
-    let script = Script {
+    Some(Script {
         fail_requests,
         fail_polls,
         waits,
         order,
-    };
+    })
+}
+
+/// A source of the file that keeps to the script of the options.
+fn source_of(alloc: Global, file: &str, options: &str) -> Option<ScriptSource> {
     let (_, text) = file.split_once(' ').unwrap_or((file, ""));
     let bytes = repeated_bytes(alloc, text, number(options, "file_times", 0))?;
+    let script = script_of(alloc, options)?;
     Some(ScriptSource::new(alloc, bytes, script))
 }
 
@@ -56,6 +61,36 @@ fn sources_of(alloc: Global, file: &str, options: &str, count: usize) -> Option<
     Some(sources)
 }
 
+/// The source of the request, which gives and fails as the options say.
+fn request_of(alloc: Global, options: &str, text: &str) -> Option<BytesSource> {
+    let reads = number(options, "reads", usize::MAX).max(1);
+    let bytes = repeated_bytes(alloc, text, number(options, "times", 0))?;
+    let fails = list(alloc, options, "read_fails")?;
+    Some(BytesSource::new(alloc, bytes, reads, fails))
+}
+
+/// The sink, which takes and fails as the options say.
+fn sink_of(alloc: Global, options: &str) -> Option<BytesSink> {
+    let writes = number(options, "writes", usize::MAX).max(1);
+    let fails = list(alloc, options, "write_fails")?;
+    Some(BytesSink::new(alloc, writes, fails))
+}
+
+/// Runs the words over all three.
+fn run_words<R: AllocGlobal + Threads + Wait + Sync>(
+    rt: &R,
+    words: &str,
+    request: &mut BytesSource,
+    sources: &mut [ScriptSource],
+    out: &mut BytesSink,
+) -> Option<u8> {
+    if sources.is_empty() || sources.len() > 64 {
+        return None;
+    }
+    let words = words_of(rt.alloc(), words)?;
+    Some(run(rt, &words, request, sources, out))
+}
+
 /// Runs a request over so many sources of a file, by words between commas.
 pub(crate) fn run_once<R: AllocGlobal + Threads + Wait + Sync>(
     rt: &R,
@@ -66,19 +101,10 @@ pub(crate) fn run_once<R: AllocGlobal + Threads + Wait + Sync>(
     request: &str,
 ) -> Option<Ran> {
     let alloc = rt.alloc();
+    let mut request = request_of(alloc, options, request)?;
+    let mut out = sink_of(alloc, options)?;
     let mut sources = sources_of(alloc, file, options, count)?;
-    if sources.is_empty() || sources.len() > 64 {
-        return None;
-    }
-    let words = words_of(alloc, words)?;
-    let bytes = repeated_bytes(alloc, request, number(options, "times", 0))?;
-    let reads = number(options, "reads", usize::MAX).max(1);
-    let fails = list(alloc, options, "read_fails")?;
-    let mut request = BytesSource::new(alloc, bytes, reads, fails);
-    let writes = number(options, "writes", usize::MAX).max(1);
-    let fails = list(alloc, options, "write_fails")?;
-    let mut out = BytesSink::new(alloc, writes, fails);
-    let status = run(rt, &words, &mut request, sources.as_mut_slice(), &mut out);
+    let status = run_words(rt, words, &mut request, sources.as_mut_slice(), &mut out)?;
     Some(Ran {
         status,
         request,
