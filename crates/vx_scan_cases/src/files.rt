@@ -59,19 +59,15 @@ pub(crate) fn numbers_of(alloc: Global, text: &str) -> Result<Vec<u64>, AllocErr
     Ok(numbers)
 }
 
-/// The source of a file and a script: the requests that fail, the polls that fail, the waits and the order.
-pub(crate) fn source_of(
-    alloc: Global,
-    bytes: &str,
-    script: &str,
-) -> Result<ScriptSource, AllocError> {
+/// The script that is written so: the requests that fail, the polls that fail, the waits and the order.
+fn script_of(alloc: Global, words: &str) -> Result<Script, AllocError> {
     let mut made = Script {
         fail_requests: Vec::new(alloc),
         fail_polls: Vec::new(alloc),
         waits: Vec::new(alloc),
         order: Vec::new(alloc),
     };
-    for (place, word) in script.split_whitespace().enumerate() {
+    for (place, word) in words.split_whitespace().enumerate() {
         let numbers = numbers_of(alloc, word)?;
         match place {
             0 => made.fail_requests = numbers,
@@ -80,5 +76,16 @@ pub(crate) fn source_of(
             _ => made.order = numbers,
         }
     }
-    Ok(ScriptSource::new(alloc, bytes_of(alloc, bytes)?, made))
+    Ok(made)
+}
+
+/// The source of a file and a script.
+pub(crate) fn source_of(
+    alloc: Global,
+    bytes: &str,
+    script: &str,
+) -> Result<ScriptSource, AllocError> {
+    let bytes = bytes_of(alloc, bytes)?;
+    let script = script_of(alloc, script)?;
+    Ok(ScriptSource::new(alloc, bytes, script))
 }

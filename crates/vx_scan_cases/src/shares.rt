@@ -15,7 +15,6 @@ use std::sync::Wait;
 use std::thread::Threads;
 use vx_base::{AskedRange, ScriptSource};
 use vx_scan::{Outcome, Prepared, Rerun, ValueCache, execute};
-use vx_steps::KeptValue;
 
 /// Appends the chunks that ran again, each with the plan of the values that it had borrowed, these, and the right ones.
 fn write_reruns(alloc: Global, reruns: &[Rerun], out: &mut String) -> Result<(), AllocError> {
@@ -93,20 +92,20 @@ fn write_lent<R: AllocGlobal + Threads + Wait + Sync>(
     write_asked(rt.alloc(), sources, out)
 }
 
-/// Runs a prepared scan over so many sources of the file and a cache that has these values.
+/// Runs a prepared scan over so many sources of the file and a cache that has the given values.
 fn write_over<R: AllocGlobal + Threads + Wait + Sync>(
     rt: &R,
     desk: Desk<'_>,
     prepared: &Prepared,
     count: u64,
-    values: Vec<KeptValue>,
+    given: &str,
     out: &mut String,
 ) -> Result<(), AllocError>
     requires plans { ArePlans prepared.now.plans }
     requires chunks { CanRun prepared.now.plans prepared.now.chunks.items }
 {
+    let cache = cache_of(rt, given_of(rt.alloc(), given)?)?;
     let mut sources = sources_of(rt.alloc(), desk, count)?;
-    let cache = cache_of(rt, values)?;
     write_lent(rt, prepared, sources.as_mut_slice(), &cache, out)
 }
 
@@ -120,12 +119,11 @@ pub(crate) fn write_shared<R: AllocGlobal + Threads + Wait + Sync>(
 ) -> Result<(), AllocError> {
     let alloc = rt.alloc();
     let (words, given) = words.split_once(" | ").unwrap_or((words, ""));
-    let values = given_of(alloc, given)?;
     let (count, words) = words.split_once(' ').unwrap_or((words, ""));
     let count = count.parse::<u64>().unwrap_or(1);
     match set_of(alloc, desk, words) {
         Some(builder) => match builder.prepare(alloc) {
-            Ok(prepared) => write_over(rt, desk, &prepared, count, values, out),
+            Ok(prepared) => write_over(rt, desk, &prepared, count, given, out),
             Err(error) => write_error(error, out),
         },
         None => out.push_str(" not set;"),

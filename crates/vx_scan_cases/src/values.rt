@@ -37,6 +37,22 @@ fn write_plan(
     write_source(&source, out)
 }
 
+/// Appends what a reading of the plan of that number gives, where there is one.
+fn write_numbered(
+    alloc: Global,
+    desk: Desk<'_>,
+    plans: &ScanPlans,
+    number: u32,
+    out: &mut String,
+) -> Result<(), AllocError>
+    requires { ArePlans plans.now }
+{
+    if plans.table.len() <= number {
+        return out.push_str(" no plan;");
+    }
+    write_plan(alloc, desk, plans, PlanRef(number), out)
+}
+
 /// Appends what a reading of the plan of that number gives, where the tree has one.
 pub(crate) fn write_values(
     alloc: Global,
@@ -48,11 +64,7 @@ pub(crate) fn write_values(
         return out.push_str(" no tree;");
     };
     let plans = plans_of(alloc, &tree, desk)?;
-    let number = words.parse::<u32>().unwrap_or(0);
-    if plans.table.len() <= number {
-        return out.push_str(" no plan;");
-    }
-    write_plan(alloc, desk, &plans, PlanRef(number), out)
+    write_numbered(alloc, desk, &plans, words.parse::<u32>().unwrap_or(0), out)
 }
 
 /// Appends the numbers of the plans whose whole values the rows of a chunk ask for.
