@@ -28,20 +28,31 @@ fn main(rt: HostRuntime) -> io::Result<()> {
     print!(rt; "{out}")
 }
 
-/// Appends each line with its answer. A line `file` tells the file of the lines below it.
+/// What the lines have set: the line `file`, which tells the file of those below it.
+#[derive(Clone, Copy)]
+struct Desk<'a> {
+    file: &'a str,
+}
+
+/// Keeps the line that tells the file.
+fn set<'a>(desk: &mut Desk<'a>, line: &'a str) {
+    if line.starts_with("file ") {
+        desk.file = line;
+    }
+}
+
+/// Appends each line with its answer.
 fn write_lines<R: AllocGlobal + Threads + Wait + Sync>(
     rt: &R,
     lines: &str,
     out: &mut String,
 ) -> Result<(), AllocError> {
-    let mut file = "";
+    let mut desk = Desk { file: "" };
     for line in lines.lines() {
         out.push_str(line)?;
-        write_answer(rt, file, line, out)?;
+        set(&mut desk, line);
+        write_answer(rt, desk, line, out)?;
         out.push('\n')?;
-        if line.starts_with("file ") {
-            file = line;
-        }
     }
     Ok(())
 }
@@ -49,11 +60,11 @@ fn write_lines<R: AllocGlobal + Threads + Wait + Sync>(
 /// Appends the answer to a line that has one.
 fn write_answer<R: AllocGlobal + Threads + Wait + Sync>(
     rt: &R,
-    file: &str,
+    desk: Desk<'_>,
     line: &str,
     out: &mut String,
 ) -> Result<(), AllocError> {
-    match answer(rt, file, line) {
+    match answer(rt, desk.file, line) {
         Some(answer) => write!(out, " => {answer}"),
         None => Ok(()),
     }
