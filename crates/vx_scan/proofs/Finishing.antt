@@ -15,6 +15,7 @@ use Rattle.vx_scan.specs.declared.joins.Joined.{Joined}
 use Rattle.vx_scan.specs.declared.lanes.Lane.{Lane}
 use Rattle.vx_scan.specs.Gathers.{claimed_times, Gathers}
 use Rattle.vx_scan.specs.Joins.{Joins}
+use Rattle.vx_scan.specs.Limits.{most_workers}
 
 ones_sum : (lanes : List Lane) → All (λ lane. parts lane.seat ≡ 1) lanes → sum_by (λ lane. parts lane.seat) lanes ≡ length lanes
 ones_sum [] all = refl
@@ -30,7 +31,7 @@ all_told (lane ∷ lanes) true untold some all = refl
 all_told (lane ∷ lanes) false untold some all =
     absurd (true≢false (sym (All-head (λ (one : Lane). was_told one.seat ≡ true) lane lanes all) ∙ All-head (λ (one : Lane). was_told one.seat ≡ false) lane lanes (untold refl)))
 
-pub joins : (claims : Claims) (count word : ℕ) (lanes : List Lane) (seat : ClaimSeat) (joined : Joined) → length lanes ≤ 64 → All (λ lane. parts lane.seat ≡ 1) lanes → Gathers claims (all_parts - length lanes) lanes seat joined → Closes count seat word → Joins count lanes joined
+pub joins : (claims : Claims) (count word : ℕ) (lanes : List Lane) (seat : ClaimSeat) (joined : Joined) → length lanes ≤ most_workers → All (λ lane. parts lane.seat ≡ 1) lanes → Gathers claims (all_parts - length lanes) lanes seat joined → Closes count seat word → Joins count lanes joined
 joins claims count word lanes seat joined few ones gathers closes =
     let all : parts seat ≡ all_parts = (let sum = gathers.parts in let number = ones_sum lanes ones in omega (arith, sum, number, few)) in
     record {

@@ -22,6 +22,7 @@ use Rattle.vx_scan.specs.declared.plans.ScanPlans.{ScanPlans}
 use Rattle.vx_scan.specs.Asks.{KeepsFaults}
 use Rattle.vx_scan.specs.Gathers.{IsAtMost, no_memory, IsFrom, claimed_times, done_times, loaned_times, IsLoanOfLane, IsMadeByLane, IsOfLane}
 use Rattle.vx_scan.specs.Lent.{EachSource, EachSourceBy, SomeSourceBy, WhereAllTell}
+use Rattle.vx_scan.specs.Limits.{most_workers}
 use Rattle.vx_scan.specs.Loans.{loaned_of, IsLoan, IsLoanBy}
 use Rattle.vx_scan.specs.Outcomes.{data_of}
 use Rattle.vx_scan.specs.Plans.{bytes_of}
@@ -33,7 +34,7 @@ use Rattle.vx_scan.specs.Workers.{HasDtype, HasItsRows, IsPieceOf, numbers_of, I
 -- list of each lane.
 pub record AreJoined (claims : Claims) (seat : ClaimSeat) (lanes : List Lane) (lists : Vec (List ℕ)) : Type 0 where
   pub left : IsFresh claims (all_parts - length lanes) seat
-  pub few : length lanes ≤ 64
+  pub few : length lanes ≤ most_workers
   pub seats : All (λ (lane : Lane). IsSeatOf claims lane.seat) lanes
   pub parts : All (λ (lane : Lane). parts lane.seat ≡ 1) lanes
   pub empty : lists.items ≡ []

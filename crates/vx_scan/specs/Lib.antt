@@ -24,6 +24,7 @@ pub mod Joins
 pub mod Laws
 pub mod LeafRows
 pub mod Lent
+pub mod Limits
 pub mod Loans
 pub mod Outcomes
 pub mod Pieces

@@ -6,6 +6,7 @@ ghost use Rattle.vx_splits.specs.declared.selections.Selection.TheVariants.{Incl
 ghost use Rattle.vx_scan.specs.Answer.{row_count};
 ghost use Rattle.vx_scan.specs.Beginning.{Refuses};
 ghost use Rattle.vx_scan.specs.Builders.{new_building, scan_of};
+ghost use Rattle.vx_scan.specs.Limits.{most_workers};
 ghost use Rattle.vx_scan.specs.Prepared.{IsPreparedFor};
 ghost use Rattle.vx_scan.specs.Scanned.{AnswersScan};
 ghost use Rattle.vx_scan.specs.Settings.{scan_by};
@@ -164,7 +165,7 @@ impl ScanBuilder {
         sources: &mut [S],
     ) -> Result<Vec<Column>, ScanError>
         requires some { 0 < length sources.old }
-        requires workers { length sources.old ≤ 64 }
+        requires workers { length sources.old ≤ most_workers }
         requires few { length self.locations ≤ 2 ^ 32 - 1 }
         ensures answers { AnswersScan (scan_of self) self.idle_limit result (map S.state sources.old) (map S.state sources.new) }
         // An empty range has no batch, and a scan that is refused before it begins is refused: nothing is asked, and no
@@ -201,7 +202,7 @@ fn scan_file<R: Threads + Wait + Sync, S: SegmentSource + Send>(
     sources: &mut [S],
 ) -> Result<Vec<Column>, ScanError>
     requires some { 0 < length sources.old }
-    requires workers { length sources.old ≤ 64 }
+    requires workers { length sources.old ≤ most_workers }
     requires few { length file.locations.items ≤ 2 ^ 32 - 1 }
     ensures answers { AnswersScan (scan_by file settings.now) settings.now.idle_limit result (map S.state sources.old) (map S.state sources.new) }
     ensures empty { IsBound (scan_by file settings.now) → (HasRows settings.now.range (row_count (scan_by file settings.now)) → ⊥) → IfOk result (λ batches. batches.items ≡ []) × IsOk result × (map S.state sources.new ≡ map S.state sources.old) }

@@ -7,6 +7,7 @@ ghost use Rattle.vx_claims.specs.Limits.{most_chunks};
 ghost use Rattle.vx_scan.specs.Executes.{Opens, CanRun, Executes as ExecutesAll};
 ghost use Rattle.vx_scan.specs.Joins.{JoinedAll};
 ghost use Rattle.vx_scan.specs.Lent.{EachSourceBy};
+ghost use Rattle.vx_scan.specs.Limits.{most_workers};
 ghost use Rattle.vx_scan.specs.Plans.{ArePlans, IsChunkOf};
 ghost use Rattle.vx_scan.specs.Workers.{IsFreshLane, Worked};
 
@@ -38,7 +39,7 @@ pub(crate) struct Opened {
 /// The claims of the chunks, and a lane for each worker.
 fn open(alloc: Global, count: usize, workers: usize) -> Result<Opened, AllocError>
     requires count { count ≤ most_chunks }
-    requires workers { workers ≤ 64 }
+    requires workers { workers ≤ most_workers }
     ensures { IfOk result (Opens count workers) }
 {
     let lists: Vec<ClaimList> = Vec::with_capacity(alloc, workers)?;
@@ -86,7 +87,7 @@ fn work_all<R: Threads + Wait + Sync, S: SegmentSource + Send>(
     cache: &ValueCache,
 ) -> Joined
     requires some { 0 < length sources.old }
-    requires workers { length sources.old ≤ 64 }
+    requires workers { length sources.old ≤ most_workers }
     requires plans { ArePlans plans.now }
     requires chunks { AllByRecursion (IsChunkOf plans.now) chunks.now }
     requires opened { Opens (length chunks.now) (length sources.old) opened }
@@ -120,7 +121,7 @@ pub fn execute<R: Threads + Wait + Sync, S: SegmentSource + Send>(
     cache: &ValueCache,
 ) -> Outcome
     requires some { 0 < length sources.old }
-    requires workers { length sources.old ≤ 64 }
+    requires workers { length sources.old ≤ most_workers }
     requires plans { ArePlans plans.now }
     requires chunks { CanRun plans.now chunks.now }
     ensures { ExecutesAll plans.now chunks.now result (map S.state sources.old) (map S.state sources.new) }

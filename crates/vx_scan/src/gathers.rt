@@ -5,6 +5,7 @@ ghost use Rattle.std.specs.List.{All};
 ghost use Rattle.vx_claims.specs.Claims.{IsSeatOf, IsFresh, parts, claimed};
 ghost use Rattle.vx_claims.specs.Limits.{all_parts};
 ghost use Rattle.vx_scan.specs.Gathers.{OpensLanes, lower_of, TakesMore, Gathers as GathersAll};
+ghost use Rattle.vx_scan.specs.Limits.{most_workers};
 
 use crate::claim_lists::ClaimList;
 use crate::joins::Joined;
@@ -22,7 +23,7 @@ pub(crate) fn open_lanes(
     count: usize,
 ) -> Result<Vec<Lane>, AllocError>
     requires seat { IsFresh claims.now all_parts seat.old }
-    requires count { count ≤ 64 }
+    requires count { count ≤ most_workers }
     ensures { IfOk result (λ lanes. OpensLanes claims.now count lanes.items seat.new) }
 {
     let mut lanes: Vec<Lane> = Vec::with_capacity(alloc, count)?;
