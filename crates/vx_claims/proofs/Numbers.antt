@@ -9,7 +9,7 @@ use Rattle.vx_claims.specs.Views.{above}
 use Rattle.vx_claims.specs.Apart.{times, once_below}
 
 -- 1 at the number
-abbrev is_one : ℕ → ℕ → ℕ
+abbrev pub is_one : ℕ → ℕ → ℕ
 is_one x n = if n == x then 1 else 0
 
 pub times_append : (x : ℕ) (ns ms : List ℕ) → times x (ns ++ ms) ≡ times x ns + times x ms

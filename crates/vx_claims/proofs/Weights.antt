@@ -13,10 +13,10 @@ use Rattle.vx_claims.proofs.Wholes.{apart_once}
 -- ---- weights of one list
 
 -- the weights, with none at one number
-abbrev without : (ℕ → ℕ) → ℕ → ℕ → ℕ
+abbrev pub without : (ℕ → ℕ) → ℕ → ℕ → ℕ
 without weight number other = if other == number then 0 else weight other
 
-without_other : (weight : ℕ → ℕ) (number other : ℕ) → other ≢ number → without weight number other ≡ weight other
+pub without_other : (weight : ℕ → ℕ) (number other : ℕ) → other ≢ number → without weight number other ≡ weight other
 without_other weight number other differs = rw (ne_eqb other number differs) refl
 
 without_itself : (weight : ℕ → ℕ) (number : ℕ) → without weight number number ≡ 0
@@ -29,7 +29,7 @@ below_it weight number (suc n) le =
     let rest = below_it weight number n (omega (arith, le)) in
     omega (arith, here, rest)
 
-above_it : (weight : ℕ → ℕ) (number n : ℕ) → number < n → sum_below (without weight number) n + weight number ≡ sum_below weight n
+pub above_it : (weight : ℕ → ℕ) (number n : ℕ) → number < n → sum_below (without weight number) n + weight number ≡ sum_below weight n
 above_it weight number zero lt = absurd (omega (arith, lt))
 above_it weight number (suc n) lt = by_order (above_it weight number n) (cases_lt number n)
   where

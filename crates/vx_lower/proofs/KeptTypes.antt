@@ -30,11 +30,11 @@ AreFound whole (member name t ms) = (type_in whole name ≡ Some t) × AreFound 
 abbrev is_among : List ℕ → Members → Bool
 is_among name ms = list_any (λ other. bytes_eq other name) (names_in ms)
 
-and_first : (a b : Bool) → (a && b) ≡ true → a ≡ true
+pub and_first : (a b : Bool) → (a && b) ≡ true → a ≡ true
 and_first true b e = refl
 and_first false b e = absurd cc
 
-and_second : (a b : Bool) → (a && b) ≡ true → b ≡ true
+pub and_second : (a b : Bool) → (a && b) ≡ true → b ≡ true
 and_second true b e = e
 and_second false b e = absurd cc
 

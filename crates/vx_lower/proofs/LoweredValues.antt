@@ -1,5 +1,5 @@
 -- The values of the plan that a tree is lowered to are those of the tree without the fields that aren't kept.
-use Rattle.std.proofs.Common.{◌≡◌, ℕ, ◌-◌, ltb, Bool, true, false, cond, not, ◌&&◌, ◌||◌, List, Option, Some, None, refl, sym, ap, ◌∙◌, subst}
+use Rattle.std.proofs.Common.{◌≡◌, ℕ, ◌-◌, ltb, Bool, true, false, cond, not, ◌||◌, List, Option, Some, None, refl, sym, ap, ◌∙◌, subst}
 use Rattle.std.specs.Prelude.{option_and_then, option_map, IfSome, IsTrue}
 use Rattle.std.specs.List.{list_any}
 use Rattle.std.specs.Str.{bytes_eq}
@@ -25,6 +25,7 @@ use Rattle.vx_rows.specs.Whole.{GiveFitting}
 use Rattle.vx_lower.specs.KeptRows.{kept_items, kept_value, kept_terms, kept_pack}
 use Rattle.vx_lower.specs.Lowered.{tell, plan_head_of, plan_zones_of, kept_head, lowered, lowered_in, lowered_fields, lowered_validity}
 use Rattle.vx_lower.proofs.LoweredRows.{lowered_rows, lowered_all, zones_same}
+use Rattle.vx_lower.proofs.KeptTypes.{and_first, and_second}
 use Rattle.vx_layout.proofs.FittingRows.{fits_row}
 
 -- ---- the expression that packs the kept fields
@@ -47,14 +48,6 @@ or_rest : (a b : Bool) → not (a || b) ≡ true → not b ≡ true
 or_rest false b e = e
 or_rest true b e = absurd cc
 
-and_first : (a b : Bool) → (a && b) ≡ true → a ≡ true
-and_first true b e = refl
-and_first false b e = absurd cc
-
-and_rest : (a b : Bool) → (a && b) ≡ true → b ≡ true
-and_rest true b e = e
-and_rest false b e = absurd cc
-
 item_behind : (name other : List ℕ) (t : DataType) (ms : Members) (v w : Datum) (vs : Items) → bytes_eq name other ≡ false → item_in ms other vs ≡ Some w → item_in (member name t ms) other (item v vs) ≡ Some w
 item_behind name other t ms v w vs e at = rw e at
 
@@ -76,7 +69,7 @@ all_found (member name t ms) no_items distinct fit = absurd fit
 all_found (member name t ms) (item v vs) distinct fit = (
   item_here name t ms v vs,
   found_behind name t v ms vs ms vs (and_first (not (list_any (λ other. bytes_eq other name) (names_in ms))) (are_distinct (names_in ms)) distinct)
-      (all_found ms vs (and_rest (not (list_any (λ other. bytes_eq other name) (names_in ms))) (are_distinct (names_in ms)) distinct) fit.1),
+      (all_found ms vs (and_second (not (list_any (λ other. bytes_eq other name) (names_in ms))) (are_distinct (names_in ms)) distinct) fit.1),
 )
 
 term_kept : (b : Bool) (whole : DataType) (name : List ℕ) (es : Terms) (all_items : Datum) (v : Datum) (vs : Items) → meaning whole no_bound (get_field name root) all_items 0 ≡ Some v → meanings_in whole no_bound es all_items 0 ≡ Some vs → meanings_in whole no_bound (cond b (named name (get_field name root) es) es) all_items 0 ≡ Some (cond b (item v vs) vs)

@@ -13,7 +13,7 @@ pub total_first : (f : ℕ → ℕ) (n : ℕ) → total f (suc n) ≡ f 0 + tota
 total_first f zero = omega arith
 total_first f (suc n) = omega (arith, total_first f n)
 
-total_both : (f g : ℕ → ℕ) (n : ℕ) → total (λ k. f k + g k) n ≡ total f n + total g n
+pub total_both : (f g : ℕ → ℕ) (n : ℕ) → total (λ k. f k + g k) n ≡ total f n + total g n
 total_both f g zero = refl
 total_both f g (suc n) = omega (arith, total_both f g n)
 

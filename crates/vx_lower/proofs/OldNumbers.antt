@@ -32,7 +32,7 @@ mutual
   count_numbers (zoned_plan head zones content table) =
       omega (arith, length-append (numbers_of content) (numbers_of table ++ head.number ∷ []), length-append (numbers_of table) (head.number ∷ []), count_numbers content, count_numbers table)
 
-  count_each : (ps : Plans) → length (each_numbers_of ps) ≡ plans_size ps
+  pub count_each : (ps : Plans) → length (each_numbers_of ps) ≡ plans_size ps
   count_each no_plans = refl
   count_each (plan one rest) = omega (arith, length-append (numbers_of one) (each_numbers_of rest), count_numbers one, count_each rest)
 
@@ -43,11 +43,11 @@ mutual
 -- ---- numbers in a row
 
 -- from the first number on, the function gives these, one after another
-abbrev Gives : (ℕ → ℕ) → ℕ → List ℕ → Type 0
+abbrev pub Gives : (ℕ → ℕ) → ℕ → List ℕ → Type 0
 Gives f first [] = Unit {0}
 Gives f first (n ∷ ns) = (f first ≡ n) × Gives f (suc first) ns
 
-front : (f : ℕ → ℕ) (first : ℕ) (xs ys : List ℕ) → Gives f first (xs ++ ys) → Gives f first xs
+pub front : (f : ℕ → ℕ) (first : ℕ) (xs ys : List ℕ) → Gives f first (xs ++ ys) → Gives f first xs
 front f first [] ys gives = tt
 front f first (x ∷ xs) ys gives = (gives.0, front f (suc first) xs ys gives.1)
 
@@ -56,11 +56,11 @@ moved f first other [] e gives = tt
 moved f first other (x ∷ xs) e gives = (ap f (sym e) ∙ gives.0, moved f (suc first) (suc other) xs (ap suc e) gives.1)
 
 -- what comes behind so many
-back : (f : ℕ → ℕ) (first after : ℕ) (xs ys : List ℕ) → first + length xs ≡ after → Gives f first (xs ++ ys) → Gives f after ys
+pub back : (f : ℕ → ℕ) (first after : ℕ) (xs ys : List ℕ) → first + length xs ≡ after → Gives f first (xs ++ ys) → Gives f after ys
 back f first after [] ys e gives = moved f first after ys (omega (arith, e)) gives
 back f first after (x ∷ xs) ys e gives = back f (suc first) after xs ys (omega (arith, e)) gives.1
 
-given_from : (f : ℕ → ℕ) (first : ℕ) (ns : List ℕ) → ((k : ℕ) → k < length ns → f (first + k) ≡ get_or ns k 0) → Gives f first ns
+pub given_from : (f : ℕ → ℕ) (first : ℕ) (ns : List ℕ) → ((k : ℕ) → k < length ns → f (first + k) ≡ get_or ns k 0) → Gives f first ns
 given_from f first [] each = tt
 given_from f first (n ∷ ns) each =
     let start : first + 0 ≡ first = omega arith in (

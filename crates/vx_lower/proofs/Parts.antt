@@ -124,7 +124,7 @@ dict_parts nodes n node ns is these =
 
 -- a list's children
 
-list_count : (t : DataType) (count : ℕ) → CountFits kinds.List t count → count ≡ 2 + validity_count (nullability_of t)
+pub list_count : (t : DataType) (count : ℕ) → CountFits kinds.List t count → count ≡ 2 + validity_count (nullability_of t)
 list_count (list_type t n) count fits = fits
 list_count (bool_type n) count fits = absurd fits
 list_count (int_type kind n) count fits = absurd fits

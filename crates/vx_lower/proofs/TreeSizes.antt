@@ -18,6 +18,7 @@ use Rattle.vx_layout.specs.Trees.{Head, Tree, head_at, forest_from, child_in, va
 use Rattle.vx_layout.proofs.Unfolding.{HaveLaterChildren, good_later, unfolds}
 use Rattle.vx_lower.specs.Sizes.{tree_size, forest_size, validity_size}
 use Rattle.vx_lower.proofs.NumberSums.{total, total_first, total_same, total_one_more, times, times_in, sum_is_total, total_but_first, zero_nowhere}
+use Rattle.vx_lower.proofs.Parts.{list_count}
 
 -- ---- a node has the sizes of its children, and itself
 
@@ -57,13 +58,6 @@ list_sizes f Nullable (n ∷ m ∷ []) three = absurd (omega (arith, three))
 list_sizes f Nullable (n ∷ m ∷ k ∷ []) three = omega (arith, more f n (m ∷ k ∷ []), more f m (k ∷ []), more f k [])
 list_sizes f Nullable (n ∷ m ∷ k ∷ j ∷ ns) three = absurd (omega (arith, three))
 
-has_three : (t : DataType) (count : ℕ) → CountFits kinds.List t count → count ≡ 2 + validity_count (nullability_of t)
-has_three (list_type t n) count fits = fits
-has_three (bool_type n) count fits = absurd fits
-has_three (int_type kind n) count fits = absurd fits
-has_three (utf8_type n) count fits = absurd fits
-has_three (struct_type ms n) count fits = absurd fits
-
 no_sizes : (f : ℕ → Tree) (ns : List ℕ) → length ns ≡ 0 → sizes f ns ≡ 0
 no_sizes f [] none = refl
 no_sizes f (n ∷ ns) none = absurd (omega (arith, none))
@@ -73,13 +67,13 @@ kind_size f head (kinds.Flat segment) ns fits = omega (arith, no_sizes f ns fits
 kind_size f head kinds.Chunked ns fits = omega (arith, all_sizes f ns)
 kind_size f head kinds.Struct ns fits = omega (arith, struct_sizes f (nullability_of head.dtype) ns (has_validity head.dtype (length ns) fits))
 kind_size f head kinds.Dict ns fits = omega (arith, two_sizes f ns fits)
-kind_size f head kinds.List ns fits = omega (arith, list_sizes f (nullability_of head.dtype) ns (has_three head.dtype (length ns) fits))
+kind_size f head kinds.List ns fits = omega (arith, list_sizes f (nullability_of head.dtype) ns (list_count head.dtype (length ns) fits))
 kind_size f head (kinds.Zoned zone_len stats) ns fits = omega (arith, two_sizes f ns fits)
 kind_size f head (kinds.LegacyStats zone_len stats) ns fits = omega (arith, two_sizes f ns fits)
 
 -- ---- the children of all nodes
 
-abbrev children_at : Option Node → List ℕ
+abbrev pub children_at : Option Node → List ℕ
 children_at None = []
 children_at (Some node) = node.children
 
@@ -87,17 +81,17 @@ node_size : (nodes : List Node) (n : ℕ) (o : Option Node) → IsSomeAnd o HasF
 node_size nodes n None fits = absurd fits
 node_size nodes n (Some node) fits = kind_size (subtree nodes) (head_at n node) node.kind node.children fits
 
-abbrev all_children : List Node → List ℕ
+abbrev pub all_children : List Node → List ℕ
 all_children nodes = flat_map (λ node. node.children) nodes
 
-children_sizes : (s : ℕ → ℕ) (nodes : List Node) → sum_by s (all_children nodes) ≡ total (λ k. sum_by s (children_at (slice_get nodes k))) (length nodes)
+pub children_sizes : (s : ℕ → ℕ) (nodes : List Node) → sum_by s (all_children nodes) ≡ total (λ k. sum_by s (children_at (slice_get nodes k))) (length nodes)
 children_sizes s [] = refl
 children_sizes s (node ∷ nodes) =
     omega (arith, sum_by-append s node.children (all_children nodes), children_sizes s nodes, total_first (λ k. sum_by s (children_at (slice_get (node ∷ nodes) k))) (length nodes))
 
 -- ---- each of them is a node other than the root
 
-abbrev IsBelow : ℕ → ℕ → Type 0
+abbrev pub IsBelow : ℕ → ℕ → Type 0
 IsBelow count child = (0 < child) × (child < count)
 
 below_joined : (count : ℕ) (xs ys : List ℕ) → AllByRecursion (IsBelow count) xs → AllByRecursion (IsBelow count) ys → AllByRecursion (IsBelow count) (xs ++ ys)
@@ -112,7 +106,7 @@ below_all count n (m ∷ ns) later =
     ((omega arith, first.1), below_all count n ns (All-tail (λ child. (n < child) × (child < count)) m ns later))
 
 -- of the nodes from a place on
-children_below : (count from : ℕ) (nodes : List Node) → ((k : ℕ) → k < length nodes → IfSome (slice_get nodes k) (λ node. All (λ child. (from + k < child) × (child < count)) node.children)) → AllByRecursion (IsBelow count) (all_children nodes)
+pub children_below : (count from : ℕ) (nodes : List Node) → ((k : ℕ) → k < length nodes → IfSome (slice_get nodes k) (λ node. All (λ child. (from + k < child) × (child < count)) node.children)) → AllByRecursion (IsBelow count) (all_children nodes)
 children_below count from [] later = tt
 children_below count from (node ∷ nodes) later =
     below_joined count node.children (all_children nodes) (below_all count (from + 0) node.children (later 0 (omega arith)))
@@ -120,21 +114,21 @@ children_below count from (node ∷ nodes) later =
     let e : from + suc k ≡ suc from + k = omega arith in
     subst (λ (n : ℕ). IfSome (slice_get nodes k) (λ node. All (λ child. (n < child) × (child < count)) node.children)) e (later (suc k) (omega arith))))
 
-above_zero : (count : ℕ) (xs : List ℕ) → AllByRecursion (IsBelow count) xs → AllByRecursion (λ x. 0 < x) xs
+pub above_zero : (count : ℕ) (xs : List ℕ) → AllByRecursion (IsBelow count) xs → AllByRecursion (λ x. 0 < x) xs
 above_zero count [] below = tt
 above_zero count (x ∷ xs) below = (below.0.0, above_zero count xs below.1)
 
-below_count : (count : ℕ) (xs : List ℕ) → AllByRecursion (IsBelow count) xs → AllByRecursion (λ x. x < count) xs
+pub below_count : (count : ℕ) (xs : List ℕ) → AllByRecursion (IsBelow count) xs → AllByRecursion (λ x. x < count) xs
 below_count count [] below = tt
 below_count count (x ∷ xs) below = (below.0.1, below_count count xs below.1)
 
-once_of : (nodes : List Node) (k : ℕ) (o : Option Node) → IsSomeAnd o (λ node. IsChildOnce nodes (suc k)) → times_child nodes (suc k) ≡ 1
+pub once_of : (nodes : List Node) (k : ℕ) (o : Option Node) → IsSomeAnd o (λ node. IsChildOnce nodes (suc k)) → times_child nodes (suc k) ≡ 1
 once_of nodes k None once = absurd once
 once_of nodes k (Some node) once = once
 
 -- ---- the whole
 
-zero_more : (k : ℕ) → k ≡ 0 + k
+pub zero_more : (k : ℕ) → k ≡ 0 + k
 zero_more k = omega arith
 
 pub tree_has_each_node : (nodes : List Node) → IsGoodTree nodes → tree_size (subtree nodes 0) ≡ length nodes

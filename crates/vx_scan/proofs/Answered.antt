@@ -60,7 +60,7 @@ faulty_unanswered leaves p (row ∷ rows) (v ∷ values) any are =
     ⊎_elim (λ (here : Finds (IsFaulty leaves) (scan_reads p row)). let e : projected_at leaves p row ≡ Some v = cc in absurd (let f : projected_at leaves p row ≡ None = row_unanswered leaves p row here in cc))
     (λ (later : ScanFinds (IsFaulty leaves) p rows). let rest : map (projected_at leaves p) rows ≡ map Some values = cc in faulty_unanswered leaves p rows values later rest) any
 
-fault_by : (f : Datum → Option Datum) (v : Option Datum) → IsSomeAnd v (λ w. f w ≡ None) → option_and_then f v ≡ None
+pub fault_by : (f : Datum → Option Datum) (v : Option Datum) → IsSomeAnd v (λ w. f w ≡ None) → option_and_then f v ≡ None
 fault_by f None fault = absurd fault
 fault_by f (Some v) fault = fault
 

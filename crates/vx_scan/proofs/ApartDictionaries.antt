@@ -1,11 +1,10 @@
 -- In the tree of a good list of nodes no dictionary stands twice, so the takes of what it is lowered to are of different
 -- dictionaries.
-use Rattle.std.proofs.Common.{◌≡◌, ℕ, zero, suc, ◌+◌, ◌<◌, ◌≤◌, ⊎_elim, Bool, true, false, cond, eqb, List, [], ◌∷◌, ◌++◌, Option, Some, None, length, map, refl, ap, subst, arith}
-use Rattle.std.specs.Prelude.{if◌then◌else◌, IfSome, IsSomeAnd}
-use Rattle.std.specs.List.{flat_map, slice_get, sum_by, All, AllByRecursion}
+use Rattle.std.proofs.Common.{◌≡◌, ℕ, zero, suc, ◌+◌, ◌<◌, ◌≤◌, ⊎_elim, Bool, true, false, cond, eqb, List, [], ◌∷◌, Option, Some, None, length, map, refl, ap, subst, arith}
+use Rattle.std.specs.Prelude.{if◌then◌else◌, IfSome}
+use Rattle.std.specs.List.{slice_get, sum_by, All, AllByRecursion}
 use Rattle.std.proofs.lemmas.Bool.{cases_lt, ne_eqb}
-use Rattle.std.proofs.lemmas.List.Elements.{All-head, All-tail}
-use Rattle.std.proofs.lemmas.List.Sums.{sum_by-append, sum_by-cons}
+use Rattle.std.proofs.lemmas.List.Sums.{sum_by-cons}
 use Rattle.vx_base.specs.Data.{Members, no_members, member}
 use Rattle.vx_base.specs.declared.dtypes.Nullability.{Nullability}
 use Rattle.vx_base.specs.declared.dtypes.Nullability.TheVariants.{NonNullable, Nullable}
@@ -13,16 +12,16 @@ use Rattle.vx_base.specs.Fits.{nullability_of}
 use Rattle.vx_layout.specs.declared.nodes.LayoutKind.{LayoutKind}
 use Rattle.vx_layout.specs.declared.nodes.LayoutKind.TheVariants as kinds
 use Rattle.vx_layout.specs.declared.rules.ShapeRule.TheVariants.{ChildOnce}
-use Rattle.vx_layout.specs.Children.{times_child}
 use Rattle.vx_layout.specs.Kept.{KeptFields, all, only, is_kept}
 use Rattle.vx_layout.specs.Nodes.{Node}
 use Rattle.vx_layout.specs.Rows.{struct_members}
-use Rattle.vx_layout.specs.Shape.{IsChildOnce, IsGoodTree}
+use Rattle.vx_layout.specs.Shape.{IsGoodTree}
 use Rattle.vx_layout.specs.Trees.{Head, Tree, missing, leaf, chunks, fields, dict, lists, zoned, Forest, no_trees, tree, Validity, always, valid_by, head_at, forest_from, child_in, validity_in, field_trees, grown_as, grown, subtree}
 use Rattle.vx_layout.proofs.Unfolding.{HaveLaterChildren, good_later, unfolds}
 use Rattle.vx_lower.specs.Lowered.{lowered, lowered_in, lowered_fields, lowered_validity, packing, plan_head_of, kept_head, plan_zones_of, tell, with_zones}
 use Rattle.vx_lower.specs.Projected.{Projection, kept_of}
-use Rattle.vx_lower.proofs.NumberSums.{total, total_first, times, times_in, sum_is_total, total_but_first, zero_nowhere}
+use Rattle.vx_lower.proofs.NumberSums.{total, times, times_in, sum_is_total, total_but_first, zero_nowhere, total_both}
+use Rattle.vx_lower.proofs.TreeSizes.{children_at, all_children, IsBelow, children_below, above_zero, below_count, once_of, zero_more, children_sizes}
 use Rattle.vx_plan.specs.Plans.{Zones, Plan, no_plan, take_plan, Plans, plan}
 use Rattle.vx_plan.specs.Plans.{Head as PlanHead}
 use Rattle.vx_scan.specs.Preparing.{TakesAreApart}
@@ -138,10 +137,6 @@ in_kind k f head kinds.List ns = omega (arith, in_list k f (nullability_of head.
 in_kind k f head (kinds.Zoned zone_len stats) ns = omega (arith, in_two k f ns)
 in_kind k f head (kinds.LegacyStats zone_len stats) ns = omega (arith, in_two k f ns)
 
-abbrev children_at : Option Node → List ℕ
-children_at None = []
-children_at (Some node) = node.children
-
 in_node : (k : ℕ) (nodes : List Node) (n : ℕ) (o : Option Node) → dicts_at k (grown (subtree nodes) n o) ≤ one_at k n + in_children k (subtree nodes) (children_at o)
 in_node k nodes n None = omega arith
 in_node k nodes n (Some node) = in_kind k (subtree nodes) (head_at n node) node.kind node.children
@@ -151,10 +146,6 @@ in_node k nodes n (Some node) = in_kind k (subtree nodes) (head_at n node) node.
 total_less : (f g : ℕ → ℕ) (n : ℕ) → ((k : ℕ) → k < n → f k ≤ g k) → total f n ≤ total g n
 total_less f g zero less = omega arith
 total_less f g (suc n) less = omega (arith, total_less f g n (λ k lt. less k (omega (arith, lt))), less n (omega arith))
-
-total_sum : (f g : ℕ → ℕ) (n : ℕ) → total (λ k. f k + g k) n ≡ total f n + total g n
-total_sum f g zero = refl
-total_sum f g (suc n) = omega (arith, total_sum f g n)
 
 not_before : (k n : ℕ) → n ≤ k → total (one_at k) n ≡ 0
 not_before k zero le = refl
@@ -178,53 +169,6 @@ once_at k (suc n) = ⊎_elim
         by_bit true = omega arith
         by_bit false = omega arith
 
-abbrev all_children : List Node → List ℕ
-all_children nodes = flat_map (λ node. node.children) nodes
-
-children_sums : (s : ℕ → ℕ) (nodes : List Node) → sum_by s (all_children nodes) ≡ total (λ k. sum_by s (children_at (slice_get nodes k))) (length nodes)
-children_sums s [] = refl
-children_sums s (node ∷ nodes) =
-    omega (arith, sum_by-append s node.children (all_children nodes), children_sums s nodes, total_first (λ k. sum_by s (children_at (slice_get (node ∷ nodes) k))) (length nodes))
-
--- ---- each child is a node other than the root
-
-abbrev IsBelow : ℕ → ℕ → Type 0
-IsBelow count child = (0 < child) × (child < count)
-
-below_joined : (count : ℕ) (xs ys : List ℕ) → AllByRecursion (IsBelow count) xs → AllByRecursion (IsBelow count) ys → AllByRecursion (IsBelow count) (xs ++ ys)
-below_joined count [] ys here there = there
-below_joined count (x ∷ xs) ys here there = (here.0, below_joined count xs ys here.1 there)
-
-below_all : (count n : ℕ) (ns : List ℕ) → All (λ child. (n < child) × (child < count)) ns → AllByRecursion (IsBelow count) ns
-below_all count n [] later = tt
-below_all count n (m ∷ ns) later =
-    let first : (n < m) × (m < count) = All-head (λ child. (n < child) × (child < count)) m ns later in
-    let above : n < m = first.0 in
-    ((omega arith, first.1), below_all count n ns (All-tail (λ child. (n < child) × (child < count)) m ns later))
-
-children_below : (count from : ℕ) (nodes : List Node) → ((k : ℕ) → k < length nodes → IfSome (slice_get nodes k) (λ node. All (λ child. (from + k < child) × (child < count)) node.children)) → AllByRecursion (IsBelow count) (all_children nodes)
-children_below count from [] later = tt
-children_below count from (node ∷ nodes) later =
-    below_joined count node.children (all_children nodes) (below_all count (from + 0) node.children (later 0 (omega arith)))
-    (children_below count (suc from) nodes (λ k lt.
-    let e : from + suc k ≡ suc from + k = omega arith in
-    subst (λ (n : ℕ). IfSome (slice_get nodes k) (λ node. All (λ child. (n < child) × (child < count)) node.children)) e (later (suc k) (omega arith))))
-
-above_zero : (count : ℕ) (xs : List ℕ) → AllByRecursion (IsBelow count) xs → AllByRecursion (λ x. 0 < x) xs
-above_zero count [] below = tt
-above_zero count (x ∷ xs) below = (below.0.0, above_zero count xs below.1)
-
-below_count : (count : ℕ) (xs : List ℕ) → AllByRecursion (IsBelow count) xs → AllByRecursion (λ x. x < count) xs
-below_count count [] below = tt
-below_count count (x ∷ xs) below = (below.0.1, below_count count xs below.1)
-
-once_of : (nodes : List Node) (k : ℕ) (o : Option Node) → IsSomeAnd o (λ node. IsChildOnce nodes (suc k)) → times_child nodes (suc k) ≡ 1
-once_of nodes k None once = absurd once
-once_of nodes k (Some node) once = once
-
-zero_more : (k : ℕ) → k ≡ 0 + k
-zero_more k = omega arith
-
 -- ---- the whole
 
 dicts_once : (nodes : List Node) → IsGoodTree nodes → (k : ℕ) → dicts_at k (subtree nodes 0) ≤ 1
@@ -240,8 +184,8 @@ dicts_once nodes good k =
     total_but_first s (times_in (all_children nodes)) count good.nonempty (zero_nowhere (all_children nodes) (above_zero count (all_children nodes) below))
     (λ n lt. once_of nodes n (slice_get nodes (suc n)) (good.kept ChildOnce (suc n) lt)) in
     let children : sum_by s (all_children nodes) ≡ total (λ n. times (times_in (all_children nodes) n) (s n)) count = sum_is_total s (all_children nodes) count (below_count count (all_children nodes) below) in
-    let listed : sum_by s (all_children nodes) ≡ total c count = children_sums s nodes in
-    let both : total (λ n. one_at k n + c n) count ≡ total (one_at k) count + total c count = total_sum (one_at k) c count in
+    let listed : sum_by s (all_children nodes) ≡ total c count = children_sizes s nodes in
+    let both : total (λ n. one_at k n + c n) count ≡ total (one_at k) count + total c count = total_both (one_at k) c count in
     let once : total (one_at k) count ≤ 1 = once_at k count in
     omega (arith, each, first, children, listed, both, once)
 

@@ -1,11 +1,10 @@
 -- Takes of a plan that is numbered anew have other numbers before, where no number stands at two of them.
-use Rattle.std.proofs.Common.{◌≡◌, ℕ, suc, ◌+◌, ◌-◌, ◌<◌, ◌≤◌, ◌⊎◌, inl, inr, Bool, cond, eqb, List, [], ◌∷◌, ◌++◌, length, get_or, refl, sym, ap, ◌∙◌, subst, arith}
+use Rattle.std.proofs.Common.{◌≡◌, ℕ, ◌+◌, ◌-◌, ◌≤◌, ◌⊎◌, inl, inr, Bool, cond, eqb, [], ◌∷◌, ◌++◌, get_or, refl, sym, ap, ◌∙◌, arith}
 use Rattle.std.proofs.lemmas.Bool.{eq-eqb}
-use Rattle.std.proofs.lemmas.List.{length-append}
 use Rattle.vx_lower.specs.Numbered.{numbered, each_numbered, validity_numbered}
 use Rattle.vx_lower.specs.OldNumbers.{numbers_of, each_numbers_of, validity_numbers_of, old_number}
-use Rattle.vx_lower.specs.Sizes.{plan_size, plans_size, plan_validity_size}
-use Rattle.vx_lower.proofs.OldNumbers.{count_numbers}
+use Rattle.vx_lower.specs.Sizes.{plan_size, plans_size}
+use Rattle.vx_lower.proofs.OldNumbers.{count_numbers, count_each, Gives, front, back, given_from}
 use Rattle.vx_plan.specs.Plans.{Plan, no_plan, concat_plan, eval_plan, filter_plan, pack_plan, take_plan, share_plan, list_plan, row_idx_plan, scan_plan, zoned_plan, Plans, no_plans, plan, PlanValidity, all_valid, valid_as}
 use Rattle.vx_steps.specs.Below.{StandsIn, StandsAmong, StandsInValidity}
 use Rattle.vx_scan.specs.Preparing.{IsTakeAs}
@@ -39,39 +38,6 @@ abbrev mutual
 
 one_here : (k number more : ℕ) → number ≡ k → 1 ≤ one_at k number + more
 one_here k number more same = let one : one_at k number ≡ 1 = ap (λ (b : Bool). cond b 1 0) (eq-eqb number k same) in omega (arith, one)
-
--- ---- the numbers of a list, one after another
-
-count_each : (ps : Plans) → length (each_numbers_of ps) ≡ plans_size ps
-count_each no_plans = refl
-count_each (plan one rest) = omega (arith, length-append (numbers_of one) (each_numbers_of rest), count_numbers one, count_each rest)
-
-count_validity : (validity : PlanValidity) → length (validity_numbers_of validity) ≡ plan_validity_size validity
-count_validity all_valid = refl
-count_validity (valid_as validity) = count_numbers validity
-
-abbrev Gives : (ℕ → ℕ) → ℕ → List ℕ → Type 0
-Gives f first [] = Unit {0}
-Gives f first (n ∷ ns) = (f first ≡ n) × Gives f (suc first) ns
-
-front : (f : ℕ → ℕ) (first : ℕ) (xs ys : List ℕ) → Gives f first (xs ++ ys) → Gives f first xs
-front f first [] ys gives = tt
-front f first (x ∷ xs) ys gives = (gives.0, front f (suc first) xs ys gives.1)
-
-moved : (f : ℕ → ℕ) (first other : ℕ) (xs : List ℕ) → first ≡ other → Gives f first xs → Gives f other xs
-moved f first other xs e gives = subst (λ (n : ℕ). Gives f n xs) e gives
-
-back : (f : ℕ → ℕ) (first after : ℕ) (xs ys : List ℕ) → first + length xs ≡ after → Gives f first (xs ++ ys) → Gives f after ys
-back f first after [] ys e gives = moved f first after ys (omega (arith, e)) gives
-back f first after (x ∷ xs) ys e gives = back f (suc first) after xs ys (omega (arith, e)) gives.1
-
-given_from : (f : ℕ → ℕ) (first : ℕ) (ns : List ℕ) → ((k : ℕ) → k < length ns → f (first + k) ≡ get_or ns k 0) → Gives f first ns
-given_from f first [] each = tt
-given_from f first (n ∷ ns) each =
-    let start : first + 0 ≡ first = omega arith in (
-      ap f (sym start) ∙ each 0 (omega arith),
-      given_from f (suc first) ns (λ k lt. let next : suc first + k ≡ first + suc k = omega arith in ap f next ∙ each (suc k) (omega arith)),
-    )
 
 -- ---- each take's new number tells the old one
 

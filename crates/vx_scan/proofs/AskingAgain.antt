@@ -100,7 +100,7 @@ reason_among plans chunks chosen number here reason is = record {
   reaches = is.reaches;
 }
 
-not_both : (right : List Kept) (n : ℕ) → IsKept right n → kept_at right n ≡ None → ⊥
+pub not_both : (right : List Kept) (n : ℕ) → IsKept right n → kept_at right n ≡ None → ⊥
 not_both right n (column, at) none = let both : Some column ≡ None = sym at ∙ none in cc
 
 -- what is asked for directly is asked for a chunk that is so

@@ -3,6 +3,7 @@ use Rattle.std.proofs.Common.{◌≡◌, ℕ, zero, suc, ◌-◌, ◌<◌, ◌�
 use Rattle.std.specs.Prelude.{◌↔◌, ◌^◌, min, nat_lt, if◌then◌else◌, IsTrue}
 use Rattle.std.proofs.lemmas.Bool.{cases_lt, lt-ltb, ltb-true}
 use Rattle.vx_base.specs.Data.{DataType}
+use Rattle.vx_base.proofs.ScriptTurns.{any_here, any_there}
 use Rattle.vx_expr.specs.Bound.{Bound, IsBoundTo}
 use Rattle.vx_expr.specs.Mentions.{uses_row_number}
 use Rattle.std.specs.List.{Any, AllByRecursion, filter, range_with_len}
@@ -63,17 +64,11 @@ no_pieces scan none = ap (pieces_of (size_of scan)) none
 
 -- ---- rows past the last one
 
-any_later : (P : ℕ → Type 0) (row : ℕ) (rows : List ℕ) → Any P rows → Any P (row ∷ rows)
-any_later P row rows (k, x, below, at, is) = (suc k, x, omega (arith, below), at, is)
-
-any_here : (P : ℕ → Type 0) (row : ℕ) (rows : List ℕ) → P row → Any P (row ∷ rows)
-any_here P row rows is = (0, row, omega arith, refl, is)
-
 all_below : (count : ℕ) (rows : List ℕ) → (Any (λ row. count ≤ row) rows → ⊥) → AllByRecursion (λ row. row < count) rows
 all_below count [] none = tt
 all_below count (row ∷ rows) none = (
   elim (cases_lt row count) [ inl less ↦ less | inr over ↦ absurd (none (any_here (λ n. count ≤ n) row rows over)) ],
-  all_below count rows (λ any. none (any_later (λ n. count ≤ n) row rows any)),
+  all_below count rows (λ any. none (any_there (λ n. count ≤ n) row rows any)),
 )
 
 none_past : (count : ℕ) (rows : List ℕ) → AllByRecursion (λ row. row < count) rows → Any (λ row. count ≤ row) rows → ⊥

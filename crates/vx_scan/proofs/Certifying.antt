@@ -25,6 +25,7 @@ use Rattle.vx_steps.specs.KeptData.{Kept}
 use Rattle.vx_steps.specs.Offers.{IsForPlan}
 use Rattle.vx_steps.specs.Visits.{IsLeafRead}
 use Rattle.vx_steps.proofs.WholeRows.{length_all}
+use Rattle.vx_steps.proofs.Keeping.{kept_old}
 use Rattle.vx_scan.specs.declared.errors.ScanError.{ScanError}
 use Rattle.vx_scan.specs.declared.errors.ScanError.TheVariants.{ReadFault, Memory}
 use Rattle.vx_scan.specs.declared.plans.ScanPlans.{ScanPlans}
@@ -46,11 +47,6 @@ use Rattle.vx_scan.proofs.WeakerVisits.{same_read, weaker_visit}
 some_behind : (b : Bool) (column : ColumnData) (rest more : Option ColumnData) (found : ColumnData) → (rest ≡ Some found → more ≡ Some found) → (if b then Some column else rest) ≡ Some found → (if b then Some column else more) ≡ Some found
 some_behind true column rest more found f at = at
 some_behind false column rest more found f at = f at
-
--- what was kept stays
-pub kept_grows : (old more : List Kept) (n : ℕ) (column : ColumnData) → kept_at old n ≡ Some column → kept_at (old ++ more) n ≡ Some column
-kept_grows [] more n column at = absurd cc
-kept_grows (one ∷ old) more n column at = some_behind (one.node == n) one.column (kept_at old n) (kept_at (old ++ more) n) column (kept_grows old more n column) at
 
 either_behind : (b : Bool) (column : ColumnData) (rest more : Option ColumnData) (found : ColumnData) (Q : Type 0) → (more ≡ Some found → (rest ≡ Some found) ⊎ Q) → (if b then Some column else more) ≡ Some found → ((if b then Some column else rest) ≡ Some found) ⊎ Q
 either_behind true column rest more found Q f at = inl at
@@ -158,7 +154,7 @@ certifies_weaker plans Wants Others f old new failure before after step = record
 }
 
 -- what lacks later lacked before
-still_lacking : (old mid : List Kept) (n : ℕ) → ((n : ℕ) (column : ColumnData) → kept_at old n ≡ Some column → kept_at mid n ≡ Some column) → kept_at mid n ≡ None → (found : Option ColumnData) → kept_at old n ≡ found → kept_at old n ≡ None
+pub still_lacking : (old mid : List Kept) (n : ℕ) → ((n : ℕ) (column : ColumnData) → kept_at old n ≡ Some column → kept_at mid n ≡ Some column) → kept_at mid n ≡ None → (found : Option ColumnData) → kept_at old n ≡ found → kept_at old n ≡ None
 still_lacking old mid n grows lacks None at = at
 still_lacking old mid n grows lacks (Some column) at =
     let both : None ≡ Some column = sym lacks ∙ grows n column at in
@@ -303,7 +299,7 @@ certifies_value plans node old column before after known lacked runs =
     let last : Kept = record { node = number_of node; column = column } in
     let of : ReadsOf plans node old runs.asks.segments = reads_of plans node old runs.asks.segments known lacked runs.asks.wanted in
     record {
-      grows = kept_grows old (last ∷ []);
+      grows = kept_old old (last ∷ []);
       typed = typed_more plans.table old last runs.fits;
       right = λ file told made. made_more plans.table plans.row_offset old last (leaves_of (bytes_of plans file)) (runs.whole file told) made;
       cause = tt;

@@ -10,18 +10,20 @@ use Rattle.vx_plan.specs.declared.children.PlanRef.{PlanRef}
 use Rattle.vx_plan.specs.Nodes.{Node}
 use Rattle.vx_plan.specs.Refs.{number_of}
 use Rattle.vx_plan.specs.Tables.{AreIn}
+use Rattle.vx_plan.proofs.Each.{each_at}
 use Rattle.vx_rows.specs.Reads.{IsAmong}
 use Rattle.vx_splits.specs.declared.selected_rows.SelectedRows.{SelectedRows}
 use Rattle.vx_steps.specs.Asked.{AreAsked}
 use Rattle.vx_steps.specs.Kept.{kept_at, kept_data, IsKept}
 use Rattle.vx_steps.specs.KeptData.{Kept}
 use Rattle.vx_steps.specs.declared.kept.KeptValue.{KeptValue}
+use Rattle.vx_steps.proofs.Keeping.{got_inside, kept_old}
 use Rattle.vx_scan.specs.declared.errors.ScanError.{ScanError}
 use Rattle.vx_scan.specs.declared.plans.ScanPlans.{ScanPlans}
 use Rattle.vx_scan.specs.Certified.{nodes_in, AreGiven, AreRight, Certifies, Gives, IsTested, IsWrong, Tests}
 use Rattle.vx_scan.specs.Outcomes.{data_of, ChunkAsks}
-use Rattle.vx_scan.proofs.Certifying.{certifies_then, certifies_weaker, kept_either, kept_grows, kept_last}
-use Rattle.vx_scan.proofs.Got.{all_got, got_at, got_mapped}
+use Rattle.vx_scan.proofs.Certifying.{certifies_then, certifies_weaker, kept_either, kept_last}
+use Rattle.vx_scan.proofs.Got.{got_at, got_mapped}
 
 -- ---- elements
 
@@ -77,14 +79,9 @@ testing_next plans borrowed old mid new count one before now after at so_far ste
   right = right_next borrowed mid new count one at is step.grows so_far.right;
 }
 
-pub within : {X : Type 0} (xs : List X) (i : ℕ) (x : X) → slice_get xs i ≡ Some x → i < length xs
-within [] i x at = absurd cc
-within (one ∷ xs) zero x at = omega arith
-within (one ∷ xs) (suc i) x at = let less = within xs i x at in omega (arith, less)
-
 -- all of them are
 pub tested_all : (borrowed right : List Kept) (count : ℕ) → length borrowed ≡ count → AreRightBelow borrowed right count → AreRight borrowed right
-tested_all borrowed right count all below place one at = below place one at (let less = within borrowed place one at in omega (arith, less, all))
+tested_all borrowed right count all below place one at = below place one at (let less = got_inside borrowed place one at in omega (arith, less, all))
 
 -- or this one is not
 pub tested_wrong : (borrowed right : List Kept) (place : ℕ) (one : Kept) → slice_get borrowed place ≡ Some one → IsKept right one.node → (kept_at right one.node ≡ Some one.column → ⊥) → IsTested borrowed right (Some place)
@@ -140,14 +137,14 @@ giving_next plans chosen asked old mid new given more count node before now afte
         subst (IsKept (given ++ last ∷ [])) (is ∙ ap number_of (sym e)) (kept_last given last)
     by_place place other here less (inr differs) last is =
         let before_it : IsKept given (number_of other) = so_far.there place other here (omega (arith, less, differs)) in
-        (before_it.0, kept_grows given (last ∷ []) (number_of other) before_it.0 before_it.1)
+        (before_it.0, kept_old given (last ∷ []) (number_of other) before_it.0 before_it.1)
 
 -- the plan at the place of the list is one that the chunk asks for, and one of the table
 pub asked_got : (plans : ScanPlans) (chosen : SelectedRows) (asked same : List PlanRef) (place : ℕ) (node : PlanRef) → slice_get asked place ≡ Some node → asked ≡ same → AreAsked plans.table (number_of plans.projection) chosen.scope.rows.start chosen.mask (map number_of same) → ChunkAsks plans [] chosen (number_of node)
 asked_got plans chosen asked same place node at is are = (are (number_of node)).0 (among_got (map number_of same) place (number_of node) (got_mapped number_of same place node (sym (ap (λ (nodes : List PlanRef). slice_get nodes place) is) ∙ at)))
 
 pub known_got : (nodes : List Node) (asked same : List PlanRef) (place : ℕ) (node : PlanRef) → slice_get asked place ≡ Some node → asked ≡ same → AreIn nodes (map number_of same) → number_of node < length nodes
-known_got nodes asked same place node at is known = all_got (λ n. n < length nodes) (map number_of same) place (number_of node) (got_mapped number_of same place node (sym (ap (λ (ns : List PlanRef). slice_get ns place) is) ∙ at)) known
+known_got nodes asked same place node at is known = each_at (λ n. n < length nodes) (map number_of same) place (number_of node) (got_mapped number_of same place node (sym (ap (λ (ns : List PlanRef). slice_get ns place) is) ∙ at)) known
 
 -- which of the plans it is
 pub asked_place : (asked : List PlanRef) (n : ℕ) → IsAmong n (map number_of asked) → (place : ℕ) × ((node : PlanRef) × (slice_get asked place ≡ Some node) × (number_of node ≡ n))
@@ -171,7 +168,7 @@ given_all plans chosen asked same old now given count before source are known is
       (let there : IsAmong n (map number_of same) = (are n).1 asks in
       let among : IsAmong n (map number_of asked) = subst (λ (nodes : List PlanRef). IsAmong n (map number_of nodes)) (sym is) there in
       let one : (place : ℕ) × ((node : PlanRef) × (slice_get asked place ≡ Some node) × (number_of node ≡ n)) = asked_place asked n among in
-      let less = within asked one.0 one.1.0 one.1.1 in
+      let less = got_inside asked one.0 one.1.0 one.1.1 in
       (below_all (length plans.table) (map number_of same) n known there, subst (IsKept given) one.1.2 (so_far.there one.0 one.1.0 one.1.1 (omega (arith, less, all)))));
 }
 

@@ -1,6 +1,6 @@
 -- The outcome of a chunk's run, from the run of its scan.
-use Rattle.std.proofs.Common.{◌≡◌, ℕ, zero, suc, ◌+◌, ◌<◌, ◌⊎◌, inl, inr, ⊎_elim, Bool, true, false, List, [], ◌∷◌, Option, Some, None, Ok, Err, length, map, refl, sym, ap, ◌∙◌, subst, arith}
-use Rattle.std.specs.Prelude.{slice_get, IfErr, IfOk, IfSome, Result}
+use Rattle.std.proofs.Common.{◌≡◌, ℕ, ◌+◌, ◌<◌, ◌⊎◌, inl, inr, ⊎_elim, Bool, true, false, List, [], ◌∷◌, Option, Some, None, Ok, Err, length, map, refl, sym, ap, ◌∙◌, subst, arith}
+use Rattle.std.specs.Prelude.{IfErr, IfOk, IfSome, Result}
 use Rattle.std.proofs.lemmas.List.Elements.{All-nil}
 use Rattle.vx_words.proofs.Places.{true_count-cons}
 use Rattle.vx_base.specs.Columns.{ColumnData}
@@ -27,6 +27,7 @@ use Rattle.vx_steps.specs.ScanData.{ScanData, IsScanOf}
 use Rattle.vx_steps.specs.Visits.{IsLeafRead}
 use Rattle.vx_steps.specs.Wholes.{IsThere, UsesGiven}
 use Rattle.vx_steps.proofs.Standing.{fault_outside}
+use Rattle.vx_steps.proofs.SplitTakes.{none_selected}
 use Rattle.vx_scan.specs.declared.errors.ScanError.{ScanError}
 use Rattle.vx_scan.specs.declared.errors.ScanError.TheVariants.{EvalFault, Memory}
 use Rattle.vx_scan.specs.declared.outcomes.ChunkOutcome.{ChunkOutcome}
@@ -50,12 +51,6 @@ none_chosen : (start : ℕ) (bits : List Bool) → true_count bits ≡ 0 → row
 none_chosen start [] none = refl
 none_chosen start (true ∷ bits) none = let more = true_count-cons true bits in absurd (omega (arith, more, none))
 none_chosen start (false ∷ bits) none = let more = true_count-cons false bits in none_chosen (start + 1) bits (omega (arith, more, none))
-
-none_true : (bits : List Bool) (place : ℕ) → true_count bits ≡ 0 → slice_get bits place ≡ Some true → ⊥
-none_true [] place none at = let both : None ≡ Some true = at in absurd cc
-none_true (true ∷ bits) place none at = let more = true_count-cons true bits in absurd (omega (arith, more, none))
-none_true (false ∷ bits) zero none at = let both : Some false ≡ Some true = at in absurd cc
-none_true (false ∷ bits) (suc place) none at = let more = true_count-cons false bits in none_true bits place (omega (arith, more, none)) at
 
 empty_values : (f : ℕ → Option Datum) (start : ℕ) (bits : List Bool) (values : List Datum) → true_count bits ≡ 0 → values ≡ [] → AreOf f (rows_of start bits) values
 empty_values f start bits values none empty = ap (map f) (none_chosen start bits none) ∙ ap (map Some) (sym empty)
@@ -112,7 +107,7 @@ pub chunk_there : (plans : ScanPlans) (chosen : SelectedRows) (given leaves made
 chunk_there plans chosen given leaves made start scan before after (Ok (Some column)) piece is gave same = rw same (λ n asks. asked_there plans chosen given leaves made start scan before column is gave n asks)
 chunk_there plans chosen given leaves made start scan before after (Ok None) (Ok column) is none empty =
     let selected : true_count chosen.mask ≡ 0 = sym (ap (λ (s : Split). true_count s.mask) is.split) ∙ none in
-    λ n asks. absurd (none_true chosen.mask asks.0 selected asks.1)
+    λ n asks. absurd (none_selected chosen.mask asks.0 selected asks.1)
 chunk_there plans chosen given leaves made start scan before after (Ok None) (Err error) is none same = tt
 chunk_there plans chosen given leaves made start scan before after (Err error) piece is cause same = rw same tt
 
@@ -121,7 +116,7 @@ pub chunk_leaves : (plans : ScanPlans) (chosen : SelectedRows) (given leaves mad
 chunk_leaves plans chosen given leaves made start scan before after (Ok (Some column)) piece is gave same = rw same (λ read visits. read_there plans chosen given leaves made start scan before column is gave read visits)
 chunk_leaves plans chosen given leaves made start scan before after (Ok None) (Ok column) is none empty =
     let selected : true_count chosen.mask ≡ 0 = sym (ap (λ (s : Split). true_count s.mask) is.split) ∙ none in
-    λ read visits. absurd (none_true chosen.mask visits.0 selected visits.1)
+    λ read visits. absurd (none_selected chosen.mask visits.0 selected visits.1)
 chunk_leaves plans chosen given leaves made start scan before after (Ok None) (Err error) is none same = tt
 chunk_leaves plans chosen given leaves made start scan before after (Err error) piece is cause same = rw same tt
 

@@ -1,31 +1,13 @@
 -- What is selected of the chunks of a range are the pieces of what is selected of it.
 use Rattle.std.proofs.Common.{inl, inr, ◌≡◌, ℕ, zero, suc, ◌+◌, ◌-◌, ◌*◌, ◌/◌, ◌<◌, ◌≤◌, min, max, Bool, List, ◌∷◌, ◌++◌, map, refl, sym, ap, ◌∙◌, arith}
-use Rattle.std.specs.List.{AllByRecursion, filter, flat_map, range_with_len}
+use Rattle.std.specs.List.{filter, flat_map, range_with_len}
 use Rattle.std.specs.declared.ops.Range.{Range}
 use Rattle.std.proofs.lemmas.Bool.{cases_lt, cond_both, lt-ltb, le-ltb}
-use Rattle.std.proofs.lemmas.Nat.{div-add-mod', mod_below, mul-le}
 use Rattle.vx_splits.specs.Chunks.{clipped_chunk, row_chunks}
 use Rattle.vx_splits.specs.Taken.{rows_between}
-use Rattle.vx_splits.proofs.ChunkRows.{next_multiple}
+use Rattle.vx_splits.proofs.ChunkRows.{in_chunk}
 use Rattle.vx_scan.specs.Answer.{pieces_of}
-use Rattle.vx_scan.proofs.Pieces.{nonempty, pieces_by_chunk}
-
-first_chunk : (size row : ℕ) → 0 < size → (row / size * size ≤ row) × (row < row / size * size + size)
-first_chunk size row some = let e = div-add-mod' row size in let below = mod_below row size some in (omega arith, omega arith)
-
-in_chunk : (size number row : ℕ) → 0 < size → number * size ≤ row → row < number * size + size → row / size ≡ number
-in_chunk size number row some low high =
-    let here = first_chunk size row some in
-    elim (cases_lt (row / size) number) [
-      | inl under ↦ absurd (let le = mul-le (row / size + 1) size number size (omega arith) (omega arith) in let e = next_multiple (row / size) size in omega (arith, here))
-      | inr over ↦ elim (cases_lt number (row / size)) [
-        | inl above ↦ absurd (let le = mul-le (number + 1) size (row / size) size (omega arith) (omega arith) in let e = next_multiple number size in omega (arith, here))
-        | inr same ↦ omega arith
-      ]
-    ]
-
-abbrev LieIn : ℕ → ℕ → List ℕ → Type 0
-LieIn size number rows = AllByRecursion (λ row. row / size ≡ number) rows
+use Rattle.vx_scan.proofs.Pieces.{nonempty, pieces_by_chunk, LieIn}
 
 lie_from : (test : ℕ → Bool) (size number : ℕ) → 0 < size → (n low : ℕ) → number * size ≤ low → low + n ≤ number * size + size → LieIn size number (filter test (range_with_len low n))
 lie_from test size number some zero low from below = tt

@@ -25,6 +25,7 @@ use Rattle.vx_steps.specs.ScanLaws.{IsTornIn}
 use Rattle.vx_steps.specs.Visits.{HasEvalFault, IsLeafRead, IsWholeRead, SomeVisit, Test}
 use Rattle.vx_steps.specs.Wholes.{HasInsideCause, IsThere}
 use Rattle.vx_steps.proofs.ReadVisits.{selected_read}
+use Rattle.vx_steps.proofs.SplitTakes.{only_one}
 use Rattle.vx_scan.specs.declared.errors.ScanError.{ScanError}
 use Rattle.vx_scan.specs.declared.errors.ScanError.TheVariants as errors
 use Rattle.vx_scan.specs.declared.plans.ScanPlans.{ScanPlans}
@@ -35,7 +36,6 @@ use Rattle.vx_scan.specs.Outcomes.{Causes, ChunkAsks, Claims, GivesPiece, IsWant
 use Rattle.vx_scan.specs.Plans.{bytes_of}
 use Rattle.vx_scan.specs.Runs.{GivesSplit, IsReadByStart, LeavesFault, LeavesRead, RunCause}
 use Rattle.vx_scan.specs.Starts.{split_of}
-use Rattle.vx_scan.proofs.Running.{only_split}
 
 -- ---- the scan's rows as the chunk's
 
@@ -114,7 +114,7 @@ fault_reads plans chosen given leaves made start scan fault is have read visits 
 
 pub is_wanted : (plans : ScanPlans) (chosen : SelectedRows) (given leaves made : List Kept) (start : ScanData) (segment : ℕ) → IsChunkScan plans chosen given leaves made start → IsReadByStart start segment → IsWanted plans given leaves chosen segment
 is_wanted plans chosen given leaves made start segment is read =
-    let split : read.split ≡ split_of start = only_split start.job.splits.items (split_of start) read.split read.number is.unread.splits read.at in
+    let split : read.split ≡ split_of start = only_one start.job.splits.items (split_of start) read.split read.number is.unread.splits read.at in
     let here : ViewVisits (IsLeafRead read.read) (view_of start) =
     subst (λ (s : Split). SomeVisit (IsLeafRead read.read) (handed_by start.nodes (Some start.job.given)) (plan_at start.nodes start.job.plan) s.rows.start s.mask) split read.reads in
     let one : ChunkVisits (IsLeafRead read.read) plans given chosen = subst (ViewVisits (IsLeafRead read.read)) (view_same plans chosen given leaves made start is) here in

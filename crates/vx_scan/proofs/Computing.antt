@@ -17,6 +17,7 @@ use Rattle.vx_steps.specs.ScanData.{ScanData}
 use Rattle.vx_steps.specs.Steps.{GivesOutput, IsHeldUp, IsWaiting, TakesTurn}
 use Rattle.vx_steps.specs.Turns.{AreLeavesKept}
 use Rattle.vx_steps.specs.Wants.{IsAsked}
+use Rattle.vx_steps.proofs.Keeping.{got_inside}
 use Rattle.vx_scan.specs.declared.adaptor_errors.AdaptorError.{AdaptorError}
 use Rattle.vx_scan.specs.declared.adaptors.State.{State}
 use Rattle.vx_scan.specs.declared.adaptors.State.TheVariants.{NeedsCompute, Waiting, Done}
@@ -29,7 +30,7 @@ use Rattle.vx_scan.specs.Fetched.{AreApart, AllLocated, fetches_from, segments_i
 use Rattle.vx_scan.specs.Gathered.{BatchOr, Gathered, GatherGives, GivesTurn, IsLive, IsNoRead, StepOf, handed_reads, work_in}
 use Rattle.vx_scan.proofs.Continuing.{continues_then}
 use Rattle.vx_scan.proofs.HandingOut.{few_asked}
-use Rattle.vx_scan.proofs.Growing.{got_inside, length_grown, take_grown}
+use Rattle.vx_scan.proofs.Growing.{length_grown, take_grown}
 use Rattle.vx_scan.proofs.Stepping.{output_before}
 
 -- ---- the turn behind the reads
@@ -64,7 +65,7 @@ turn_asked turn locations old new plain gives asked =
 
 -- ---- the reads and the turn together
 
-length_fetches : (locations : List SegmentLocation) (number : ℕ) (segments : List ℕ) → length (fetches_from locations number segments) ≡ length segments
+pub length_fetches : (locations : List SegmentLocation) (number : ℕ) (segments : List ℕ) → length (fetches_from locations number segments) ≡ length segments
 length_fetches locations number [] = refl
 length_fetches locations number (segment ∷ segments) = let rest = length_fetches locations (number + 1) segments in omega (arith, rest)
 

@@ -1,12 +1,11 @@
 -- Steps of a scan one after the other.
-use Rattle.std.proofs.Common.{◌≡◌, ℕ, ◌⊎◌, inl, inr, List, Option, Some, None, refl, sym, ◌∙◌, subst}
+use Rattle.std.proofs.Common.{◌≡◌, ℕ, ◌⊎◌, inl, inr, Option, Some, None, refl, sym, ◌∙◌, subst}
 use Rattle.vx_base.specs.Columns.{ColumnData}
 use Rattle.vx_steps.specs.Jobs.{KeepsColumns, KeepsWholes, IsAskedFor, IsReadFor}
 use Rattle.vx_steps.specs.Kept.{kept_at}
-use Rattle.vx_steps.specs.KeptData.{Kept}
 use Rattle.vx_steps.specs.ScanData.{ScanData}
 use Rattle.vx_steps.specs.Wants.{IsAsked}
-use Rattle.vx_steps.specs.Wholes.{AddsOnly}
+use Rattle.vx_steps.proofs.Decoding.{adds_then}
 use Rattle.vx_scan.specs.Continues.{KeepsScan, Continues, MayBeRead}
 
 -- ---- what each step keeps
@@ -15,9 +14,6 @@ use Rattle.vx_scan.specs.Continues.{KeepsScan, Continues, MayBeRead}
 or_earlier : {A B C : Type 0} → B ⊎ C → (B → A ⊎ C) → A ⊎ C
 or_earlier (inl b) earlier = earlier b
 or_earlier (inr c) earlier = inr c
-
-adds_then : (P : ℕ → Type 0) (one two three : List Kept) → AddsOnly P one two → AddsOnly P two three → AddsOnly P one three
-adds_then P one two three first second n kept = or_earlier (second n kept) (first n)
 
 wholes_then : (base one two three : ScanData) → KeepsWholes base.nodes base.job one.progress.wholes two.progress.wholes → KeepsWholes base.nodes base.job two.progress.wholes three.progress.wholes → KeepsWholes base.nodes base.job one.progress.wholes three.progress.wholes
 wholes_then base one two three first second = record {
@@ -62,7 +58,7 @@ keeps_then one two three first second = record {
 
 -- ---- what they want
 
-none_before : (before after : Option ColumnData) → ((column : ColumnData) → before ≡ Some column → after ≡ Some column) → after ≡ None → before ≡ None
+pub none_before : (before after : Option ColumnData) → ((column : ColumnData) → before ≡ Some column → after ≡ Some column) → after ≡ None → before ≡ None
 none_before None after stays none = refl
 none_before (Some column) after stays none = absurd (let both : Some column ≡ None = sym (stays column refl) ∙ none in cc)
 

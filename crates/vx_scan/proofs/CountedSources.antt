@@ -16,8 +16,8 @@ use Rattle.vx_scan.specs.Settling.{direct_and_segment, AsksAgain, IsDirectAmong}
 use Rattle.vx_scan.specs.SourceCounts.{ChunkReads, IsDirectRead, IsReadOf, IsSharedRead}
 use Rattle.vx_scan.specs.Workers.{RunsSource}
 use Rattle.vx_scan.proofs.Counting.{ArePairs, AreBacked, counted_most, direct_once, gained_times, is_same, no_pairs, one_more, one_passed, pairs_most, taken_as}
-use Rattle.vx_scan.proofs.Executing.{each_weaker}
 use Rattle.vx_scan.proofs.ScanAsks.{place_there, ranges_for}
+use Rattle.vx_scan.proofs.Certifying.{each_weaker}
 
 -- takes keep their numbers
 same_way : (way : Way) → way_renumbered (λ n. n) way ≡ way

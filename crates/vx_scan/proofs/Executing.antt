@@ -35,12 +35,9 @@ use Rattle.vx_scan.specs.Settling.{FailsSettled, IsRerun, Settles, told_right}
 use Rattle.vx_scan.specs.Workers.{IsPieceOf, numbers_of, IsLast, FailsLast, RunsSource}
 use Rattle.vx_scan.proofs.Ascending.{in_order_once}
 use Rattle.vx_scan.proofs.LentSources.{each_by, each_first}
+use Rattle.vx_scan.proofs.Certifying.{each_weaker}
 
 -- ---- lists
-
-pub each_weaker : {X : Type 0} (P Q : X → Type 0) → ((x : X) → P x → Q x) → (xs : List X) → AllByRecursion P xs → AllByRecursion Q xs
-each_weaker P Q from [] each = tt
-each_weaker P Q from (x ∷ xs) each = (from x each.0, each_weaker P Q from xs each.1)
 
 all_so : {X : Type 0} (Q : X → Type 0) → ((x : X) → Q x) → (xs : List X) → AllByRecursion Q xs
 all_so Q so [] = tt

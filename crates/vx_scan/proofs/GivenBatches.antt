@@ -36,11 +36,11 @@ use Rattle.vx_scan.specs.Reasons.{Reason, chunk_and_segment}
 use Rattle.vx_scan.specs.Settling.{rerun_chunks, AsksAgain}
 use Rattle.vx_scan.specs.Workers.{HasDtype, HasItsRows, IsPieceOf, numbers_of, IsLast, AsksReached, RunsSource, FailsLast}
 use Rattle.vx_scan.proofs.Distinct.{distinct_none, distinct_then, apart_from}
-use Rattle.vx_scan.proofs.Executing.{each_weaker}
 use Rattle.vx_scan.proofs.LaneEnds.{among_stands}
 use Rattle.vx_scan.proofs.Lasting.{lasts_then}
 use Rattle.vx_scan.proofs.LentSources.{each_by, each_clear, each_first, each_lasts, first_by, first_same, first_there}
 use Rattle.vx_scan.proofs.Sessions.{asked_nothing}
+use Rattle.vx_scan.proofs.Certifying.{each_weaker}
 
 -- ---- the batches
 

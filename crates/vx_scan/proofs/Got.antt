@@ -1,18 +1,12 @@
 -- The element at a place of a list.
 use Rattle.std.proofs.Common.{◌≡◌, ℕ, zero, suc, ◌<◌, List, [], ◌∷◌, Some, length, map, sym, subst, ap, arith}
 use Rattle.std.specs.Prelude.{slice_get, slice_index_or}
-use Rattle.std.specs.List.{All, AllByRecursion}
-use Rattle.std.proofs.lemmas.List.Elements.{All-head, All-tail}
+use Rattle.std.specs.List.{AllByRecursion}
 
 pub got_mapped : {X Y : Type 0} (f : X → Y) (xs : List X) (i : ℕ) (x : X) → slice_get xs i ≡ Some x → slice_get (map f xs) i ≡ Some (f x)
 got_mapped f [] i x here = absurd cc
 got_mapped f (one ∷ xs) zero x here = let same : one ≡ x = cc in ap (λ y. Some (f y)) same
 got_mapped f (one ∷ xs) (suc i) x here = got_mapped f xs i x here
-
-pub all_got : {X : Type 0} (P : X → Type 0) (xs : List X) (i : ℕ) (x : X) → slice_get xs i ≡ Some x → All P xs → P x
-all_got P [] i x here all = absurd cc
-all_got P (one ∷ xs) zero x here all = let same : one ≡ x = cc in subst P same (All-head P one xs all)
-all_got P (one ∷ xs) (suc i) x here all = all_got P xs i x here (All-tail P one xs all)
 
 pub each_got : {X : Type 0} (P : X → Type 0) (xs : List X) (i : ℕ) (x : X) → slice_get xs i ≡ Some x → AllByRecursion P xs → P x
 each_got P [] i x here each = absurd cc

@@ -4,14 +4,10 @@ use Rattle.std.specs.Prelude.{slice_set, slice_index_or, IsSomeAnd}
 use Rattle.std.specs.List.{slice_get}
 use Rattle.vx_steps.specs.ReadTable.{StandsAt}
 use Rattle.vx_steps.specs.ReadTableData.{Wanted}
-use Rattle.vx_steps.specs.Wants.{Grows, IsAsked}
+use Rattle.vx_steps.specs.Wants.{Grows}
+use Rattle.vx_steps.proofs.Indexing.{take_one}
 
 -- ---- elements at a place
-
-pub got_inside : {X : Type 0} (xs : List X) (i : ℕ) (x : X) → slice_get xs i ≡ Some x → i < length xs
-got_inside [] i x here = absurd cc
-got_inside (one ∷ xs) zero x here = omega arith
-got_inside (one ∷ xs) (suc i) x here = let rest = got_inside xs i x here in omega (arith, rest)
 
 -- within the list the default is not looked at
 pub got_same : {X : Type 0} (xs : List X) (i : ℕ) (d e : X) → i < length xs → slice_index_or xs i d ≡ slice_index_or xs i e
@@ -19,13 +15,8 @@ got_same [] i d e within = absurd (omega (arith, within))
 got_same (one ∷ xs) zero d e within = refl
 got_same (one ∷ xs) (suc i) d e within = got_same xs i d e (omega (arith, within))
 
-take_suc : {X : Type 0} (xs : List X) (i : ℕ) (x : X) → slice_get xs i ≡ Some x → take (suc i) xs ≡ take i xs ++ x ∷ []
-take_suc [] i x here = absurd cc
-take_suc (one ∷ xs) zero x here = let same : one ≡ x = cc in ap (λ y. y ∷ []) same
-take_suc (one ∷ xs) (suc i) x here = ap (λ ys. one ∷ ys) (take_suc xs i x here)
-
 pub take_got : {X : Type 0} (xs : List X) (i : ℕ) (x : X) → slice_get xs i ≡ Some x → take (i + 1) xs ≡ take i xs ++ x ∷ []
-take_got xs i x here = rw add-one (take_suc xs i x here)
+take_got xs i x here = rw add-one (take_one xs i x here)
 
 -- the front behind a place at which an element was set
 pub take_set : {X : Type 0} (xs : List X) (n i : ℕ) (x : X) → i < n → take n (slice_set xs i x) ≡ slice_set (take n xs) i x
@@ -40,11 +31,6 @@ got_front xs zero i below = absurd (omega (arith, below))
 got_front [] (suc n) i below = refl
 got_front (one ∷ xs) (suc n) zero below = refl
 got_front (one ∷ xs) (suc n) (suc i) below = got_front xs n i (omega (arith, below))
-
-pub length_front : {X : Type 0} (xs : List X) (n : ℕ) → n ≤ length xs → length (take n xs) ≡ n
-length_front xs zero inside = refl
-length_front [] (suc n) inside = absurd (omega (arith, inside))
-length_front (one ∷ xs) (suc n) inside = let rest = length_front xs n (omega (arith, inside)) in omega (arith, rest)
 
 -- ---- lists that grow
 
@@ -75,7 +61,3 @@ stands_grown old new grows segment place None at stands = absurd stands
 stands_grown old new grows segment place (Some w) at stands =
     let P : Option Wanted → Type 0 = λ o. IsSomeAnd o (λ v. v.segment ≡ segment) in
     subst P (sym (grows place w at)) stands
-
--- what was asked for still is
-pub asked_grown : (old new : List Wanted) → Grows old new → (segment : ℕ) → IsAsked old segment → IsAsked new segment
-asked_grown old new grows segment (place, stands) = (place, stands_grown old new grows segment place (slice_get old place) refl stands)

@@ -14,13 +14,16 @@ use Rattle.vx_steps.specs.ReadTableData.{Wanted}
 use Rattle.vx_steps.specs.ScanData.{ScanData}
 use Rattle.vx_steps.specs.Steps.{HandsRead}
 use Rattle.vx_steps.specs.Wants.{Grows, IsAsked}
+use Rattle.vx_steps.proofs.Keeping.{got_inside}
+use Rattle.vx_steps.proofs.SelectedRows.{length_taken}
+use Rattle.vx_steps.proofs.Needing.{asked_grows}
 use Rattle.vx_scan.specs.AdaptorData.{AreAsked}
 use Rattle.vx_scan.specs.Computes.{LacksLocation}
 use Rattle.vx_scan.specs.Fetched.{fetch_at, location_of, fetches_from, AllLocated, AreApart, unread, segments_in}
 use Rattle.vx_scan.specs.Gathered.{handed_reads, Gathered, GivesTurn, IsLive}
 use Rattle.vx_scan.proofs.Continuing.{continues_same, continues_then}
 use Rattle.vx_scan.proofs.FewApart.{few_apart}
-use Rattle.vx_scan.proofs.Growing.{asked_grown, got_inside, got_front, length_front, stands_by, take_got, take_grown}
+use Rattle.vx_scan.proofs.Growing.{got_front, stands_by, take_got, take_grown}
 
 -- ---- numbers
 
@@ -37,7 +40,7 @@ few_asked locations scan asked =
     let reads = take scan.progress.reads.handed scan.progress.reads.wanted in
     let few = few_apart (segments_in reads) (length locations) asked.apart asked.located in
     let size = length-map reads (λ (read : Wanted). read.segment) in
-    let all = length_front scan.progress.reads.wanted scan.progress.reads.handed asked.wanted in
+    let all = length_taken scan.progress.reads.wanted scan.progress.reads.handed asked.wanted in
     omega (arith, few, size, all)
 
 -- ---- one read
@@ -57,7 +60,7 @@ fresh_in (read ∷ reads) segment others = All-cons (λ one. one ≢ segment) re
 fresh_read : (request : ReadRequest) (old new : ScanData) → Grows old.progress.reads.wanted new.progress.reads.wanted → old.progress.reads.handed ≤ length old.progress.reads.wanted → HandsRead old.job old.progress new.progress request →
     All (λ one. one ≢ request.segment_id) (segments_in (handed_reads old.progress.reads))
 fresh_read request old new grows inside hands = fresh_in (handed_reads old.progress.reads) request.segment_id (λ i read at same.
-    let size = length_front old.progress.reads.wanted old.progress.reads.handed inside in
+    let size = length_taken old.progress.reads.wanted old.progress.reads.handed inside in
     let within = got_inside (handed_reads old.progress.reads) i read at in
     let below : i < old.progress.reads.handed = omega (arith, size, within) in
     let here = grows i read (sym (got_front old.progress.reads.wanted old.progress.reads.handed i below) ∙ at) in
@@ -148,7 +151,7 @@ gather_more locations batch more old middle new request at so_far gives within p
           ∙ ap (λ (rs : List Wanted). handed_reads old.progress.reads ++ rs) (sym (map-append unread so_far.segments (segment ∷ [])));
       asked = asked_push locations request middle new grows so_far.asked hands within;
       stand = All-push (IsAsked new.progress.reads.wanted) so_far.segments segment
-          (All-weaker (IsAsked middle.progress.reads.wanted) (IsAsked new.progress.reads.wanted) (λ one. asked_grown middle.progress.reads.wanted new.progress.reads.wanted grows one) so_far.segments so_far.stand)
+          (All-weaker (IsAsked middle.progress.reads.wanted) (IsAsked new.progress.reads.wanted) (λ one. asked_grows middle.progress.reads.wanted new.progress.reads.wanted grows one) so_far.segments so_far.stand)
           (read_asked request middle new hands);
       left = ap (λ job. left_of job new.progress) gives.scan.keeps.job ∙ hands.left ∙ so_far.left;
       fewer = let p = gives.fewer tt in let q = so_far.fewer in omega (arith, p, q, size);

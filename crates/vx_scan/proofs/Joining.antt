@@ -53,7 +53,7 @@ at_most_over None (Some error) (Some other) one two = absurd one
 at_most_over (Some least) (Some error) (Some other) one two = omega (arith, one, two)
 
 -- no error is below want of memory
-no_memory_least : (error : Option ChunkError) → IsAtMost (Some no_memory) error
+pub no_memory_least : (error : Option ChunkError) → IsAtMost (Some no_memory) error
 no_memory_least None = tt
 no_memory_least (Some one) = omega arith
 

@@ -15,6 +15,7 @@ use Rattle.vx_rows.specs.Reads.{Way, directly, through}
 use Rattle.vx_steps.specs.declared.leaf_reads.LeafRead.{LeafRead}
 use Rattle.vx_steps.specs.Leavings.{IsLeafOf}
 use Rattle.vx_steps.specs.Visits.{Visits, VisitsIn, VisitsField, VisitsValidity}
+use Rattle.vx_steps.proofs.PlacedVisits.{by_match}
 use Rattle.vx_scan.specs.PlanTexts.{held_tree, IsProjectionPlan, IsProjectionPlanBy}
 use Rattle.vx_scan.specs.Ways.{ReadsBy}
 
@@ -39,10 +40,6 @@ record IsFrom (first size leaf : ℕ) : Type 0 where
 
 wider : (first size low many leaf : ℕ) → low ≤ first → first + size ≤ low + many → IsFrom first size leaf → IsFrom low many leaf
 wider first size low many leaf less more is = let a = is.low in let b = is.high in record { low = omega (arith, less, a); high = omega (arith, more, b) }
-
-match_either : (b : Bool) (A B C : Type 0) → (A → C) → (B → C) → MatchBool b A B → C
-match_either true A B C f g v = f v
-match_either false A B C f g v = g v
 
 mutual
   number_from : (leaf first : ℕ) (p : Plan) (row : ℕ) → Reads leaf (numbered first p) row → IsFrom first (plan_size p) leaf
@@ -75,7 +72,7 @@ mutual
   in_from : (leaf first : ℕ) (ps : Plans) (row : ℕ) → ReadsIn leaf (each_numbered first ps) row → IsFrom first (plans_size ps) leaf
   in_from leaf first no_plans row v = absurd v
   in_from leaf first (plan one rest) row v =
-      match_either (nat_lt row (plan_head (numbered first one)).rows) (Reads leaf (numbered first one) row) (ReadsIn leaf (each_numbered (first + plan_size one) rest) (row - (plan_head (numbered first one)).rows)) (IsFrom first (plan_size one + plans_size rest) leaf)
+      by_match (nat_lt row (plan_head (numbered first one)).rows) (Reads leaf (numbered first one) row) (ReadsIn leaf (each_numbered (first + plan_size one) rest) (row - (plan_head (numbered first one)).rows)) (IsFrom first (plan_size one + plans_size rest) leaf)
       (λ w. wider first (plan_size one) first (plan_size one + plans_size rest) leaf (omega arith) (omega arith) (number_from leaf first one row w))
       (λ w. wider (first + plan_size one) (plans_size rest) first (plan_size one + plans_size rest) leaf (omega arith) (omega arith) (in_from leaf (first + plan_size one) rest (row - (plan_head (numbered first one)).rows) w)) v
 

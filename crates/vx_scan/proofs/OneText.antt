@@ -12,7 +12,7 @@ use Rattle.vx_plan.specs.declared.nodes.PlanKind.{PlanKind}
 use Rattle.vx_plan.specs.declared.nodes.PlanKind.TheVariants as kinds
 use Rattle.vx_plan.specs.ChildNames.{child_name}
 use Rattle.vx_plan.specs.Nodes.{Node, absent}
-use Rattle.vx_plan.specs.Plans.{Head, Plan, no_plan, concat_plan, eval_plan, filter_plan, pack_plan, take_plan, share_plan, list_plan, row_idx_plan, scan_plan, zoned_plan, Plans, no_plans, plan, PlanValidity, all_valid, valid_as, head_at, plan_at, plan_grown_as, plan_in, plans_from, front_plans, last_plan, field_plans, last_validity}
+use Rattle.vx_plan.specs.Plans.{Head, Plan, no_plan, concat_plan, eval_plan, filter_plan, pack_plan, take_plan, share_plan, list_plan, row_idx_plan, scan_plan, zoned_plan, Plans, no_plans, plan, head_at, plan_at, plan_grown_as, plan_in, plans_from, front_plans, last_plan, field_plans, last_validity}
 use Rattle.vx_plan.specs.Rules.{node_at, nodes_at, Asks, IsMadeAs}
 use Rattle.vx_plan.specs.Shapes.{zoned_kind}
 use Rattle.vx_plan.specs.Tables.{IsGoodTable}
@@ -21,6 +21,7 @@ use Rattle.vx_lower.specs.PlanText.{all_headers, each_from, indent, lines_text, 
 use Rattle.vx_lower.specs.Projected.{Projection}
 use Rattle.vx_lower.specs.RowIndex.{row_index_plan_from_by}
 use Rattle.vx_lower.proofs.PlanLines.{child_lines, lines_unfold}
+use Rattle.vx_lower.proofs.Made.{validity_list}
 use Rattle.vx_scan.specs.PlanTexts.{held_tree, IsPlanText, IsProjectionPlanBy}
 
 -- ---- the line and the children of a plan
@@ -46,10 +47,6 @@ node_of (zoned_plan head zones content table) = under (zoned_kind zones.is_legac
 abbrev plan_list : Plans → List Plan
 plan_list no_plans = []
 plan_list (plan first rest) = first ∷ plan_list rest
-
-abbrev validity_list : PlanValidity → List Plan
-validity_list all_valid = []
-validity_list (valid_as validity) = validity ∷ []
 
 abbrev children_of : Plan → List Plan
 children_of (no_plan head) = []

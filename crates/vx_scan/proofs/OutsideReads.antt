@@ -1,17 +1,14 @@
 -- With values given for all whole ones that rows ask for, each leaf that they visit lies outside of whole values.
-use Rattle.std.proofs.Common.{◌≡◌, ℕ, ◌-◌, ◌<◌, inl, inr, Bool, true, false, List, [], Option, Some, None, length, map, refl, sym, ap, ◌∙◌, subst}
+use Rattle.std.proofs.Common.{◌≡◌, ℕ, ◌-◌, ◌<◌, inl, inr, Bool, true, false, List, [], Option, Some, None, length, refl, sym, ap, ◌∙◌}
 use Rattle.std.specs.Prelude.{nat_lt}
 use Rattle.std.specs.Bool.{MatchBool}
-use Rattle.std.proofs.lemmas.Option.{slice_get-get_or}
 use Rattle.vx_rows.specs.Given.{GivenValues}
 use Rattle.vx_rows.specs.Reads.{directly}
-use Rattle.vx_plan.specs.declared.nodes.PlanKind.{PlanKind}
 use Rattle.vx_plan.specs.declared.nodes.PlanKind.TheVariants as kinds
-use Rattle.vx_plan.specs.Nodes.{Node, absent}
-use Rattle.vx_plan.specs.Plans.{Head, Plan, no_plan, concat_plan, eval_plan, filter_plan, pack_plan, take_plan, share_plan, list_plan, row_idx_plan, scan_plan, zoned_plan, Plans, no_plans, plan, PlanValidity, all_valid, valid_as, plan_head, head_at, plan_at, plan_gap, plan_grown_as}
+use Rattle.vx_plan.specs.Nodes.{Node}
+use Rattle.vx_plan.specs.Plans.{Plan, no_plan, concat_plan, eval_plan, filter_plan, pack_plan, take_plan, share_plan, list_plan, row_idx_plan, scan_plan, zoned_plan, Plans, no_plans, plan, PlanValidity, all_valid, valid_as, plan_head, plan_at}
 use Rattle.vx_plan.specs.Rules.{node_at}
 use Rattle.vx_plan.specs.Tables.{IsGoodTable}
-use Rattle.vx_plan.proofs.Unfolding.{Known, known}
 use Rattle.vx_steps.specs.declared.leaf_reads.LeafRead.{LeafRead}
 use Rattle.vx_steps.specs.Given.{Handed, no_given, given_for, handed_by, whole_at}
 use Rattle.vx_steps.specs.Kept.{IsKept, values_of, whole_of}
@@ -22,6 +19,7 @@ use Rattle.vx_steps.proofs.OutermostTakes.{IsTakeOver, take_gap, take_placed}
 use Rattle.vx_steps.proofs.PlacedVisits.{IsPlaced, is_placed}
 use Rattle.vx_steps.proofs.ReadVisits.{no_columns}
 use Rattle.vx_steps.proofs.Shaping.{given_known}
+use Rattle.vx_steps.proofs.UsedValues.{IsShareOf, share_gap, share_given}
 use Rattle.vx_scan.specs.Ways.{IsReadOutside, ReadsBy}
 use Rattle.vx_scan.proofs.WholeReads.{visit_chosen}
 
@@ -78,11 +76,6 @@ mutual
 
 -- ---- they are those of a table
 
--- a share of the number, and not inside whole values
-abbrev pub IsShareOf : ℕ → Test
-IsShareOf n (Some given) (share_plan head child) row = head.number ≡ n
-IsShareOf n handed p row = ⊥
-
 -- a take by its number and that of its values, or else a share by its number
 abbrev pub LooksUp : ℕ → Option ℕ → Test
 LooksUp n None = IsShareOf n
@@ -110,35 +103,6 @@ lack_of f (Some given) (list_plan head elements offsets validity) row v = absurd
 lack_of f (Some given) (row_idx_plan head) row v = absurd v
 lack_of f (Some given) (scan_plan head segment) row v = absurd v
 lack_of f (Some given) (zoned_plan head zones content table) row v = absurd v
-
-pub share_gap : (n : ℕ) (handed : Handed) (row : ℕ) → IsShareOf n handed (plan_gap 0) row → ⊥
-share_gap n None row v = v
-share_gap n (Some given) row v = v
-
-pub of_share : (kind : PlanKind) (handed : Handed) (head : Head) (ps : List Plan) (n row : ℕ) → IsShareOf n handed (plan_grown_as head kind ps) row → (head.number ≡ n) × (kind ≡ kinds.Share)
-of_share kind None head ps n row v = absurd v
-of_share kinds.Concat (Some given) head ps n row v = absurd v
-of_share (kinds.Eval a) (Some given) head ps n row v = absurd v
-of_share kinds.Filter (Some given) head ps n row v = absurd v
-of_share (kinds.Pack has_validity) (Some given) head ps n row v = absurd v
-of_share kinds.Take (Some given) head ps n row v = absurd v
-of_share kinds.Share (Some given) head ps n row v = (v, refl)
-of_share (kinds.ListPack has_validity) (Some given) head ps n row v = absurd v
-of_share kinds.RowIdx (Some given) head ps n row v = absurd v
-of_share (kinds.SegmentScan segment) (Some given) head ps n row v = absurd v
-of_share (kinds.Zoned zone_len stats) (Some given) head ps n row v = absurd v
-of_share (kinds.LegacyStats zone_len stats) (Some given) head ps n row v = absurd v
-
--- for a share, what is kept for the share
-pub share_given : (nodes : List Node) → IsGoodTable nodes → (n : ℕ) → IsPlaced (IsShareOf n) nodes → (kept : List Kept) → given_for nodes kept n ≡ whole_of kept n
-share_given nodes good n one kept =
-    let m : ℕ = one.number in
-    let node : Node = node_at nodes m in
-    let k : Known nodes m node node.kind = known nodes good m node node.kind (slice_get-get_or nodes m absent one.there) refl in
-    let F : Plan → Type 0 = λ p. IsShareOf n one.handed p one.row in
-    let has : (m ≡ n) × (node.kind ≡ kinds.Share) = of_share node.kind one.handed (head_at m node) (map (plan_at nodes) node.children) n one.row (subst F k.law one.is) in
-    let same : given_for nodes kept m ≡ whole_of kept m = given_known nodes m kinds.Share node.children one.there has.1 refl kept in
-    subst (λ (number : ℕ). given_for nodes kept number ≡ whole_of kept number) has.0 same
 
 -- for a take, what is kept for its values
 pub take_given : (nodes : List Node) → IsGoodTable nodes → (n values : ℕ) → IsPlaced (IsTakeOver n values) nodes → (kept : List Kept) → given_for nodes kept n ≡ whole_of kept values

@@ -11,11 +11,12 @@ use Rattle.vx_splits.specs.declared.selected_rows.SelectedRows.{SelectedRows}
 use Rattle.vx_steps.specs.Asked.{AreAsked}
 use Rattle.vx_steps.specs.Kept.{kept_at, IsKept}
 use Rattle.vx_steps.specs.KeptData.{Kept}
+use Rattle.vx_steps.proofs.Keeping.{got_inside, kept_old}
 use Rattle.vx_scan.specs.declared.plans.ScanPlans.{ScanPlans}
 use Rattle.vx_scan.specs.Certified.{Gives}
 use Rattle.vx_scan.specs.Outcomes.{AreOwn}
-use Rattle.vx_scan.proofs.Certifying.{kept_either, kept_grows, kept_last}
-use Rattle.vx_scan.proofs.CertifyingEach.{asked_place, within}
+use Rattle.vx_scan.proofs.Certifying.{kept_either, kept_last}
+use Rattle.vx_scan.proofs.CertifyingEach.{asked_place}
 
 -- some of the values that were made, among them those of the first plans that are asked for
 pub record Owning (asked : List PlanRef) (made own : List Kept) (count : ℕ) : Type 0 where
@@ -58,7 +59,7 @@ owning_next asked made own more count node at so_far gives = of_found (kept_at m
               subst (λ (ks : List Kept). IsKept ks (number_of other)) (sym longer)
               (⊎_elim
               (λ (at_last : place ≡ count). subst (IsKept (own ++ last ∷ [])) (ap number_of (sym (node_is other place here at_last))) (kept_last own last))
-              (λ (differs : place ≢ count). (let before_it : IsKept own (number_of other) = so_far.there place other here (omega (arith, less, differs)) kept in (before_it.0, kept_grows own (last ∷ []) (number_of other) before_it.0 before_it.1)))
+              (λ (differs : place ≢ count). (let before_it : IsKept own (number_of other) = so_far.there place other here (omega (arith, less, differs)) kept in (before_it.0, kept_old own (last ∷ []) (number_of other) before_it.0 before_it.1)))
               (cases_eq place count));
         }
 
@@ -70,7 +71,7 @@ own_all plans chosen asked same made own count are is all so_far = record {
       (let there : IsAmong n (map number_of same) = (are n).1 asks in
       let among : IsAmong n (map number_of asked) = subst (λ (nodes : List PlanRef). IsAmong n (map number_of nodes)) (sym is) there in
       let one : (place : ℕ) × ((node : PlanRef) × (slice_get asked place ≡ Some node) × (number_of node ≡ n)) = asked_place asked n among in
-      let less = within asked one.0 one.1.0 one.1.1 in
+      let less = got_inside asked one.0 one.1.0 one.1.1 in
       subst (IsKept own) one.1.2 (so_far.there one.0 one.1.0 one.1.1 (omega (arith, less, all)) (subst (IsKept made) (sym one.1.2) kept)));
 }
 

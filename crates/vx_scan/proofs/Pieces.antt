@@ -40,7 +40,7 @@ front_starts size number row ((other ∷ others) ∷ pieces) behind = by_chunk (
 
 -- ---- the rows of one chunk in front
 
-abbrev LieIn : ℕ → ℕ → List ℕ → Type 0
+abbrev pub LieIn : ℕ → ℕ → List ℕ → Type 0
 LieIn size number rows = AllByRecursion (λ row. row / size ≡ number) rows
 
 chunk_in_front : (size number row : ℕ) (rows later : List ℕ) → LieIn size number (row ∷ rows) → StartBehind size number (pieces_of size later) → pieces_of size (row ∷ (rows ++ later)) ≡ (row ∷ rows) ∷ pieces_of size later

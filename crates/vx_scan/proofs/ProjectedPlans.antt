@@ -44,6 +44,7 @@ use Rattle.vx_scan.specs.PlanTexts.{held_tree, IsProjectionPlanBy}
 use Rattle.vx_scan.specs.Preparing.{node_of, IsPlanOf, IsProjectedBy}
 use Rattle.vx_scan.proofs.PlainPlans.{lowered_plain, plain_sound}
 use Rattle.vx_scan.proofs.SoundParts.{kept_sound, part_also, part_back, part_renumbered, HasFault}
+use Rattle.vx_scan.proofs.Answered.{fault_by}
 
 -- ---- the lowered tree
 
@@ -99,10 +100,6 @@ EvalFails leaves handed offset child e row = IsSomeAnd (row_value leaves handed 
 own_value : (leaves : Leaves) (handed : Handed) → HandsNone handed → (offset : ℕ) (q : Plan) (row : ℕ) → row_value leaves handed offset q row ≡ plan_value leaves offset q row
 own_value leaves handed none offset q row = ap (derived leaves) (none_served (values_for handed) none (plan_derivation offset q row))
 
-fails_none : (f : Datum → Option Datum) (v : Option Datum) → IsSomeAnd v (λ w. f w ≡ None) → option_and_then f v ≡ None
-fails_none f None fault = absurd fault
-fails_none f (Some v) fault = fault
-
 some_there : (f : Datum → Option Datum) (v : Option Datum) → IsSomeAnd v (λ w. f w ≡ None) → IsSome v
 some_there f None fault = absurd fault
 some_there f (Some v) fault = refl
@@ -146,7 +143,7 @@ eval_fails leaves p handed none e q child row at (same, fails) worth =
     subst (λ (v : Option Datum). IsSomeAnd v (λ w. meaning (plan_head child).dtype no_bound e w 0 ≡ None)) (own_value leaves handed none p.offset child row) fails in
     record {
       same_row = same;
-      none = worth ∙ fails_none (λ v. meaning (plan_head child).dtype no_bound e v 0) (plan_value leaves p.offset child row) over;
+      none = worth ∙ fault_by (λ v. meaning (plan_head child).dtype no_bound e v 0) (plan_value leaves p.offset child row) over;
       there = some_there (λ v. meaning (plan_head child).dtype no_bound e v 0) (plan_value leaves p.offset child row) over;
     }
 

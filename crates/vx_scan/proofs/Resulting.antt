@@ -14,7 +14,7 @@ use Rattle.vx_scan.specs.Fetched.{AllLocated, AreApart, delivered, segments_in, 
 use Rattle.vx_scan.proofs.Computing.{stepped}
 use Rattle.vx_scan.proofs.Growing.{got_front, take_set}
 
-segments_set : (reads : List Wanted) (i segment : ℕ) (bytes : List ℕ) → slice_get reads i ≡ Some (unread segment) → segments_in (slice_set reads i (delivered segment bytes)) ≡ segments_in reads
+pub segments_set : (reads : List Wanted) (i segment : ℕ) (bytes : List ℕ) → slice_get reads i ≡ Some (unread segment) → segments_in (slice_set reads i (delivered segment bytes)) ≡ segments_in reads
 segments_set [] i segment bytes at = absurd cc
 segments_set (read ∷ reads) zero segment bytes at = let same : read ≡ unread segment = cc in ap (λ (w : Wanted). w.segment ∷ segments_in reads) (sym same)
 segments_set (read ∷ reads) (suc i) segment bytes at = ap (λ (segments : List ℕ). read.segment ∷ segments) (segments_set reads i segment bytes at)

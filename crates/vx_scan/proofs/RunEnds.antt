@@ -31,6 +31,7 @@ use Rattle.vx_steps.specs.Turns.{AreLeavesKept, FailsInWholes}
 use Rattle.vx_steps.specs.Wholes.{AreThere, HasInsideCause}
 use Rattle.vx_steps.proofs.Premises.{unless_held}
 use Rattle.vx_steps.proofs.SplitVisits.{split_cause}
+use Rattle.vx_steps.proofs.SplitTakes.{only_one}
 use Rattle.vx_scan.specs.declared.adaptor_errors.AdaptorError.{AdaptorError}
 use Rattle.vx_scan.specs.declared.adaptor_errors.AdaptorError.TheVariants as errors
 use Rattle.vx_scan.specs.declared.adaptors.State.TheVariants.{Waiting, Done}
@@ -44,7 +45,7 @@ use Rattle.vx_scan.specs.Fetched.{AreApart, location_of, segments_in}
 use Rattle.vx_scan.specs.Runs.{GivesOutput, IsListCause, IsReadByStart, IsStepCause, LeavesFault, LeavesRead, RunCause, RunGives, WhereScanned, row_fault, scan_error}
 use Rattle.vx_scan.specs.Starts.{IsUnread, split_of}
 use Rattle.vx_scan.specs.Waits.{SendGives, WaitFails}
-use Rattle.vx_scan.proofs.Running.{KeptSoFar, ScanSoFar, all_taken, kept_then, only_split, so_far_then}
+use Rattle.vx_scan.proofs.Running.{KeptSoFar, ScanSoFar, all_taken, kept_then, so_far_then}
 use Rattle.vx_scan.proofs.SessionRuns.{OutputSoFar, Running, output_waits, segments_more}
 use Rattle.vx_scan.proofs.Sessions.{asked_then, fetches_places, fetches_taken}
 
@@ -235,7 +236,7 @@ run_unsent locations limit start before batch adaptor next output state new (sca
 refused_split : (locations : List SegmentLocation) (start old new : ScanData) (before : SourceState) (error : StepError) → IsUnread start → KeptSoFar locations start before old → (refuses : RefusesSplit old.nodes old.job old.progress new.progress error) → refuses.split ≡ split_of start
 refused_split locations start old new before error unread kept refuses =
     let at : slice_get start.job.splits.items refuses.number ≡ Some refuses.split = ap (λ (j : Job). slice_get j.splits.items refuses.number) (sym kept.job) ∙ refuses.at in
-    only_split start.job.splits.items (split_of start) refuses.split refuses.number unread.splits at
+    only_one start.job.splits.items (split_of start) refuses.split refuses.number unread.splits at
 
 -- the cause of a refused step as one of that split
 cause_at : (start old new : ScanData) (locations : List SegmentLocation) (before : SourceState) (error : StepError) → IsUnread start → KeptSoFar locations start before old → (refuses : RefusesSplit old.nodes old.job old.progress new.progress error) → (bytes : Bytes) →

@@ -1,5 +1,5 @@
 -- A run of a scan of one split over a session: how far the scan came, and what it gave.
-use Rattle.std.proofs.Common.{◌≡◌, ℕ, zero, suc, ◌⊎◌, inl, inr, Bool, true, false, List, [], ◌∷◌, Option, Some, None, take, refl, sym, ap, ◌∙◌, subst}
+use Rattle.std.proofs.Common.{◌≡◌, ℕ, zero, suc, ◌⊎◌, inl, inr, Bool, true, false, List, [], ◌∷◌, Some, None, take, refl, sym, ap, ◌∙◌, subst}
 use Rattle.std.specs.Prelude.{if◌then◌else◌, ◌==◌, slice_get, remove, slice_set}
 use Rattle.std.specs.List.{All}
 use Rattle.std.proofs.lemmas.List.Elements.{All-cons, All-nil}
@@ -24,10 +24,12 @@ use Rattle.vx_steps.specs.Steps.{IsSplitOutput}
 use Rattle.vx_steps.specs.Turns.{AreLeavesKept}
 use Rattle.vx_steps.specs.Wants.{IsAsked}
 use Rattle.vx_steps.specs.Wholes.{IsThere}
+use Rattle.vx_steps.proofs.SplitTakes.{only_one}
 use Rattle.vx_scan.specs.Continues.{ComesOut, Continues, KeepsScan, splits_left}
 use Rattle.vx_scan.specs.Fetched.{segments_in}
 use Rattle.vx_scan.specs.Runs.{GivesSplit, IsReadByStart, WhereScanned}
 use Rattle.vx_scan.specs.Starts.{IsUnread, split_of}
+use Rattle.vx_scan.proofs.Continuing.{none_before}
 
 -- ---- how far the scan came
 
@@ -77,11 +79,6 @@ kept_then locations start before old new kept keeps = record {
   leaves = λ n column at. keeps.leaves n column (kept.leaves n column at);
   wholes = wholes_on start.nodes old.nodes start.job old.job start.progress.wholes old.progress.wholes new.progress.wholes kept.nodes kept.job kept.wholes keeps.wholes;
 }
-
--- a leaf of which no column is kept had none before
-none_before : (before after : Option ColumnData) → ((column : ColumnData) → before ≡ Some column → after ≡ Some column) → after ≡ None → before ≡ None
-none_before None after stays none = refl
-none_before (Some column) after stays none = let both : Some column ≡ None = sym (stays column refl) ∙ none in absurd cc
 
 read_at_start : (start : ScanData) (leaves : List Kept) (segment : ℕ) → KeepsColumns start.progress.leaves leaves → IsReadFor start.nodes start.job leaves segment → IsReadByStart start segment
 read_at_start start leaves segment keeps is = record {
@@ -166,13 +163,6 @@ one_left true place number at = absurd (let both : None ≡ Some number = at in 
 one_left false zero number at = (let both : Some 0 ≡ Some number = at in let same : 0 ≡ number = cc in sym same, refl)
 one_left false (suc place) number at = absurd (let both : None ≡ Some number = at in cc)
 
-pub only_split : (splits : List Split) (one split : Split) (number : ℕ) → splits ≡ one ∷ [] → slice_get splits number ≡ Some split → split ≡ one
-only_split splits one split zero is at =
-    let both : Some one ≡ Some split = sym (ap (λ (ss : List Split). slice_get ss 0) is) ∙ at in
-    let same : one ≡ split = cc in
-    sym same
-only_split splits one split (suc number) is at = absurd (let both : None ≡ Some split = sym (ap (λ (ss : List Split). slice_get ss (suc number)) is) ∙ at in cc)
-
 pub left_behind : (start old new : ScanData) (number : ℕ) (column : ColumnData) → IsUnread start → splits_left old ≡ splits_left start → ComesOut number column old new → splits_left new ≡ []
 left_behind start old new number column unread left out =
     let one : splits_left old ≡ numbers_from 0 (split_of start ∷ []) = left ∙ unread.left in
@@ -182,7 +172,7 @@ left_behind start old new number column unread left out =
 pub gave_now : (locations : List SegmentLocation) (start old new : ScanData) (before : SourceState) (number : ℕ) (column : ColumnData) → IsUnread start → KeptSoFar locations start before old → ComesOut number column old new → GivesSplit locations start new before column
 gave_now locations start old new before number column unread kept out =
     let at : slice_get start.job.splits.items number ≡ Some out.split = ap (λ (j : Job). slice_get j.splits.items number) (sym kept.job) ∙ out.split_at in
-    let split : out.split ≡ split_of start = only_split start.job.splits.items (split_of start) out.split number unread.splits at in
+    let split : out.split ≡ split_of start = only_one start.job.splits.items (split_of start) out.split number unread.splits at in
     let output : IsSplitOutput start.nodes start.job old.progress new.progress.wholes (split_of start) column =
     subst (λ (s : Split). IsSplitOutput start.nodes start.job old.progress new.progress.wholes s column) split
     (subst (λ (j : Job). IsSplitOutput start.nodes j old.progress new.progress.wholes out.split column) kept.job

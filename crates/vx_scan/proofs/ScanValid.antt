@@ -28,7 +28,7 @@ use Rattle.vx_scan.specs.Plans.{WhereTold, IsQuiet}
 use Rattle.vx_scan.specs.Preparing.{node_of}
 use Rattle.vx_scan.specs.Scanned.{CausedIn, FailsPiece, FailsPieceAgain, FileClaims, LowestCause, RunsAgain, RunsPieces}
 use Rattle.vx_scan.specs.Valid.{IsValidScan}
-use Rattle.vx_scan.proofs.Answered.{pieces_join}
+use Rattle.vx_scan.proofs.Answered.{pieces_join, fault_by}
 use Rattle.vx_scan.proofs.Lasting.{rose_from, rose_on}
 use Rattle.vx_scan.proofs.LentSources.{each_lasts, first_there, none_by}
 
@@ -90,14 +90,10 @@ unplaced_amiss file locations segment past (a_list_row list row) is fine = is
 
 -- ---- no row is a fault
 
-fault_none : (f : Datum → Option Datum) (v : Option Datum) → IsSomeAnd v (λ w. f w ≡ None) → option_and_then f v ≡ None
-fault_none f None fault = absurd fault
-fault_none f (Some v) fault = fault
-
 answered_at : (leaves : Leaves) (p : Projection) (at : ℕ) (rows : List ℕ) → AllByRecursion (λ row. IsSome (projected_at leaves p row)) rows → IsAmong at rows → IsFaultAt leaves p at → ⊥
 answered_at leaves p at [] answered among fault = among
 answered_at leaves p at (row ∷ rows) answered (inl here) fault =
-    let gone : projected_at leaves p at ≡ None = fault_none (λ v. meaning (head_of p.root).dtype no_bound p.expression.term v (p.offset + at)) (root_value leaves p at) fault in
+    let gone : projected_at leaves p at ≡ None = fault_by (λ v. meaning (head_of p.root).dtype no_bound p.expression.term v (p.offset + at)) (root_value leaves p at) fault in
     let some : IsSome {T = Datum} None = subst IsSome gone (subst (λ (r : ℕ). IsSome (projected_at leaves p r)) here answered.0) in
     cc
 answered_at leaves p at (row ∷ rows) answered (inr later) fault = answered_at leaves p at rows answered.1 later fault

@@ -1,5 +1,5 @@
 -- A run of a scan over a session, step by step: what is in flight, what was asked, and what happens next.
-use Rattle.std.proofs.Common.{◌≡◌, ◌≢◌, ℕ, zero, suc, ◌+◌, ◌*◌, ◌<◌, ◌≤◌, ◌⊎◌, inl, inr, List, [], ◌∷◌, ◌++◌, Option, Some, None, Ok, Err, length, map, take, refl, sym, ap, ◌∙◌, subst, arith}
+use Rattle.std.proofs.Common.{◌≡◌, ◌≢◌, ℕ, ◌+◌, ◌*◌, ◌<◌, ◌≤◌, ◌⊎◌, inl, inr, List, [], ◌∷◌, ◌++◌, Option, Some, None, Ok, Err, length, map, take, refl, sym, ap, ◌∙◌, subst, arith}
 use Rattle.std.specs.Prelude.{slice_get, slice_set, remove, Result}
 use Rattle.std.specs.List.{All}
 use Rattle.std.proofs.lemmas.List.{map-append, length-map, length-append}
@@ -7,6 +7,7 @@ use Rattle.std.proofs.lemmas.List.Edits.{length-remove}
 use Rattle.vx_base.specs.Columns.{ColumnData}
 use Rattle.vx_base.specs.Sources.{SourceState}
 use Rattle.vx_base.specs.declared.locations.SegmentLocation.{SegmentLocation}
+use Rattle.vx_plan.proofs.Each.{each_at}
 use Rattle.vx_io.specs.declared.requests.Completion.{Completion}
 use Rattle.vx_io.specs.declared.requests.IoRequest.{IoRequest}
 use Rattle.vx_io.specs.Ranges.{RangeTable, IsTableOf}
@@ -17,6 +18,8 @@ use Rattle.vx_io.specs.Fetches.{fetch_in_flight, fetches_of, NothingWaits, AllFe
 use Rattle.vx_layout.specs.Rows.{segment_bytes}
 use Rattle.vx_steps.specs.ReadTableData.{Wanted}
 use Rattle.vx_steps.specs.ScanData.{ScanData}
+use Rattle.vx_steps.proofs.Keeping.{got_inside}
+use Rattle.vx_steps.proofs.SelectedRows.{length_taken}
 use Rattle.vx_scan.specs.declared.adaptor_errors.AdaptorError.{AdaptorError}
 use Rattle.vx_scan.specs.declared.adaptor_errors.AdaptorError.TheVariants as errors
 use Rattle.vx_scan.specs.declared.adaptors.AdaptorStep.{AdaptorStep}
@@ -29,10 +32,12 @@ use Rattle.vx_scan.specs.Fetched.{fetches_from, location_of, segments_in, unread
 use Rattle.vx_scan.specs.Runs.{GivesSplit}
 use Rattle.vx_scan.specs.Starts.{IsAtStart, IsUnread}
 use Rattle.vx_scan.specs.Waits.{owner, SendGives, Completed}
-use Rattle.vx_scan.proofs.Got.{all_got, got_mapped}
-use Rattle.vx_scan.proofs.Growing.{got_front, got_inside, length_front}
+use Rattle.vx_scan.proofs.Got.{got_mapped}
+use Rattle.vx_scan.proofs.Growing.{got_front}
 use Rattle.vx_scan.proofs.Running.{ScanSoFar, so_far_start, so_far_then, so_far_taken, left_behind, gave_now, gave_on, gave_same}
 use Rattle.vx_scan.proofs.Sessions.{known_fetches, all_fetches, fetches_places, asked_then, asked_nothing, outstanding, outstanding_more, OutstandingAt, outstanding_at, some_outstanding, is_outstanding, bytes_told}
+use Rattle.vx_scan.proofs.Computing.{length_fetches}
+use Rattle.vx_scan.proofs.Resulting.{segments_set}
 
 -- ---- what a run keeps
 
@@ -107,7 +112,7 @@ pub run_batch : (locations : List SegmentLocation) (start : ScanData) (before : 
     Running locations start before adaptor output old → Batches locations batch adaptor next → AreAsked locations next.asked next.scan.progress.reads → SendGives batch (Ok tt) old new → Running locations start before next output new
 run_batch locations start before batch adaptor next output old new run batched ready (sent, stays, faults) =
     let segments : segments_in (reads_of next) ≡ segments_in (reads_of adaptor) ++ batched.segments = ap segments_in batched.reads ∙ segments_more (reads_of adaptor) batched.segments in
-    let size = length_front adaptor.scan.progress.reads.wanted adaptor.asked run.ready.wanted in
+    let size = length_taken adaptor.scan.progress.reads.wanted adaptor.asked run.ready.wanted in
     record {
       unread = run.unread;
       scan = so_far_then locations start before adaptor.scan next.scan run.scan batched.scan;
@@ -225,14 +230,6 @@ output_result locations start before number bytes adaptor next output takes (inl
 output_result locations start before number bytes adaptor next output takes (inr (left, column, one, gave)) =
     inr (takes.takes.left ∙ left, column, subst (λ (h : Option (ℕ × ColumnData)). OneOf output h column) (sym takes.held) one, gave_same locations start adaptor.scan next.scan before column takes.takes.wholes takes.takes.leaves gave)
 
--- the bytes change nothing but that they came
-segments_kept : (reads : List Wanted) (number segment : ℕ) (bytes : List ℕ) → slice_get reads number ≡ Some (unread segment) → segments_in (slice_set reads number (delivered segment bytes)) ≡ segments_in reads
-segments_kept [] number segment bytes here = absurd (let both : None ≡ Some (unread segment) = here in cc)
-segments_kept (read ∷ reads) zero segment bytes here =
-    let same : read ≡ unread segment = cc in
-    ap (λ (r : Wanted). r.segment ∷ segments_in reads) (sym same)
-segments_kept (read ∷ reads) (suc number) segment bytes here = ap (λ (ss : List ℕ). read.segment ∷ ss) (segments_kept reads number segment bytes here)
-
 abbrev segment_or_none : Option Wanted → ℕ
 segment_or_none None = 0
 segment_or_none (Some read) = read.segment
@@ -248,8 +245,8 @@ run_result locations start before completion adaptor next output old new run don
     sym (got_taken adaptor.scan.progress.reads.wanted adaptor.asked completion.request.0 (unread takes.takes.delivers.segment) takes.outstanding.0 takes.takes.delivers.at) ∙ ap (slice_get (reads_of adaptor)) number ∙ at.here in
     let segment : takes.takes.delivers.segment ≡ at.segment = ap segment_or_none one in
     let reads : reads_of next ≡ slice_set (reads_of adaptor) at.read (delivered at.segment bytes) = takes.reads ∙ (λ i. slice_set (reads_of adaptor) (number i) (delivered (segment i) bytes)) in
-    let kept : segments_in (reads_of next) ≡ segments_in (reads_of adaptor) = ap segments_in reads ∙ segments_kept (reads_of adaptor) at.read at.segment bytes at.here in
-    let within : at.segment < length locations = all_got (λ one. one < length locations) (segments_in (reads_of adaptor)) at.read at.segment (got_mapped (λ (read : Wanted). read.segment) (reads_of adaptor) at.read (unread at.segment) at.here) run.ready.located in
+    let kept : segments_in (reads_of next) ≡ segments_in (reads_of adaptor) = ap segments_in reads ∙ segments_set (reads_of adaptor) at.read at.segment bytes at.here in
+    let within : at.segment < length locations = each_at (λ one. one < length locations) (segments_in (reads_of adaptor)) at.read at.segment (got_mapped (λ (read : Wanted). read.segment) (reads_of adaptor) at.read (unread at.segment) at.here) run.ready.located in
     let live : next.state ≢ Done = λ is. live_after adaptor.state run.live (sym takes.state ∙ is) in
     record {
       unread = run.unread;
@@ -274,10 +271,6 @@ run_result locations start before completion adaptor next output old new run don
 -- each read is handed out and then ends, and the output is given and then collected
 abbrev pub work : List SegmentLocation → AdaptorData → ℕ
 work locations adaptor = 2 * work_of adaptor + length (outstanding locations 0 (reads_of adaptor))
-
-length_fetches : (locations : List SegmentLocation) (number : ℕ) (segments : List ℕ) → length (fetches_from locations number segments) ≡ length segments
-length_fetches locations number [] = refl
-length_fetches locations number (segment ∷ segments) = let rest = length_fetches locations (number + 1) segments in omega (arith, rest)
 
 pub less_batch : (locations : List SegmentLocation) (batch : List IoRequest) (adaptor next : AdaptorData) → Batches locations batch adaptor next → work locations next < work locations adaptor
 less_batch locations batch adaptor next batched =

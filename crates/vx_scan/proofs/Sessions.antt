@@ -7,6 +7,7 @@ use Rattle.std.proofs.lemmas.List.Elements.{All-cons, All-nil, All-head, All-tai
 use Rattle.vx_base.specs.Sources.{IsSegment, bytes_at, range_of}
 use Rattle.vx_base.specs.declared.locations.SegmentLocation.{SegmentLocation}
 use Rattle.vx_base.specs.declared.locations.AskedRange.{AskedRange}
+use Rattle.vx_plan.proofs.Each.{each_at}
 use Rattle.vx_io.specs.declared.requests.Completion.{Completion}
 use Rattle.vx_io.specs.declared.requests.IoRequest.{IoRequest}
 use Rattle.vx_io.specs.declared.requests.IoIntent.TheVariants.{Fetch}
@@ -22,7 +23,6 @@ use Rattle.vx_steps.specs.ReadTableData.{Wanted}
 use Rattle.vx_scan.specs.AdaptorData.{AdaptorData, reads_of, IsOutstanding, SomeOutstanding}
 use Rattle.vx_scan.specs.Fetched.{fetch_at, location_of, fetches_from, AllLocated, unread, delivered}
 use Rattle.vx_scan.specs.Waits.{owner, Completed}
-use Rattle.vx_scan.proofs.Got.{all_got}
 use Rattle.vx_scan.proofs.Growing.{got_front}
 
 -- ---- calls
@@ -33,7 +33,7 @@ none_unknown ranges batch place known first = by_found (slice_get batch place) r
     by_found : (found : Option IoRequest) → slice_get batch place ≡ found → IsSomeAnd found (λ request. segment_of ranges (range_of_target request.target) ≡ None) → ⊥
     by_found None here none = absurd none
     by_found (Some request) here none =
-        let some : IsSome (segment_of ranges (range_of_target request.target)) = all_got (IsKnown ranges) batch place request here known in
+        let some : IsSome (segment_of ranges (range_of_target request.target)) = each_at (IsKnown ranges) batch place request here known in
         let both : IsSome {T = ℕ} None = rw none at some in
         absurd cc
 

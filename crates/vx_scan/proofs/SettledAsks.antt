@@ -1,6 +1,6 @@
 -- Why the source is asked again for one chunk: for whole values, through the take by which the chunk asks for them; and for
 -- what its rows read outside of these.
-use Rattle.std.proofs.Common.{◌≡◌, ◌≢◌, ℕ, ◌+◌, ◌<◌, List, [], ◌∷◌, ◌++◌, Option, Some, None, Result, Ok, Err, length, map, refl, sym, ap, ◌∙◌, subst, arith}
+use Rattle.std.proofs.Common.{◌≡◌, ◌≢◌, ℕ, ◌+◌, ◌<◌, List, [], ◌∷◌, ◌++◌, Some, None, Result, Ok, Err, length, map, refl, sym, ap, ◌∙◌, subst, arith}
 use Rattle.std.specs.Prelude.{IfOk}
 use Rattle.std.specs.List.{flat_map, All, AllByRecursion}
 use Rattle.std.proofs.lemmas.Grind.{flat_map-append}
@@ -39,13 +39,14 @@ use Rattle.vx_scan.specs.Settled.{whole_number, AsksForOne, IsReasonOf, IsThroug
 use Rattle.vx_scan.specs.Settling.{direct_by, direct_and_segment, IsDirectAmong}
 use Rattle.vx_scan.specs.Ways.{ReadsBy}
 use Rattle.vx_scan.proofs.ChunkScanning.{IsGoodChunk}
-use Rattle.vx_scan.proofs.Certifying.{each_then, each_weaker}
+use Rattle.vx_scan.proofs.Certifying.{each_then, each_weaker, still_lacking}
 use Rattle.vx_scan.proofs.Distinct.{differs, distinct_behind, distinct_by, distinct_none, distinct_then}
 use Rattle.vx_scan.proofs.OutsideReads.{read_directly}
 use Rattle.vx_scan.proofs.Sessions.{asked_nothing, asked_then}
 use Rattle.vx_scan.proofs.Taken.{taken_apart}
 use Rattle.vx_scan.proofs.Ways.{read_visited, IsFree}
 use Rattle.vx_scan.proofs.WholeReads.{asked_take, read_through, take_tells, IsWholeBy, WholeReads}
+use Rattle.vx_scan.proofs.AskingAgain.{not_both}
 
 -- ---- results
 
@@ -273,16 +274,6 @@ asks_quiet plans chosen number right reruns result before after same = record {
   once_a_take = distinct_none;
 }
 
--- what lacks later lacked before
-lacked_before : (old mid : List Kept) (n : ℕ) → ((n : ℕ) (column : ColumnData) → kept_at old n ≡ Some column → kept_at mid n ≡ Some column) → kept_at mid n ≡ None → (found : Option ColumnData) → kept_at old n ≡ found → kept_at old n ≡ None
-lacked_before old mid n grows lacks None at = at
-lacked_before old mid n grows lacks (Some column) at =
-    let both : None ≡ Some column = sym lacks ∙ grows n column at in
-    absurd cc
-
-not_both : (right : List Kept) (n : ℕ) → IsKept right n → kept_at right n ≡ None → ⊥
-not_both right n (column, at) none = let both : Some column ≡ None = sym at ∙ none in cc
-
 -- for whole values that the chunk asks for, and then for more
 pub asks_then : (plans : ScanPlans) (chosen : SelectedRows) (number : ℕ) (old mid new : List Kept) (reruns : List ℕ) (result : Result ColumnData ScanError) (before now after : SourceState) → IsGoodChunk plans chosen → Certifies plans (ChunkAsks plans [] chosen) old mid None before now →
     ((n : ℕ) (column : ColumnData) → kept_at mid n ≡ Some column → kept_at new n ≡ Some column) → AsksForOne plans chosen number mid new reruns result now after → AsksForOne plans chosen number old new reruns result before after
@@ -294,7 +285,7 @@ asks_then plans chosen number old mid new reruns result before now after is step
       reasons = of.reasons ++ asks.reasons;
       are = each_then (IsReasonOf plans chosen number) of.reasons asks.reasons of.are asks.are;
       lacking = each_then (IsThroughLacking plans old) of.reasons asks.reasons of.lacking
-          (each_weaker (IsThroughLacking plans mid) (IsThroughLacking plans old) (λ reason lacks take same. lacked_before old mid (whole_number (plan_at plans.table take)) step.grows (lacks take same) (kept_at old (whole_number (plan_at plans.table take))) refl) asks.reasons asks.lacking);
+          (each_weaker (IsThroughLacking plans mid) (IsThroughLacking plans old) (λ reason lacks take same. still_lacking old mid (whole_number (plan_at plans.table take)) step.grows (lacks take same) (kept_at old (whole_number (plan_at plans.table take))) refl) asks.reasons asks.lacking);
       kept = there_with result (AllByRecursion (IsThroughKept plans new) asks.reasons) (AllByRecursion (IsThroughKept plans new) (of.reasons ++ asks.reasons))
           (λ later. each_then (IsThroughKept plans new) of.reasons asks.reasons
           (each_weaker (IsThroughKept plans mid) (IsThroughKept plans new) (λ reason there take same. ((there take same).0, grows (whole_number (plan_at plans.table take)) (there take same).0 (there take same).1)) of.reasons kept) later) asks.kept;

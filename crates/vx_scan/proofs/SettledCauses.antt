@@ -6,7 +6,7 @@ use Rattle.std.specs.List.{slice_get, AllByRecursion}
 use Rattle.std.proofs.lemmas.Option.{slice_get_within}
 use Rattle.vx_base.specs.Columns.{ColumnData}
 use Rattle.vx_base.specs.Data.{Datum}
-use Rattle.vx_base.specs.Sources.{SourceState, RoseBy}
+use Rattle.vx_base.specs.Sources.{SourceState}
 use Rattle.vx_rows.specs.Derivations.{Derivation, nothing, cell, list_row, given, packed, valid_where, looked_up, worked_out, read_whole, Derivations, no_more, also, Leaves}
 use Rattle.vx_rows.specs.Given.{GivenValues, all_given, given_row, values_with, share_with, with_given, each_with_given}
 use Rattle.vx_rows.specs.Reads.{Way, directly, inside, CodeRow, Found, a_code, code_row, Read, reads_of, reads_of_each, Finds, IsIn}
@@ -49,8 +49,9 @@ use Rattle.vx_scan.specs.Outcomes.{Causes, ChunkAsks, Claims}
 use Rattle.vx_scan.specs.Plans.{projection_node, projection_plan, with_projection}
 use Rattle.vx_scan.specs.Values.{all_rows}
 use Rattle.vx_scan.proofs.ChunkScanning.{IsGoodChunk}
-use Rattle.vx_scan.proofs.Fitting.{fitting_typed}
+use Rattle.vx_scan.proofs.Fitting.{fitting_typed, none_made, none_typed}
 use Rattle.vx_scan.proofs.WholeReads.{whole_found}
+use Rattle.vx_scan.proofs.Lasting.{rose_from}
 
 -- ---- no more is found with given values
 
@@ -120,12 +121,6 @@ no_code_list list code is = is
 
 -- ---- given values that are whole
 
-none_made : (nodes : List Node) (offset : ℕ) (leaves : Leaves) → AreMade nodes offset [] leaves
-none_made nodes offset leaves n column at = absurd cc
-
-none_typed : (nodes : List Node) → AreTyped nodes []
-none_typed nodes n column at = absurd cc
-
 pub keeps_all : {X : Type 0} (P : X → Type 0) (xs : List X) → AllByRecursion P xs → Keeps P xs xs
 keeps_all P [] each = refl
 keeps_all P (x ∷ xs) each = inl (each.0, (xs, refl, keeps_all P xs each.1))
@@ -186,9 +181,6 @@ result_free bytes plans chosen columns (Err Memory) is typed made by = by
 abbrev pub Carries : Claims → Claims → (Bytes → Type 0) → Type 1
 Carries Told Other Sound = (P Q : Bytes → Type 0) → ((bytes : Bytes) → Sound bytes → P bytes → Q bytes) → Told P → Other Q
 
-rose_by : (much before now after : ℕ) → before ≤ now → RoseBy much now after → RoseBy much before after
-rose_by much before now after le rose = let p = rose.kept in let q = rose.raised in record { kept = omega (arith, le, p); raised = omega (arith, le, q) }
-
 -- ---- causes
 
 -- a cause from a later state on is one from an earlier
@@ -198,8 +190,8 @@ cause_lasts Told Other carries plans columns chosen OffsetOverflow before now af
 cause_lasts Told Other carries plans columns chosen OutOfRange before now after lasts cause = absurd cause
 cause_lasts Told Other carries plans columns chosen (Unsupported list) before now after lasts cause = cause
 cause_lasts Told Other carries plans columns chosen (NoLocation segment) before now after lasts cause = cause
-cause_lasts Told Other carries plans columns chosen ReadFault before now after lasts cause = rose_by 1 before.faults now.faults after.faults lasts.faults cause
-cause_lasts Told Other carries plans columns chosen Stalled before now after lasts cause = rose_by plans.idle_limit before.idle now.idle after.idle lasts.idle cause
+cause_lasts Told Other carries plans columns chosen ReadFault before now after lasts cause = rose_from 1 before.faults now.faults after.faults lasts.faults cause
+cause_lasts Told Other carries plans columns chosen Stalled before now after lasts cause = rose_from plans.idle_limit before.idle now.idle after.idle lasts.idle cause
 cause_lasts Told Other carries plans columns chosen (BadSegment segment) before now after lasts cause = carries (λ bytes. ChunkFinds (IsTornIn bytes segment) plans columns chosen) cause
 cause_lasts Told Other carries plans columns chosen (BadCode take row) before now after lasts cause = carries (λ bytes. ChunkReadsBadCode (leaves_of bytes) plans columns chosen (number_of take) row) cause
 cause_lasts Told Other carries plans columns chosen (EvalFault row) before now after lasts cause = carries (λ bytes. ChunkFaultsAt (leaves_of bytes) plans columns chosen row) cause
@@ -227,8 +219,8 @@ cause_free Told Other plans chosen columns OffsetOverflow before now after carri
 cause_free Told Other plans chosen columns OutOfRange before now after carries is typed lasts cause = absurd cause
 cause_free Told Other plans chosen columns (Unsupported list) before now after carries is typed lasts cause = finds_free (IsRowOf (number_of list)) (no_code_list (number_of list)) plans columns chosen cause
 cause_free Told Other plans chosen columns (NoLocation segment) before now after carries is typed lasts cause = cause
-cause_free Told Other plans chosen columns ReadFault before now after carries is typed lasts cause = rose_by 1 before.faults now.faults after.faults lasts.faults cause
-cause_free Told Other plans chosen columns Stalled before now after carries is typed lasts cause = rose_by plans.idle_limit before.idle now.idle after.idle lasts.idle cause
+cause_free Told Other plans chosen columns ReadFault before now after carries is typed lasts cause = rose_from 1 before.faults now.faults after.faults lasts.faults cause
+cause_free Told Other plans chosen columns Stalled before now after carries is typed lasts cause = rose_from plans.idle_limit before.idle now.idle after.idle lasts.idle cause
 cause_free Told Other plans chosen columns (BadSegment segment) before now after carries is typed lasts cause =
     carries (λ bytes. ChunkFinds (IsTornIn bytes segment) plans columns chosen) (λ bytes. ChunkFinds (IsTornIn bytes segment) plans [] chosen) (λ bytes made any. finds_free (IsTornIn bytes segment) (no_code_torn bytes segment) plans columns chosen any) cause
 cause_free Told Other plans chosen columns (BadCode take row) before now after carries is typed lasts cause =
@@ -277,8 +269,8 @@ cause_asked Told Other Sound plans node chosen OffsetOverflow before now after c
 cause_asked Told Other Sound plans node chosen OutOfRange before now after carries is there asks lasts cause = absurd cause
 cause_asked Told Other Sound plans node chosen (Unsupported list) before now after carries is there asks lasts cause = chunk_finds_asked (IsRowOf (number_of list)) plans node chosen is there asks cause
 cause_asked Told Other Sound plans node chosen (NoLocation segment) before now after carries is there asks lasts cause = (chunk_reaches_asked plans node chosen segment is there asks cause.0, cause.1)
-cause_asked Told Other Sound plans node chosen ReadFault before now after carries is there asks lasts cause = rose_by 1 before.faults now.faults after.faults lasts.faults cause
-cause_asked Told Other Sound plans node chosen Stalled before now after carries is there asks lasts cause = rose_by plans.idle_limit before.idle now.idle after.idle lasts.idle cause
+cause_asked Told Other Sound plans node chosen ReadFault before now after carries is there asks lasts cause = rose_from 1 before.faults now.faults after.faults lasts.faults cause
+cause_asked Told Other Sound plans node chosen Stalled before now after carries is there asks lasts cause = rose_from plans.idle_limit before.idle now.idle after.idle lasts.idle cause
 cause_asked Told Other Sound plans node chosen (BadSegment segment) before now after carries is there asks lasts cause =
     carries (λ bytes. ChunkFinds (IsTornIn bytes segment) (with_projection plans node) [] (all_rows plans node)) (λ bytes. ChunkFinds (IsTornIn bytes segment) plans [] chosen) (λ bytes sound any. chunk_finds_asked (IsTornIn bytes segment) plans node chosen is there asks any) cause
 cause_asked Told Other Sound plans node chosen (BadCode take row) before now after carries is there asks lasts cause =

@@ -1,6 +1,6 @@
 -- What comes of all chunks, once those that ran with borrowed values are settled and all pieces are in order.
 use Rattle.std.proofs.Common.{◌≡◌, ℕ, ◌+◌, ◌≤◌, ◌⊎◌, inl, inr, List, [], ◌∷◌, Option, Some, None, length, refl, sym, ap, ◌∙◌, subst, arith}
-use Rattle.std.specs.Prelude.{if◌then◌else◌, ◌==◌, IfSome, IsSomeAnd}
+use Rattle.std.specs.Prelude.{IfSome, IsSomeAnd}
 use Rattle.std.specs.List.{sum_by, All, AllByRecursion}
 use Rattle.std.specs.List.Sorted.{IsNonDecreasingBy, IsPermutation}
 use Rattle.std.specs.Global.{Vec}
@@ -9,6 +9,7 @@ use Rattle.std.proofs.lemmas.List.Sorted.{All-permutation, length_permutation, s
 use Rattle.std.proofs.lemmas.List.Sums.{sum_by-cons}
 use Rattle.vx_base.specs.Sources.{SourceState}
 use Rattle.vx_claims.specs.Apart.{times}
+use Rattle.vx_claims.proofs.Numbers.{is_one}
 use Rattle.vx_plan.specs.Plans.{plan_at}
 use Rattle.vx_plan.specs.Refs.{number_of}
 use Rattle.vx_rows.specs.SegmentLeaves.{Bytes, leaves_of}
@@ -23,7 +24,7 @@ use Rattle.vx_scan.specs.declared.outcomes.Rerun.{Rerun}
 use Rattle.vx_scan.specs.declared.plans.ScanPlans.{ScanPlans}
 use Rattle.vx_scan.specs.declared.settling.Settled.{Settled}
 use Rattle.vx_scan.specs.Asks.{KeepsFaults}
-use Rattle.vx_scan.specs.Gathers.{IsAtMost, no_memory}
+use Rattle.vx_scan.specs.Gathers.{no_memory}
 use Rattle.vx_scan.specs.Loans.{loaned_of, IsLoanBy}
 use Rattle.vx_scan.specs.Outcomes.{Claims}
 use Rattle.vx_scan.specs.Plans.{bytes_of}
@@ -34,11 +35,9 @@ use Rattle.vx_scan.proofs.Certifying.{each_weaker}
 use Rattle.vx_scan.proofs.Lasting.{lasts_same}
 use Rattle.vx_scan.proofs.SettledCauses.{cause_lasts}
 use Rattle.vx_scan.proofs.SettlingAll.{asked_none}
+use Rattle.vx_scan.proofs.Joining.{no_memory_least}
 
 -- ---- lists in another order
-
-abbrev is_one : ℕ → ℕ → ℕ
-is_one x n = if n == x then 1 else 0
 
 times_pieces : (x : ℕ) (pieces : List Piece) → times x (numbers_of pieces) ≡ sum_by (λ piece. is_one x piece.chunk) pieces
 times_pieces x [] = refl
@@ -122,10 +121,6 @@ error_fault error before after (inl same) = inl same
 error_fault None before after (inr fault) = inr fault
 error_fault (Some error) before after (inr fault) = inr (inr fault)
 
-pub no_memory_lowest : (error : Option ChunkError) → IsAtMost (Some no_memory) error
-no_memory_lowest None = tt
-no_memory_lowest (Some error) = omega arith
-
 -- ---- all pieces in order
 
 pub settles_sorted : (plans : ScanPlans) (chunks : List SelectedRows) (joined : Joined) (loans : List Loan) (reruns : Vec Rerun) (new : Settled) (pieces : Vec Piece) (before after : SourceState) → IsPermutation joined.loans.items loans → SettlesAll plans chunks loans (first_settled joined reruns) new before after
@@ -180,7 +175,7 @@ settles_unordered plans chunks joined loans reruns new pieces before after permu
       dtype = λ each. subst (All (HasDtype plans)) (sym empty) (All-nil (HasDtype plans));
       rows = λ each. subst (All (HasItsRows chunks)) (sym empty) (All-nil (HasItsRows chunks));
       cause = inl refl;
-      lowest = no_memory_lowest joined.error;
+      lowest = no_memory_least joined.error;
       faults = inr (inl refl);
       reruns = each_weaker (IsRerun plans chunks (told_sound plans chunks loans (first_settled joined reruns) before)) (IsRerun plans chunks (told_right plans chunks joined before))
           (rerun_told plans chunks (told_sound plans chunks loans (first_settled joined reruns) before) (told_right plans chunks joined before) carries) new.reruns.items all.reruns;
@@ -203,7 +198,7 @@ settles_unsorted plans chunks joined pieces reruns source empty unlisted = recor
   dtype = λ each. subst (All (HasDtype plans)) (sym empty) (All-nil (HasDtype plans));
   rows = λ each. subst (All (HasItsRows chunks)) (sym empty) (All-nil (HasItsRows chunks));
   cause = inl refl;
-  lowest = no_memory_lowest joined.error;
+  lowest = no_memory_least joined.error;
   faults = inl refl;
   reruns = subst (AllByRecursion (IsRerun plans chunks (told_right plans chunks joined source))) (sym unlisted) tt;
   reruns_once = λ x. (let same : times x (rerun_chunks reruns.items) ≡ 0 = ap (λ (rs : List Rerun). times x (rerun_chunks rs)) unlisted in omega (arith, same));

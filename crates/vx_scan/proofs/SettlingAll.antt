@@ -16,6 +16,7 @@ use Rattle.vx_rows.specs.SegmentLeaves.{Bytes, leaves_of}
 use Rattle.vx_splits.specs.declared.selected_rows.SelectedRows.{SelectedRows}
 use Rattle.vx_steps.specs.Given.{whole_value}
 use Rattle.vx_steps.specs.Held.{AreMade, AreTyped}
+use Rattle.vx_steps.proofs.Keeping.{got_inside}
 use Rattle.vx_scan.specs.declared.errors.ScanError.{ScanError}
 use Rattle.vx_scan.specs.declared.errors.ScanError.TheVariants.{ReadFault}
 use Rattle.vx_scan.specs.declared.lanes.Loan.{Loan}
@@ -33,7 +34,6 @@ use Rattle.vx_scan.specs.Settling.{rerun_chunks, AsksAgain, IsRerun}
 use Rattle.vx_scan.specs.Workers.{HasDtype, HasItsRows, IsPieceOf, numbers_of}
 use Rattle.vx_scan.proofs.AskingAgain.{again_more, AsksFor, all_middle, among_front, loaned_more, loaned_push, numbers_push, reruns_push, times_none}
 use Rattle.vx_scan.proofs.Certifying.{clear_then, each_then, each_weaker}
-use Rattle.vx_scan.proofs.CertifyingEach.{within}
 use Rattle.vx_scan.proofs.Distinct.{distinct_none}
 use Rattle.vx_scan.proofs.Lasting.{lasts_same, lasts_then}
 use Rattle.vx_scan.proofs.Sessions.{asked_nothing}
@@ -104,7 +104,7 @@ pub next_loan : (plans : ScanPlans) (chunks : List SelectedRows) (loans done : L
 next_loan plans chunks loans done loan rest all each = all_middle (IsLoan plans chunks) done loan rest (subst (All (IsLoan plans chunks)) (sym all) each)
 
 pub loan_inside : (plans : ScanPlans) (chunks : List SelectedRows) (loan : Loan) → IsLoan plans chunks loan → loan.chunk < length chunks
-loan_inside plans chunks loan is = within chunks loan.chunk is.chunk is.here
+loan_inside plans chunks loan is = got_inside chunks loan.chunk is.chunk is.here
 
 pub loan_of_chunk : (plans : ScanPlans) (chunks : List SelectedRows) (loan : Loan) (chosen : SelectedRows) → IsLoan plans chunks loan → slice_get chunks loan.chunk ≡ Some chosen → IsLoanOf plans chosen loan
 loan_of_chunk plans chunks loan chosen is here =

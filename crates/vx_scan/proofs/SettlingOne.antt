@@ -19,6 +19,7 @@ use Rattle.vx_steps.specs.Kept.{kept_at, kept_data}
 use Rattle.vx_steps.specs.KeptData.{Kept}
 use Rattle.vx_steps.specs.declared.kept.KeptValue.{KeptValue}
 use Rattle.vx_steps.specs.Offers.{IsForPlan, Keeps}
+use Rattle.vx_steps.proofs.Keeping.{got_inside}
 use Rattle.vx_scan.specs.declared.errors.ScanError.{ScanError}
 use Rattle.vx_scan.specs.declared.errors.ScanError.TheVariants.{ReadFault, Memory}
 use Rattle.vx_scan.specs.declared.lanes.Loan.{Loan}
@@ -35,7 +36,7 @@ use Rattle.vx_scan.specs.Settled.{told_loan, IsListed, IsLoanOf, IsRerunOf, Sett
 use Rattle.vx_scan.specs.Settling.{rerun_chunks}
 use Rattle.vx_scan.proofs.ChunkScanning.{IsGoodChunk}
 use Rattle.vx_scan.proofs.Certifying.{clear_then}
-use Rattle.vx_scan.proofs.CertifyingEach.{data_got, within}
+use Rattle.vx_scan.proofs.CertifyingEach.{data_got}
 use Rattle.vx_scan.proofs.Got.{each_got}
 use Rattle.vx_scan.proofs.Fitting.{first_fits, fitting_typed, kept_first}
 use Rattle.vx_scan.proofs.Lasting.{lasts_same, lasts_then}
@@ -229,7 +230,7 @@ wrong_at borrowed right place one wrong is = found (slice_get (data_of borrowed)
     found : (got : Option Kept) → slice_get (data_of borrowed) place ≡ got → IsSomeAnd got (IsWrong right) → (slice_get (data_of borrowed) place ≡ Some (kept_data one)) × IsWrong right (kept_data one)
     found None none wrong = absurd wrong
     found (Some other) here wrong =
-        let less = within (data_of borrowed) place other here in
+        let less = got_inside (data_of borrowed) place other here in
         let long = length-map borrowed kept_data in
         let own : slice_get (data_of borrowed) place ≡ Some (kept_data one) = data_got borrowed place one (omega (arith, less, long)) is in
         let both : Some other ≡ Some (kept_data one) = sym here ∙ own in

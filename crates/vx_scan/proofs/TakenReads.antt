@@ -2,13 +2,13 @@
 use Rattle.std.proofs.Common.{◌≡◌, ℕ, ◌<◌, List, Some, None, length, sym, ap, ◌∙◌, subst}
 use Rattle.vx_rows.specs.Reads.{through}
 use Rattle.vx_plan.specs.Nodes.{Node}
-use Rattle.vx_plan.specs.Plans.{Head, Plan, no_plan, concat_plan, eval_plan, filter_plan, pack_plan, take_plan, share_plan, list_plan, row_idx_plan, scan_plan, zoned_plan, plan_head, plan_at, plan_gap}
+use Rattle.vx_plan.specs.Plans.{Plan, no_plan, concat_plan, eval_plan, filter_plan, pack_plan, take_plan, share_plan, list_plan, row_idx_plan, scan_plan, zoned_plan, plan_head, plan_at, plan_gap}
 use Rattle.vx_plan.specs.Tables.{IsGoodTable}
-use Rattle.vx_plan.proofs.Adding.{head_in_table}
 use Rattle.vx_steps.specs.declared.leaf_reads.LeafRead.{LeafRead}
 use Rattle.vx_steps.specs.Given.{Handed, no_given}
 use Rattle.vx_steps.specs.Visits.{SomeWholeVisit, IsLeafRead}
 use Rattle.vx_steps.proofs.PlacedVisits.{Implies, InTable, IsPlaced, is_placed, visit_mapped, visit_placed}
+use Rattle.vx_steps.proofs.AskedKnown.{head_number}
 use Rattle.vx_scan.specs.Ways.{IsReadThrough, ReadsBy}
 
 -- some row of the plan's whole values reads the leaf: it is a take, or a share
@@ -53,14 +53,11 @@ no_gap : (take : ℕ) (read : LeafRead) (handed : Handed) (row : ℕ) → IsRead
 no_gap take read None row v = v
 no_gap take read (Some given) row v = v
 
-number_at : (nodes : List Node) → IsGoodTable nodes → (n : ℕ) → n < length nodes → (plan_head (plan_at nodes n)).number ≡ n
-number_at nodes good n there = ap (λ (head : Head). head.number) (head_in_table nodes good n there)
-
 -- the plan of that number is one that the leaf is read through
 over_at : (nodes : List Node) → IsGoodTable nodes → (take : ℕ) (read : LeafRead) → IsPlaced (IsReadThrough take read) nodes → IsOver read (plan_at nodes take)
 over_at nodes good take read one =
     let is : IsOverAs take read (plan_at nodes one.number) = over_seen take read one.handed (plan_at nodes one.number) one.row one.is in
-    let same : one.number ≡ take = sym (number_at nodes good one.number one.there) ∙ is.0 in
+    let same : one.number ≡ take = sym (head_number nodes good one.number one.there) ∙ is.0 in
     subst (λ (m : ℕ). IsOver read (plan_at nodes m)) same is.1
 
 pub read_below : (nodes : List Node) → IsGoodTable nodes → (n : ℕ) → n < length nodes → (take : ℕ) (one other : LeafRead) (row at : ℕ) → ReadsBy (through take) one (plan_at nodes n) row → ReadsBy (through take) other (plan_at nodes n) at → ReadsBy (through take) other (plan_at nodes n) row
@@ -74,6 +71,6 @@ read_below nodes good n there take one other row at v w =
     swap : Implies (InTable nodes (IsReadThrough take one)) (IsReadThrough take other)
     swap handed p place (seen, (m, less, same)) =
         let is : IsOverAs take one p = over_seen take one handed p place seen in
-        let number : m ≡ take = sym (number_at nodes good m less) ∙ (ap (λ (q : Plan). (plan_head q).number) (sym same) ∙ is.0) in
+        let number : m ≡ take = sym (head_number nodes good m less) ∙ (ap (λ (q : Plan). (plan_head q).number) (sym same) ∙ is.0) in
         let plan_is : plan_at nodes take ≡ p = ap (plan_at nodes) (sym number) ∙ sym same in
         seen_over take one other handed p place seen (is.0, subst (IsOver other) plan_is over)

@@ -10,6 +10,7 @@ use Rattle.vx_plan.specs.Refs.{number_of}
 use Rattle.vx_plan.specs.Rules.{node_at}
 use Rattle.vx_plan.specs.Tables.{IsGoodTable}
 use Rattle.vx_plan.proofs.Unfolding.{Known, known}
+use Rattle.vx_plan.proofs.Each.{each_at}
 use Rattle.vx_splits.specs.declared.selected_rows.SelectedRows.{SelectedRows}
 use Rattle.vx_steps.specs.declared.leaf_reads.LeafRead.{LeafRead}
 use Rattle.vx_steps.specs.Given.{no_given, given_for}
@@ -20,13 +21,13 @@ use Rattle.vx_steps.specs.Visits.{Visits, IsWholeRead}
 use Rattle.vx_steps.proofs.FreeVisits.{Becomes, freed}
 use Rattle.vx_steps.proofs.OutermostTakes.{IsTakeOver, take_gap, take_placed}
 use Rattle.vx_steps.proofs.PlacedVisits.{IsPlaced, is_placed}
+use Rattle.vx_steps.proofs.UsedValues.{IsShareOf, share_gap, of_share, share_given}
 use Rattle.vx_scan.specs.declared.plans.ScanPlans.{ScanPlans}
 use Rattle.vx_scan.specs.ChunkRows.{given_to}
 use Rattle.vx_scan.specs.Outcomes.{ChunkAsks}
 use Rattle.vx_scan.specs.Plans.{projection_plan}
 use Rattle.vx_scan.specs.Ways.{IsReadThrough, ReadsBy}
-use Rattle.vx_scan.proofs.Got.{all_got}
-use Rattle.vx_scan.proofs.OutsideReads.{IsShareOf, LooksUp, of_share, share_asks, share_gap, share_given, take_asks, take_given}
+use Rattle.vx_scan.proofs.OutsideReads.{LooksUp, share_asks, take_asks, take_given}
 use Rattle.vx_scan.proofs.Ways.{opened}
 use Rattle.vx_scan.proofs.WholeReads.{Chooses, visit_chosen}
 
@@ -73,7 +74,7 @@ values_known nodes good take values one =
     let is = take_placed nodes good take values one in
     let node : Node = node_at nodes take in
     let k : Known nodes take node node.kind = known nodes good take node node.kind (slice_get-get_or nodes take absent is.there) refl in
-    let below : values < take = all_got (λ (m : ℕ). m < take) node.children 1 values is.second k.good.below in
+    let below : values < take = each_at (λ (m : ℕ). m < take) node.children 1 values is.second k.good.below in
     let there = is.there in
     omega (arith, below, there)
 

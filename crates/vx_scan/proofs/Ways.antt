@@ -10,11 +10,14 @@ use Rattle.vx_rows.specs.Reads.{Way, directly, through, Read, reads_of, reads_of
 use Rattle.vx_rows.proofs.ReadRows.{any_left, any_right, each_lies_through}
 use Rattle.vx_plan.specs.Plans.{Plan, no_plan, concat_plan, eval_plan, filter_plan, pack_plan, take_plan, share_plan, list_plan, row_idx_plan, scan_plan, zoned_plan, Plans, no_plans, plan, PlanValidity, all_valid, valid_as, plan_head}
 use Rattle.vx_plan.specs.PlanRows.{plan_derivation, plan_derivation_in, plan_derivations, plan_where_valid, plan_reads}
+use Rattle.vx_lower.proofs.TreeSizes.{zero_more}
 use Rattle.vx_steps.specs.declared.leaf_reads.LeafRead.{LeafRead}
 use Rattle.vx_steps.specs.Below.{StandsAmong, StandsInValidity, IsSharePlan, HasNoShare}
 use Rattle.vx_steps.specs.Given.{no_given}
 use Rattle.vx_steps.specs.Visits.{Test, Visits, VisitsIn, VisitsField, VisitsValidity, IsLeafRead, SomeWholeVisit}
 use Rattle.vx_steps.proofs.VisitedReads.{alone_same, by_test, leaf_found}
+use Rattle.vx_steps.proofs.Standing.{match_none}
+use Rattle.vx_steps.proofs.PlacedVisits.{match_mapped}
 use Rattle.vx_scan.specs.Ways.{IsReadBy, ReadsBy}
 
 -- ---- the way of a leaf
@@ -90,10 +93,6 @@ mutual
 abbrev pub SeesOutside : Test → Type 0
 SeesOutside P = (p : Plan) (row : ℕ) → P None p row → ⊥
 
-neither : (b : Bool) (A B : Type 0) → (A → ⊥) → (B → ⊥) → MatchBool b A B → ⊥
-neither true A B f g v = f v
-neither false A B f g v = g v
-
 mutual
   none_inside : (P : Test) → SeesOutside P → (p : Plan) (row : ℕ) → Visits P None p row → ⊥
   none_inside P out (no_plan head) row v = out (no_plan head) row v
@@ -120,7 +119,7 @@ mutual
   none_among : (P : Test) → SeesOutside P → (ps : Plans) (row : ℕ) → VisitsIn P None ps row → ⊥
   none_among P out no_plans row v = v
   none_among P out (plan first rest) row v =
-      neither (nat_lt row (plan_head first).rows) (Visits P None first row) (VisitsIn P None rest (row - (plan_head first).rows)) (none_inside P out first row) (none_among P out rest (row - (plan_head first).rows)) v
+      match_none (nat_lt row (plan_head first).rows) (Visits P None first row) (VisitsIn P None rest (row - (plan_head first).rows)) (none_inside P out first row) (none_among P out rest (row - (plan_head first).rows)) v
 
   none_field : (P : Test) → SeesOutside P → (ps : Plans) (row : ℕ) → VisitsField P None ps row → ⊥
   none_field P out no_plans row v = v
@@ -136,10 +135,6 @@ by_outside directly read p row v = v
 by_outside (through n) read p row v = v
 
 -- ---- what is read by a way is visited
-
-match_both : (b : Bool) (A B C D : Type 0) → (A → C) → (B → D) → MatchBool b A B → MatchBool b C D
-match_both true A B C D f g v = f v
-match_both false A B C D f g v = g v
 
 -- a plan that the first test sees has a visit by the second
 abbrev Opens : Test → Test → GivenValues → Type 0
@@ -171,7 +166,7 @@ mutual
   opened_in : (P Q : Test) (given : GivenValues) → Opens P Q given → SeesOutside P → (ps : Plans) (row : ℕ) → VisitsIn P (Some no_given) ps row → VisitsIn Q (Some given) ps row
   opened_in P Q given own out no_plans row v = v
   opened_in P Q given own out (plan first rest) row v =
-      match_both (nat_lt row (plan_head first).rows) (Visits P (Some no_given) first row) (VisitsIn P (Some no_given) rest (row - (plan_head first).rows)) (Visits Q (Some given) first row) (VisitsIn Q (Some given) rest (row - (plan_head first).rows))
+      match_mapped (nat_lt row (plan_head first).rows) (Visits P (Some no_given) first row) (VisitsIn P (Some no_given) rest (row - (plan_head first).rows)) (Visits Q (Some given) first row) (VisitsIn Q (Some given) rest (row - (plan_head first).rows))
       (opened P Q given own out first row) (opened_in P Q given own out rest (row - (plan_head first).rows)) v
 
   opened_field : (P Q : Test) (given : GivenValues) → Opens P Q given → SeesOutside P → (ps : Plans) (row : ℕ) → VisitsField P (Some no_given) ps row → VisitsField Q (Some given) ps row
@@ -223,9 +218,6 @@ come_by : (way : Way) (segment : ℕ) (reads : List Read) → AllByRecursion (λ
 come_by way segment [] each any = any
 come_by way segment (read ∷ reads) each (inl here) = inl (each.0, here)
 come_by way segment (read ∷ reads) each (inr later) = inr (come_by way segment reads each.1 later)
-
-zero_more : (n : ℕ) → n ≡ 0 + n
-zero_more n = omega arith
 
 -- a row of whole values has the read, so all of them have
 row_found : (segment : ℕ) (way : Way) (f : ℕ → Derivation) (from count row : ℕ) → row < count → Finds (IsIn segment) (reads_of way (f (from + row))) → Finds (IsIn segment) (reads_of_each way (each_row f from count))

@@ -1,20 +1,16 @@
 -- What is visited by one test is visited by a weaker one, and where nothing is handed in.
-use Rattle.std.proofs.Common.{ℕ, ◌-◌, inl, inr, Bool, true, false, None, refl}
+use Rattle.std.proofs.Common.{ℕ, ◌-◌, inl, inr, None, refl}
 use Rattle.std.specs.Prelude.{nat_lt}
-use Rattle.std.specs.Bool.{MatchBool}
 use Rattle.vx_plan.specs.Plans.{Plan, no_plan, concat_plan, eval_plan, filter_plan, pack_plan, take_plan, share_plan, list_plan, row_idx_plan, scan_plan, zoned_plan, Plans, no_plans, plan, PlanValidity, all_valid, valid_as, plan_head}
 use Rattle.vx_steps.specs.declared.leaf_reads.LeafRead.{LeafRead}
 use Rattle.vx_steps.specs.Given.{Handed}
 use Rattle.vx_steps.specs.Leavings.{IsLeafOf}
 use Rattle.vx_steps.specs.Visits.{Test, Visits, VisitsIn, VisitsField, VisitsValidity, IsLeafRead}
+use Rattle.vx_steps.proofs.PlacedVisits.{match_mapped}
 
 -- with nothing handed in, the second test sees what the first one sees
 abbrev pub Weakens : Test → Test → Type 0
 Weakens P Q = (handed : Handed) (p : Plan) (row : ℕ) → P handed p row → Q None p row
-
-match_mapped : (b : Bool) (A B C D : Type 0) → (A → C) → (B → D) → MatchBool b A B → MatchBool b C D
-match_mapped true A B C D f g v = f v
-match_mapped false A B C D f g v = g v
 
 mutual
   pub weaker_visit : (P Q : Test) → Weakens P Q → (handed : Handed) (p : Plan) (row : ℕ) → Visits P handed p row → Visits Q None p row

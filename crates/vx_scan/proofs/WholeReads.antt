@@ -1,24 +1,19 @@
 -- What whole values read, the rows read that ask for them, each through the take or the share by which they ask.
-use Rattle.std.proofs.Common.{◌≡◌, ℕ, zero, suc, ◌+◌, ◌-◌, ◌<◌, inl, inr, ⊎_elim, Bool, true, false, List, [], ◌∷◌, Option, Some, None, length, map, refl, sym, ap, ◌∙◌, subst, arith}
+use Rattle.std.proofs.Common.{◌≡◌, ℕ, ◌+◌, ◌-◌, ◌<◌, inl, inr, ⊎_elim, Bool, true, false, List, [], Option, Some, None, length, refl, sym, ap, ◌∙◌, subst, arith}
 use Rattle.std.specs.Prelude.{nat_lt}
 use Rattle.std.specs.Bool.{MatchBool}
-use Rattle.std.specs.List.{All}
-use Rattle.std.proofs.lemmas.List.Elements.{All-head, All-tail}
 use Rattle.std.proofs.lemmas.Option.{slice_get-get_or}
 use Rattle.vx_base.specs.Data.{Datum}
 use Rattle.vx_rows.specs.Derivations.{Derivation, packed, Derivations, each_row, read_whole}
 use Rattle.vx_rows.specs.Given.{GivenValues, values_with, share_with, with_given}
 use Rattle.vx_rows.specs.Reads.{Way, directly, through, inside, Found, Read, reads_of, reads_of_each, Finds}
-use Rattle.vx_rows.proofs.ReadRows.{any_either, any_left, any_right, found_anywhere}
+use Rattle.vx_rows.proofs.ReadRows.{any_either, any_right, found_anywhere}
 use Rattle.vx_plan.specs.FittingRows.{HasFittingRows}
-use Rattle.vx_plan.specs.declared.nodes.PlanKind.{PlanKind}
-use Rattle.vx_plan.specs.declared.nodes.PlanKind.TheVariants as kinds
 use Rattle.vx_plan.specs.Nodes.{Node, absent}
-use Rattle.vx_plan.specs.Plans.{Head, Plan, no_plan, concat_plan, eval_plan, filter_plan, pack_plan, take_plan, share_plan, list_plan, row_idx_plan, scan_plan, zoned_plan, Plans, no_plans, plan, PlanValidity, all_valid, valid_as, plan_head, head_at, plan_at, plan_gap, plan_grown_as}
+use Rattle.vx_plan.specs.Plans.{Head, Plan, no_plan, concat_plan, eval_plan, filter_plan, pack_plan, take_plan, share_plan, list_plan, row_idx_plan, scan_plan, zoned_plan, Plans, no_plans, plan, PlanValidity, all_valid, valid_as, plan_head, head_at, plan_at, plan_gap}
 use Rattle.vx_plan.specs.PlanRows.{plan_derivation}
-use Rattle.vx_plan.specs.Rules.{node_at, nodes_at, IsMadeAs}
+use Rattle.vx_plan.specs.Rules.{node_at}
 use Rattle.vx_plan.specs.Tables.{IsGoodTable}
-use Rattle.vx_plan.proofs.Adding.{head_in_table}
 use Rattle.vx_plan.proofs.FittingPlans.{rows_fit}
 use Rattle.vx_plan.proofs.Growing.{below_known}
 use Rattle.vx_plan.proofs.Unfolding.{Known, known}
@@ -29,38 +24,13 @@ use Rattle.vx_steps.specs.Visits.{Test, Visits, VisitsIn, VisitsField, VisitsVal
 use Rattle.vx_steps.proofs.FreeVisits.{Becomes, freed}
 use Rattle.vx_steps.proofs.PlacedVisits.{InTable, IsPlaced, is_placed, visit_placed}
 use Rattle.vx_steps.proofs.ReadVisits.{no_columns}
-use Rattle.vx_steps.proofs.VisitedReads.{RowReads, FindsOwn, none_served, visit_found}
+use Rattle.vx_steps.proofs.VisitedReads.{RowReads, FindsOwn, none_served, visit_found, row_found}
+use Rattle.vx_steps.proofs.AskedKnown.{head_number, asked_gap}
+use Rattle.vx_steps.proofs.WholeCauses.{IsPlanOf, second_plan, own_plan}
 use Rattle.vx_scan.specs.Settled.{whole_number}
 use Rattle.vx_scan.specs.Ways.{IsReadThrough, ReadsBy}
 
 -- ---- the plans of a table
-
-number_at : (nodes : List Node) → IsGoodTable nodes → (n : ℕ) → n < length nodes → (plan_head (plan_at nodes n)).number ≡ n
-number_at nodes good n there = ap (λ (head : Head). head.number) (head_in_table nodes good n there)
-
--- the plan is that of a number of the table
-record IsPlanOf (nodes : List Node) (p : Plan) : Type 0 where
-  number : ℕ
-  there : number < length nodes
-  is : p ≡ plan_at nodes number
-
--- the values of a take of the table are a plan of the table
-second_plan : (kind : PlanKind) (nodes : List Node) (node : Node) (other : Head) (ns : List ℕ) (head : Head) (codes values : Plan) → IsMadeAs kind node (nodes_at nodes ns) → All (λ n. n < length nodes) ns → take_plan head codes values ≡ plan_grown_as other kind (map (plan_at nodes) ns) → IsPlanOf nodes values
-second_plan kinds.Concat nodes node other ns head codes values made these is = absurd cc
-second_plan (kinds.Eval a) nodes node other ns head codes values made these is = absurd cc
-second_plan kinds.Filter nodes node other ns head codes values made these is = absurd cc
-second_plan (kinds.Pack has_validity) nodes node other ns head codes values made these is = absurd cc
-second_plan kinds.Take nodes node other [] head codes values made these is = absurd made
-second_plan kinds.Take nodes node other (n ∷ []) head codes values made these is = absurd made
-second_plan kinds.Take nodes node other (n ∷ m ∷ ns) head codes values made these is =
-    let same : values ≡ plan_at nodes m = cc in
-    record { number = m; there = All-head (λ k. k < length nodes) m ns (All-tail (λ k. k < length nodes) n (m ∷ ns) these); is = same }
-second_plan kinds.Share nodes node other ns head codes values made these is = absurd cc
-second_plan (kinds.ListPack has_validity) nodes node other ns head codes values made these is = absurd cc
-second_plan kinds.RowIdx nodes node other ns head codes values made these is = absurd cc
-second_plan (kinds.SegmentScan segment) nodes node other ns head codes values made these is = absurd cc
-second_plan (kinds.Zoned zone_len stats) nodes node other ns head codes values made these is = absurd cc
-second_plan (kinds.LegacyStats zone_len stats) nodes node other ns head codes values made these is = absurd cc
 
 -- and that of their own number
 values_plan : (nodes : List Node) → IsGoodTable nodes → (m : ℕ) → m < length nodes → (head : Head) (codes values : Plan) → take_plan head codes values ≡ plan_at nodes m → (number : ℕ) → (plan_head values).number ≡ number → values ≡ plan_at nodes number
@@ -68,14 +38,8 @@ values_plan nodes good m there head codes values is number named =
     let node : Node = node_at nodes m in
     let k : Known nodes m node node.kind = known nodes good m node node.kind (slice_get-get_or nodes m absent there) refl in
     let one : IsPlanOf nodes values = second_plan node.kind nodes node (head_at m node) node.children head codes values k.good.made (below_known nodes m node.children (omega (arith, there)) k.good.below) (is ∙ k.law) in
-    let same : one.number ≡ number = sym (number_at nodes good one.number one.there) ∙ sym (ap (λ (p : Plan). (plan_head p).number) one.is) ∙ named in
+    let same : one.number ≡ number = sym (head_number nodes good one.number one.there) ∙ sym (ap (λ (p : Plan). (plan_head p).number) one.is) ∙ named in
     one.is ∙ ap (plan_at nodes) same
-
--- a plan of the table that has a number is that number's
-own_plan : (nodes : List Node) → IsGoodTable nodes → (m : ℕ) → m < length nodes → (p : Plan) → p ≡ plan_at nodes m → (number : ℕ) → (plan_head p).number ≡ number → p ≡ plan_at nodes number
-own_plan nodes good m there p is number named =
-    let same : m ≡ number = sym (number_at nodes good m there) ∙ sym (ap (λ (q : Plan). (plan_head q).number) is) ∙ named in
-    is ∙ ap (plan_at nodes) same
 
 -- ---- by which take or share whole values are asked for
 
@@ -207,7 +171,7 @@ pub take_tells : (nodes : List Node) → IsGoodTable nodes → (m : ℕ) → m <
 take_tells nodes good m there take n handed row v =
     let one : IsPlaced (IsWholeBy take n) nodes = is_placed (IsWholeBy take n) (whole_gap take n) nodes good m there handed row v in
     let is : ((plan_head (plan_at nodes one.number)).number ≡ take) × (whole_number (plan_at nodes one.number) ≡ n) = numbered_by take n one.handed (plan_at nodes one.number) one.row one.is in
-    let same : one.number ≡ take = sym (number_at nodes good one.number one.there) ∙ is.0 in
+    let same : one.number ≡ take = sym (head_number nodes good one.number one.there) ∙ is.0 in
     subst (λ (k : ℕ). whole_number (plan_at nodes k) ≡ n) same is.1
 
 -- ---- what is read through it
@@ -249,15 +213,6 @@ read_through nodes good m there take n read given row reads v =
 
 -- ---- whatever is found in whole values
 
-each_found : (Q : Found → Type 0) (way : Way) (f : ℕ → Derivation) (from count row : ℕ) → row < count → Finds Q (reads_of way (f (from + row))) → Finds Q (reads_of_each way (each_row f from count))
-each_found Q way f from zero row lt any = absurd (omega (arith, lt))
-each_found Q way f from (suc count) zero lt any =
-    let e : from + 0 ≡ from = omega arith in
-    any_left (λ (read : Read). Q read.found) (reads_of way (f from)) (reads_of_each way (each_row f (from + 1) count)) (subst (λ (r : ℕ). Finds Q (reads_of way (f r))) e any)
-each_found Q way f from (suc count) (suc row) lt any =
-    let e : from + suc row ≡ from + 1 + row = omega arith in
-    any_right (λ (read : Read). Q read.found) (reads_of way (f from)) (reads_of_each way (each_row f (from + 1) count)) (each_found Q way f (from + 1) count row (omega (arith, lt)) (subst (λ (r : ℕ). Finds Q (reads_of way (f r))) e any))
-
 -- some row of the whole values has such a read
 abbrev pub WholeFinds : (Found → Type 0) → ℕ → List Node → ℕ → Type 0
 WholeFinds Q offset nodes n = (row : ℕ) × (row < (plan_head (plan_at nodes n)).rows) × Finds Q (reads_of directly (plan_derivation offset (plan_at nodes n) row))
@@ -266,7 +221,7 @@ WholeFinds Q offset nodes n = (row : ℕ) × (row < (plan_head (plan_at nodes n)
 all_find : (Q : Found → Type 0) (offset : ℕ) (way : Way) (p : Plan) (row : ℕ) → row < (plan_head p).rows → Finds Q (reads_of directly (plan_derivation offset p row)) → Finds Q (reads_of_each way (each_row (plan_derivation offset p) 0 (plan_head p).rows))
 all_find Q offset way p row less any =
     let e : row ≡ 0 + row = omega arith in
-    each_found Q way (plan_derivation offset p) 0 (plan_head p).rows row less (subst (λ (r : ℕ). Finds Q (reads_of way (plan_derivation offset p r))) e (found_anywhere Q directly way (plan_derivation offset p row) any))
+    row_found Q way (plan_derivation offset p) 0 (plan_head p).rows row less (subst (λ (r : ℕ). Finds Q (reads_of way (plan_derivation offset p r))) e (found_anywhere Q directly way (plan_derivation offset p row) any))
 
 -- a plan of the table that asks for the whole values, where nothing is handed in
 abbrev AsksFree : List Node → ℕ → Test
@@ -331,15 +286,11 @@ free_own nodes n given none (zoned_plan head zones content table) row v = absurd
 free_deep : (nodes : List Node) (n : ℕ) → Becomes (InTable nodes (IsWholeRead n)) (AsksFree nodes n) None None
 free_deep nodes n p row v = absurd v.0
 
-asks_gap : (n : ℕ) (handed : Handed) (row : ℕ) → IsWholeRead n handed (plan_gap 0) row → ⊥
-asks_gap n None row v = v
-asks_gap n (Some given) row v = v
-
 -- where a row asks for whole values and nothing is handed in, it finds what is found in them
 pub whole_found : (nodes : List Node) → IsGoodTable nodes → (m : ℕ) → m < length nodes → (n : ℕ) (Q : Found → Type 0) (offset row : ℕ) → WholeFinds Q offset nodes n → Visits (IsWholeRead n) (handed_by nodes (Some [])) (plan_at nodes m) row → Finds Q (reads_of directly (plan_derivation offset (plan_at nodes m) row))
 whole_found nodes good m there n Q offset row finds v =
     let free : Visits (AsksFree nodes n) (handed_by nodes (Some [])) (plan_at nodes m) row =
     freed (InTable nodes (IsWholeRead n)) (AsksFree nodes n) (handed_by nodes (Some [])) (handed_by nodes (Some [])) (no_columns nodes) (free_own nodes n (given_for nodes []) (no_columns nodes)) (free_deep nodes n) (plan_at nodes m) row
-    (visit_placed (IsWholeRead n) (asks_gap n) nodes good m there (handed_by nodes (Some [])) row v) in
+    (visit_placed (IsWholeRead n) (asked_gap n) nodes good m there (handed_by nodes (Some [])) row v) in
     subst (λ (d : Derivation). Finds Q (reads_of directly d)) (none_served (values_for (handed_by nodes (Some []))) (no_columns nodes) (plan_derivation offset (plan_at nodes m) row))
     (visit_found (AsksFree nodes n) Q offset (find_own nodes good n Q offset finds) (handed_by nodes (Some [])) (plan_at nodes m) directly row free)

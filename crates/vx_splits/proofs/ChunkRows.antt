@@ -136,7 +136,7 @@ sizes false row_count locations = most_sized
 
 -- ---- shared chunks
 -- a row lies in one chunk only
-in_chunk : (size number row : ℕ) → 0 < size → number * size ≤ row → row < number * size + size → row / size ≡ number
+pub in_chunk : (size number row : ℕ) → 0 < size → number * size ≤ row → row < number * size + size → row / size ≡ number
 in_chunk size number row some low high =
     let here = first_chunk size row some in
     elim (cases_lt (row / size) number) [

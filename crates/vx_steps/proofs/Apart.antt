@@ -1,11 +1,11 @@
 -- Kept columns of which no two are for one plan.
-use Rattle.std.proofs.Common.{◌≡◌, ℕ, zero, suc, ◌==◌, ⊎_elim, Bool, true, false, List, [], ◌∷◌, ◌++◌, Option, Some, None, length, sym, ap, ◌∙◌, subst, arith}
+use Rattle.std.proofs.Common.{◌≡◌, ℕ, zero, suc, ◌==◌, ⊎_elim, Bool, true, false, List, [], ◌∷◌, ◌++◌, Option, Some, None, length, sym, ap, ◌∙◌, subst}
 use Rattle.std.specs.Prelude.{if◌then◌else◌}
 use Rattle.std.specs.List.{slice_get}
 use Rattle.vx_base.specs.Columns.{ColumnData}
 use Rattle.vx_steps.specs.KeptData.{Kept}
 use Rattle.vx_steps.specs.Kept.{kept_at, AreApart}
-use Rattle.vx_steps.proofs.WantedReads.{got_pushed}
+use Rattle.vx_steps.proofs.WantedReads.{got_pushed, eq_true}
 
 none_here : (b : Bool) (x : ColumnData) (o : Option ColumnData) → b ≡ true → (if b then Some x else o) ≡ None → ⊥
 none_here true x o e h = cc
@@ -15,15 +15,12 @@ none_rest : (b : Bool) (x : ColumnData) (o : Option ColumnData) → (if b then S
 none_rest true x o h = cc
 none_rest false x o h = h
 
-same_number : (n m : ℕ) → n ≡ m → (n == m) ≡ true
-same_number n m e = grind arith
-
 -- a column that stands somewhere is for a plan of which one is kept
 some_at : (kept : List Kept) (p : ℕ) (k : Kept) → slice_get kept p ≡ Some k → kept_at kept k.node ≡ None → ⊥
 some_at [] p k at none = cc
 some_at (x ∷ kept) zero k at none =
     let is : x ≡ k = cc in
-    none_here (x.node == k.node) x.column (kept_at kept k.node) (same_number x.node k.node (ap (λ (y : Kept). y.node) is)) none
+    none_here (x.node == k.node) x.column (kept_at kept k.node) (eq_true x.node k.node (ap (λ (y : Kept). y.node) is)) none
 some_at (x ∷ kept) (suc p) k at none = some_at kept p k at (none_rest (x.node == k.node) x.column (kept_at kept k.node) none)
 
 pub apart_none : AreApart []

@@ -1,5 +1,5 @@
 -- Which whole values selected rows ask for where nothing is handed in, kind by kind.
-use Rattle.std.proofs.Common.{◌≡◌, ℕ, zero, suc, ◌+◌, ◌-◌, ◌<◌, ◌≤◌, ◌⊎◌, inl, inr, ⊎_elim, Bool, true, List, [], ◌∷◌, ◌++◌, Some, length, map, take, sym, ap, ◌∙◌, subst, arith}
+use Rattle.std.proofs.Common.{◌≡◌, ℕ, ◌+◌, ◌-◌, ◌<◌, ◌≤◌, ◌⊎◌, inl, inr, ⊎_elim, Bool, true, List, [], ◌∷◌, ◌++◌, Some, length, map, take, sym, ap, ◌∙◌, subst, arith}
 use Rattle.std.specs.Prelude.{slice_range}
 use Rattle.std.specs.List.{slice_get}
 use Rattle.vx_plan.specs.Nodes.{Node}
@@ -17,7 +17,7 @@ use Rattle.vx_steps.specs.Wholes.{Asks, AsksNone}
 use Rattle.vx_steps.proofs.ChunkRows.{chunk_up, IsConcatPlan}
 use Rattle.vx_steps.proofs.EachOnce.{among_is, is_among}
 use Rattle.vx_steps.proofs.Indexing.{take_all}
-use Rattle.vx_steps.proofs.Selecting.{adds_as, adds_none, adds_one, adds_then, got_range, got_taken, taken_got}
+use Rattle.vx_steps.proofs.Selecting.{adds_as, adds_none, adds_one, adds_then, got_range, got_taken, taken_got, only_right, taken_one}
 use Rattle.vx_steps.proofs.Shaping.{head_of, IsOverPlan, IsPackPlan, IsSharePlan, IsTakePlan, IsZonedPlan}
 use Rattle.vx_steps.proofs.Visiting.{any_packed, down_chunk, down_fields, AnyVisits}
 use Rattle.vx_steps.proofs.WholeAsking.{none_inside}
@@ -51,10 +51,6 @@ child_asked nodes n child start bits p law alike old new added =
     let r2 : RowAsks nodes start bits m p = subst (RowAsks nodes start bits m) law r in
     (r2.0, r2.1, (alike m (start + r2.0)).1 r2.2))
     added
-
-only_right : {A : Type 0} → ⊥ ⊎ A → A
-only_right (inl none) = absurd none
-only_right (inr a) = a
 
 pub same_asked : (nodes : List Node) (n child start : ℕ) (bits : List Bool) → plan_at nodes n ≡ filter_plan (head_of nodes n) (plan_at nodes child) → (old new : List ℕ) → Adds (Asks nodes [] child start bits) old new → Adds (Asks nodes [] n start bits) old new
 same_asked nodes n child start bits law old new added = child_asked nodes n child start bits (filter_plan (head_of nodes n) (plan_at nodes child)) law (λ m row. (λ v. inr v, λ v. only_right v)) old new added
@@ -119,13 +115,6 @@ any_less P handed nodes [] n row (inr none) = absurd none
 any_less P handed nodes (m ∷ ns) n row (inl v) = inl (inl v)
 any_less P handed nodes (m ∷ ns) n row (inr a) =
     ⊎_elim (λ (first : AnyVisits P handed (map (plan_at nodes) ns) row). inl (inr first)) (λ (v : Visits P handed (plan_at nodes n) row). inr v) (any_less P handed nodes ns n row a)
-
-taken_one : (ns : List ℕ) (place n : ℕ) → slice_get ns place ≡ Some n → take (place + 1) ns ≡ take place ns ++ n ∷ []
-taken_one [] place n at = absurd cc
-taken_one (m ∷ ns) zero n at = let e : m ≡ n = cc in ap (λ (k : ℕ). k ∷ []) e
-taken_one (m ∷ ns) (suc place) n at =
-    let e : suc place + 1 ≡ suc (place + 1) = omega arith in
-    ap (λ (k : ℕ). take k (m ∷ ns)) e ∙ ap (λ (rest : List ℕ). m ∷ rest) (taken_one ns place n at)
 
 -- one more child's rows
 pub field_asked : (nodes : List Node) (start : ℕ) (bits : List Bool) (ns : List ℕ) (place n : ℕ) → slice_get ns place ≡ Some n → (old mid new : List ℕ) → Adds (FieldsAsk nodes start bits (take place ns)) old mid → Adds (Asks nodes [] n start bits) mid new → Adds (FieldsAsk nodes start bits (take (place + 1) ns)) old new

@@ -1,7 +1,6 @@
 -- The bad codes that a row visits are those that it reads.
-use Rattle.std.proofs.Common.{◌≡◌, ℕ, zero, suc, ◌+◌, ◌-◌, ◌<◌, inl, inr, Bool, true, false, List, [], ◌∷◌, Option, Some, None, length, refl, sym, ap, ◌∙◌, subst}
+use Rattle.std.proofs.Common.{◌≡◌, ℕ, zero, suc, ◌+◌, ◌-◌, ◌<◌, inl, inr, List, [], ◌∷◌, Option, Some, None, length, refl, sym, ap, ◌∙◌, subst}
 use Rattle.std.specs.Prelude.{nat_lt, IfSome, IsSomeAnd}
-use Rattle.std.specs.Bool.{MatchBool}
 use Rattle.vx_base.specs.Data.{Datum}
 use Rattle.vx_rows.specs.Derivations.{Derivation, Leaves, count_of, each_row}
 use Rattle.vx_rows.specs.Reads.{Way, a_code, code_row, CodeRow, IsPlaceAmong}
@@ -15,16 +14,13 @@ use Rattle.vx_steps.specs.Visits.{Test, Visits, VisitsIn, VisitsField, VisitsVal
 use Rattle.vx_steps.proofs.HandedRows.{none_fits}
 use Rattle.vx_steps.proofs.ReadVisits.{IsOwn, found_visit}
 use Rattle.vx_steps.proofs.VisitedReads.{FindsOwn, RowReads, visit_found}
+use Rattle.vx_steps.proofs.PlacedVisits.{match_mapped}
 
 -- ---- one visit for another
 
 -- where what is handed in fits, one is the other
 abbrev Turns : Test → Test → Type 0
 Turns P Q = (handed : Handed) (p : Plan) (row : ℕ) → GivenFits handed p → P handed p row → Q handed p row
-
-match_turned : (b : Bool) (A B C D : Type 0) → (A → C) → (B → D) → MatchBool b A B → MatchBool b C D
-match_turned true A B C D f g v = f v
-match_turned false A B C D f g v = g v
 
 mutual
   turned : (P Q : Test) → Turns P Q → (handed : Handed) (p : Plan) (row : ℕ) → GivenFits handed p → Visits P handed p row → Visits Q handed p row
@@ -52,7 +48,7 @@ mutual
   turned_in : (P Q : Test) → Turns P Q → (handed : Handed) (ps : Plans) (row : ℕ) → GivenFitsEach handed ps → VisitsIn P handed ps row → VisitsIn Q handed ps row
   turned_in P Q f handed no_plans row fits v = v
   turned_in P Q f handed (plan first rest) row fits v =
-      match_turned (nat_lt row (plan_head first).rows) (Visits P handed first row) (VisitsIn P handed rest (row - (plan_head first).rows)) (Visits Q handed first row) (VisitsIn Q handed rest (row - (plan_head first).rows))
+      match_mapped (nat_lt row (plan_head first).rows) (Visits P handed first row) (VisitsIn P handed rest (row - (plan_head first).rows)) (Visits Q handed first row) (VisitsIn Q handed rest (row - (plan_head first).rows))
       (turned P Q f handed first row fits.0) (turned_in P Q f handed rest (row - (plan_head first).rows) fits.1) v
 
   turned_field : (P Q : Test) → Turns P Q → (handed : Handed) (ps : Plans) (row : ℕ) → GivenFitsEach handed ps → VisitsField P handed ps row → VisitsField Q handed ps row

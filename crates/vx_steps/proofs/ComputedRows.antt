@@ -37,6 +37,7 @@ use Rattle.vx_steps.proofs.Premises.{is_by_for}
 use Rattle.vx_steps.proofs.SelectedRows.{map_same, picked_rows, row_bit, rows_all, rows_none, rows_same, then_rows, value_row}
 use Rattle.vx_steps.proofs.Shaping.{head_of, IsEvalPlan, IsLeafPlan, IsListPlan, IsSharePlan, IsTakePlan, IsZonedPlan}
 use Rattle.vx_steps.proofs.WholeRows.{derived_given, each_at, each_same, length_all, row_below, same_below}
+use Rattle.vx_steps.proofs.FreeVisits.{IsNoPlace}
 
 -- ---- causes
 
@@ -213,9 +214,6 @@ past_code count (number (negsuc n)) past among = among
 past_code count (text bytes) past among = past
 past_code count (structure vs) past among = past
 
-abbrev BadCodeOf : ℕ → Option Datum → Type 0
-BadCodeOf count o = IsSomeAnd o (λ code. ¬ (IsPlaceAmong count code))
-
 pub take_computed : (h : Held) (n codes values start : ℕ) (bits : List Bool) (code column : ColumnData) (result : Result ColumnData StepError) → IsTakePlan h.nodes n codes values → Computes h codes start bits (Ok code) →
     ((leaves : Leaves) → IsBy h leaves → AreWhole h leaves n values (plan_head (plan_at h.nodes values)).rows column.values) → length column.values ≡ (node_at h.nodes values).rows →
     IfOk result (λ out. map (look_up column.values) code.values ≡ map Some out.values) → IfErr result (IsCodeFault n (length column.values) code.values start bits) → Computes h n start bits result
@@ -230,10 +228,10 @@ take_computed h n codes values start bits code column result over computed whole
         let named : row ≡ r.0 = is_row r.0 r.1 in
         let same : start + b.0 ≡ row = sym b.2 ∙ sym named in
         let count : length column.values ≡ (plan_head (plan_at h.nodes values)).rows = long ∙ sym (ap (λ h. h.rows) over.values_head) in
-        let G : ℕ → Type 0 = λ k. BadCodeOf (plan_head (plan_at h.nodes values)).rows (row_value leaves (handed_in h) h.offset (plan_at h.nodes codes) k) in
-        let C : ℕ → Type 0 = λ count. BadCodeOf count (Some v) in
+        let G : ℕ → Type 0 = λ k. IsNoPlace (plan_head (plan_at h.nodes values)).rows (row_value leaves (handed_in h) h.offset (plan_at h.nodes codes) k) in
+        let C : ℕ → Type 0 = λ count. IsNoPlace count (Some v) in
         let bad : C (length column.values) = λ among. past_code (length column.values) v some among in
-        let here : G r.0 = subst (BadCodeOf (plan_head (plan_at h.nodes values)).rows) (sym r.2) (subst C count bad) in
+        let here : G r.0 = subst (IsNoPlace (plan_head (plan_at h.nodes values)).rows) (sym r.2) (subst C count bad) in
         (b.0, b.1, inl (sym is, same, subst G b.2 here))
 
     by_result : (r : Result ColumnData StepError) → IsByFor h leaves r → IfOk r (λ out. map (look_up column.values) code.values ≡ map Some out.values) → IfErr r (IsCodeFault n (length column.values) code.values start bits) → Outcome leaves (handed_in h) h.offset (take_plan (head_of h.nodes n) (plan_at h.nodes codes) (plan_at h.nodes values)) start bits r

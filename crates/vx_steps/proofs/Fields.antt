@@ -32,6 +32,7 @@ use Rattle.vx_steps.specs.Visits.{Test, Visits, VisitsField, VisitsValidity}
 use Rattle.vx_steps.proofs.ComputedRows.{cause_up}
 use Rattle.vx_steps.proofs.Keeping.{got_inside}
 use Rattle.vx_steps.proofs.Shaping.{head_of, validity_fits, IsPackPlan}
+use Rattle.vx_steps.proofs.Selecting.{taken_one}
 
 -- ---- visits
 
@@ -81,13 +82,6 @@ parts_pushed h start bits [] n [] part are is = (is, tt)
 parts_pushed h start bits [] n (q ∷ parts) part are is = absurd are
 parts_pushed h start bits (m ∷ ns) n [] part are is = absurd are
 parts_pushed h start bits (m ∷ ns) n (q ∷ parts) part are is = (are.0, parts_pushed h start bits ns n parts part are.1 is)
-
-taken_one : (ns : List ℕ) (place n : ℕ) → slice_get ns place ≡ Some n → take (place + 1) ns ≡ take place ns ++ n ∷ []
-taken_one [] place n at = absurd cc
-taken_one (m ∷ ns) zero n at = let e : m ≡ n = cc in ap (λ (k : ℕ). k ∷ []) e
-taken_one (m ∷ ns) (suc place) n at =
-    let e : suc place + 1 ≡ suc (place + 1) = omega arith in
-    ap (λ (k : ℕ). take k (m ∷ ns)) e ∙ ap (λ (rest : List ℕ). m ∷ rest) (taken_one ns place n at)
 
 pub parts_more : (h : Held) (start : ℕ) (bits : List Bool) (ns : List ℕ) (place n : ℕ) (parts : List ColumnData) (part : ColumnData) → slice_get ns place ≡ Some n → AreParts h start bits (take place ns) parts → IsPart h n start bits part → AreParts h start bits (take (place + 1) ns) (parts ++ part ∷ [])
 parts_more h start bits ns place n parts part at are is = rw (taken_one ns place n at) (parts_pushed h start bits (take place ns) n parts part are is)

@@ -41,6 +41,7 @@ use Rattle.vx_steps.proofs.Premises.{unless_by}
 use Rattle.vx_steps.proofs.Releasing.{among_at, got_among, none_before, serves_tried}
 use Rattle.vx_steps.proofs.Starting.{got_at}
 use Rattle.vx_steps.proofs.Turning.{leaves_before}
+use Rattle.vx_steps.proofs.WholeMaking.{uses_then}
 
 -- the number of an active split is one of theirs
 pub number_among : (actives : List ActiveSplit) (place : ℕ) (active : ActiveSplit) → slice_get actives place ≡ Some active → Among active.split (map number_of_active actives)
@@ -90,13 +91,6 @@ parts_of nodes job progress place active split good inside is split_is =
 
 pub split_rows : (rows : ℕ) (split : Split) → IsInside rows split → split.rows.start + length split.mask ≤ rows
 split_rows rows split inside = omega arith
-
-pub uses_then : (given old mid new : List Kept) → UsesGiven given old mid → UsesGiven given mid new → UsesGiven given old new
-uses_then given old mid new first second = record {
-  grows = λ n column at. second.grows n column (first.grows n column at);
-  only = λ n column at. ⊎_elim (λ (e : kept_at mid n ≡ Some column). first.only n column e) (λ (e : kept_at given n ≡ Some column). inr e) (second.only n column at);
-  apart = λ apart. second.apart (first.apart apart);
-}
 
 -- the active split at a place, with what is the same in place of its needs
 pub same_active : (xs : List ActiveSplit) (place : ℕ) (a b : ActiveSplit) → place < length xs → a ≡ get_or xs place a → b ≡ get_or xs place b → a ≡ b

@@ -1,7 +1,6 @@
 -- Visits and causes where nothing is handed in.
-use Rattle.std.proofs.Common.{◌≡◌, ℕ, ◌+◌, ◌-◌, inl, inr, Bool, true, false, List, None, Some, refl, sym, ap, ◌∙◌, subst, Option}
+use Rattle.std.proofs.Common.{◌≡◌, ℕ, ◌+◌, ◌-◌, inl, inr, Bool, List, None, Some, refl, sym, ap, ◌∙◌, subst, Option}
 use Rattle.std.specs.Prelude.{nat_lt, IsSomeAnd}
-use Rattle.std.specs.Bool.{MatchBool}
 use Rattle.vx_base.specs.Data.{Datum}
 use Rattle.vx_expr.specs.Meaning.{meaning}
 use Rattle.vx_expr.specs.Terms.{Term}
@@ -20,6 +19,7 @@ use Rattle.vx_steps.specs.Laws.{HandsNone}
 use Rattle.vx_steps.specs.Visits.{Test, Visits, VisitsIn, VisitsField, VisitsValidity, SomeVisit, IsLeafRead, IsListRead, HasBadCode, HasEvalFault}
 use Rattle.vx_steps.specs.Wholes.{HasInsideCause, Inside}
 use Rattle.vx_steps.proofs.VisitedReads.{none_served}
+use Rattle.vx_steps.proofs.PlacedVisits.{match_mapped}
 
 -- ---- one visit for another
 
@@ -29,10 +29,6 @@ Becomes P Q handed free = (p : Plan) (row : ℕ) → P handed p row → Visits Q
 
 pub hands_none : HandsNone None
 hands_none n = refl
-
-match_mapped : (b : Bool) (A B C D : Type 0) → (A → C) → (B → D) → MatchBool b A B → MatchBool b C D
-match_mapped true A B C D f g v = f v
-match_mapped false A B C D f g v = g v
 
 mutual
   pub freed : (P Q : Test) (handed free : Handed) → HandsNone free → Becomes P Q handed free → Becomes P Q None None → (p : Plan) (row : ℕ) → Visits P handed p row → Visits Q free p row

@@ -81,7 +81,7 @@ found_rest xs indexed n none = ap (λ (ks : List Kept). kept_at ks n) (map_drop 
 pub rest_whole : {X : Type 0} (xs : List X) (i : ℕ) → take (length xs - i) (drop i xs) ≡ drop i xs
 rest_whole xs i = take_all (drop i xs) (length xs - i) (omega (arith, length-drop i xs))
 
-take_one : {X : Type 0} (xs : List X) (i : ℕ) (x : X) → slice_get xs i ≡ Some x → take (suc i) xs ≡ take i xs ++ x ∷ []
+pub take_one : {X : Type 0} (xs : List X) (i : ℕ) (x : X) → slice_get xs i ≡ Some x → take (suc i) xs ≡ take i xs ++ x ∷ []
 take_one [] i x h = absurd cc
 take_one (y ∷ xs) zero x h =
     let e : y ≡ x = cc in

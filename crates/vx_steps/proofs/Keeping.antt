@@ -31,7 +31,7 @@ got_old [] ys i x h = cc
 got_old (z ∷ xs) ys zero x h = h
 got_old (z ∷ xs) ys (suc i) x h = got_old xs ys i x h
 
-got_new : {X : Type 0} (xs : List X) (x : X) → slice_get (xs ++ x ∷ []) (length xs) ≡ Some x
+pub got_new : {X : Type 0} (xs : List X) (x : X) → slice_get (xs ++ x ∷ []) (length xs) ≡ Some x
 got_new [] x = refl
 got_new (z ∷ xs) x = got_new xs x
 

@@ -18,6 +18,7 @@ use Rattle.vx_steps.specs.Visits.{Visits}
 use Rattle.vx_steps.proofs.ChunkRows.{chunk_down, chunk_up, IsConcatPlan}
 use Rattle.vx_steps.proofs.Shaping.{head_of, IsLeafPlan, IsListPlan, IsOverPlan, IsPackPlan, IsSharePlan, IsTakePlan, IsZonedPlan}
 use Rattle.vx_steps.proofs.Visiting.{any_packed, child_any, packed_any, AnyVisits}
+use Rattle.vx_steps.proofs.Selecting.{only_right}
 
 -- one of so many rows of this plan reads the leaf
 abbrev RowsVisit : ℕ → ℕ → ℕ → Plan → Type 0
@@ -63,10 +64,6 @@ leaf_rows nodes n segment start count old new over some meets =
         r2.2
 
 -- ---- the rows of one child
-
-only_right : {A : Type 0} → ⊥ ⊎ A → A
-only_right (inl none) = absurd none
-only_right (inr a) = a
 
 -- a plan that is no leaf reads what its child's row reads
 abbrev ReadsAlike : Plan → Plan → Type 0

@@ -12,7 +12,8 @@ use Rattle.vx_steps.specs.ReadTableData.{Wanted, ReadsData}
 use Rattle.vx_steps.specs.ReadTable.{IsWanted}
 use Rattle.vx_steps.specs.Agreement.{Agrees}
 use Rattle.vx_steps.specs.Wants.{AreNeeds, IsAsked, IsNeeded, Grows}
-use Rattle.vx_steps.proofs.WantedReads.{is_standing, got_pushed, pushed_old, pushed_new}
+use Rattle.vx_steps.proofs.WantedReads.{is_standing, got_pushed, pushed_old}
+use Rattle.vx_steps.proofs.Keeping.{got_new}
 
 pub needs_all : (P : LeafRead → Type 0) (needs : List LeafRead) → Adds P [] needs → AreNeeds P needs
 needs_all P needs added = record {
@@ -33,7 +34,7 @@ wanted_all segment old new (inl (there, same)) =
     subst P (sym same) there
 wanted_all segment old new (inr (nowhere, more)) =
     let P : List Wanted → Type 0 = λ ws. IsAsked ws segment in
-    subst P (sym more) (length old, is_standing (old ++ unread segment ∷ []) (length old) (unread segment) (pushed_new old (unread segment)) segment refl)
+    subst P (sym more) (length old, is_standing (old ++ unread segment ∷ []) (length old) (unread segment) (got_new old (unread segment)) segment refl)
 
 wanted_only : (segment : ℕ) (old new : List Wanted) → IsWanted segment old new → (s : ℕ) → IsAsked new s → IsAsked old s ⊎ (segment ≡ s)
 wanted_only segment old new (inl (there, same)) s asked =

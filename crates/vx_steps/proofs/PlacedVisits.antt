@@ -35,7 +35,7 @@ placed_in P gap nodes [] place each handed row v = absurd (gap handed row v)
 placed_in P gap nodes (n ∷ ns) zero each handed row v = each.0 handed row v
 placed_in P gap nodes (n ∷ ns) (suc place) each handed row v = placed_in P gap nodes ns place each.1 handed row v
 
-match_mapped : (b : Bool) (A B C D : Type 0) → (A → C) → (B → D) → MatchBool b A B → MatchBool b C D
+pub match_mapped : (b : Bool) (A B C D : Type 0) → (A → C) → (B → D) → MatchBool b A B → MatchBool b C D
 match_mapped true A B C D f g v = f v
 match_mapped false A B C D f g v = g v
 
@@ -166,7 +166,7 @@ pub record IsSeen (P : Test) : Type 0 where
   pub row : ℕ
   pub is : P handed at row
 
-by_match : (b : Bool) (A B C : Type 0) → (A → C) → (B → C) → MatchBool b A B → C
+pub by_match : (b : Bool) (A B C : Type 0) → (A → C) → (B → C) → MatchBool b A B → C
 by_match true A B C f g v = f v
 by_match false A B C f g v = g v
 

@@ -19,9 +19,7 @@ use Rattle.vx_steps.specs.ReadTable.{IsGone, IsNamed, KeepsStored, LetsGo, Passe
 use Rattle.vx_steps.specs.ReadTableData.{ReadsData, Stored, Wanted}
 use Rattle.vx_steps.specs.Releasing.{AreHeld, AreNamed, IsServed, IsSpent, LetsSpentGo, ServesAll}
 use Rattle.vx_steps.proofs.Needing.{among_pushed}
-
-some_same : {X : Type 0} (a b : X) → Some a ≡ Some b → a ≡ b
-some_same a b h = cc
+use Rattle.vx_steps.proofs.WantedReads.{some_same}
 
 pub none_before : (old new : List Kept) (n : ℕ) → KeepsColumns old new → kept_at new n ≡ None → kept_at old n ≡ None
 none_before old new n keeps e = by (kept_at old n) refl

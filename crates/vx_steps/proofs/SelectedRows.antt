@@ -151,7 +151,7 @@ chosen_count (bit ∷ bits) [] e = absurd (omega arith)
 chosen_count (true ∷ bits) (x ∷ xs) e = omega (arith, chosen_count bits xs (omega arith), true_first bits)
 chosen_count (false ∷ bits) (x ∷ xs) e = chosen_count bits xs (omega arith) ∙ sym (false_first bits)
 
-length_taken : {X : Type 0} (xs : List X) (n : ℕ) → n ≤ length xs → length (take n xs) ≡ n
+pub length_taken : {X : Type 0} (xs : List X) (n : ℕ) → n ≤ length xs → length (take n xs) ≡ n
 length_taken [] zero h = refl
 length_taken [] (suc n) h = absurd (omega arith)
 length_taken (x ∷ xs) zero h = refl

@@ -19,6 +19,7 @@ use Rattle.vx_steps.specs.declared.chunks.Chunk.{Chunk}
 use Rattle.vx_steps.specs.Chunks.{IsChunk}
 use Rattle.vx_steps.proofs.ChunkRows.{chunk_down, chunk_up, IsConcatPlan}
 use Rattle.vx_steps.proofs.Shaping.{head_of, IsLeafPlan, IsZonedPlan, IsTakePlan, IsOverPlan, IsListPlan, IsSharePlan, IsPackPlan}
+use Rattle.vx_steps.proofs.Indexing.{take_all}
 
 -- ---- lists
 
@@ -110,7 +111,7 @@ child_reads nodes handed n child start bits p law alike old new added =
     (r2.0, r2.1, (alike read (start + r2.0)).1 r2.2))
     added
 
-only_right : {A : Type 0} → ⊥ ⊎ A → A
+pub only_right : {A : Type 0} → ⊥ ⊎ A → A
 only_right (inl none) = absurd none
 only_right (inr a) = a
 
@@ -256,7 +257,7 @@ field_after nodes handed start bits ns n old mid new first second =
     (λ read. some_more nodes handed start bits read ns n) (λ read. some_less nodes handed start bits read ns n)
     (adds_then (ReadsSome nodes handed start bits ns) (Reads nodes handed n start bits) old mid new first second)
 
-taken_one : (ns : List ℕ) (place n : ℕ) → slice_get ns place ≡ Some n → take (place + 1) ns ≡ take place ns ++ n ∷ []
+pub taken_one : (ns : List ℕ) (place n : ℕ) → slice_get ns place ≡ Some n → take (place + 1) ns ≡ take place ns ++ n ∷ []
 taken_one [] place n at = absurd cc
 taken_one (m ∷ ns) zero n at = let e : m ≡ n = cc in ap (λ (k : ℕ). k ∷ []) e
 taken_one (m ∷ ns) (suc place) n at =
@@ -337,16 +338,10 @@ pack_reads nodes handed n start bits over old new added =
     any_some nodes handed start bits ns read r2.0 r2.1 (packed_any read handed over.has_validity ps (start + r2.0) (only_right r2.2)))
     added
 
-all_taken : {X : Type 0} (xs : List X) (n : ℕ) → length xs ≤ n → take n xs ≡ xs
-all_taken [] zero h = refl
-all_taken [] (suc n) h = refl
-all_taken (x ∷ xs) zero h = absurd (omega arith)
-all_taken {X} (x ∷ xs) (suc n) h = ap (λ (rest : List X). x ∷ rest) (all_taken xs n (omega arith))
-
 pub fields_done : (nodes : List Node) (handed : Handed) (n start : ℕ) (bits : List Bool) (place : ℕ) → IsPackPlan nodes n → length (node_at nodes n).children ≤ place → (old new : List LeafRead) → Adds (ReadsSome nodes handed start bits (take place (node_at nodes n).children)) old new → Adds (Reads nodes handed n start bits) old new
 fields_done nodes handed n start bits place over all old new added =
     let F : List ℕ → Type 0 = λ ns. Adds (ReadsSome nodes handed start bits ns) old new in
-    pack_reads nodes handed n start bits over old new (subst F (all_taken (node_at nodes n).children place all) added)
+    pack_reads nodes handed n start bits over old new (subst F (take_all (node_at nodes n).children place all) added)
 
 -- ---- one child of a concat after another
 
@@ -354,7 +349,7 @@ fields_done nodes handed n start bits place over all old new added =
 pub chunks_done : (nodes : List Node) (handed : Handed) (n start done : ℕ) (bits : List Bool) → length bits ≤ done → (old new : List LeafRead) → Adds (Reads nodes handed n start (take done bits)) old new → Adds (Reads nodes handed n start bits) old new
 chunks_done nodes handed n start done bits all old new added =
     let F : List Bool → Type 0 = λ bs. Adds (Reads nodes handed n start bs) old new in
-    subst F (all_taken bits done all) added
+    subst F (take_all bits done all) added
 
 pub got_taken : {X : Type 0} (xs : List X) (n place : ℕ) (x : X) → slice_get (take n xs) place ≡ Some x → (place < n) × (slice_get xs place ≡ Some x)
 got_taken [] zero place x h = absurd cc

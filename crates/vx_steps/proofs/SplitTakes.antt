@@ -66,7 +66,7 @@ more_takes nodes job split old new keeps has take reads =
 
 -- ---- before the first step
 
-none_selected : (bits : List Bool) (place : ℕ) → true_count bits ≡ 0 → slice_get bits place ≡ Some true → ⊥
+pub none_selected : (bits : List Bool) (place : ℕ) → true_count bits ≡ 0 → slice_get bits place ≡ Some true → ⊥
 none_selected [] place none at = cc
 none_selected (true ∷ bits) place none at = omega (arith, none, true_first bits)
 none_selected (false ∷ bits) zero none at = cc
@@ -167,7 +167,7 @@ done_takes nodes job old new done each number split at =
     (λ (has : HasTakes nodes job split new.wholes). has)
     (each number split at)
 
-only_one : (splits : List Split) (split other : Split) (number : ℕ) → splits ≡ split ∷ [] → slice_get splits number ≡ Some other → other ≡ split
+pub only_one : (splits : List Split) (split other : Split) (number : ℕ) → splits ≡ split ∷ [] → slice_get splits number ≡ Some other → other ≡ split
 only_one splits split other number is at = by number (ap (λ (xs : List Split). slice_get xs number) (sym is) ∙ at)
   where
     by : (n : ℕ) → slice_get (split ∷ []) n ≡ Some other → other ≡ split

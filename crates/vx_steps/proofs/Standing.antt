@@ -258,7 +258,7 @@ of_eval leaves offset at None (row_idx_plan head) row v = absurd v
 of_eval leaves offset at None (scan_plan head segment) row v = absurd v
 of_eval leaves offset at None (zoned_plan head zones content table) row v = absurd v
 
-match_none : (b : Bool) (A B : Type 0) → (A → ⊥) → (B → ⊥) → MatchBool b A B → ⊥
+pub match_none : (b : Bool) (A B : Type 0) → (A → ⊥) → (B → ⊥) → MatchBool b A B → ⊥
 match_none true A B f g v = f v
 match_none false A B f g v = g v
 

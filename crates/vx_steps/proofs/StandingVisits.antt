@@ -1,12 +1,12 @@
 -- Visits of a plan that know where they stand.
-use Rattle.std.proofs.Common.{◌≡◌, ℕ, ◌-◌, ◌⊎◌, inl, inr, Bool, true, false, None, refl}
+use Rattle.std.proofs.Common.{◌≡◌, ℕ, ◌-◌, ◌⊎◌, inl, inr, None, refl}
 use Rattle.std.specs.Prelude.{nat_lt}
-use Rattle.std.specs.Bool.{MatchBool}
 use Rattle.vx_plan.specs.Plans.{Plan, no_plan, concat_plan, eval_plan, filter_plan, pack_plan, take_plan, share_plan, list_plan, row_idx_plan, scan_plan, zoned_plan, Plans, no_plans, plan, PlanValidity, all_valid, valid_as, plan_head}
 use Rattle.vx_steps.specs.Below.{StandsIn, StandsAmong, StandsInValidity}
 use Rattle.vx_steps.specs.Given.{Handed}
 use Rattle.vx_steps.specs.Visits.{Test, Visits, VisitsIn, VisitsField, VisitsValidity}
 use Rattle.vx_steps.proofs.Standing.{stands_self}
+use Rattle.vx_steps.proofs.PlacedVisits.{match_mapped}
 
 -- what was handed in where the visit stands is what was on top, or nothing
 abbrev pub IsFrom : Handed → Handed → Type 0
@@ -18,10 +18,6 @@ Within top whole P handed p row = P handed p row × IsFrom top handed × StandsI
 
 own : (P : Test) (top : Handed) (whole : Plan) (handed : Handed) (p : Plan) (row : ℕ) → IsFrom top handed → ((q : Plan) → StandsIn (λ r. r ≡ q) p → StandsIn (λ r. r ≡ q) whole) → P handed p row → Within top whole P handed p row
 own P top whole handed p row from up v = (v, from, up p (stands_self (λ r. r ≡ p) p refl))
-
-match_mapped : (b : Bool) (A B C D : Type 0) → (A → C) → (B → D) → MatchBool b A B → MatchBool b C D
-match_mapped true A B C D f g v = f v
-match_mapped false A B C D f g v = g v
 
 mutual
   pub visit_within : (P : Test) (top : Handed) (whole : Plan) (handed : Handed) (p : Plan) (row : ℕ) → IsFrom top handed → ((q : Plan) → StandsIn (λ r. r ≡ q) p → StandsIn (λ r. r ≡ q) whole) → Visits P handed p row → Visits (Within top whole P) handed p row

@@ -33,7 +33,8 @@ use Rattle.vx_steps.proofs.Shaping.{given_known}
 
 -- ---- what a row looks up
 
-abbrev IsShareOf : ℕ → Test
+-- a share of the number, and not inside whole values
+abbrev pub IsShareOf : ℕ → Test
 IsShareOf n (Some given) (share_plan head child) row = head.number ≡ n
 IsShareOf n handed p row = ⊥
 
@@ -93,7 +94,7 @@ mutual
 
 -- ---- what a table hands in
 
-share_gap : (n : ℕ) (handed : Handed) (row : ℕ) → IsShareOf n handed (plan_gap 0) row → ⊥
+pub share_gap : (n : ℕ) (handed : Handed) (row : ℕ) → IsShareOf n handed (plan_gap 0) row → ⊥
 share_gap n None row v = v
 share_gap n (Some given) row v = v
 
@@ -111,7 +112,7 @@ share_whole n (Some given) (row_idx_plan head) row v = absurd v
 share_whole n (Some given) (scan_plan head segment) row v = absurd v
 share_whole n (Some given) (zoned_plan head zones content table) row v = absurd v
 
-of_share : (kind : PlanKind) (handed : Handed) (head : Head) (ps : List Plan) (n row : ℕ) → IsShareOf n handed (plan_grown_as head kind ps) row → (head.number ≡ n) × (kind ≡ kinds.Share)
+pub of_share : (kind : PlanKind) (handed : Handed) (head : Head) (ps : List Plan) (n row : ℕ) → IsShareOf n handed (plan_grown_as head kind ps) row → (head.number ≡ n) × (kind ≡ kinds.Share)
 of_share kind None head ps n row v = absurd v
 of_share kinds.Concat (Some given) head ps n row v = absurd v
 of_share (kinds.Eval a) (Some given) head ps n row v = absurd v
@@ -126,7 +127,7 @@ of_share (kinds.Zoned zone_len stats) (Some given) head ps n row v = absurd v
 of_share (kinds.LegacyStats zone_len stats) (Some given) head ps n row v = absurd v
 
 -- for a share, what is kept for the share
-share_given : (nodes : List Node) → IsGoodTable nodes → (n : ℕ) → IsPlaced (IsShareOf n) nodes → (kept : List Kept) → given_for nodes kept n ≡ whole_of kept n
+pub share_given : (nodes : List Node) → IsGoodTable nodes → (n : ℕ) → IsPlaced (IsShareOf n) nodes → (kept : List Kept) → given_for nodes kept n ≡ whole_of kept n
 share_given nodes good n one kept =
     let m : ℕ = one.number in
     let node : Node = node_at nodes m in

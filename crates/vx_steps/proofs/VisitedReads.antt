@@ -57,7 +57,7 @@ RowReads Q way handed d = Finds Q (reads_of way (with_given (values_for handed) 
 abbrev pub FindsOwn : Test → (Found → Type 0) → ℕ → Type 0
 FindsOwn P Q offset = (handed : Handed) (way : Way) (p : Plan) (row : ℕ) → P handed p row → RowReads Q way handed (plan_derivation offset p row)
 
-row_found : (Q : Found → Type 0) (way : Way) (f : ℕ → Derivation) (from count row : ℕ) → row < count → Finds Q (reads_of way (f (from + row))) → Finds Q (reads_of_each way (each_row f from count))
+pub row_found : (Q : Found → Type 0) (way : Way) (f : ℕ → Derivation) (from count row : ℕ) → row < count → Finds Q (reads_of way (f (from + row))) → Finds Q (reads_of_each way (each_row f from count))
 row_found Q way f from zero row lt any = absurd (omega arith)
 row_found Q way f from (suc count) zero lt any =
     let e : from + 0 ≡ from = omega arith in

@@ -13,6 +13,7 @@ use Rattle.vx_steps.specs.declared.reads.SegmentBytes.TheVariants.{NotYet, Came,
 use Rattle.vx_steps.specs.declared.reads.WantedSegment.{WantedSegment}
 use Rattle.vx_steps.specs.ReadTableData.{Wanted, Stored, bytes_in, is_gone, stored_data, wanted_data}
 use Rattle.vx_steps.specs.ReadTable.{StandsAt, AreReads, IsGone, IsNamed, bytes_of}
+use Rattle.vx_steps.proofs.Keeping.{got_inside, got_new}
 
 pub wanted_at : (ws : List WantedSegment) (i : ℕ) (w : WantedSegment) → i < length ws → w ≡ get_or ws i w → slice_get (map wanted_data ws) i ≡ Some (wanted_data w)
 wanted_at ws i w inside is =
@@ -28,11 +29,6 @@ pub is_standing : (wanted : List Wanted) (place : ℕ) (w : Wanted) → slice_ge
 is_standing wanted place w at segment is =
     let P : Option Wanted → Type 0 = λ o. IsSomeAnd o (λ v. v.segment ≡ segment) in
     subst P (sym at) is
-
-got_inside : {X : Type 0} (xs : List X) (i : ℕ) (x : X) → slice_get xs i ≡ Some x → i < length xs
-got_inside [] i x at = absurd cc
-got_inside (y ∷ xs) zero x at = omega arith
-got_inside (y ∷ xs) (suc i) x at = omega (arith, got_inside xs i x at)
 
 standing_inside : (wanted : List Wanted) (segment place : ℕ) → (o : Option Wanted) → slice_get wanted place ≡ o → IsSomeAnd o (λ w. w.segment ≡ segment) → place < length wanted
 standing_inside wanted segment place None e h = absurd h
@@ -60,7 +56,7 @@ bytes_step b x y e = ap (λ (c : Bool). if c then x else y) e
 eq_false : (a b : ℕ) → (a ≡ b → ⊥) → (a == b) ≡ false
 eq_false a b h = grind arith
 
-eq_true : (a b : ℕ) → a ≡ b → (a == b) ≡ true
+pub eq_true : (a b : ℕ) → a ≡ b → (a == b) ≡ true
 eq_true a b h = grind arith
 
 bytes_first : (wanted : List Wanted) (place : ℕ) (w : Wanted) → slice_get wanted place ≡ Some w → ((i : ℕ) (v : Wanted) → slice_get wanted i ≡ Some v → v.segment ≡ w.segment → i ≡ place) → bytes_of wanted w.segment ≡ w.bytes
@@ -106,10 +102,6 @@ pushed_old [] y i x h = absurd cc
 pushed_old (z ∷ xs) y zero x h = h
 pushed_old (z ∷ xs) y (suc i) x h = pushed_old xs y i x h
 
-pub pushed_new : {X : Type 0} (xs : List X) (y : X) → slice_get (xs ++ y ∷ []) (length xs) ≡ Some y
-pushed_new [] y = refl
-pushed_new (z ∷ xs) y = pushed_new xs y
-
 length_pushed : {X : Type 0} (xs : List X) (y : X) → length (xs ++ y ∷ []) ≡ length xs + 1
 length_pushed [] y = refl
 length_pushed (z ∷ xs) y = omega (arith, length_pushed xs y)
@@ -146,7 +138,7 @@ one_more old new wanted handed segment reads none put = record {
         let last : length wanted ≡ p = cc in
         let same : segment ≡ s = grind arith in
         let P : ℕ → Type 0 = λ k. slice_get (wanted ++ record { segment = segment; bytes = None } ∷ []) k ≡ Some (record { segment = segment; bytes = None }) in
-        is_standing (wanted ++ record { segment = segment; bytes = None } ∷ []) p (record { segment = segment; bytes = None }) (subst P last (pushed_new wanted (record { segment = segment; bytes = None }))) s same
+        is_standing (wanted ++ record { segment = segment; bytes = None } ∷ []) p (record { segment = segment; bytes = None }) (subst P last (got_new wanted (record { segment = segment; bytes = None }))) s same
     by_test s p false is e =
         let there : get nat_cmp old s ≡ Some p = sym (ap (λ (b : Bool). cond b (Some (length wanted)) (get nat_cmp old s)) is) ∙ e in
         standing_pushed wanted (record { segment = segment; bytes = None }) s p (slice_get wanted p) refl (reads.stands s p there)
@@ -235,7 +227,7 @@ is_still wanted place segment at =
 
 -- ---- what is stored
 
-some_same : {X : Type 0} (a b : X) → Some a ≡ Some b → a ≡ b
+pub some_same : {X : Type 0} (a b : X) → Some a ≡ Some b → a ≡ b
 some_same a b h = cc
 
 pub item_at : (ws : List WantedSegment) (i : ℕ) (w : WantedSegment) → i < length ws → w ≡ get_or ws i w → slice_get ws i ≡ Some w

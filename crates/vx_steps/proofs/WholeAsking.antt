@@ -1,7 +1,6 @@
 -- Which whole values selected rows ask for: they are there, and no others were added.
-use Rattle.std.proofs.Common.{◌≡◌, ℕ, zero, suc, ◌+◌, ◌-◌, ◌≤◌, ◌⊎◌, inl, inr, ⊎_elim, Bool, true, false, List, [], ◌∷◌, ◌++◌, Some, None, length, map, take, refl, sym, ap, ◌∙◌, subst, arith}
+use Rattle.std.proofs.Common.{◌≡◌, ℕ, ◌+◌, ◌-◌, ◌≤◌, ◌⊎◌, inl, inr, ⊎_elim, Bool, true, List, [], ◌∷◌, ◌++◌, Some, None, length, map, take, refl, sym, ap, ◌∙◌, subst}
 use Rattle.std.specs.Prelude.{slice_range, nat_lt}
-use Rattle.std.specs.Bool.{MatchBool}
 use Rattle.std.specs.List.{slice_get, AllByRecursion}
 use Rattle.vx_plan.specs.Nodes.{Node}
 use Rattle.vx_plan.specs.Plans.{Plan, Plans, PlanValidity, no_plans, plan, all_valid, valid_as, no_plan, plan_head, plan_at, concat_plan, eval_plan, filter_plan, pack_plan, take_plan, share_plan, list_plan, row_idx_plan, scan_plan, zoned_plan}
@@ -20,14 +19,15 @@ use Rattle.vx_steps.proofs.ChunkRows.{IsConcatPlan}
 use Rattle.vx_steps.proofs.ComputedRows.{VisitsUp}
 use Rattle.vx_steps.proofs.Shaping.{head_of, IsListPlan, IsLeafPlan, IsOverPlan, IsPackPlan, IsSharePlan, IsTakePlan, IsZonedPlan}
 use Rattle.vx_steps.proofs.Visiting.{down_chunk, down_fields, AnyVisits, RowVisits}
+use Rattle.vx_steps.proofs.Decoding.{adds_then}
+use Rattle.vx_steps.proofs.Standing.{match_none}
+use Rattle.vx_steps.proofs.Selecting.{only_right, taken_one}
+use Rattle.vx_steps.proofs.Indexing.{take_all}
 
 -- ---- nothing but what was asked for
 
 only_by : (P Q : ℕ → Type 0) (old new : List Kept) → ((n : ℕ) → P n → Q n) → AddsOnly P old new → AddsOnly Q old new
 only_by P Q old new to adds n kept = ⊎_elim (λ (before : IsKept old n). inl before) (λ (p : P n). inr (to n p)) (adds n kept)
-
-only_then : (P : ℕ → Type 0) (old mid new : List Kept) → AddsOnly P old mid → AddsOnly P mid new → AddsOnly P old new
-only_then P old mid new first second n kept = ⊎_elim (λ (before : IsKept mid n). first n before) (λ (p : P n). inr p) (second n kept)
 
 -- what a child's rows ask for, the plan's do
 pub asked_by : (nodes : List Node) (given : List Kept) (child start : ℕ) (bits : List Bool) (n start2 : ℕ) (bits2 : List Bool) → VisitsUp (handed_by nodes (Some given)) (plan_at nodes child) start bits (handed_by nodes (Some given)) (plan_at nodes n) start2 bits2 → (old new : Wholes) → AddsAsked nodes given child start bits old new → AddsAsked nodes given n start2 bits2 old new
@@ -38,8 +38,8 @@ asked_by nodes given child start bits n start2 bits2 up old new asked = record {
 
 pub asked_then : (nodes : List Node) (given : List Kept) (n start : ℕ) (bits : List Bool) (old mid new : Wholes) → AddsAsked nodes given n start bits old mid → AddsAsked nodes given n start bits mid new → AddsAsked nodes given n start bits old new
 asked_then nodes given n start bits old mid new first second = record {
-  used = only_then (Asks nodes given n start bits) old.used mid.used new.used first.used second.used;
-  made = only_then (Asks nodes given n start bits) old.made mid.made new.made first.made second.made;
+  used = adds_then (Asks nodes given n start bits) old.used mid.used new.used first.used second.used;
+  made = adds_then (Asks nodes given n start bits) old.made mid.made new.made first.made second.made;
 }
 
 one_asked : (nodes : List Node) (given : List Kept) (n start : ℕ) (bits : List Bool) (number : ℕ) → Asks nodes given n start bits number → (old new : Wholes) → AddsOne number old new → AddsAsked nodes given n start bits old new
@@ -75,11 +75,6 @@ HaveThere nodes given wholes start bits ns = AllByRecursion (λ n. AreThere node
 pub all_still_there : (nodes : List Node) (leaves : List Kept) (offset : ℕ) (given : List Kept) (old new : Wholes) → KeepsValues nodes leaves offset old.made new.made → UsesGiven given old.used new.used → (start : ℕ) (bits : List Bool) (ns : List ℕ) → HaveThere nodes given old start bits ns → HaveThere nodes given new start bits ns
 all_still_there nodes leaves offset given old new keeps uses start bits [] all = tt
 all_still_there nodes leaves offset given old new keeps uses start bits (n ∷ ns) all = (still_there nodes leaves offset given old new keeps uses n start bits all.0, all_still_there nodes leaves offset given old new keeps uses start bits ns all.1)
-
--- inside whole values none are asked for
-match_none : (b : Bool) (A B : Type 0) → (A → ⊥) → (B → ⊥) → MatchBool b A B → ⊥
-match_none true A B a b h = a h
-match_none false A B a b h = b h
 
 mutual
   pub none_inside : (m : ℕ) (p : Plan) (row : ℕ) → Visits (IsWholeRead m) None p row → ⊥
@@ -132,10 +127,6 @@ there_child nodes given wholes n child start bits p law down there m r =
     let r2 : AsksBy nodes given m start bits p = subst (AsksBy nodes given m start bits) law r in
     there m (r2.0, r2.1, down m (start + r2.0) r2.2)
 
-only_right : {A : Type 0} → ⊥ ⊎ A → A
-only_right (inl none) = absurd none
-only_right (inr a) = a
-
 pub there_same : (nodes : List Node) (given : List Kept) (wholes : Wholes) (n child start : ℕ) (bits : List Bool) → plan_at nodes n ≡ filter_plan (head_of nodes n) (plan_at nodes child) → AreThere nodes given wholes child start bits → AreThere nodes given wholes n start bits
 there_same nodes given wholes n child start bits law there = there_child nodes given wholes n child start bits (filter_plan (head_of nodes n) (plan_at nodes child)) law (λ m row v. only_right v) there
 
@@ -186,13 +177,6 @@ all_more : (P : ℕ → Type 0) (ns : List ℕ) (n : ℕ) → AllByRecursion P n
 all_more P [] n all here = (here, tt)
 all_more P (m ∷ ns) n all here = (all.0, all_more P ns n all.1 here)
 
-taken_one : (ns : List ℕ) (place n : ℕ) → slice_get ns place ≡ Some n → take (place + 1) ns ≡ take place ns ++ n ∷ []
-taken_one [] place n at = absurd cc
-taken_one (m ∷ ns) zero n at = let e : m ≡ n = cc in ap (λ (k : ℕ). k ∷ []) e
-taken_one (m ∷ ns) (suc place) n at =
-    let e : suc place + 1 ≡ suc (place + 1) = omega arith in
-    ap (λ (k : ℕ). take k (m ∷ ns)) e ∙ ap (λ (rest : List ℕ). m ∷ rest) (taken_one ns place n at)
-
 -- one more child's are there
 pub field_there : (nodes : List Node) (leaves : List Kept) (offset : ℕ) (given : List Kept) (old new : Wholes) → KeepsValues nodes leaves offset old.made new.made → UsesGiven given old.used new.used → (start : ℕ) (bits : List Bool) (ns : List ℕ) (place n : ℕ) → slice_get ns place ≡ Some n →
     HaveThere nodes given old start bits (take place ns) → AreThere nodes given new n start bits → HaveThere nodes given new start bits (take (place + 1) ns)
@@ -205,19 +189,13 @@ any_there nodes given wholes start bits [] all m place at none = absurd none
 any_there nodes given wholes start bits (n ∷ ns) all m place at (inl v) = all.0 m (place, at, v)
 any_there nodes given wholes start bits (n ∷ ns) all m place at (inr a) = any_there nodes given wholes start bits ns all.1 m place at a
 
-all_taken : {X : Type 0} (xs : List X) (n : ℕ) → length xs ≤ n → take n xs ≡ xs
-all_taken [] zero h = refl
-all_taken [] (suc n) h = refl
-all_taken (x ∷ xs) zero h = absurd (omega arith)
-all_taken {X} (x ∷ xs) (suc n) h = ap (λ (rest : List X). x ∷ rest) (all_taken xs n (omega arith))
-
 -- all children's are
 pub fields_there : (nodes : List Node) (given : List Kept) (wholes : Wholes) (n start : ℕ) (bits : List Bool) (place : ℕ) → IsPackPlan nodes n → length (node_at nodes n).children ≤ place → HaveThere nodes given wholes start bits (take place (node_at nodes n).children) → AreThere nodes given wholes n start bits
 fields_there nodes given wholes n start bits place over all have m r =
     let ns : List ℕ = (node_at nodes n).children in
     let F : List ℕ → Type 0 = HaveThere nodes given wholes start bits in
     let d = down_fields nodes (handed_by nodes (Some given)) n start bits over (IsWholeRead m) (λ row none. none) (λ row none. none) r in
-    any_there nodes given wholes start bits ns (subst F (all_taken ns place all) have) m d.0 d.1 d.2
+    any_there nodes given wholes start bits ns (subst F (take_all ns place all) have) m d.0 d.1 d.2
 
 -- ---- one child of a concat after another
 
@@ -231,4 +209,4 @@ chunk_there nodes good given wholes n start done here bits chunk is over fits be
 pub chunks_there : (nodes : List Node) (given : List Kept) (wholes : Wholes) (n start done : ℕ) (bits : List Bool) → length bits ≤ done → AreThere nodes given wholes n start (take done bits) → AreThere nodes given wholes n start bits
 chunks_there nodes given wholes n start done bits all there =
     let F : List Bool → Type 0 = AreThere nodes given wholes n start in
-    subst F (all_taken bits done all) there
+    subst F (take_all bits done all) there

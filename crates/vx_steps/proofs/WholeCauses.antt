@@ -38,13 +38,13 @@ head_rows : (nodes : List Node) → IsGoodTable nodes → (n : ℕ) → n < leng
 head_rows nodes good n there = ap (λ (head : Head). head.rows) (head_in_table nodes good n there)
 
 -- the plan is that of a number of the table
-record IsPlanOf (nodes : List Node) (p : Plan) : Type 0 where
-  number : ℕ
-  there : number < length nodes
-  is : p ≡ plan_at nodes number
+pub record IsPlanOf (nodes : List Node) (p : Plan) : Type 0 where
+  pub number : ℕ
+  pub there : number < length nodes
+  pub is : p ≡ plan_at nodes number
 
 -- the values of a take of the table are a plan of the table
-second_plan : (kind : PlanKind) (nodes : List Node) (node : Node) (other : Head) (ns : List ℕ) (head : Head) (codes values : Plan) → IsMadeAs kind node (nodes_at nodes ns) → All (λ n. n < length nodes) ns → take_plan head codes values ≡ plan_grown_as other kind (map (plan_at nodes) ns) → IsPlanOf nodes values
+pub second_plan : (kind : PlanKind) (nodes : List Node) (node : Node) (other : Head) (ns : List ℕ) (head : Head) (codes values : Plan) → IsMadeAs kind node (nodes_at nodes ns) → All (λ n. n < length nodes) ns → take_plan head codes values ≡ plan_grown_as other kind (map (plan_at nodes) ns) → IsPlanOf nodes values
 second_plan kinds.Concat nodes node other ns head codes values made these is = absurd cc
 second_plan (kinds.Eval a) nodes node other ns head codes values made these is = absurd cc
 second_plan kinds.Filter nodes node other ns head codes values made these is = absurd cc
@@ -72,7 +72,7 @@ values_plan nodes good m there head codes values is number named =
     subst F same (one.there, one.is)
 
 -- a plan of the table that has a number is that number's
-own_plan : (nodes : List Node) → IsGoodTable nodes → (m : ℕ) → m < length nodes → (p : Plan) → p ≡ plan_at nodes m → (number : ℕ) → (plan_head p).number ≡ number → p ≡ plan_at nodes number
+pub own_plan : (nodes : List Node) → IsGoodTable nodes → (m : ℕ) → m < length nodes → (p : Plan) → p ≡ plan_at nodes m → (number : ℕ) → (plan_head p).number ≡ number → p ≡ plan_at nodes number
 own_plan nodes good m there p is number named =
     let same : m ≡ number = sym (head_number nodes good m there) ∙ sym (ap (λ (q : Plan). (plan_head q).number) is) ∙ named in
     is ∙ ap (plan_at nodes) same

@@ -1,8 +1,6 @@
 -- Faults inside whole values that selected rows ask for.
-use Rattle.std.proofs.Common.{◌≡◌, ℕ, ◌+◌, ◌-◌, inl, inr, Bool, true, false, List, Option, Some, None, length, refl, sym, subst, arith}
+use Rattle.std.proofs.Common.{◌≡◌, ℕ, ◌+◌, ◌-◌, inl, inr, Bool, true, List, Option, Some, None, length, sym, subst, arith}
 use Rattle.std.specs.Prelude.{nat_lt}
-use Rattle.std.specs.Bool.{MatchBool}
-use Rattle.vx_base.specs.Columns.{ColumnData}
 use Rattle.vx_rows.specs.Derivations.{Leaves}
 use Rattle.vx_plan.specs.Nodes.{Node}
 use Rattle.vx_plan.specs.Plans.{Plan, Plans, PlanValidity, no_plans, plan, all_valid, valid_as, no_plan, plan_head, plan_at, concat_plan, eval_plan, filter_plan, pack_plan, take_plan, share_plan, list_plan, row_idx_plan, scan_plan, zoned_plan}
@@ -10,7 +8,7 @@ use Rattle.vx_plan.specs.Refs.{number_of}
 use Rattle.vx_plan.specs.Rules.{node_at}
 use Rattle.vx_steps.specs.declared.errors.StepError.{StepError}
 use Rattle.vx_steps.specs.declared.errors.StepError.TheVariants.{Unsupported, BadSegment, BadCode, EvalFault, Memory}
-use Rattle.vx_steps.specs.Computed.{else_kept, kept_in, HasCause, HasWholeCause}
+use Rattle.vx_steps.specs.Computed.{kept_in, HasCause, HasWholeCause}
 use Rattle.vx_steps.specs.Given.{Handed}
 use Rattle.vx_steps.specs.Held.{Held, IsBy, handed_in}
 use Rattle.vx_steps.specs.KeptData.{Kept}
@@ -19,18 +17,15 @@ use Rattle.vx_steps.specs.Needs.{NoneGiven}
 use Rattle.vx_steps.specs.Rows.{SelectsSome}
 use Rattle.vx_steps.specs.Visits.{Test, Visits, VisitsIn, VisitsField, VisitsValidity, SomeVisit, SomeWholeVisit, HasBadCode, HasEvalFault, IsListRead}
 use Rattle.vx_steps.specs.Wholes.{FailsInside, HasInsideCause, Inside, KeepsValues, WholeFails}
-use Rattle.vx_steps.proofs.ComputedRows.{VisitsUp}
+use Rattle.vx_steps.proofs.ComputedRows.{VisitsUp, none_kept}
 use Rattle.vx_steps.proofs.Keeping.{got_inside}
 use Rattle.vx_steps.proofs.Premises.{unless_by}
 use Rattle.vx_steps.proofs.Shaping.{IsSharePlan, IsTakePlan}
 use Rattle.vx_steps.proofs.Visiting.{up_shared, up_values}
 use Rattle.vx_steps.proofs.WholeMaking.{holding}
+use Rattle.vx_steps.proofs.PlacedVisits.{match_mapped}
 
 -- ---- while whole values are made each visit is inside them
-
-match_weaker : (b : Bool) (A B C D : Type 0) → (A → C) → (B → D) → MatchBool b A B → MatchBool b C D
-match_weaker true A B C D to more a = to a
-match_weaker false A B C D to more b = more b
 
 mutual
   inside : (P : Test) (p : Plan) (row : ℕ) → Visits P None p row → Visits (Inside P) None p row
@@ -58,7 +53,7 @@ mutual
   inside_in : (P : Test) (ps : Plans) (row : ℕ) → VisitsIn P None ps row → VisitsIn (Inside P) None ps row
   inside_in P no_plans row v = v
   inside_in P (plan first rest) row v =
-      match_weaker (nat_lt row (plan_head first).rows) (Visits P None first row) (VisitsIn P None rest (row - (plan_head first).rows)) (Visits (Inside P) None first row) (VisitsIn (Inside P) None rest (row - (plan_head first).rows)) (inside P first row) (inside_in P rest (row - (plan_head first).rows)) v
+      match_mapped (nat_lt row (plan_head first).rows) (Visits P None first row) (VisitsIn P None rest (row - (plan_head first).rows)) (Visits (Inside P) None first row) (VisitsIn (Inside P) None rest (row - (plan_head first).rows)) (inside P first row) (inside_in P rest (row - (plan_head first).rows)) v
 
   inside_fields : (P : Test) (ps : Plans) (row : ℕ) → VisitsField P None ps row → VisitsField (Inside P) None ps row
   inside_fields P no_plans row v = v
@@ -104,10 +99,6 @@ memory_inside : (h : Held) (n start : ℕ) (bits : List Bool) (error : StepError
 memory_inside h n start bits error memory =
     let F : StepError → Type 0 = λ e. FailsInside h n start bits e in
     subst F (sym memory) (λ by are. tt)
-
-none_kept : (a b : Option ColumnData) → else_kept a b ≡ None → a ≡ None
-none_kept None b e = refl
-none_kept (Some c) b e = absurd cc
 
 none_for : (given : Option (List Kept)) (n : ℕ) → kept_in given n ≡ None → NoneGiven given n
 none_for None n e = tt

@@ -6,8 +6,9 @@ use Rattle.std.specs.Ordering.{nat_cmp}
 use Rattle.vx_steps.specs.declared.reads.WantedSegment.{WantedSegment}
 use Rattle.vx_steps.specs.ReadTable.{AreReads, IsGone, IsNamed}
 use Rattle.vx_steps.specs.ReadTableData.{Stored, Wanted, stored_data, wanted_data}
-use Rattle.vx_steps.proofs.WantedReads.{changed_named, item_at, kept_gone, one_more, place_inside, same_item, pushed_gone, pushed_named, pushed_new, same_set, stands_is, stored_at, stored_set, wanted_at}
+use Rattle.vx_steps.proofs.WantedReads.{changed_named, item_at, kept_gone, one_more, place_inside, same_item, pushed_gone, pushed_named, same_set, stands_is, stored_at, stored_set, wanted_at}
 use Rattle.vx_steps.proofs.reads.ReadTable.want.Goals as goal
+use Rattle.vx_steps.proofs.Keeping.{got_new}
 
 pub index-requires : goal.index-requires
 index-requires c =
@@ -97,7 +98,7 @@ returns-clause-named c =
     let more : map stored_data c.push.new.self.items ≡ stored ++ record { segment = c.args.segment; gone = false; last = c.args.need } ∷ [] = grind (arith, common_steps) in
     let own : c.args.need ≤ c.args.need = omega arith in
     let P : List Stored → Type 0 = λ st. IsNamed st c.args.segment c.args.need in
-    let here : P (stored ++ one ∷ []) = (length stored, one, pushed_new stored one, refl, own) in
+    let here : P (stored ++ one ∷ []) = (length stored, one, got_new stored one, refl, own) in
     subst P (sym more) here
 
 pub returns-clause-stored : goal.returns-clause-stored
