@@ -1,5 +1,5 @@
 -- What is decided before a scan begins.
-use Rattle.std.proofs.Common.{◌≡◌, ℕ, zero, suc, ◌-◌, ◌<◌, ◌≤◌, inl, inr, Bool, true, false, List, [], ◌∷◌, Option, Some, None, refl, sym, ap, ◌∙◌, subst, arith}
+use Rattle.std.proofs.Common.{◌≡◌, ℕ, zero, suc, ◌-◌, ◌<◌, ◌≤◌, inl, inr, Bool, true, false, List, [], ◌∷◌, Option, Some, None, sym, ap, ◌∙◌, subst, arith}
 use Rattle.std.specs.Prelude.{◌↔◌, ◌^◌, min, nat_lt, if◌then◌else◌, IsTrue}
 use Rattle.std.proofs.lemmas.Bool.{cases_lt, lt-ltb, ltb-true}
 use Rattle.vx_base.specs.Data.{DataType}
@@ -75,20 +75,6 @@ none_past : (count : ℕ) (rows : List ℕ) → AllByRecursion (λ row. row < co
 none_past count [] inside (k, x, below, at, past) = omega (arith, below)
 none_past count (row ∷ rows) inside (zero, x, below, at, past) = let e : row ≡ x = at in let less = inside.0 in omega (arith, e, less, past)
 none_past count (row ∷ rows) inside (suc k, x, below, at, past) = none_past count rows inside.1 (k, x, omega (arith, below), at, past)
-
-pub outside_past : (count : ℕ) (rows : List ℕ) (b : Bool) → (IsTrue b ↔ Any (λ row. count ≤ row) rows) → (AllByRecursion (λ row. row < count) rows → ⊥) → IsTrue b
-outside_past count rows true is outside = refl
-outside_past count rows false is outside = absurd (outside (all_below count rows (λ any. let e : IsTrue false = is.1 any in cc)))
-
--- a truth value that says whether some selected row is past the last one says whether they aren't all inside
-pub past_outside : (selection : Selection) (rows : Range ℕ) (count : ℕ) (b : Bool) → (IsTrue b ↔ Any (λ row. count ≤ row) (selected_rows selection rows.start rows.end)) → IsTrue b ↔ (SelectsInside selection (Some rows) count → ⊥)
-past_outside selection rows count b is = (
-  λ past inside. none_past count (selected_rows selection rows.start rows.end) inside (is.0 past),
-  λ outside. outside_past count (selected_rows selection rows.start rows.end) b is outside,
-)
-
-pub none_outside : (selection : Selection) (count : ℕ) → IsTrue false ↔ (SelectsInside selection None count → ⊥)
-none_outside selection count = (λ is. absurd (let e : false ≡ true = is in cc), λ outside. absurd (outside tt))
 
 -- ones that aren't known to be outside are inside
 pub is_inside : (selection : Selection) (range : Option (Range ℕ)) (count : ℕ) (b : Bool) → (IsTrue b ↔ (SelectsInside selection range count → ⊥)) → b ≡ false → SelectsInside selection range count

@@ -44,10 +44,6 @@ use Rattle.vx_scan.proofs.WeakerVisits.{same_read, weaker_visit}
 
 -- ---- one more value
 
-some_behind : (b : Bool) (column : ColumnData) (rest more : Option ColumnData) (found : ColumnData) → (rest ≡ Some found → more ≡ Some found) → (if b then Some column else rest) ≡ Some found → (if b then Some column else more) ≡ Some found
-some_behind true column rest more found f at = at
-some_behind false column rest more found f at = f at
-
 either_behind : (b : Bool) (column : ColumnData) (rest more : Option ColumnData) (found : ColumnData) (Q : Type 0) → (more ≡ Some found → (rest ≡ Some found) ⊎ Q) → (if b then Some column else more) ≡ Some found → ((if b then Some column else rest) ≡ Some found) ⊎ Q
 either_behind true column rest more found Q f at = inl at
 either_behind false column rest more found Q f at = f at

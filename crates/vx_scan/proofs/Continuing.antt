@@ -1,5 +1,5 @@
 -- Steps of a scan one after the other.
-use Rattle.std.proofs.Common.{◌≡◌, ℕ, ◌⊎◌, inl, inr, Option, Some, None, refl, sym, ◌∙◌, subst}
+use Rattle.std.proofs.Common.{◌≡◌, ℕ, inl, inr, Option, Some, None, refl, sym, ◌∙◌, subst}
 use Rattle.vx_base.specs.Columns.{ColumnData}
 use Rattle.vx_steps.specs.Jobs.{KeepsColumns, KeepsWholes, IsAskedFor, IsReadFor}
 use Rattle.vx_steps.specs.Kept.{kept_at}
@@ -9,11 +9,6 @@ use Rattle.vx_steps.proofs.Decoding.{adds_then}
 use Rattle.vx_scan.specs.Continues.{KeepsScan, Continues, MayBeRead}
 
 -- ---- what each step keeps
-
--- one of two, or the second as before
-or_earlier : {A B C : Type 0} → B ⊎ C → (B → A ⊎ C) → A ⊎ C
-or_earlier (inl b) earlier = earlier b
-or_earlier (inr c) earlier = inr c
 
 wholes_then : (base one two three : ScanData) → KeepsWholes base.nodes base.job one.progress.wholes two.progress.wholes → KeepsWholes base.nodes base.job two.progress.wholes three.progress.wholes → KeepsWholes base.nodes base.job one.progress.wholes three.progress.wholes
 wholes_then base one two three first second = record {

@@ -1,5 +1,5 @@
 -- Lists of wanted segments that grow, and their fronts.
-use Rattle.std.proofs.Common.{◌≡◌, ℕ, zero, suc, ◌+◌, ◌<◌, ◌≤◌, List, [], ◌∷◌, ◌++◌, Option, Some, None, length, take, refl, sym, ap, subst, add-one, arith}
+use Rattle.std.proofs.Common.{◌≡◌, ℕ, zero, suc, ◌+◌, ◌<◌, ◌≤◌, List, [], ◌∷◌, ◌++◌, Option, Some, length, take, refl, sym, ap, subst, add-one, arith}
 use Rattle.std.specs.Prelude.{slice_set, slice_index_or, IsSomeAnd}
 use Rattle.std.specs.List.{slice_get}
 use Rattle.vx_steps.specs.ReadTable.{StandsAt}
@@ -55,9 +55,3 @@ pub stands_by : (wanted : List Wanted) (place : ℕ) (w : Wanted) → slice_get 
 stands_by wanted place w at =
     let P : Option Wanted → Type 0 = λ o. IsSomeAnd o (λ v. v.segment ≡ w.segment) in
     subst P (sym at) refl
-
-stands_grown : (old new : List Wanted) → Grows old new → (segment place : ℕ) (here : Option Wanted) → slice_get old place ≡ here → IsSomeAnd here (λ w. w.segment ≡ segment) → StandsAt new segment place
-stands_grown old new grows segment place None at stands = absurd stands
-stands_grown old new grows segment place (Some w) at stands =
-    let P : Option Wanted → Type 0 = λ o. IsSomeAnd o (λ v. v.segment ≡ segment) in
-    subst P (sym (grows place w at)) stands

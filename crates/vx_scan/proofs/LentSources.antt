@@ -8,12 +8,6 @@ use Rattle.vx_scan.specs.Lent.{EachSource, EachSourceBy, SomeSourceBy, FirstSour
 
 -- ---- from one relation to another
 
-pub each_source : (P Q : SourceState → SourceState → Type 0) → ((before after : SourceState) → P before after → Q before after) → (befores afters : List SourceState) → EachSource P befores afters → EachSource Q befores afters
-each_source P Q to [] [] each = tt
-each_source P Q to [] (after ∷ afters) each = absurd each
-each_source P Q to (before ∷ befores) [] each = absurd each
-each_source P Q to (before ∷ befores) (after ∷ afters) each = (to before after each.0, each_source P Q to befores afters each.1)
-
 pub each_source_by : {X Y : Type 0} (f : X → Y) (P : X → SourceState → SourceState → Type 0) (Q : Y → SourceState → SourceState → Type 0) → ((x : X) (before after : SourceState) → P x before after → Q (f x) before after) → (xs : List X) (befores afters : List SourceState) → EachSourceBy P xs befores afters → EachSourceBy Q (map f xs) befores afters
 each_source_by f P Q to [] [] [] each = tt
 each_source_by f P Q to [] [] (after ∷ afters) each = absurd each
@@ -44,15 +38,6 @@ none_by P never (x ∷ xs) [] afters some = some
 none_by P never (x ∷ xs) (before ∷ befores) [] some = some
 none_by P never (x ∷ xs) (before ∷ befores) (after ∷ afters) (inl here) = never x before after here
 none_by P never (x ∷ xs) (before ∷ befores) (after ∷ afters) (inr later) = none_by P never xs befores afters later
-
--- without the list, where the relation doesn't ask for it
-pub each_without : {X : Type 0} (P : X → SourceState → SourceState → Type 0) (Q : SourceState → SourceState → Type 0) → ((x : X) (before after : SourceState) → P x before after → Q before after) → (xs : List X) (befores afters : List SourceState) → EachSourceBy P xs befores afters → EachSource Q befores afters
-each_without P Q to [] [] [] each = tt
-each_without P Q to [] [] (after ∷ afters) each = absurd each
-each_without P Q to [] (before ∷ befores) afters each = absurd each
-each_without P Q to (x ∷ xs) [] afters each = absurd each
-each_without P Q to (x ∷ xs) (before ∷ befores) [] each = absurd each
-each_without P Q to (x ∷ xs) (before ∷ befores) (after ∷ afters) each = (to x before after each.0, each_without P Q to xs befores afters each.1)
 
 -- ---- the first source
 

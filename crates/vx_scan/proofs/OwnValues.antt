@@ -23,15 +23,6 @@ pub record Owning (asked : List PlanRef) (made own : List Kept) (count : ℕ) : 
   pub from : (n : ℕ) (column : ColumnData) → kept_at own n ≡ Some column → kept_at made n ≡ Some column
   pub there : (place : ℕ) (node : PlanRef) → slice_get asked place ≡ Some node → place < count → IsKept made (number_of node) → IsKept own (number_of node)
 
-none_from : (made own : List Kept) → own ≡ [] → (n : ℕ) (column : ColumnData) → kept_at own n ≡ Some column → kept_at made n ≡ Some column
-none_from made own none n column at =
-    let same : kept_at own n ≡ None = ap (λ (ks : List Kept). kept_at ks n) none in
-    let both : Some column ≡ None = sym at ∙ same in
-    absurd cc
-
-pub owning_none : (asked : List PlanRef) (made own : List Kept) → own ≡ [] → Owning asked made own 0
-owning_none asked made own none = record { from = none_from made own none; there = λ place node at less. absurd (omega (arith, less)) }
-
 -- one plan more, of which none were made, or whose values stand behind the others
 pub owning_next : (asked : List PlanRef) (made own more : List Kept) (count : ℕ) (node : PlanRef) → slice_get asked count ≡ Some node → Owning asked made own count → Gives (number_of node) made own more → Owning asked made more (count + 1)
 owning_next asked made own more count node at so_far gives = of_found (kept_at made (number_of node)) refl gives
@@ -73,14 +64,4 @@ own_all plans chosen asked same made own count are is all so_far = record {
       let one : (place : ℕ) × ((node : PlanRef) × (slice_get asked place ≡ Some node) × (number_of node ≡ n)) = asked_place asked n among in
       let less = got_inside asked one.0 one.1.0 one.1.1 in
       subst (IsKept own) one.1.2 (so_far.there one.0 one.1.0 one.1.1 (omega (arith, less, all)) (subst (IsKept made) (sym one.1.2) kept)));
-}
-
--- where nothing was made
-pub own_none : (plans : ScanPlans) (chosen : SelectedRows) (made own : List Kept) → made ≡ [] → own ≡ [] → AreOwn plans chosen made own
-own_none plans chosen made own nothing none = record {
-  from = none_from made own none;
-  asked = λ n asks kept.
-      (let same : kept_at made n ≡ None = ap (λ (ks : List Kept). kept_at ks n) nothing in
-      let both : Some kept.0 ≡ None = sym kept.1 ∙ same in
-      absurd cc);
 }

@@ -1,7 +1,7 @@
 -- What comes of all chunks, once those that ran with borrowed values are settled and all pieces are in order.
 use Rattle.std.proofs.Common.{◌≡◌, ℕ, ◌+◌, ◌≤◌, ◌⊎◌, inl, inr, List, [], ◌∷◌, Option, Some, None, length, refl, sym, ap, ◌∙◌, subst, arith}
 use Rattle.std.specs.Prelude.{IfSome, IsSomeAnd}
-use Rattle.std.specs.List.{sum_by, All, AllByRecursion}
+use Rattle.std.specs.List.{sum_by, All}
 use Rattle.std.specs.List.Sorted.{IsNonDecreasingBy, IsPermutation}
 use Rattle.std.specs.Global.{Vec}
 use Rattle.std.proofs.lemmas.List.Elements.{All-nil}
@@ -29,12 +29,11 @@ use Rattle.vx_scan.specs.Loans.{loaned_of, IsLoanBy}
 use Rattle.vx_scan.specs.Outcomes.{Claims}
 use Rattle.vx_scan.specs.Plans.{bytes_of}
 use Rattle.vx_scan.specs.Settled.{told_sound, FailsNow, SettlesAll}
-use Rattle.vx_scan.specs.Settling.{told_right, rerun_chunks, FailsSettled, IsRerun, Settles}
+use Rattle.vx_scan.specs.Settling.{told_right, FailsSettled, IsRerun, Settles}
 use Rattle.vx_scan.specs.Workers.{HasDtype, HasItsRows, IsPieceOf, numbers_of}
 use Rattle.vx_scan.proofs.Certifying.{each_weaker}
 use Rattle.vx_scan.proofs.Lasting.{lasts_same}
 use Rattle.vx_scan.proofs.SettledCauses.{cause_lasts}
-use Rattle.vx_scan.proofs.SettlingAll.{asked_none}
 use Rattle.vx_scan.proofs.Joining.{no_memory_least}
 
 -- ---- lists in another order
@@ -185,25 +184,3 @@ settles_unordered plans chunks joined loans reruns new pieces before after permu
       lasts = all.lasts;
       in_flight = all.in_flight;
     }
-
--- nor for the order of the loans
-pub settles_unsorted : (plans : ScanPlans) (chunks : List SelectedRows) (joined : Joined) (pieces : Vec Piece) (reruns : Vec Rerun) (source : SourceState) → pieces.items ≡ [] → reruns.items ≡ [] → Settles plans chunks joined (record { pieces = pieces; claimed = joined.claimed; reruns = reruns; error = Some no_memory }) source source
-settles_unsorted plans chunks joined pieces reruns source empty unlisted = record {
-  lists = refl;
-  some_pieces = λ x. (let same : times x (numbers_of pieces.items) ≡ 0 = ap (λ (ps : List Piece). times x (numbers_of ps)) empty in omega (arith, same));
-  old_pieces = λ enough. absurd (enough refl);
-  all_pieces = λ enough. absurd (enough refl);
-  sorted = subst (IsNonDecreasingBy (λ (piece : Piece). piece.chunk)) (sym empty) (λ i j d le less. absurd (omega (arith, less)));
-  content = λ file told right. subst (All (IsPieceOf (leaves_of (bytes_of plans file)) plans chunks)) (sym empty) (All-nil (IsPieceOf (leaves_of (bytes_of plans file)) plans chunks));
-  dtype = λ each. subst (All (HasDtype plans)) (sym empty) (All-nil (HasDtype plans));
-  rows = λ each. subst (All (HasItsRows chunks)) (sym empty) (All-nil (HasItsRows chunks));
-  cause = inl refl;
-  lowest = no_memory_least joined.error;
-  faults = inl refl;
-  reruns = subst (AllByRecursion (IsRerun plans chunks (told_right plans chunks joined source))) (sym unlisted) tt;
-  reruns_once = λ x. (let same : times x (rerun_chunks reruns.items) ≡ 0 = ap (λ (rs : List Rerun). times x (rerun_chunks rs)) unlisted in omega (arith, same));
-  again = asked_none plans chunks (rerun_chunks reruns.items) source;
-  none = λ empty. (refl, unlisted);
-  lasts = lasts_same source;
-  in_flight = inr refl;
-}

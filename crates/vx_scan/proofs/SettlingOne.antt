@@ -49,9 +49,6 @@ use Rattle.vx_scan.proofs.SettledCauses.{cause_asked, cause_free, cause_lasts, c
 told_earlier : (plans : ScanPlans) (chosen : SelectedRows) (old mid : List Kept) (loan : Loan) (Wants : ℕ → Type 0) (before now : SourceState) → Certifies plans Wants old mid None before now → (P : Bytes → Type 0) → told_loan plans chosen mid loan now P → told_loan plans chosen old loan before P
 told_earlier plans chosen old mid loan Wants before now step P holds file told made by = holds file (step.lasts.file ∙ told) (step.right file told made) by
 
-told_file : (plans : ScanPlans) (chosen : SelectedRows) (right : List Kept) (loan : Loan) (source : SourceState) (P : Bytes → Type 0) → told_by plans source P → told_loan plans chosen right loan source P
-told_file plans chosen right loan source P holds file told made by = holds file told
-
 -- ---- what comes after values were made sure of
 
 piece_earlier : (Told Other : Claims) → ((P : Bytes → Type 0) → Told P → Other P) → (plans : ScanPlans) (chosen : SelectedRows) (result : Result ColumnData ScanError) → IfOk result (GivesPiece Told plans [] chosen) → IfOk result (GivesPiece Other plans [] chosen)

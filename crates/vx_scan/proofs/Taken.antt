@@ -20,11 +20,6 @@ distinct_more (through take) segment pairs apart distinct = AllPairs-cons (λ on
 
 -- ---- of a list
 
--- each reason through a take has a pair that is so
-pub all_taken : (P : ℕ × ℕ → Type 0) (reasons : List Reason) → AllByRecursion (λ (reason : Reason). (take : ℕ) → reason.way ≡ through take → P (take, reason.segment)) reasons → All P (flat_map take_and_segment reasons)
-all_taken P [] each = All-nil P
-all_taken P (reason ∷ reasons) each = all_by P reason.way reason.segment (flat_map take_and_segment reasons) each.0 (all_taken P reasons each.1)
-
 each_differs : (take segment : ℕ) (reasons : List Reason) → All (λ other. segment ≢ other) (map segment_of reasons) → All (λ pair. (take, segment) ≢ pair) (flat_map take_and_segment reasons)
 each_differs take segment [] apart = All-nil (λ pair. (take, segment) ≢ pair)
 each_differs take segment (reason ∷ reasons) apart =
