@@ -1,6 +1,7 @@
 -- A text that is written through a buffer: what was not written yet stands in the buffer and behind it.
 use Rattle.std.proofs.Common.{◌≡◌, ℕ, zero, suc, ◌+◌, ◌<◌, ◌≤◌, List, [], ◌∷◌, ◌++◌, length, take, drop, get_or, slice_range, Option, Some, None, option_map, Result, Ok, Err, refl, sym, ap, ◌∙◌, subst, arith, append_assoc}
-use Rattle.std.proofs.lemmas.List.{append-nil}
+use Rattle.std.proofs.Math.Seq.{take-append_seam}
+use Rattle.std.proofs.lemmas.List.{append-nil, drop_all, take-append-drop}
 use Rattle.std.proofs.lemmas.List.Folds.{drop_split}
 use Rattle.std.specs.Prelude.{⊤}
 use Rattle.vx_base.specs.Columns.{ColumnData}
@@ -15,16 +16,7 @@ use Rattle.scan_commands.specs.Writing.{WritesFront, WritingGives}
 
 -- ---- lists
 
-take_then_drop : (n : ℕ) (xs : List ℕ) → take n xs ++ drop n xs ≡ xs
-take_then_drop zero xs = refl
-take_then_drop (suc n) [] = refl
-take_then_drop (suc n) (x ∷ xs) = ap (λ (ys : List ℕ). x ∷ ys) (take_then_drop n xs)
-
-take_front : (front rest : List ℕ) → take (length front) (front ++ rest) ≡ front
-take_front [] rest = refl
-take_front (x ∷ front) rest = ap (λ (ys : List ℕ). x ∷ ys) (take_front front rest)
-
-lines_append : (t : DataType) (vs ws : List Datum) → lines t (vs ++ ws) ≡ lines t vs ++ lines t ws
+pub lines_append : (t : DataType) (vs ws : List Datum) → lines t (vs ++ ws) ≡ lines t vs ++ lines t ws
 lines_append t [] ws = refl
 lines_append t (v ∷ vs) ws = ap (λ (bytes : List ℕ). line t v ++ bytes) (lines_append t vs ws) ∙ sym (append_assoc (line t v) (lines t vs) (lines t ws))
 
@@ -48,11 +40,11 @@ wrote_all text old new is = record { front = text; whole = append-nil text; writ
 
 -- a front was
 pub wrote_front : (text : List ℕ) (old new : WriteState) → WritesFront text old new → WritesSome text old new
-wrote_front text old new (count, is) = (drop count text, record { front = take count text; whole = take_then_drop count text; written = is })
+wrote_front text old new (count, is) = (drop count text, record { front = take count text; whole = take-append-drop count text; written = is })
 
 pub front_of_some : (text : List ℕ) (old new : WriteState) → WritesSome text old new → WritesFront text old new
 front_of_some text old new (rest, some) =
-    (length some.front, some.written ∙ ap (λ (f : List ℕ). option_map (λ (w : List ℕ). w ++ f) old.written) (sym (ap (λ (t : List ℕ). take (length some.front) t) (sym some.whole) ∙ take_front some.front rest)))
+    (length some.front, some.written ∙ ap (λ (f : List ℕ). option_map (λ (w : List ℕ). w ++ f) old.written) (sym (ap (λ (t : List ℕ). take (length some.front) t) (sym some.whole) ∙ take-append_seam some.front rest)))
 
 -- more of what was not
 pub wrote_more : (text part rest more : List ℕ) (old mid new : WriteState) → WritesBut (part ++ more) text old mid → WritesBut rest part mid new → WritesBut (rest ++ more) text old new
@@ -93,16 +85,10 @@ rows_in t values row end before after text old mid le pushed first =
     ap (λ (x : List ℕ). before ++ x) split ∙ sym (append_assoc before (lines t (slice_range values row end)) (lines t (drop end values))) ∙ ap (λ (x : List ℕ). x ++ lines t (drop end values)) (sym pushed) in
     subst (λ (x : List ℕ). WritesBut x text old mid) same first
 
-dropped : (values : List Datum) (row : ℕ) → length values ≤ row → drop row values ≡ []
-dropped [] zero le = refl
-dropped [] (suc row) le = refl
-dropped (v ∷ values) zero le = absurd (omega (arith, le))
-dropped (v ∷ values) (suc row) le = dropped values row (omega (arith, le))
-
 -- no row is left
 pub rows_done : (t : DataType) (values : List Datum) (row : ℕ) (buffer text : List ℕ) (old mid : WriteState) → length values ≤ row → WritesBut (buffer ++ lines t (drop row values)) text old mid → WritesBut buffer text old mid
 rows_done t values row buffer text old mid le first =
-    subst (λ (x : List ℕ). WritesBut x text old mid) (ap (λ (vs : List Datum). buffer ++ lines t vs) (dropped values row le) ∙ append-nil buffer) first
+    subst (λ (x : List ℕ). WritesBut x text old mid) (ap (λ (vs : List Datum). buffer ++ lines t vs) (drop_all row values le) ∙ append-nil buffer) first
 
 -- ---- batches
 
@@ -120,15 +106,9 @@ next_batch batches place batch buffer text old mid lt here first =
     ap (λ (x : List ℕ). buffer ++ x) (batches_at batches place batch lt here) ∙ sym (append_assoc buffer (lines_of batch) (batch_lines (drop (place + 1) batches))) in
     subst (λ (x : List ℕ). WritesBut x text old mid) same first
 
-no_batch : (batches : List ColumnData) (place : ℕ) → length batches ≤ place → drop place batches ≡ []
-no_batch [] zero le = refl
-no_batch [] (suc place) le = refl
-no_batch (b ∷ batches) zero le = absurd (omega (arith, le))
-no_batch (b ∷ batches) (suc place) le = no_batch batches place (omega (arith, le))
-
 -- no batch is left: the buffer is the rest
 pub batches_done : (batches : List ColumnData) (place : ℕ) (buffer text : List ℕ) (old mid : WriteState) → length batches ≤ place → WritesBut (buffer ++ batch_lines (drop place batches)) text old mid → WritesBut (buffer ++ []) text old mid
-batches_done batches place buffer text old mid le first = subst (λ (bs : List ColumnData). WritesBut (buffer ++ batch_lines bs) text old mid) (no_batch batches place le) first
+batches_done batches place buffer text old mid le first = subst (λ (bs : List ColumnData). WritesBut (buffer ++ batch_lines bs) text old mid) (drop_all place batches le) first
 
 -- an error of a call that writes through the buffer is one of writing the text
 pub error_writes : (error : StreamError) (text last : List ℕ) (old new : WriteState) → BufferGives (Err error) text last old new → WritingGives (Err error) text old new

@@ -14,6 +14,7 @@ use Rattle.vx_base.specs.Data.{DataType}
 use Rattle.vx_base.specs.Views.{FieldData, field_data}
 use Rattle.scan_words.specs.Words.{◌>>=◌}
 use Rattle.scan_commands.specs.DtypeForms.{is_marked, unmarked, dtype_form, nested_form, nested_named, fields_form, each_field, field_form, field_items}
+use Rattle.scan_commands.proofs.JsonForms.{here}
 
 -- ---- names
 
@@ -57,9 +58,6 @@ one_member (first ∷ []) name inside one at = let same : first ≡ (name, insid
 one_member (first ∷ second ∷ members) name inside one at = absurd (omega (arith, one))
 
 -- ---- fields
-
-abbrev here : {A : Type 0} → A → Option A
-here x = Some x
 
 -- what all fields are, where those so far are fs and these items are left
 abbrev pub fields_so_far : List FieldData → List Value → Option (List FieldData)

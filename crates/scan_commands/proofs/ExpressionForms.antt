@@ -16,9 +16,7 @@ use Rattle.scan_commands.specs.JsonForms.{each_form}
 use Rattle.scan_words.specs.Words.{◌>>=◌}
 use Rattle.scan_commands.specs.ExpressionForms.{pair_names, terms_from, literal_form, joined_form, expression_form, object_form, named_form, named_items, all_named_form, each_named, pair_form, pair_items}
 use Rattle.scan_commands.specs.ExpressionViews.{named_term}
-
-abbrev here : {A : Type 0} → A → Option A
-here x = Some x
+use Rattle.scan_commands.proofs.JsonForms.{here}
 
 -- ---- objects
 

@@ -30,10 +30,10 @@ so_far form xs rest = each_form form (items_view rest) >>= λ more. Some (xs ++ 
 
 -- ---- how many items a list has
 
-abbrev here : {A : Type 0} → A → Option A
+abbrev pub here : {A : Type 0} → A → Option A
 here x = Some x
 
-some_is : {A : Type 0} (x y : A) → here x ≡ here y → x ≡ y
+pub some_is : {A : Type 0} (x y : A) → here x ≡ here y → x ≡ y
 some_is x y e = cc
 
 one_more : {X : Type 0} (o : Option X) (more : Option (List X)) (xs : List X) (n : ℕ) → ((ys : List X) → more ≡ Some ys → length ys ≡ n) → (o >>= λ x. more >>= λ ys. here (x ∷ ys)) ≡ Some xs → length xs ≡ suc n

@@ -12,12 +12,7 @@ use Rattle.vx_layout.specs.Trees.{Head, head_of, subtree}
 use Rattle.vx_layout.proofs.FaultLaws.{good_has_none}
 use Rattle.vx_layout.proofs.Unfolding.{good_later, head_of_subtree}
 use Rattle.scan_commands.specs.RequestForms.{Asked, Parts, said_by, requested, root_dtype, IsRequest, HasBadLayout, HasBadProjection}
-
-abbrev here : {A : Type 0} → A → Option A
-here x = Some x
-
-some_is : {A : Type 0} (x y : A) → here x ≡ here y → x ≡ y
-some_is x y e = cc
+use Rattle.scan_commands.proofs.JsonForms.{some_is}
 
 said_same : (bytes : List ℕ) (a b : Parts) → requested bytes ≡ Some a → requested bytes ≡ Some b → a ≡ b
 said_same bytes a b p q = some_is a b (sym p ∙ q)

@@ -17,6 +17,3 @@ range_none xs from = let none : from - from ≡ 0 = omega arith in ap (λ (n : �
 -- up to the end or past it
 pub range_rest : {X : Type 0} (xs : List X) (from to : ℕ) → length xs ≤ to → slice_range xs from to ≡ drop from xs
 range_rest xs from to past = take_all (to - from) (drop from xs) (omega (arith, length-drop from xs))
-
-pub range_whole : {X : Type 0} (xs : List X) → slice_range xs 0 (length xs) ≡ xs
-range_whole xs = let all : length xs - 0 ≡ length xs = omega arith in ap (λ (n : ℕ). take n xs) all ∙ take_all (length xs) xs (omega arith)

@@ -26,7 +26,7 @@ use Rattle.scan_commands.specs.NodeForms.{node_form}
 use Rattle.scan_commands.specs.RequestForms.{Asked, Parts, members_of, request_form, json_value, requested, root_dtype, IsRequest, HasBadProjection, RefusedBy}
 use Rattle.scan_commands.specs.RowForms.{rows_form}
 use Rattle.scan_commands.specs.declared.row_forms.RowsAsked.{RowsAsked}
-use Rattle.scan_commands.proofs.JsonForms.{list_few}
+use Rattle.scan_commands.proofs.JsonForms.{here, list_few, some_is}
 
 -- the bytes are JSON
 pub json_is : (bytes : List ℕ) (d : Data) → IsUtf8 bytes → read bytes ≡ Some d → json_value bytes ≡ Some d
@@ -62,9 +62,6 @@ no_projection bytes parts (bind.TypeMismatch place) form good gives = unbound by
 no_projection bytes parts bind.TooDeep form good gives = unbound bytes parts bind.TooDeep (λ e. absurd cc) form good gives
 no_projection bytes parts bind.Memory form good gives = tt
 
-abbrev here : {A : Type 0} → A → Option A
-here x = Some x
-
 -- what is said over a tree, with the projection bound
 abbrev asked_by : Parts → List Node → Bound → Asked
 asked_by parts layout projection = record { locations = parts.locations; nodes = layout; projection = projection; range = parts.range; selection = parts.selection; row_offset = parts.row_offset }
@@ -90,9 +87,6 @@ is_unbound bytes parts layout t error form same good typed gives =
     no_projection bytes parts error form good (over_root (λ s. BindGives s parts.projection (Err error)) parts.nodes layout t same typed gives)
 
 -- ---- a request has few locations and nodes
-
-some_is : {A : Type 0} (x y : A) → here x ≡ here y → x ≡ y
-some_is x y e = cc
 
 abbrev parts_by : Option (List SegmentLocation) → Option (List Node) → Option RowsAsked → Option Term → Option Parts
 parts_by locations nodes rows projection =

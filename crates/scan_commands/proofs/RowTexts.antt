@@ -1,27 +1,11 @@
 -- The texts of structs, field by field.
-use Rattle.std.proofs.Common.{◌≡◌, ℕ, zero, suc, ◌+◌, ◌<◌, ◌≤◌, List, [], ◌∷◌, ◌++◌, length, get_or, drop, refl, sym, ap, ◌∙◌, add-one, append_assoc, arith}
+use Rattle.std.proofs.Common.{◌≡◌, ℕ, suc, ◌+◌, ◌<◌, ◌≤◌, List, ◌++◌, length, get_or, drop, sym, ap, ◌∙◌, add-one, append_assoc}
 use Rattle.std.proofs.lemmas.List.{append-nil, drop_all, drop_more}
 use Rattle.vx_base.specs.declared.dtypes.Field.{Field}
-use Rattle.vx_base.specs.declared.values.Value.{Value}
-use Rattle.vx_base.specs.Data.{Members, Datum, null, structure, no_items}
+use Rattle.vx_base.specs.Data.{Members, Datum}
 use Rattle.vx_base.specs.Views.{data_type, members_of}
-use Rattle.vx_base.specs.ValueViews.{datum, items_of}
-use Rattle.vx_packed.specs.Fields.{field_at, first_item, items_behind}
+use Rattle.vx_packed.specs.Fields.{field_at}
 use Rattle.scan_commands.specs.RowText.{fields_text, lead, row_text}
-
-pub item_there : (values : List Value) (place : ℕ) (value : Value) → place < length values → value ≡ get_or values place value → field_at place (structure (items_of values)) ≡ datum value
-item_there [] place value lt here = absurd (omega arith)
-item_there (v ∷ values) zero value lt here = ap datum (sym here)
-item_there (v ∷ values) (suc place) value lt here = item_there values place value (omega arith) here
-
-none_behind : (place : ℕ) → first_item (items_behind place no_items) ≡ null
-none_behind zero = refl
-none_behind (suc place) = refl
-
-pub item_past : (values : List Value) (place : ℕ) → length values ≤ place → field_at place (structure (items_of values)) ≡ null
-item_past [] place past = none_behind place
-item_past (v ∷ values) zero past = absurd (omega arith)
-item_past (v ∷ values) (suc place) past = item_past values place (omega arith)
 
 -- the fields that are left at a place
 abbrev pub fields_left : ℕ → List Field → Datum → List ℕ

@@ -1,10 +1,10 @@
 -- From what a builder's scan gives to what the scan of a request gives.
-use Rattle.std.proofs.Common.{◌≡◌, ℕ, List, [], ◌∷◌, ◌++◌, map, flat_map, Result, Ok, Err, refl, sym, ap, ◌∙◌, append_assoc}
+use Rattle.std.proofs.Common.{◌≡◌, ℕ, List, [], ◌∷◌, ◌++◌, map, flat_map, Result, Ok, Err, refl, sym, ap, ◌∙◌}
 use Rattle.std.specs.Prelude.{IfOk, IfErr}
 use Rattle.std.specs.Global.{Vec}
 use Rattle.std.specs.List.{AllByRecursion}
 use Rattle.vx_base.specs.Columns.{ColumnData}
-use Rattle.vx_base.specs.Data.{DataType, Datum}
+use Rattle.vx_base.specs.Data.{DataType}
 use Rattle.vx_base.specs.Sources.{SourceState}
 use Rattle.vx_layout.specs.Rows.{file_leaves}
 use Rattle.vx_scan.specs.declared.errors.ScanError.{ScanError}
@@ -15,15 +15,12 @@ use Rattle.vx_scan.specs.Laws.{PiecesAnswer}
 use Rattle.vx_scan.specs.Lent.{WhereAllTell}
 use Rattle.vx_scan.specs.Scanned.{AnswersScan}
 use Rattle.vx_scan.proofs.Scanning.{memory_answers}
-use Rattle.scan_commands.specs.RowText.{line, lines}
+use Rattle.scan_commands.specs.RowText.{lines}
 use Rattle.scan_commands.specs.RowWriting.{batch_lines}
 use Rattle.scan_commands.specs.Scans.{IsText, ScanGives}
+use Rattle.scan_commands.proofs.Buffering.{lines_append}
 
 -- ---- the text of batches
-
-lines_append : (t : DataType) (vs ws : List Datum) → lines t (vs ++ ws) ≡ lines t vs ++ lines t ws
-lines_append t [] ws = refl
-lines_append t (v ∷ vs) ws = ap (λ (bytes : List ℕ). line t v ++ bytes) (lines_append t vs ws) ∙ sym (append_assoc (line t v) (lines t vs) (lines t ws))
 
 -- the lines of batches of one dtype are the lines of their values, one batch after another
 pub lines_joined : (t : DataType) (batches : List ColumnData) → AllByRecursion (λ (batch : ColumnData). batch.dtype ≡ t) batches → batch_lines batches ≡ lines t (flat_map (λ batch. batch) (map (λ (batch : ColumnData). batch.values) batches))

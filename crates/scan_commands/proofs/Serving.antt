@@ -11,14 +11,12 @@ use Rattle.vx_base.specs.declared.outside.StreamError.TheVariants as stream
 use Rattle.vx_layout.specs.Rows.{file_leaves}
 use Rattle.vx_scan.specs.declared.errors.ScanError.{ScanError}
 use Rattle.vx_scan.specs.declared.errors.ScanError.TheVariants as scan
-use Rattle.vx_rows.specs.Derivations.{Leaves}
-use Rattle.vx_scan.specs.Answer.{FileScan}
 use Rattle.vx_scan.specs.Beginning.{Refuses}
 use Rattle.vx_scan.specs.Lent.{AllTell, EachSource, WhereAllTell}
 use Rattle.vx_scan.specs.Plans.{IsQuiet}
 use Rattle.vx_scan.specs.Scanned.{LowestCause}
 use Rattle.vx_scan.specs.Valid.{IsValidScan}
-use Rattle.vx_scan.proofs.ScanValid.{no_lowest}
+use Rattle.vx_scan.proofs.ScanValid.{no_lowest, valid_begins}
 use Rattle.scan_commands.specs.declared.endings.Ending.{Ending}
 use Rattle.scan_commands.specs.declared.endings.Ending.TheVariants.{Done, RequestTooLarge, BadRequest, BadLayout, BadProjection, ScanFailed, WriteFault, RequestFault, OutOfMemory}
 use Rattle.scan_commands.specs.Desks.{ReadsBytes, ReadsRequest}
@@ -166,21 +164,12 @@ pub large_told : (bytes : List ℕ) (rest : Option (List ℕ)) → rest ≡ Some
 large_told bytes None e large = absurd cc
 large_told bytes (Some all) e large = let same : all ≡ bytes = cc in subst (λ (xs : List ℕ). most_bytes < length xs) same large
 
--- a scan that is refused is not valid
-refused_invalid : (leaves : Leaves) (file_scan : FileScan) (error : ScanError) → IsValidScan leaves file_scan → Refuses file_scan error → ⊥
-refused_invalid leaves file_scan scan.BadProjection valid refused = refused valid.bound
-refused_invalid leaves file_scan scan.OffsetOverflow valid refused =
-    let fits = valid.numbered refused.1.0 refused.0.some in
-    omega (arith, fits, refused.1.1)
-refused_invalid leaves file_scan scan.OutOfRange valid refused = refused.2 valid.inside
-refused_invalid leaves file_scan error valid refused = refused
-
 -- of a scan that failed
 refusal_invalid : (error : ScanError) (bytes file : List ℕ) (before after : World) → before.request.rest ≡ Some bytes → RefusesScan error before after → IsValid bytes file → ⊥
 refusal_invalid error bytes file before after told refuses valid =
     let is : IsRequest bytes refuses.asked = told_bytes (λ b. IsRequest b refuses.asked) bytes before.request after.request told refuses.reads in
     let same : valid.1.0 ≡ refuses.asked = same_request bytes valid.1.0 refuses.asked valid.1.1 is in
-    refused_invalid (file_leaves file refuses.asked.locations) (scan_of refuses.asked) error (subst (λ (a : Asked). IsValidScan (file_leaves file a.locations) (scan_of a)) same valid.1.2) refuses.cause
+    valid_begins (file_leaves file refuses.asked.locations) (scan_of refuses.asked) error (subst (λ (a : Asked). IsValidScan (file_leaves file a.locations) (scan_of a)) same valid.1.2) refuses.cause
 
 gives_invalid : (limit : ℕ) → (error : ScanError) (bytes file : List ℕ) (before after : World) → before.request.rest ≡ Some bytes → AllTell file before.sources → FailsToScan limit error before after → IsValid bytes file → EachSource (IsQuiet limit) before.sources after.sources → ⊥
 gives_invalid limit error bytes file before after told file_told gives valid quiet =

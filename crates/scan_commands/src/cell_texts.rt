@@ -16,7 +16,7 @@ use vx_packed::Parts;
 
 /// Appends the field at a place of a row's struct.
 #[cycle(cells)]
-#[tactic(auto, using(crate::proofs::CellTexts::part_inside, crate::proofs::CellTexts::part_value, crate::proofs::CellTexts::items_value))]
+#[tactic(auto, using(scan_demo::proofs::StructItems::part_inside, scan_demo::proofs::StructItems::part_value, scan_demo::proofs::StructItems::items_value))]
 fn append_field(
     alloc: Global,
     dtype: &DType,

@@ -193,7 +193,7 @@ pub fn append_row_lines(
 }
 
 /// Appends a line for each row of a column: the text of the row's value, and a newline.
-#[tactic(auto, using(crate::proofs::Ranges::range_whole))]
+#[tactic(auto, using(vx_packed::proofs::PackedRows::whole_range))]
 pub fn append_column_lines(
     alloc: Global,
     column: &Column,

@@ -1,12 +1,12 @@
 -- The layout of the demo file keeps each rule of the shape.
-use Rattle.std.proofs.Common.{◌≡◌, ℕ, zero, suc, ◌+◌, ◌-◌, ◌*◌, ◌<◌, ◌≤◌, min, List, [], ◌∷◌, Option, Some, length, refl, sym, ap, ◌∙◌, subst, arith, rules as std_rules}
+use Rattle.std.proofs.Common.{◌≡◌, ℕ, zero, suc, ◌+◌, ◌*◌, ◌<◌, ◌≤◌, List, [], ◌∷◌, Option, Some, length, refl, sym, ap, ◌∙◌, subst, arith, rules as std_rules}
 use Rattle.std.specs.Prelude.{IfSome, IsSomeAnd, sum_by}
 use Rattle.std.specs.List.{All, range_with_len, slice_get}
 use Rattle.std.specs.Option.{option_map_or}
 use Rattle.std.proofs.lemmas.List.{length-map}
 use Rattle.std.proofs.lemmas.List.Concat.{length-flat_map}
 use Rattle.std.proofs.lemmas.List.Elements.{All-cons, All-nil}
-use Rattle.std.proofs.lemmas.List.FromFn.{length-map-range_with_len, length-range_with_len}
+use Rattle.std.proofs.lemmas.List.FromFn.{length-range_with_len}
 use Rattle.std.proofs.lemmas.List.Sums.{sum_by-cons}
 use Rattle.vx_base.specs.Columns.{ColumnData}
 use Rattle.vx_base.specs.Data.{DataType, bool_type, int_type, utf8_type, struct_type, list_type}
@@ -27,6 +27,7 @@ use Rattle.scan_demo.proofs.ChunkRows.{rows_are_joined}
 use Rattle.scan_demo.proofs.DemoChildren.{child_once}
 use Rattle.scan_demo.proofs.DemoDepths.{low_depth}
 use Rattle.scan_demo.proofs.NodePlaces.{NodeAt, at_chunk, at_column, at_dict, at_names, at_root, chunks_there, column_node, column_parent, column_there, dict_there, first_chunk, first_segment, names_there, node_at, node_count}
+use Rattle.scan_demo.proofs.SegmentSizes.{rows_small}
 
 abbrev nodes_of : ℕ → List Node
 nodes_of number = demo_nodes number
@@ -80,12 +81,6 @@ column_leaf : (column : StoredColumn) → IsLeaf (column_type column)
 column_leaf Ids = tt
 column_leaf Codes = tt
 column_leaf Flags = tt
-
-chunk_small : (column : StoredColumn) (number place : ℕ) → length (chunk_flat column number place).values ≤ 8192
-chunk_small column number place =
-    let size : length (chunk_flat column number place).values ≡ min number (place * 8192 + 8192) - place * 8192 =
-    length-map-range_with_len (stored_value column number) (place * 8192) (min number (place * 8192 + 8192) - place * 8192) in
-    omega arith
 
 -- ---- chunked columns
 
@@ -221,7 +216,7 @@ kept_at number n few (at_chunk column place lt e) rule =
     let flat : ColumnData = chunk_flat column number place in
     subst (Keeps rule (nodes_of number)) (sym e)
     (keeps (nodes_of number) at (flat_node segment flat) (chunk_there column number place lt)
-    (flat_asks number at segment flat (chunk_inside column number place lt) (column_leaf column) (chunk_small column number place)) rule)
+    (flat_asks number at segment flat (chunk_inside column number place lt) (column_leaf column) (rows_small column number place)) rule)
 kept_at number n few (at_dict e) rule =
     subst (Keeps rule (nodes_of number)) (sym e) (keeps (nodes_of number) (chunks_of number + 2) (dict_node number (chunks_of number)) (dict_there number) (dict_asks number few) rule)
 kept_at number n few (at_names e) rule =

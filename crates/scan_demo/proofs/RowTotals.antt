@@ -2,6 +2,7 @@
 use Rattle.std.proofs.Common.{◌≡◌, ℕ, zero, suc, ◌+◌, ◌^◌, ◌<◌, ◌≤◌, List, [], ◌∷◌, ◌++◌, Some, length, drop, get_or, refl, sym, ap, ◌∙◌, arith, add-one}
 use Rattle.std.specs.Prelude.{count_by}
 use Rattle.std.specs.List.{flat_map, slice_get, sum_by}
+use Rattle.std.proofs.lemmas.List.{drop_all}
 use Rattle.std.proofs.lemmas.List.Sums.{sum_by-cons}
 use Rattle.vx_base.specs.Columns.{ColumnData}
 use Rattle.vx_base.specs.Data.{Datum}
@@ -23,14 +24,8 @@ pub row_more : (totals more whole : Totals) (rows : List Datum) (place : ℕ) (r
 row_more totals more whole rows place row at e so_far =
     rw add-one (ap (λ (t : Totals). with_rows t (drop (suc place) rows)) e ∙ sym (ap (with_rows totals) (drop_here rows place row at)) ∙ so_far)
 
-drop_all : (rows : List Datum) (place : ℕ) → length rows ≤ place → drop place rows ≡ []
-drop_all [] zero past = refl
-drop_all [] (suc place) past = refl
-drop_all (row ∷ rows) zero past = absurd (omega arith)
-drop_all (row ∷ rows) (suc place) past = drop_all rows place (omega arith)
-
 pub rows_done : (totals whole : Totals) (rows : List Datum) (place : ℕ) → length rows ≤ place → with_rest totals rows place ≡ whole → totals ≡ whole
-rows_done totals whole rows place past so_far = sym (ap (with_rows totals) (drop_all rows place past)) ∙ so_far
+rows_done totals whole rows place past so_far = sym (ap (with_rows totals) (drop_all place rows past)) ∙ so_far
 
 with_both : (totals : Totals) (ones others : List Datum) → with_rows totals (ones ++ others) ≡ with_rows (with_rows totals ones) others
 with_both totals [] others = refl

@@ -16,7 +16,7 @@ use Rattle.scan_demo.specs.declared.stored_columns.StoredColumn.TheVariants.{Ids
 use Rattle.scan_demo.specs.DemoBytes.{segment_of}
 use Rattle.scan_demo.specs.Flats.{chunk_flat, name_flat, stored_value}
 
-rows_small : (column : StoredColumn) (number place : ℕ) → length (chunk_flat column number place).values ≤ 8192
+pub rows_small : (column : StoredColumn) (number place : ℕ) → length (chunk_flat column number place).values ≤ 8192
 rows_small column number place =
     let size : length (chunk_flat column number place).values ≡ min number (place * 8192 + 8192) - place * 8192 =
     length-map-range_with_len (stored_value column number) (place * 8192) (min number (place * 8192 + 8192) - place * 8192) in
