@@ -1,6 +1,7 @@
 //! Scans of rows of the demo's file by several workers.
 
 ghost use Rattle.std.specs.Prelude.{◌<◌, ◌≤◌, length};
+ghost use Rattle.scan_words.specs.Limits.{most_workers};
 
 use crate::fields::{list, number, option};
 use scan_commands::append_column_lines;
@@ -73,7 +74,7 @@ fn batches_of<R: Threads + Wait + Sync>(
     sources: &mut [ScriptSource],
 ) -> Option<Result<Vec<Column>, ScanError>>
     requires some { 0 < length sources.old }
-    requires few { length sources.old ≤ 64 }
+    requires few { length sources.old ≤ most_workers }
 {
     if file.locations.len() > 1000 {
         return None;

@@ -9,6 +9,7 @@ ghost use Rattle.std.specs.Process.{exit_status};
 ghost use Rattle.scan_cli.specs.Files.{are_unasked, source_count, request_named, segments_named, HasNoFile, IsStatusOf};
 ghost use Rattle.scan_commands.specs.Commanded.{Runs};
 ghost use Rattle.scan_commands.specs.Statuses.{memory_status, usage_status};
+ghost use Rattle.scan_words.specs.Limits.{most_workers};
 ghost use Rattle.scan_words.specs.Words.{command_of};
 ghost use Rattle.vx_base.specs.FileSources.{file_state};
 
@@ -147,7 +148,7 @@ fn answered<R: AllocGlobal + Threads + Wait + Sync, Q: Source, S: SegmentSource 
     out: &mut K,
 ) -> ExitCode
     requires some { 0 < length sources.old }
-    requires few { length sources.old ≤ 64 }
+    requires few { length sources.old ≤ most_workers }
     ensures { Runs (command_of (map string_bytes words.now)) (exit_status result)
         (record { request = Q.state request.old; sources = map S.state sources.old; sink = K.state out.old })
         (record { request = Q.state request.new; sources = map S.state sources.new; sink = K.state out.new }) }

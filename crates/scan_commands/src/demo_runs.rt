@@ -2,6 +2,7 @@
 
 ghost use Rattle.std.specs.Prelude.{◌≡◌, ◌≤◌, IfOk};
 ghost use Rattle.scan_commands.specs.DemoRuns.{AreSourcesOf, Demonstrates};
+ghost use Rattle.scan_demo.specs.DemoRows.{most_demo_rows};
 ghost use Rattle.scan_demo.specs.Summary.{summary};
 
 use crate::endings::Ending;
@@ -32,7 +33,7 @@ fn scanned_summary<R: AllocGlobal + Threads + Wait + Sync>(
     rt: &R,
     number: u64,
 ) -> Result<Vec<u8>, AllocError>
-    requires { number ≤ 1000000 }
+    requires { number ≤ most_demo_rows }
     ensures { IfOk result (λ text. text.items ≡ summary number) }
 {
     scans_give_demo_rows();
@@ -53,7 +54,7 @@ pub(crate) fn demonstrate<R: AllocGlobal + Threads + Wait + Sync, K: Sink>(
     number: u64,
     out: &mut K,
 ) -> Ending
-    requires { number ≤ 1000000 }
+    requires { number ≤ most_demo_rows }
     ensures { Demonstrates number result (K.state out.old) (K.state out.new) }
 {
     let text = match scanned_summary(rt, number) {

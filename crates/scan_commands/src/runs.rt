@@ -3,6 +3,7 @@
 ghost use Rattle.std.specs.Prelude.{◌≡◌, ◌<◌, ◌≤◌, length, map, string_bytes, IsTrue};
 ghost use Rattle.scan_commands.specs.Commanded.{have_sources, workers_of, Obeys, Runs, ScansBy};
 ghost use Rattle.scan_words.specs.Bounds.{IsWithinBounds};
+ghost use Rattle.scan_words.specs.Limits.{most_workers};
 ghost use Rattle.scan_words.specs.Words.{command_of};
 
 use crate::demo_runs::demonstrate;
@@ -30,7 +31,7 @@ pub fn run<R: AllocGlobal + Threads + Wait + Sync, Q: Source, S: SegmentSource +
     out: &mut K,
 ) -> u8
     requires some { 0 < length sources.old }
-    requires few { length sources.old ≤ 64 }
+    requires few { length sources.old ≤ most_workers }
     ensures { Runs (command_of (map string_bytes words.now)) result
         (record { request = Q.state request.old; sources = map S.state sources.old; sink = K.state out.old })
         (record { request = Q.state request.new; sources = map S.state sources.new; sink = K.state out.new }) }
@@ -103,7 +104,7 @@ fn scan_by<R: AllocGlobal + Threads + Wait + Sync, Q: Source, S: SegmentSource +
 ) -> u8
     requires limit { 0 < idle_limit }
     requires some { 0 < workers }
-    requires few { workers ≤ 64 }
+    requires few { workers ≤ most_workers }
     requires sources { workers ≤ length sources.old }
     ensures { ScansBy workers idle_limit result
         (record { request = Q.state request.old; sources = map S.state sources.old; sink = K.state out.old })

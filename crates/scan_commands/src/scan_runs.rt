@@ -3,6 +3,7 @@
 ghost use Rattle.std.specs.Prelude.{◌<◌, ◌≤◌, length, map};
 ghost use Rattle.scan_commands.specs.Reading.{ReadsPieces};
 ghost use Rattle.scan_commands.specs.Runs.{Ends};
+ghost use Rattle.scan_words.specs.Limits.{most_workers};
 
 use crate::endings::{Ending, of_request, of_scan};
 use crate::request_forms::request_of;
@@ -24,7 +25,7 @@ pub(crate) fn serve<
 >(rt: &R, idle_limit: u64, request: &mut Q, sources: &mut [S], out: &mut K) -> Ending
     requires limit { 0 < idle_limit }
     requires some { 0 < length sources.old }
-    requires few { length sources.old ≤ 64 }
+    requires few { length sources.old ≤ most_workers }
     ensures pieces { ReadsPieces (Q.state request.old) (Q.state request.new) }
     ensures ends { Ends idle_limit result
         (record { request = Q.state request.old; sources = map S.state sources.old; sink = K.state out.old })

@@ -5,6 +5,7 @@ ghost use Rattle.vx_scan.specs.Builders.{scan_of as built_scan};
 ghost use Rattle.scan_commands.specs.JsonForms.{most_items};
 ghost use Rattle.scan_commands.specs.RequestViews.{asked_of};
 ghost use Rattle.scan_commands.specs.Scans.{scan_of, ScanGives};
+ghost use Rattle.scan_words.specs.Limits.{most_workers};
 
 use crate::request_forms::Request;
 use std::alloc::{AllocError, Global};
@@ -24,7 +25,7 @@ pub(crate) fn batches_of<R: Threads + Wait + Sync, S: SegmentSource + Send>(
 ) -> Result<Vec<Column>, ScanError>
     requires limit { 0 < idle_limit }
     requires some { 0 < length sources.old }
-    requires workers { length sources.old ≤ 64 }
+    requires workers { length sources.old ≤ most_workers }
     requires few { length request.file.locations.items ≤ most_items }
     ensures { ScanGives idle_limit (scan_of (asked_of request)) result (map S.state sources.old) (map S.state sources.new) }
 {

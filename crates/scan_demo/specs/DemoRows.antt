@@ -5,6 +5,10 @@ use Rattle.std.specs.List.{range_with_len}
 use Rattle.vx_base.specs.ColumnCalls.{natural}
 use Rattle.vx_base.specs.Data.{Datum, null, truth, text, structure, no_items, item}
 
+-- the file has no more rows
+abbrev pub most_demo_rows : ℕ
+most_demo_rows = 1000000
+
 -- the number of a row of a file of so many rows
 abbrev pub id_of : ℕ → ℕ → ℕ
 id_of number row = (31 * row + number) % 1000

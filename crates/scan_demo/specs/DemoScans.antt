@@ -9,7 +9,7 @@ use Rattle.vx_splits.specs.declared.selections.Selection.TheVariants.{All}
 use Rattle.vx_scan.specs.Answer.{FileScan, ArePieces, scan_pieces}
 use Rattle.scan_demo.specs.DemoBytes.{demo_bytes, demo_locations}
 use Rattle.scan_demo.specs.DemoNodes.{demo_nodes}
-use Rattle.scan_demo.specs.DemoRows.{demo_row}
+use Rattle.scan_demo.specs.DemoRows.{demo_row, most_demo_rows}
 use Rattle.scan_demo.specs.Summary.{demo_pieces}
 
 -- The scan is of the layout and the segments of the demo file of so many rows.
@@ -22,14 +22,14 @@ pub record IsDemoScan (number : ℕ) (scan : FileScan) : Type 0 where
 
 -- the layout of the demo file keeps the rules of the shape
 abbrev pub LayoutIsGood : Type 0
-LayoutIsGood = (number : ℕ) → number ≤ 1000000 → IsGoodTree (demo_nodes number)
+LayoutIsGood = (number : ℕ) → number ≤ most_demo_rows → IsGoodTree (demo_nodes number)
 
 -- the pieces of such a scan are those of the demo file
 abbrev pub PiecesAreDemo : Type 0
-PiecesAreDemo = (number : ℕ) (scan : FileScan) → number ≤ 1000000 → IsDemoScan number scan → scan_pieces scan ≡ demo_pieces number
+PiecesAreDemo = (number : ℕ) (scan : FileScan) → number ≤ most_demo_rows → IsDemoScan number scan → scan_pieces scan ≡ demo_pieces number
 
 -- and what it answers by the bytes of the file are the demo rows, piece by piece
 abbrev pub AnswersAreDemo : Type 0
-AnswersAreDemo = (number : ℕ) (scan : FileScan) (batches : List (List Datum)) → number ≤ 1000000 → IsDemoScan number scan
+AnswersAreDemo = (number : ℕ) (scan : FileScan) (batches : List (List Datum)) → number ≤ most_demo_rows → IsDemoScan number scan
     → ArePieces (file_leaves (demo_bytes number) scan.locations) scan.projection (scan_pieces scan) batches
     → batches ≡ map (map (demo_row number)) (demo_pieces number)

@@ -8,7 +8,7 @@ ghost use Rattle.vx_layout.specs.Shape.{IsGoodTree};
 ghost use Rattle.vx_layout.specs.Trees.{subtree};
 ghost use Rattle.scan_demo.specs.DemoBytes.{demo_bytes, demo_locations};
 ghost use Rattle.scan_demo.specs.DemoNodes.{demo_nodes, dict_node, flat_node, root_node, row_type};
-ghost use Rattle.scan_demo.specs.DemoRows.{demo_row, demo_rows};
+ghost use Rattle.scan_demo.specs.DemoRows.{demo_row, demo_rows, most_demo_rows};
 ghost use Rattle.scan_demo.specs.Flats.{name_flat};
 ghost use Rattle.scan_demo.specs.Writing.{nodes_in, Wrote};
 
@@ -80,7 +80,7 @@ fn push_dictionary(
 
 /// The demo file as it is written.
 fn written(alloc: Global, number: u64) -> Result<FileWriter, AllocError>
-    requires { number ≤ 1000000 }
+    requires { number ≤ most_demo_rows }
     ensures nodes { IfOk result (λ writer. nodes_in writer ≡ demo_nodes number) }
     ensures locations { IfOk result (λ writer. writer.locations.items ≡ demo_locations number) }
     ensures bytes { IfOk result (λ writer. writer.bytes.items ≡ demo_bytes number) }
@@ -103,7 +103,7 @@ fn written(alloc: Global, number: u64) -> Result<FileWriter, AllocError>
 
 /// The demo file of so many rows, at most a million, and its bytes (docs/FORMATS.md).
 pub fn demo_file(alloc: Global, number: u64) -> Result<DemoFile, AllocError>
-    requires { number ≤ 1000000 }
+    requires { number ≤ most_demo_rows }
     ensures nodes { IfOk result (λ demo. demo.file.layout ≡ demo_nodes number) }
     ensures good { OnOk result (IsGoodTree (demo_nodes number)) }
     ensures locations { IfOk result (λ demo. demo.file.locations.items ≡ demo_locations number) }

@@ -7,6 +7,7 @@ ghost use Rattle.vx_base.specs.Segment.{IsShort};
 ghost use Rattle.vx_base.specs.Views.{data_type};
 ghost use Rattle.scan_demo.specs.DemoBytes.{segment_of};
 ghost use Rattle.scan_demo.specs.DemoNodes.{chunk_nodes, chunked_nodes, flat_node, parent_node};
+ghost use Rattle.scan_demo.specs.DemoRows.{most_demo_rows};
 ghost use Rattle.scan_demo.specs.Flats.{chunk_count, chunk_flats};
 ghost use Rattle.scan_demo.specs.Writing.{Wrote};
 
@@ -104,7 +105,7 @@ impl FileWriter {
         number: u64,
         segment: u32,
     ) -> Result<(), AllocError>
-        requires few { number ≤ 1000000 }
+        requires few { number ≤ most_demo_rows }
         requires segments { segment ≤ 1000000 }
         ensures { OnOk result (Wrote self.old self.new (chunk_nodes column number segment) (chunk_flats column number)) }
     {
@@ -125,7 +126,7 @@ impl FileWriter {
         first: u32,
         segment: u32,
     ) -> Result<(), AllocError>
-        requires few { number ≤ 1000000 }
+        requires few { number ≤ most_demo_rows }
         requires nodes { first ≤ 1000000 }
         requires segments { segment ≤ 1000000 }
         ensures { OnOk result (Wrote self.old self.new (chunked_nodes column number first segment) (chunk_flats column number)) }

@@ -3,7 +3,7 @@
 ghost use Rattle.std.specs.Prelude.{◌≡◌, ◌<◌, ◌≤◌, IfOk, map};
 ghost use Rattle.vx_base.specs.Views.{data_type};
 ghost use Rattle.vx_base.specs.ValueViews.{datum};
-ghost use Rattle.scan_demo.specs.DemoRows.{name_at};
+ghost use Rattle.scan_demo.specs.DemoRows.{most_demo_rows, name_at};
 ghost use Rattle.scan_demo.specs.Flats.{chunk_count, chunk_flat, chunk_rows, column_type, name_flat, stored_value};
 
 use std::alloc::{AllocError, Global};
@@ -39,7 +39,7 @@ impl StoredColumn {
 
     /// The value of a row of a file of so many rows. It takes no memory.
     fn value(self, number: u64, row: u64) -> Value
-        requires few { number ≤ 1000000 }
+        requires few { number ≤ most_demo_rows }
         requires inside { row < number }
         ensures { datum result ≡ stored_value self number row }
     {
@@ -58,7 +58,7 @@ impl StoredColumn {
 
     /// The values of a chunk of a file of so many rows.
     fn chunk_values(self, alloc: Global, number: u64, chunk: u64) -> Result<Vec<Value>, AllocError>
-        requires few { number ≤ 1000000 }
+        requires few { number ≤ most_demo_rows }
         requires inside { chunk < chunk_count number }
         ensures { IfOk result (λ values. map datum values.items ≡ map (stored_value self number) (chunk_rows number chunk)) }
     {
@@ -74,7 +74,7 @@ impl StoredColumn {
     /// A chunk of the column of a file of so many rows.
     #[tactic(auto, using(crate::proofs::StoredValues::stored_fit))]
     pub(crate) fn chunk(self, alloc: Global, number: u64, chunk: u64) -> Result<Column, AllocError>
-        requires few { number ≤ 1000000 }
+        requires few { number ≤ most_demo_rows }
         requires inside { chunk < chunk_count number }
         ensures { IfOk result (λ column. column ≡ chunk_flat self number chunk) }
     {

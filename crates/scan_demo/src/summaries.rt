@@ -1,7 +1,7 @@
 //! The summary of a scan of the demo file.
 
 ghost use Rattle.std.specs.Prelude.{◌≡◌, ◌≤◌, ◌++◌, IfOk, OnOk, map};
-ghost use Rattle.scan_demo.specs.DemoRows.{demo_row};
+ghost use Rattle.scan_demo.specs.DemoRows.{demo_row, most_demo_rows};
 ghost use Rattle.scan_demo.specs.Summary.{batches_text, demo_pieces, line, summary, summary_text};
 
 use crate::row_totals::Totals;
@@ -36,7 +36,7 @@ fn text_of(alloc: Global, number: u64, batches: u64, totals: Totals) -> Result<V
 /// The summary of the batches that a scan of the demo file of so many rows gave: five lines of text. It walks over the
 /// rows where they stand.
 pub fn summary_of(alloc: Global, number: u64, batches: &[Column]) -> Result<Vec<u8>, AllocError>
-    requires { number ≤ 1000000 }
+    requires { number ≤ most_demo_rows }
     // The batches are counted, whatever they hold.
     ensures counted { IfOk result (λ text. text.items ≡ batches_text number batches.now) }
     // Where they hold the rows of the demo file, chunk by chunk, the text is its summary.
