@@ -1,4 +1,5 @@
 pub mod Apart
+pub mod ByHand
 pub mod Claims
 pub mod Limits
 pub mod Rules

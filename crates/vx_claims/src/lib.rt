@@ -6,11 +6,14 @@
 //!
 //! - The claims: [`Claims`], [`Claiming`], [`ClaimSeat`].
 //! - What holds of the chunks that all workers claimed: the laws [`closed_claims_are_apart`], [`claims_weigh_at_most`].
+//! - The definitions on literals: [`seats_by_hand`], [`lists_by_hand`].
 #![tactic(auto)]
 
+mod by_hand;
 mod claims;
 mod laws;
 mod views;
 
+pub use by_hand::{lists_by_hand, seats_by_hand};
 pub use claims::{ClaimSeat, Claiming, Claims};
 pub use laws::{claims_weigh_at_most, closed_claims_are_apart};
