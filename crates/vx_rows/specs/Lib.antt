@@ -1,3 +1,4 @@
+pub mod ByHand
 pub mod Derivations
 pub mod Reads
 pub mod SegmentLeaves
