@@ -1,6 +1,7 @@
 pub mod Agreement
 pub mod Asked
 pub mod Below
+pub mod ByHand
 pub mod CauseLaws
 pub mod Chunks
 pub mod Computed

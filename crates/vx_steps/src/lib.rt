@@ -3,6 +3,7 @@
 #![tactic(auto)]
 
 mod asked;
+mod by_hand;
 mod chunks;
 mod computing;
 mod errors;
@@ -26,6 +27,7 @@ mod turns;
 mod wholes;
 
 pub use asked::asked_wholes;
+pub use by_hand::{columns_by_hand, kept_columns_by_hand, reads_by_hand, splits_by_hand};
 pub use errors::{DeliverError, StepError};
 pub use kept::KeptValue;
 pub use laws::{
