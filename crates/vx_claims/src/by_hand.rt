@@ -19,8 +19,8 @@ pub fn seats_by_hand()
     ensures above_none { above [] ≡ 0 }
 {}
 
-/// How often a number stands in a list and over all lists; once below a bound, and never at it. All numbers below a bound
-/// weigh what each of them does, 0 too and the bound not, and those of lists as often as they stand there.
+/// How often a number stands in a list and over all lists; once below a bound, and never at it. The numbers below a bound
+/// weigh what 0 and each up to the bound do, without the bound; those of lists weigh as often as they stand there.
 pub fn lists_by_hand()
     ensures twice { times 2 (2 ∷ 1 ∷ 2 ∷ []) ≡ 2 }
     ensures over_lists { times_over 1 ((2 ∷ 1 ∷ []) ∷ [] ∷ (1 ∷ 1 ∷ []) ∷ []) ≡ 3 }

@@ -41,8 +41,9 @@ pub fn kept_columns_by_hand()
 {}
 
 /// A split gives the values of its selected rows. Where a take's values are handed in, none of their segments is needed,
-/// and its codes are still checked; where none are, they are. Whole values are those of all rows, and a part that is
-/// missing leaves none.
+/// and a code that is the place of none is still a fault; where none are, a value that is missing leaves each row
+/// without one. Whole values are those of all rows, and a part that is missing leaves none. The last part of structs is
+/// their validity, where they have one.
 pub fn columns_by_hand()
     ensures selected { map (row_value (leaves_in (natural_rows (1 ∷ 2 ∷ 3 ∷ []) ∷ natural_rows (4 ∷ 5 ∷ 6 ∷ []) ∷ [])) None 0 three_flats) (rows_of 2 (true ∷ false ∷ true ∷ [])) ≡ Some (natural 3) ∷ Some (natural 5) ∷ [] }
     ensures handed_in { map (row_value (leaves_in ((natural 0 ∷ natural 1 ∷ null ∷ natural 2 ∷ []) ∷ [])) (Some (handed_for 0 (natural 4 ∷ natural 6 ∷ []))) 0 (looked_up_in 2)) (0 ∷ 1 ∷ 2 ∷ 3 ∷ []) ≡ Some (natural 4) ∷ Some (natural 6) ∷ Some null ∷ None ∷ [] }
