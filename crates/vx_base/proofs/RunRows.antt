@@ -6,15 +6,16 @@ use Rattle.vx_base.specs.Data.{DataType, Datum, null}
 use Rattle.vx_base.specs.Columns.{ColumnData}
 use Rattle.vx_base.specs.Fits.{Fits}
 use Rattle.vx_base.specs.Rows.{taken}
-use Rattle.vx_base.specs.Runs.{spread, end_before, IsGoodEnd, AreGoodEnds, IsFirstBadEnd, run_places}
+use Rattle.vx_base.specs.Runs.{spread, IsGoodEnd, AreGoodEnds, IsFirstBadEnd, run_places}
 use Rattle.vx_base.specs.RunRows.{runs_column}
 use Rattle.vx_packed.specs.PackedColumns.{IsColumn}
 use Rattle.vx_packed.specs.PartRows.{picked_at}
 use Rattle.vx_packed.specs.Slots.{bare}
+use Rattle.vx_packed.specs.Texts.{start_in}
 
 -- ---- the ends so far
 pub record GoodSoFar (count : ℕ) (ends : List ℕ) (place before : ℕ) : Type 0 where
-  pub last : before ≡ end_before ends place
+  pub last : before ≡ start_in ends place
   pub good : (earlier : ℕ) → earlier < place → IsGoodEnd count ends earlier
 
 pub good_none : (count : ℕ) (ends : List ℕ) → GoodSoFar count ends 0 0
@@ -57,18 +58,18 @@ good_all count ends place before le ge enough h = record {
 
 -- ---- the places so far
 pub record PlacesSoFar (ends places : List ℕ) (run : ℕ) : Type 0 where
-  pub rows : length places ≡ end_before ends run
-  pub whole : places ++ run_places run (end_before ends run) (drop run ends) ≡ run_places 0 0 ends
+  pub rows : length places ≡ start_in ends run
+  pub whole : places ++ run_places run (start_in ends run) (drop run ends) ≡ run_places 0 0 ends
 
 pub places_none : (ends places : List ℕ) → places ≡ [] → PlacesSoFar ends places 0
 places_none ends places e = record { rows = ap length e; whole = ap (λ (ps : List ℕ). ps ++ run_places 0 0 ends) e }
 
-pub places_more : (ends places more : List ℕ) (run : ℕ) → run < length ends → end_before ends run < get_or ends run 0 → more ≡ places ++ replicate (get_or ends run 0 - length places) run → PlacesSoFar ends places run → PlacesSoFar ends more (run + 1)
+pub places_more : (ends places more : List ℕ) (run : ℕ) → run < length ends → start_in ends run < get_or ends run 0 → more ≡ places ++ replicate (get_or ends run 0 - length places) run → PlacesSoFar ends places run → PlacesSoFar ends more (run + 1)
 places_more ends places more run lt above pushed h =
     let end = get_or ends run 0 in
     let rest = run_places (suc run) end (drop (run + 1) ends) in
-    let left : run_places run (end_before ends run) (drop run ends) ≡ replicate (end - end_before ends run) run ++ rest = ap (run_places run (end_before ends run)) (drop_more ends run 0 lt) in
-    let size : end - length places ≡ end - end_before ends run = ap (λ (k : ℕ). end - k) h.rows in
+    let left : run_places run (start_in ends run) (drop run ends) ≡ replicate (end - start_in ends run) run ++ rest = ap (run_places run (start_in ends run)) (drop_more ends run 0 lt) in
+    let size : end - length places ≡ end - start_in ends run = ap (λ (k : ℕ). end - k) h.rows in
     let long : length more ≡ end = omega (arith, ap length pushed, length-append places (replicate (end - length places) run), length-replicate (end - length places) run, h.rows, above) in
     record {
       rows = rw add-one long;
@@ -76,7 +77,7 @@ places_more ends places more run lt above pushed h =
           (ap (λ (ps : List ℕ). ps ++ run_places (suc run) end (drop (suc run) ends)) pushed
           ∙ append_assoc places (replicate (end - length places) run) (run_places (suc run) end (drop (suc run) ends))
           ∙ ap (λ (k : ℕ). places ++ (replicate k run ++ run_places (suc run) end (drop (suc run) ends))) size
-          ∙ ap (λ (k : ℕ). places ++ (replicate (end - end_before ends run) run ++ run_places (suc run) end (drop k ends))) (sym (add_one run))
+          ∙ ap (λ (k : ℕ). places ++ (replicate (end - start_in ends run) run ++ run_places (suc run) end (drop k ends))) (sym (add_one run))
           ∙ ap (λ (ps : List ℕ). places ++ ps) (sym left) ∙ h.whole);
     }
   where
@@ -84,7 +85,7 @@ places_more ends places more run lt above pushed h =
     add_one k = omega arith
 
 pub places_all : (ends places : List ℕ) (run : ℕ) → length ends ≤ run → PlacesSoFar ends places run → places ≡ run_places 0 0 ends
-places_all ends places run past h = sym (append-nil places) ∙ ap (λ (es : List ℕ). places ++ run_places run (end_before ends run) es) (sym (drop_all run ends past)) ∙ h.whole
+places_all ends places run past h = sym (append-nil places) ∙ ap (λ (es : List ℕ). places ++ run_places run (start_in ends run) es) (sym (drop_all run ends past)) ∙ h.whole
 
 -- ---- the values at the places
 alike : (n run : ℕ) (vs : List Datum) → map (λ place. get_or vs place null) (replicate n run) ≡ replicate n (get_or vs run null)

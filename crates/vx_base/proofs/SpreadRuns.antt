@@ -4,7 +4,8 @@ use Rattle.std.specs.Prelude.{slice_get}
 use Rattle.std.proofs.lemmas.List.{length-append, length-replicate, drop_more, drop_all, append-nil, map-append}
 use Rattle.vx_base.specs.Columns.{ColumnData}
 use Rattle.vx_base.specs.RunRows.{Rise, start_of, HasRow, runs_column}
-use Rattle.vx_base.specs.Runs.{spread, end_before, AreGoodEnds}
+use Rattle.vx_packed.specs.Texts.{start_in}
+use Rattle.vx_base.specs.Runs.{spread, AreGoodEnds}
 
 -- ---- where runs begin
 pub start_next : (from : ℕ) (ends : List ℕ) (place : ℕ) → place < length ends → start_of from ends (suc place) ≡ get_or ends place 0
@@ -22,9 +23,9 @@ start_up from ends zero h le = omega arith
 start_up from [] (suc place) h le = omega arith
 start_up from (end ∷ ends) (suc place) h le = omega (arith, h.0, start_up end ends place h.1 (omega arith))
 
-pub end_is_start : (ends : List ℕ) (place : ℕ) → place ≤ length ends → end_before ends place ≡ start_of 0 ends place
-end_is_start ends zero le = refl
-end_is_start ends (suc place) le = sym (start_next 0 ends place (omega arith))
+pub same_start : (ends : List ℕ) (place : ℕ) → place ≤ length ends → start_in ends place ≡ start_of 0 ends place
+same_start ends zero le = refl
+same_start ends (suc place) le = sym (start_next 0 ends place (omega arith))
 
 risen : (from : ℕ) (ends : List ℕ) → ((place : ℕ) → place < length ends → start_of from ends place < get_or ends place 0) → Rise from ends
 risen from [] h = tt
@@ -33,7 +34,7 @@ risen from (end ∷ ends) h = (h 0 (omega arith), risen end ends (λ place lt. h
 pub good_rise : (count : ℕ) (ends : List ℕ) → AreGoodEnds count ends → Rise 0 ends
 good_rise count ends h = risen 0 ends (λ place lt.
     let here = h.good place (omega (arith, h.same)) in
-    omega (arith, here.above, end_is_start ends place (omega arith)))
+    omega (arith, here.above, same_start ends place (omega arith)))
 
 -- ---- the rows of runs
 pub spread_len : {X : Type 0} (from : ℕ) (vs : List X) (ends : List ℕ) → length ends ≡ length vs → Rise from ends → from + length (spread from vs ends) ≡ start_of from ends (length ends)

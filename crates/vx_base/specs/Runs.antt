@@ -1,5 +1,6 @@
 -- Values that each fill the rows from the end before them to their own.
-use Rattle.std.specs.Prelude.{◌≡◌, ℕ, zero, suc, ◌-◌, ◌<◌, ◌⊎◌, List, [], ◌∷◌, ◌++◌, length, replicate, slice_index}
+use Rattle.std.specs.Prelude.{◌≡◌, ℕ, suc, ◌-◌, ◌<◌, ◌⊎◌, List, [], ◌∷◌, ◌++◌, length, replicate, slice_index}
+use Rattle.vx_packed.specs.Texts.{start_in}
 
 -- the values, each in its rows, the first of which is the given one
 abbrev pub spread : {X : Type 0} → ℕ → List X → List ℕ → List X
@@ -7,16 +8,11 @@ spread from [] ends = []
 spread from (v ∷ values) [] = []
 spread from (v ∷ values) (end ∷ ends) = replicate (end - from) v ++ spread end values ends
 
--- the end before a place, and 0 before the first
-abbrev pub end_before : List ℕ → ℕ → ℕ
-end_before ends zero = 0
-end_before ends (suc place) = slice_index ends place
-
 -- there is a value and an end, which is above the one before it
 pub record IsGoodEnd (count : ℕ) (ends : List ℕ) (place : ℕ) : Type 0 where
   pub value : place < count
   pub there : place < length ends
-  pub above : end_before ends place < slice_index ends place
+  pub above : start_in ends place < slice_index ends place
 
 -- as many ends as values, each above the one before it
 pub record AreGoodEnds (count : ℕ) (ends : List ℕ) : Type 0 where

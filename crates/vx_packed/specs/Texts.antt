@@ -14,7 +14,7 @@ abbrev pub AreEnds : ℕ → ℕ → List ℕ → Type 0
 AreEnds from to [] = from ≡ to
 AreEnds from to (end ∷ ends) = (from ≤ end) × AreEnds end to ends
 
--- where the text of a row begins: where the one before it ends
+-- where that which a row has begins: where that of the row before it ends
 abbrev pub start_in : List ℕ → ℕ → ℕ
 start_in ends zero = 0
 start_in ends (suc row) = slice_index ends row

@@ -1,8 +1,8 @@
 use Rattle.std.proofs.Common.{◌≡◌, ◌-◌, ◌<◌, ◌≤◌, ◌++◌, ◌∙◌, arith, length, get_or, replicate, rules, vec_len}
 use Rattle.std.proofs.lemmas.List.{take_all}
-use Rattle.vx_base.specs.Runs.{end_before}
+use Rattle.vx_packed.specs.Texts.{start_in}
 use Rattle.vx_base.proofs.RunRows.{places_more}
-use Rattle.vx_base.proofs.SpreadRuns.{rise_at, end_is_start}
+use Rattle.vx_base.proofs.SpreadRuns.{rise_at, same_start}
 use Rattle.vx_base.proofs.run_rows.places_of.Goals as goal
 
 pub loop-run-preserved : goal.loop-run-preserved
@@ -11,7 +11,7 @@ loop-run-preserved c =
     let run = c.loop-run.run in
     let places = c.loop-run.places.items in
     let end = get_or ends run 0 in
-    let above : end_before ends run < end = omega (arith, rise_at 0 ends run c.requires c.loop-run-test.true, end_is_start ends run (omega (arith, c.loop-run-test.true))) in
+    let above : start_in ends run < end = omega (arith, rise_at 0 ends run c.requires c.loop-run-test.true, same_start ends run (omega (arith, c.loop-run-test.true))) in
     let within : length places ≤ end = omega (arith, c.loop-run.invariant.rows, above) in
     let many : vec_len c.loop-run.places ≡ length places = search rules in
     let pushed : c.resize.new.self.items ≡ places ++ replicate (end - length places) run = c.in_ok-resize.ensures.items ∙ (λ i. take_all end places within i ++ replicate (end - many i) run) in
