@@ -8,12 +8,13 @@ use Rattle.vx_base.specs.declared.locations.SegmentLocation.{SegmentLocation}
 use Rattle.vx_expr.specs.Meaning.{meaning}
 use Rattle.vx_expr.specs.Mentions.{is_root, uses_root}
 use Rattle.vx_expr.specs.Terms.{Term, root}
+use Rattle.vx_expr.specs.Rows.{no_bound}
 use Rattle.vx_layout.specs.Kept.{all, kept_fields}
 use Rattle.vx_layout.specs.Rows.{file_leaves, value}
 use Rattle.vx_layout.specs.Shape.{IsGoodTree}
 use Rattle.vx_layout.specs.Trees.{Tree, head_of, subtree}
 use Rattle.vx_lower.specs.Projected.{Projection, projected_at}
-use Rattle.vx_rows.specs.Derivations.{Leaves, no_bound}
+use Rattle.vx_rows.specs.Derivations.{Leaves}
 use Rattle.vx_scan.specs.Answer.{FileScan, ArePieces, in_front, pieces_of, row_count, scan_pieces, scan_rows}
 use Rattle.vx_splits.specs.declared.selections.Selection.{Selection}
 use Rattle.vx_splits.specs.declared.selections.Selection.TheVariants.{All}

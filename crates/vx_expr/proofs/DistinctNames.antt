@@ -12,7 +12,8 @@ use Rattle.std.proofs.lemmas.Map.Text.{is_eq-slice_cmp}
 use Rattle.std.proofs.lemmas.Slice.Eq.{bytes_eq-Decides}
 use Rattle.vx_expr.specs.declared.expressions.Expr.{Expr}
 use Rattle.vx_expr.specs.TermViews.{terms_of}
-use Rattle.vx_expr.specs.Types.{are_distinct, names_in}
+use Rattle.vx_base.specs.Names.{are_distinct}
+use Rattle.vx_expr.specs.Types.{names_in}
 
 -- the name stands among those seen
 abbrev pub is_seen : List (List ℕ) → List ℕ → Bool

@@ -12,13 +12,14 @@ use Rattle.vx_base.specs.ColumnCalls.{nullable_where}
 use Rattle.vx_base.specs.Data.{DataType, bool_type, int_type, utf8_type, struct_type, list_type, Members, no_members, member, Datum, null, truth, number, text, structure, Items, no_items, item}
 use Rattle.vx_base.specs.Fits.{Fits, EachFits, TakesNull, IsInside, least_of, greatest_of}
 use Rattle.vx_base.specs.Reading.{fits_leaf}
+use Rattle.vx_base.specs.Names.{are_distinct}
 use Rattle.vx_expr.specs.declared.mentions.Part.TheVariants.{Root}
 use Rattle.vx_operators.specs.declared.operators.CompareOp.{CompareOp}
 use Rattle.vx_operators.specs.declared.operators.ArithOp.{ArithOp}
 use Rattle.vx_expr.specs.Meaning.{meaning, meanings_in, item_in, field_of, negated, and_of, or_of, comparison_of, null_test_of, value_test_of, arithmetic_of, bound_test_of, exact, if_inside, is_null, one_more_item, struct_of}
 use Rattle.vx_expr.specs.Mentions.{mentions_in, uses_root}
 use Rattle.vx_expr.specs.Terms.{Term, root, literal, get_field, pack, negation, conjunction, disjunction, comparison, null_test, value_test, arithmetic, row_number, bound_test, Terms, no_terms, named}
-use Rattle.vx_expr.specs.Types.{on_both, either_nullable, is_kind, type_in, field_type, are_distinct, negation_type, logic_type, comparison_type, arithmetic_type, test_type, bound_test_type, one_more_member, names_in, type_of, types_in}
+use Rattle.vx_expr.specs.Types.{on_both, either_nullable, is_kind, type_in, field_type, negation_type, logic_type, comparison_type, arithmetic_type, test_type, bound_test_type, one_more_member, names_in, type_of, types_in}
 use Rattle.vx_base.proofs.BuiltRows.{fits_where}
 use Rattle.vx_base.proofs.Spelled.{leaf_fits, le_from}
 

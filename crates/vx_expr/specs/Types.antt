@@ -1,6 +1,5 @@
 -- The dtype of an expression over a root dtype, where it has one.
-use Rattle.std.specs.Prelude.{ℕ, Bool, true, false, not, ◌&&◌, if◌then◌else◌, List, [], ◌∷◌, Option, Some, None, option_map, option_and_then}
-use Rattle.std.specs.List.{list_any}
+use Rattle.std.specs.Prelude.{ℕ, Bool, true, false, if◌then◌else◌, List, [], ◌∷◌, Option, Some, None, option_map, option_and_then}
 use Rattle.std.specs.Str.{bytes_eq}
 use Rattle.vx_base.specs.declared.dtypes.IntKind.{IntKind}
 use Rattle.vx_base.specs.declared.dtypes.IntKind.TheVariants.{U8, U16, U32, U64, I8, I16, I32, I64}
@@ -8,6 +7,7 @@ use Rattle.vx_base.specs.declared.dtypes.Nullability.{Nullability}
 use Rattle.vx_base.specs.declared.dtypes.Nullability.TheVariants.{NonNullable, Nullable}
 use Rattle.vx_base.specs.Data.{DataType, bool_type, int_type, utf8_type, struct_type, Members, no_members, member, Datum}
 use Rattle.vx_base.specs.ColumnCalls.{nullable_where}
+use Rattle.vx_base.specs.Names.{are_distinct}
 use Rattle.vx_base.specs.Reading.{fits_leaf}
 use Rattle.vx_expr.specs.Terms.{Term, root, literal, get_field, pack, negation, conjunction, disjunction, comparison, null_test, value_test, arithmetic, row_number, bound_test, Terms, no_terms, named}
 
@@ -48,10 +48,6 @@ type_in (member other t ms) name = if bytes_eq other name then Some t else type_
 abbrev pub field_type : List ℕ → DataType → Option DataType
 field_type name (struct_type ms n) = option_map (nullable_where n) (type_in ms name)
 field_type name t = None
-
-abbrev pub are_distinct : List (List ℕ) → Bool
-are_distinct [] = true
-are_distinct (name ∷ names) = not (list_any (λ other. bytes_eq other name) names) && are_distinct names
 
 -- a struct takes no nulls, and its names are distinct
 abbrev pub pack_type : List (List ℕ) → Members → Option DataType

@@ -7,6 +7,7 @@ ghost use Rattle.vx_base.specs.ColumnCalls.{nullable_where};
 ghost use Rattle.vx_base.specs.Data.{DataType};
 ghost use Rattle.vx_base.specs.Views.{data_type, fields_in};
 ghost use Rattle.vx_base.specs.ValueViews.{datum};
+ghost use Rattle.vx_base.specs.Names.{are_distinct};
 ghost use Rattle.vx_expr.specs.Counts.{node_count, nodes_in};
 ghost use Rattle.vx_expr.specs.Finds.{place_found, own_found, found_of, found_in};
 ghost use Rattle.vx_expr.specs.Refusals.{capped, first_part, behind};
@@ -14,7 +15,7 @@ ghost use Rattle.vx_expr.specs.Steps.{left_of, part_of};
 ghost use Rattle.vx_expr.specs.Terms.{IsPair};
 ghost use Rattle.vx_expr.specs.TermViews.{term, terms_of};
 ghost use Rattle.vx_expr.specs.Typing.{typed_data, pair_type, GivesOr, GivesType, GivesPair, GivesMembers, GivesField, GivesPack, GivesDerived};
-ghost use Rattle.vx_expr.specs.Types.{either_nullable, literal_type, type_in, are_distinct, negation_type, logic_type, comparison_type, arithmetic_type, bound_test_type, row_number_type, names_in, type_of};
+ghost use Rattle.vx_expr.specs.Types.{either_nullable, literal_type, type_in, negation_type, logic_type, comparison_type, arithmetic_type, bound_test_type, row_number_type, names_in, type_of};
 
 use crate::binding::BindError;
 use crate::expressions::{Expr, NamedExprs, Operand};

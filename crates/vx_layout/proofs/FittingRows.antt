@@ -9,9 +9,10 @@ use Rattle.vx_base.specs.Fits.{Fits, EachFits, nullability_of}
 use Rattle.vx_base.specs.ColumnCalls.{made_nullable, nullable_where, IsUnsigned}
 use Rattle.vx_base.specs.ValueViews.{items_from}
 use Rattle.vx_expr.specs.Types.{on_both}
+use Rattle.vx_expr.specs.Packs.{struct_row}
 use Rattle.vx_layout.specs.Trees.{Tree, missing, leaf, chunks, fields, dict, lists, zoned, Forest, no_trees, tree, Validity, always, valid_by, head_of}
 use Rattle.vx_layout.specs.Kept.{all}
-use Rattle.vx_rows.specs.Derivations.{Derivation, packed, each_row, Leaves, where_valid, look_up, one_more, struct_of_values, derived, derived_each}
+use Rattle.vx_rows.specs.Derivations.{Derivation, packed, each_row, Leaves, where_valid, look_up, one_more, derived, derived_each}
 use Rattle.vx_layout.specs.Rows.{struct_members, derivation, derivation_in, field_derivations, where_valid_by}
 use Rattle.vx_layout.specs.Sound.{IsSound, IsStruct, AreChunks, AreFields, IsValidity}
 use Rattle.vx_rows.specs.Whole.{GiveFitting}
@@ -91,7 +92,7 @@ item_fits name t ms None ds h each = tt
 item_fits name t ms (Some v) None h each = tt
 item_fits name t ms (Some v) (Some vs) h each = (h, each)
 
-struct_fits : (t : DataType) (values : Option (List Datum)) → IsStruct t → IfSome values (AreItemsOf (struct_members t)) → IfSome (option_map struct_of_values values) (Fits t)
+struct_fits : (t : DataType) (values : Option (List Datum)) → IsStruct t → IfSome values (AreItemsOf (struct_members t)) → IfSome (option_map struct_row values) (Fits t)
 struct_fits (struct_type ms n) None is each = tt
 struct_fits (struct_type ms n) (Some values) is each = each
 struct_fits (bool_type n) values is each = absurd is

@@ -6,9 +6,10 @@ use Rattle.std.proofs.lemmas.List.{map-append}
 use Rattle.vx_base.specs.Data.{Members, no_members, member, Datum, null, truth, number, text, structure}
 use Rattle.vx_base.specs.ColumnCalls.{value_at}
 use Rattle.vx_expr.specs.Types.{on_both}
+use Rattle.vx_expr.specs.Packs.{struct_row}
 use Rattle.vx_layout.specs.Trees.{Head, Zones, Tree, leaf, chunks, fields, dict, zoned, Forest, no_trees, tree, always, valid_by, head_of}
 use Rattle.vx_layout.specs.Kept.{KeptFields, all}
-use Rattle.vx_rows.specs.Derivations.{Derivation, each_row, Leaves, look_up, struct_of_values, derived, derived_each}
+use Rattle.vx_rows.specs.Derivations.{Derivation, each_row, Leaves, look_up, derived, derived_each}
 use Rattle.vx_rows.specs.Reads.{IsPlaceAmong}
 use Rattle.vx_layout.specs.Rows.{struct_members, derivation, field_derivations, value, value_in, AreValuesOf, AreTreeValues, rows_in, AreForestValues}
 use Rattle.vx_layout.specs.Columns.{AreColumns, row_of, valid_row_of}
@@ -177,7 +178,7 @@ map_each f g from (suc count) end e same =
 pub struct_values : (leaves : Leaves) (head : Head) (forest : Forest) (columns : List (List Datum)) → AreFields (struct_members head.dtype) head.rows forest → AreColumns leaves (struct_members head.dtype) forest columns → AreTreeValues leaves (fields head forest always) all (map (row_of columns) (range_with_len 0 head.rows))
 struct_values leaves head forest columns sound are =
     map_each (value leaves (fields head forest always) all) (row_of columns) 0 head.rows head.rows (omega arith)
-    (λ row lt. ap (option_map struct_of_values) (columns_at leaves (struct_members head.dtype) head.rows forest columns row sound are lt))
+    (λ row lt. ap (option_map struct_row) (columns_at leaves (struct_members head.dtype) head.rows forest columns row sound are lt))
 
 -- and null where the validity is false
 pub valid_struct_values : (leaves : Leaves) (head : Head) (forest : Forest) (validity : Tree) (columns : List (List Datum)) (truths : List Datum) → AreFields (struct_members head.dtype) head.rows forest → AreColumns leaves (struct_members head.dtype) forest columns → (head_of validity).rows ≡ head.rows → AreTreeValues leaves validity all truths → AreTreeValues leaves (fields head forest (valid_by validity)) all (map (valid_row_of truths columns) (range_with_len 0 head.rows))

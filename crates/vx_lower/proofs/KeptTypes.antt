@@ -15,7 +15,7 @@ use Rattle.vx_expr.specs.Counts.{depth, greatest_depth}
 use Rattle.vx_expr.specs.Mentions.{uses_row_number}
 use Rattle.vx_expr.specs.Terms.{Term, Terms, get_field, named, pack, root}
 use Rattle.vx_expr.specs.Types.{on_both, one_more_member, pack_type, type_in, type_of, types_in}
-use Rattle.vx_expr.specs.Types.{are_distinct as are_distinct_terms, names_in as names_of_terms}
+use Rattle.vx_expr.specs.Types.{names_in as names_of_terms}
 use Rattle.vx_layout.specs.Kept.{KeptFields, only, is_kept}
 use Rattle.vx_lower.specs.Keeping.{bound_pack}
 use Rattle.vx_lower.specs.KeptRows.{kept_members, kept_pack, kept_terms, kept_type, MayKeep}
@@ -90,11 +90,11 @@ kept_apart kept name (member other t ms) apart =
     apart_step (is_kept kept other) (bytes_eq other name) name other (kept_terms kept ms) refl (or_first (bytes_eq other name) (is_among name ms) apart)
     (kept_apart kept name ms (or_second (bytes_eq other name) (is_among name ms) apart))
 
-distinct_step : (b : Bool) (name : List ℕ) (es : Terms) → list_any (λ other. bytes_eq other name) (names_of_terms es) ≡ false → are_distinct_terms (names_of_terms es) ≡ true → are_distinct_terms (names_of_terms (cond b (named name (get_field name root) es) es)) ≡ true
-distinct_step true name es apart rest = ap (λ (d : Bool). not d && are_distinct_terms (names_of_terms es)) apart ∙ rest
+distinct_step : (b : Bool) (name : List ℕ) (es : Terms) → list_any (λ other. bytes_eq other name) (names_of_terms es) ≡ false → are_distinct (names_of_terms es) ≡ true → are_distinct (names_of_terms (cond b (named name (get_field name root) es) es)) ≡ true
+distinct_step true name es apart rest = ap (λ (d : Bool). not d && are_distinct (names_of_terms es)) apart ∙ rest
 distinct_step false name es apart rest = rest
 
-kept_distinct : (kept : KeptFields) (ms : Members) → are_distinct (names_in ms) ≡ true → are_distinct_terms (names_of_terms (kept_terms kept ms)) ≡ true
+kept_distinct : (kept : KeptFields) (ms : Members) → are_distinct (names_in ms) ≡ true → are_distinct (names_of_terms (kept_terms kept ms)) ≡ true
 kept_distinct kept no_members distinct = refl
 kept_distinct kept (member name t ms) distinct =
     let apart : is_among name ms ≡ false = not_true (is_among name ms) (and_first (not (is_among name ms)) (are_distinct (names_in ms)) distinct) in

@@ -13,6 +13,8 @@ use Rattle.vx_base.specs.ValueViews.{items_from}
 use Rattle.vx_expr.specs.Terms.{root, get_field, Terms, named}
 use Rattle.vx_expr.specs.Types.{on_both}
 use Rattle.vx_expr.specs.Meaning.{meaning, meanings_in, item_in, one_more_item, struct_of}
+use Rattle.vx_expr.specs.Rows.{no_bound}
+use Rattle.vx_expr.specs.Packs.{struct_row}
 use Rattle.vx_base.specs.Names.{names_in, are_distinct}
 use Rattle.vx_layout.specs.Kept.{KeptFields, all, only, is_kept}
 use Rattle.vx_layout.specs.Rows.{struct_members, derivation, derivation_in, field_derivations, where_valid_by}
@@ -20,7 +22,7 @@ use Rattle.vx_layout.specs.Sound.{IsSound, AreChunks, AreFields, IsValidity}
 use Rattle.vx_layout.specs.Trees.{Tree, missing, leaf, chunks, fields, dict, lists, zoned, Forest, no_trees, tree, Validity, always, valid_by, head_of}
 use Rattle.vx_plan.specs.Plans.{Plan, take_plan, Plans, plan, plan_head}
 use Rattle.vx_plan.specs.PlanRows.{plan_derivation, plan_derivation_in, plan_derivations, plan_where_valid}
-use Rattle.vx_rows.specs.Derivations.{Derivation, given, packed, Leaves, derived, derived_each, one_more, struct_of_values, no_bound}
+use Rattle.vx_rows.specs.Derivations.{Derivation, given, packed, Leaves, derived, derived_each, one_more}
 use Rattle.vx_rows.specs.Whole.{GiveFitting}
 use Rattle.vx_lower.specs.KeptRows.{kept_items, kept_value, kept_terms, kept_pack}
 use Rattle.vx_lower.specs.Lowered.{tell, plan_head_of, plan_zones_of, kept_head, lowered, lowered_in, lowered_fields, lowered_validity}
@@ -129,7 +131,7 @@ keep_fields offset leaves kept (member name t ms) rows (tree first rest) row sou
     keep_field kept name t ms (is_kept kept name) refl (derived leaves (derivation first all row)) (derived_each leaves (plan_derivations offset (lowered_fields ms rest kept) row)) (derived_each leaves (field_derivations ms rest kept row)) more in
     rw (plans_by (is_kept kept name) offset leaves (lowered first all) (lowered_fields ms rest kept) row, p, field_by (is_kept kept name) leaves (derivation first all row)) here
 
-pack_of : (kept : KeptFields) (ms : Members) (names : List (List ℕ)) (n : Nullability) → kept ≡ only names → (ones others : Option (List Datum)) → Keep kept ms ones others → option_map struct_of_values ones ≡ option_map (kept_value kept (struct_type ms n)) (option_map struct_of_values others)
+pack_of : (kept : KeptFields) (ms : Members) (names : List (List ℕ)) (n : Nullability) → kept ≡ only names → (ones others : Option (List Datum)) → Keep kept ms ones others → option_map struct_row ones ≡ option_map (kept_value kept (struct_type ms n)) (option_map struct_row others)
 pack_of kept ms names n e None None more = refl
 pack_of kept ms names n e None (Some vs) more = absurd cc
 pack_of kept ms names n e (Some us) None more = absurd cc

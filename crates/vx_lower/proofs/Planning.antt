@@ -8,13 +8,14 @@ use Rattle.vx_expr.specs.Meaning.{meaning}
 use Rattle.vx_expr.specs.Mentions.{uses_root, is_root, root_fields}
 use Rattle.vx_expr.specs.Terms.{Term, root, literal, get_field, pack, negation, conjunction, disjunction, comparison, null_test, value_test, arithmetic, row_number, bound_test}
 use Rattle.vx_expr.specs.Types.{type_of}
+use Rattle.vx_expr.specs.Rows.{no_bound}
 use Rattle.vx_layout.specs.Kept.{KeptFields, all, only, names_among, kept_among, kept_fields}
 use Rattle.vx_layout.specs.Rows.{value, reads}
 use Rattle.vx_layout.specs.Sound.{IsSound}
 use Rattle.vx_layout.specs.Trees.{Tree, head_of}
 use Rattle.vx_plan.specs.Plans.{Plan, plan_head}
 use Rattle.vx_plan.specs.PlanRows.{plan_value, plan_reads}
-use Rattle.vx_rows.specs.Derivations.{Leaves, no_bound}
+use Rattle.vx_rows.specs.Derivations.{Leaves}
 use Rattle.vx_rows.specs.Reads.{directly, Read}
 use Rattle.vx_rows.specs.Whole.{GiveFitting}
 use Rattle.vx_lower.specs.KeptRows.{kept_type, kept_value, MayKeep}

@@ -11,11 +11,13 @@ use Rattle.vx_expr.specs.Mentions.{uses_root, uses_row_number}
 use Rattle.vx_expr.specs.Meaning.{meaning, meanings_in}
 use Rattle.vx_expr.specs.Rewritten.{with_row_number, over_row_number}
 use Rattle.vx_expr.specs.Types.{on_both}
+use Rattle.vx_expr.specs.Rows.{no_bound}
+use Rattle.vx_expr.specs.Packs.{struct_row}
 use Rattle.vx_expr.proofs.RewrittenTypes.{or_left, or_right}
 use Rattle.vx_expr.proofs.RewrittenMeaning.{worth_as_root, worth_over_row}
 use Rattle.vx_plan.specs.Plans.{Plan, plan_head}
 use Rattle.vx_plan.specs.PlanRows.{plan_value, plan_reads}
-use Rattle.vx_rows.specs.Derivations.{Leaves, one_more, struct_of_values, no_bound}
+use Rattle.vx_rows.specs.Derivations.{Leaves, one_more}
 use Rattle.vx_lower.specs.RowIndex.{row_index_plan_by, row_index_plan, meaning_over}
 
 -- an expression that doesn't use the row's number is worth the same at each row
@@ -54,7 +56,7 @@ over_both : (t : DataType) (a : Bound) (v : Option Datum) (row : ℕ) → option
 over_both t a None row = refl
 over_both t a (Some v) row = worth_over_row t a.term no_bound v row 0
 
-packed_numbered : (row : ℕ) (v : Option Datum) → option_map struct_of_values (on_both one_more (Some (number (pos row))) (on_both one_more v (Some []))) ≡ numbered row v
+packed_numbered : (row : ℕ) (v : Option Datum) → option_map struct_row (on_both one_more (Some (number (pos row))) (on_both one_more v (Some []))) ≡ numbered row v
 packed_numbered row None = refl
 packed_numbered row (Some v) = refl
 

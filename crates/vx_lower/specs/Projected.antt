@@ -4,10 +4,11 @@ use Rattle.vx_base.specs.Data.{Datum, null}
 use Rattle.vx_expr.specs.Bound.{Bound}
 use Rattle.vx_expr.specs.Meaning.{meaning}
 use Rattle.vx_expr.specs.Mentions.{uses_root}
+use Rattle.vx_expr.specs.Rows.{no_bound}
 use Rattle.vx_layout.specs.Kept.{KeptFields, kept_fields}
 use Rattle.vx_layout.specs.Rows.{value, reads}
 use Rattle.vx_layout.specs.Trees.{Tree, head_of}
-use Rattle.vx_rows.specs.Derivations.{Leaves, no_bound}
+use Rattle.vx_rows.specs.Derivations.{Leaves}
 use Rattle.vx_rows.specs.Reads.{directly, Read}
 
 -- A projection of a tree: a bound expression over the root's values and the rows' numbers, counted from an offset.

@@ -4,7 +4,6 @@ use Rattle.std.specs.Prelude.{ℕ, ◌+◌, ◌-◌, nat_lt, pos, if◌then◌el
 use Rattle.vx_base.specs.Data.{Datum, number}
 use Rattle.vx_rows.specs.Derivations.{Derivation, nothing, cell, list_row, given, packed, valid_where, looked_up, worked_out, read_whole, Derivations, no_more, also, each_row, Leaves, derived}
 use Rattle.vx_rows.specs.Reads.{directly, Read, reads_of}
-use Rattle.vx_rows.specs.SegmentLeaves.{Bytes, leaves_of}
 use Rattle.vx_plan.specs.Plans.{Plan, no_plan, concat_plan, eval_plan, filter_plan, pack_plan, take_plan, share_plan, list_plan, row_idx_plan, scan_plan, zoned_plan, Plans, no_plans, plan, PlanValidity, all_valid, valid_as, plan_head}
 
 -- A concat's row is that of the child that holds it; an eval's is worked out over the child's row; a filter
@@ -46,7 +45,3 @@ plan_value leaves offset p row = derived leaves (plan_derivation offset p row)
 -- what a row of a plan reads
 abbrev pub plan_reads : ℕ → Plan → ℕ → List Read
 plan_reads offset p row = reads_of directly (plan_derivation offset p row)
-
--- the same by the bytes of segments
-abbrev pub plan_value_by : Bytes → ℕ → Plan → ℕ → Option Datum
-plan_value_by bytes offset p row = plan_value (leaves_of bytes) offset p row

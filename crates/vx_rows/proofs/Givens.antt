@@ -4,7 +4,9 @@ use Rattle.std.specs.Prelude.{option_and_then, option_map, IfSome}
 use Rattle.std.specs.List.{slice_get}
 use Rattle.vx_base.specs.Data.{Datum}
 use Rattle.vx_expr.specs.Meaning.{meaning}
-use Rattle.vx_rows.specs.Derivations.{Cell, Derivation, nothing, cell, list_row, given, packed, valid_where, looked_up, worked_out, read_whole, Derivations, no_more, also, Leaves, struct_of_values, no_bound, derived, derived_each}
+use Rattle.vx_expr.specs.Rows.{no_bound}
+use Rattle.vx_expr.specs.Packs.{struct_row}
+use Rattle.vx_rows.specs.Derivations.{Cell, Derivation, nothing, cell, list_row, given, packed, valid_where, looked_up, worked_out, read_whole, Derivations, no_more, also, Leaves, derived, derived_each}
 use Rattle.vx_rows.specs.Reads.{Way, inside, CodeRow, code_row, a_cell, a_code, Read, ReadsCell, reads_of, reads_of_each}
 use Rattle.vx_rows.specs.Given.{GivenValues, all_given, values_with, given_row, share_with, with_given, each_with_given, AreCertified, EachCertified}
 use Rattle.vx_rows.proofs.ReadRows.{any_either, any_left, any_right}
@@ -57,7 +59,7 @@ mutual
   certified leaves values_for (cell at) are = refl
   certified leaves values_for (list_row list row) are = refl
   certified leaves values_for (given v) are = refl
-  certified leaves values_for (packed ds) are = ap (option_map struct_of_values) (certified_each leaves values_for ds are)
+  certified leaves values_for (packed ds) are = ap (option_map struct_row) (certified_each leaves values_for ds are)
   certified leaves values_for (valid_where d validity) are =
       let p : derived leaves (with_given values_for d) ≡ derived leaves d = certified leaves values_for d are.0 in
       let q : derived leaves (with_given values_for validity) ≡ derived leaves validity = certified leaves values_for validity are.1 in

@@ -5,7 +5,9 @@ use Rattle.std.specs.List.{slice_get, AllByRecursion}
 use Rattle.vx_base.specs.Data.{Datum, null, truth, number, text, structure}
 use Rattle.vx_expr.specs.Types.{on_both}
 use Rattle.vx_expr.specs.Meaning.{meaning}
-use Rattle.vx_rows.specs.Derivations.{Cell, Derivation, nothing, cell, list_row, given, packed, valid_where, looked_up, worked_out, read_whole, Derivations, no_more, also, count_of, Leaves, where_valid, look_up, one_more, struct_of_values, no_bound, derived, derived_each}
+use Rattle.vx_expr.specs.Rows.{no_bound}
+use Rattle.vx_expr.specs.Packs.{struct_row}
+use Rattle.vx_rows.specs.Derivations.{Cell, Derivation, nothing, cell, list_row, given, packed, valid_where, looked_up, worked_out, read_whole, Derivations, no_more, also, count_of, Leaves, where_valid, look_up, one_more, derived, derived_each}
 use Rattle.vx_rows.specs.Reads.{Way, through, inside, Found, a_cell, a_code, Read, code_row, reads_of, reads_of_each, AnyOf, IsAmong, AreAmong, Finds, FindsOnly, found_in, IsPlaceAmong, IsBadCode, IsFaulty, IsFine}
 use Rattle.vx_rows.specs.Whole.{IsWhole, AreWhole, IsStrict, AreStrict, GiveEachRow, AgreeOn}
 
@@ -51,7 +53,7 @@ mutual
   agree ones others way (cell at) each = ap (option_and_then (λ (values : List Datum). slice_get values at.row)) each.0
   agree ones others way (list_row list row) each = refl
   agree ones others way (given v) each = refl
-  agree ones others way (packed ds) each = ap (option_map struct_of_values) (agree_each ones others way ds each)
+  agree ones others way (packed ds) each = ap (option_map struct_row) (agree_each ones others way ds each)
   agree ones others way (valid_where d validity) each =
       let p : derived ones d ≡ derived others d = agree ones others way d (only_left (AgreeOn ones others) (reads_of way d) (reads_of way validity) each) in
       let q : derived ones validity ≡ derived others validity = agree ones others way validity (only_right (AgreeOn ones others) (reads_of way d) (reads_of way validity) each) in
@@ -128,7 +130,7 @@ mutual
   faulty leaves way (cell at) strict any = ⊎_elim (λ (fault : IsFaulty leaves (a_cell at)). faulty_cell leaves at fault) (λ (no : ⊥). absurd no) any
   faulty leaves way (list_row list row) strict any = refl
   faulty leaves way (given v) strict any = absurd any
-  faulty leaves way (packed ds) strict any = ap (option_map struct_of_values) (faulty_each leaves way ds strict any)
+  faulty leaves way (packed ds) strict any = ap (option_map struct_row) (faulty_each leaves way ds strict any)
   faulty leaves way (valid_where d validity) strict any =
       ⊎_elim (λ (left : Finds (IsFaulty leaves) (reads_of way d)). on_left where_valid (derived leaves d) (derived leaves validity) (faulty leaves way d strict.0 left))
       (λ (right : Finds (IsFaulty leaves) (reads_of way validity)). on_right where_valid (derived leaves d) (derived leaves validity) (faulty leaves way validity strict.1 right))
@@ -160,7 +162,7 @@ cell_there : (values : Option (List Datum)) (rows row : ℕ) → row < rows → 
 cell_there None rows row lt size some = absurd cc
 cell_there (Some values) rows row lt size some = get_there values row (omega arith)
 
-packed_there : (ds : Option (List Datum)) → IsSome ds → IsSome (option_map struct_of_values ds)
+packed_there : (ds : Option (List Datum)) → IsSome ds → IsSome (option_map struct_row ds)
 packed_there None some = absurd cc
 packed_there (Some vs) some = refl
 

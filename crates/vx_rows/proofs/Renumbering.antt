@@ -4,7 +4,9 @@ use Rattle.std.specs.Prelude.{option_and_then, option_map}
 use Rattle.std.proofs.lemmas.List.{map-append}
 use Rattle.vx_base.specs.Data.{Datum}
 use Rattle.vx_expr.specs.Meaning.{meaning}
-use Rattle.vx_rows.specs.Derivations.{Derivation, nothing, cell, list_row, given, packed, valid_where, looked_up, worked_out, read_whole, Derivations, no_more, also, count_of, Leaves, struct_of_values, no_bound, derived, derived_each}
+use Rattle.vx_expr.specs.Rows.{no_bound}
+use Rattle.vx_expr.specs.Packs.{struct_row}
+use Rattle.vx_rows.specs.Derivations.{Derivation, nothing, cell, list_row, given, packed, valid_where, looked_up, worked_out, read_whole, Derivations, no_more, also, count_of, Leaves, derived, derived_each}
 use Rattle.vx_rows.specs.Reads.{Way, directly, through, inside, a_code, Read, read_by, code_row, reads_of, reads_of_each}
 use Rattle.vx_rows.specs.Renumbered.{renumbered, each_renumbered, way_renumbered, read_renumbered}
 
@@ -14,7 +16,7 @@ mutual
   same_worth leaves f (cell at) = refl
   same_worth leaves f (list_row list row) = refl
   same_worth leaves f (given v) = refl
-  same_worth leaves f (packed ds) = ap (option_map struct_of_values) (same_worth_each leaves f ds)
+  same_worth leaves f (packed ds) = ap (option_map struct_row) (same_worth_each leaves f ds)
   same_worth leaves f (valid_where d validity) =
       let p : derived leaves (renumbered f d) ≡ derived leaves d = same_worth leaves f d in
       let q : derived leaves (renumbered f validity) ≡ derived leaves validity = same_worth leaves f validity in

@@ -5,7 +5,9 @@ use Rattle.std.specs.Prelude.{option_and_then, option_map, IfSome, IsSomeAnd}
 use Rattle.std.specs.List.{slice_get}
 use Rattle.vx_base.specs.Data.{Datum}
 use Rattle.vx_expr.specs.Meaning.{meaning}
-use Rattle.vx_rows.specs.Derivations.{Derivation, nothing, cell, list_row, given, packed, valid_where, looked_up, worked_out, read_whole, Derivations, no_more, also, Leaves, count_of, struct_of_values, no_bound, derived, derived_each}
+use Rattle.vx_expr.specs.Rows.{no_bound}
+use Rattle.vx_expr.specs.Packs.{struct_row}
+use Rattle.vx_rows.specs.Derivations.{Derivation, nothing, cell, list_row, given, packed, valid_where, looked_up, worked_out, read_whole, Derivations, no_more, also, Leaves, count_of, derived, derived_each}
 use Rattle.vx_rows.specs.Given.{GivenValues, all_given, values_with, given_row, share_with, with_given, each_with_given, AreCertified, EachCertified}
 use Rattle.vx_rows.specs.Reads.{Way, inside, code_row, Found, a_code, reads_of, reads_of_each, Finds, IsPlaceAmong}
 use Rattle.vx_rows.proofs.ReadRows.{derived_count}
@@ -52,7 +54,7 @@ mutual
   added leaves f h g stand (cell at) are = refl
   added leaves f h g stand (list_row list row) are = refl
   added leaves f h g stand (given v) are = refl
-  added leaves f h g stand (packed ds) are = ap (option_map struct_of_values) (added_each leaves f h g stand ds are)
+  added leaves f h g stand (packed ds) are = ap (option_map struct_row) (added_each leaves f h g stand ds are)
   added leaves f h g stand (valid_where d validity) are =
       let p : derived leaves (with_given g d) ≡ derived leaves (with_given f d) = added leaves f h g stand d are.0 in
       let q : derived leaves (with_given g validity) ≡ derived leaves (with_given f validity) = added leaves f h g stand validity are.1 in

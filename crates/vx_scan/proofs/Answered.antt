@@ -6,13 +6,14 @@ use Rattle.std.proofs.lemmas.List.{map-append}
 use Rattle.vx_base.specs.Data.{Datum, null}
 use Rattle.vx_expr.specs.Meaning.{meaning}
 use Rattle.vx_expr.specs.Mentions.{uses_root}
+use Rattle.vx_expr.specs.Rows.{no_bound}
 use Rattle.vx_layout.proofs.Joined.{values_same}
 use Rattle.vx_layout.proofs.TreeRows.{strict_row}
 use Rattle.vx_layout.specs.Rows.{derivation, value, reads, AreValuesOf}
 use Rattle.vx_layout.specs.Trees.{head_of}
 use Rattle.vx_lower.specs.Projected.{Projection, kept_of, root_value, projected_at, scan_reads}
 use Rattle.vx_rows.proofs.ReadRows.{faulty}
-use Rattle.vx_rows.specs.Derivations.{Leaves, no_bound}
+use Rattle.vx_rows.specs.Derivations.{Leaves}
 use Rattle.vx_rows.specs.Reads.{directly, Read, IsAmong, Finds, IsFaulty}
 use Rattle.vx_scan.specs.Answer.{FileScan, scan_rows, IsAnswer, in_front, pieces_of, ArePieces}
 use Rattle.vx_scan.specs.Causes.{ScanFinds, FaultsAt}

@@ -10,6 +10,8 @@ use Rattle.vx_expr.specs.Mentions.{is_root, uses_root, uses_row_number, root_fie
 use Rattle.vx_expr.specs.Rewritten.{row_number_as_root, over_row_number, with_row_number}
 use Rattle.vx_expr.specs.Terms.{Term}
 use Rattle.vx_expr.specs.Types.{on_both, type_of, row_number_type}
+use Rattle.vx_expr.specs.Rows.{no_bound}
+use Rattle.vx_expr.specs.Packs.{struct_row}
 use Rattle.vx_layout.specs.Kept.{KeptFields, all, only, kept_among, kept_fields}
 use Rattle.vx_layout.specs.Rows.{value}
 use Rattle.vx_layout.specs.Sound.{IsSound}
@@ -30,7 +32,7 @@ use Rattle.vx_plan.specs.Nodes.{Node}
 use Rattle.vx_plan.specs.Plans.{Plan, pack_plan, row_idx_plan, no_plans, plan, all_valid, plan_at, plan_head}
 use Rattle.vx_plan.specs.PlanRows.{plan_derivation, plan_reads, plan_value}
 use Rattle.vx_plan.proofs.AlikePlans.{alike_reads, alike_values}
-use Rattle.vx_rows.specs.Derivations.{Derivation, Leaves, derived, no_bound, one_more, struct_of_values}
+use Rattle.vx_rows.specs.Derivations.{Derivation, Leaves, derived, one_more}
 use Rattle.vx_rows.specs.Given.{with_given}
 use Rattle.vx_rows.specs.Renumbered.{renumbered}
 use Rattle.vx_rows.specs.Whole.{GiveFitting}
@@ -148,7 +150,7 @@ eval_fails leaves p handed none e q child row at (same, fails) worth =
     }
 
 -- a row has a value where the struct of its number and it has one
-packed_there : (u : Datum) (v : Option Datum) → IsSome (option_map struct_of_values (on_both one_more (Some u) (on_both one_more v (Some [])))) → IsSome v
+packed_there : (u : Datum) (v : Option Datum) → IsSome (option_map struct_row (on_both one_more (Some u) (on_both one_more v (Some [])))) → IsSome v
 packed_there u None some = absurd cc
 packed_there u (Some v) some = refl
 

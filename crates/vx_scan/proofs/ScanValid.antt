@@ -7,12 +7,13 @@ use Rattle.vx_base.specs.Reading.{decoded}
 use Rattle.vx_base.specs.Sources.{SourceState, bytes_at}
 use Rattle.vx_base.specs.declared.locations.SegmentLocation.{SegmentLocation}
 use Rattle.vx_expr.specs.Meaning.{meaning}
+use Rattle.vx_expr.specs.Rows.{no_bound}
 use Rattle.vx_claims.specs.Apart.{times_over}
 use Rattle.vx_layout.specs.Rows.{file_leaves, segment_bytes}
 use Rattle.vx_layout.specs.Trees.{head_of}
 use Rattle.vx_lower.specs.Projected.{Projection, root_value, projected_at, scan_reads}
 use Rattle.vx_plan.specs.Refs.{number_of}
-use Rattle.vx_rows.specs.Derivations.{Cell, Leaves, derived, no_bound}
+use Rattle.vx_rows.specs.Derivations.{Cell, Leaves, derived}
 use Rattle.vx_rows.specs.Reads.{Found, a_cell, a_code, a_list_row, Read, IsAmong, Finds, FindsOnly, IsIn, IsFine, IsPlaceAmong}
 use Rattle.vx_rows.specs.SegmentLeaves.{Bytes, leaves_of}
 use Rattle.vx_steps.specs.Laws.{IsRowOf, IsBadCodeAt}

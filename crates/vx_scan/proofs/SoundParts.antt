@@ -8,6 +8,7 @@ use Rattle.vx_base.specs.Leaf.{IsLeaf}
 use Rattle.vx_base.specs.Names.{names_in, are_distinct}
 use Rattle.vx_expr.specs.Meaning.{meaning}
 use Rattle.vx_expr.specs.Terms.{Term}
+use Rattle.vx_expr.specs.Rows.{no_bound}
 use Rattle.vx_layout.specs.Kept.{KeptFields, all, only, is_kept}
 use Rattle.vx_layout.specs.Rows.{derivation, struct_members}
 use Rattle.vx_layout.specs.Sound.{IsSound, AreChunks, AreFields}
@@ -18,7 +19,7 @@ use Rattle.vx_lower.proofs.LoweredRows.{lowered_all, zones_same}
 use Rattle.vx_lower.proofs.LoweredValues.{lowered_kept}
 use Rattle.vx_plan.specs.Plans.{Plan, Plans, plan, take_plan, plan_head}
 use Rattle.vx_plan.specs.PlanRows.{plan_derivation, plan_derivation_in}
-use Rattle.vx_rows.specs.Derivations.{Derivation, nothing, cell, list_row, given, packed, valid_where, looked_up, worked_out, read_whole, Derivations, no_more, also, Leaves, derived, no_bound}
+use Rattle.vx_rows.specs.Derivations.{Derivation, nothing, cell, list_row, given, packed, valid_where, looked_up, worked_out, read_whole, Derivations, no_more, also, Leaves, derived}
 use Rattle.vx_rows.specs.Renumbered.{renumbered, each_renumbered}
 use Rattle.vx_rows.specs.Whole.{GiveFitting}
 use Rattle.vx_rows.proofs.Renumbering.{same_worth}

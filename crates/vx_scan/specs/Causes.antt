@@ -2,9 +2,10 @@
 use Rattle.std.specs.Prelude.{◌≡◌, ℕ, ◌+◌, ◌<◌, List, length, None, IsSomeAnd}
 use Rattle.vx_base.specs.declared.locations.SegmentLocation.{SegmentLocation}
 use Rattle.vx_expr.specs.Meaning.{meaning}
+use Rattle.vx_expr.specs.Rows.{no_bound}
 use Rattle.vx_layout.specs.Trees.{head_of}
 use Rattle.vx_lower.specs.Projected.{Projection, root_value, scan_reads}
-use Rattle.vx_rows.specs.Derivations.{Leaves, no_bound}
+use Rattle.vx_rows.specs.Derivations.{Leaves}
 use Rattle.vx_rows.specs.Reads.{Found, AnyOf, IsAmong, Finds, IsIn}
 use Rattle.vx_rows.specs.SegmentLeaves.{Bytes}
 use Rattle.vx_steps.specs.Laws.{IsRowOf, IsBadCodeAt}

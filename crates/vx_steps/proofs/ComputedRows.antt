@@ -11,7 +11,8 @@ use Rattle.vx_expr.specs.Bound.{Bound}
 use Rattle.vx_expr.specs.Meaning.{meaning}
 use Rattle.vx_expr.specs.Terms.{Term}
 use Rattle.vx_expr.specs.Types.{on_both}
-use Rattle.vx_rows.specs.Derivations.{Derivation, Leaves, look_up, no_bound, one_more, each_row, derived, derived_each}
+use Rattle.vx_expr.specs.Rows.{no_bound}
+use Rattle.vx_rows.specs.Derivations.{Derivation, Leaves, look_up, one_more, each_row, derived, derived_each}
 use Rattle.vx_rows.specs.Given.{all_given, given_row, share_with, values_with}
 use Rattle.vx_rows.specs.Reads.{IsPlaceAmong}
 use Rattle.vx_plan.specs.declared.children.PlanRef.{PlanRef}

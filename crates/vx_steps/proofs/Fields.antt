@@ -11,6 +11,7 @@ use Rattle.vx_base.specs.Fits.{Fits}
 use Rattle.vx_base.specs.Masks.{true_count}
 use Rattle.vx_base.specs.Segment.{truth_in}
 use Rattle.vx_expr.specs.Types.{on_both}
+use Rattle.vx_expr.specs.Packs.{struct_row}
 use Rattle.vx_plan.specs.Kinds.{has_validity_of, HasKind, IsPack}
 use Rattle.vx_plan.specs.PlanRows.{plan_derivations}
 use Rattle.vx_plan.specs.Tables.{IsGoodTable}
@@ -22,7 +23,7 @@ use Rattle.vx_base.specs.Columns.{ColumnData}
 use Rattle.vx_plan.specs.Nodes.{Node}
 use Rattle.vx_plan.specs.Plans.{Head, Plan, plan_at, plans_from, field_plans, front_plans, last_plan, last_validity, pack_plan}
 use Rattle.vx_plan.specs.Rules.{field_count, node_at, nodes_at, IsValidityType, ValidityFits}
-use Rattle.vx_rows.specs.Derivations.{Leaves, derived_each, struct_of_values, valid_value, where_valid}
+use Rattle.vx_rows.specs.Derivations.{Leaves, derived_each, valid_value, where_valid}
 use Rattle.vx_steps.specs.declared.errors.StepError.{StepError}
 use Rattle.vx_steps.specs.Computed.{AreParts, Computes, IsPart, Outcome}
 use Rattle.vx_steps.specs.Given.{Handed, row_value, values_for}
@@ -185,12 +186,12 @@ pub structs_count : (has_validity : Bool) (parts : List ColumnData) (rows : ℕ)
 structs_count has_validity parts rows = length-map-range_with_len (packed_at (validity_part has_validity parts) (field_parts has_validity parts)) 0 rows
 
 -- a row of a pack is the struct at its place among the selected rows
-struct_row : (h : Held) (leaves : Leaves) (start : ℕ) (bits : List Bool) (has_validity : Bool) (ns : List ℕ) (parts : List ColumnData) (head : Head) → AreParts h start bits ns parts → AllByRecursion IsFitting parts → ValidityFits has_validity (field_count has_validity (length (nodes_at h.nodes ns))) (nodes_at h.nodes ns) → IsBy h leaves → (k r : ℕ) → slice_get (rows_of start bits) k ≡ Some r →
+struct_here : (h : Held) (leaves : Leaves) (start : ℕ) (bits : List Bool) (has_validity : Bool) (ns : List ℕ) (parts : List ColumnData) (head : Head) → AreParts h start bits ns parts → AllByRecursion IsFitting parts → ValidityFits has_validity (field_count has_validity (length (nodes_at h.nodes ns))) (nodes_at h.nodes ns) → IsBy h leaves → (k r : ℕ) → slice_get (rows_of start bits) k ≡ Some r →
     row_value leaves (handed_in h) h.offset (pack_plan head (plans_from (field_plans has_validity (map (plan_at h.nodes) ns))) (last_validity has_validity (map (plan_at h.nodes) ns))) r ≡ Some (packed_at (validity_part has_validity parts) (field_parts has_validity parts) k)
-struct_row h leaves start bits false ns parts head all fit valid are k r at = ap (option_map struct_of_values) (field_values h leaves start bits ns parts all are k r at)
-struct_row h leaves start bits true [] parts head all fit valid are k r at = absurd valid
-struct_row h leaves start bits true (n ∷ ns) [] head all fit valid are k r at = absurd all
-struct_row h leaves start bits true (n ∷ ns) (part ∷ parts) head all fit valid are k r at =
+struct_here h leaves start bits false ns parts head all fit valid are k r at = ap (option_map struct_row) (field_values h leaves start bits ns parts all are k r at)
+struct_here h leaves start bits true [] parts head all fit valid are k r at = absurd valid
+struct_here h leaves start bits true (n ∷ ns) [] head all fit valid are k r at = absurd all
+struct_here h leaves start bits true (n ∷ ns) (part ∷ parts) head all fit valid are k r at =
     let place : field_count true (length (nodes_at h.nodes (n ∷ ns))) ≡ length ns = omega (arith, length-map ns (node_at h.nodes)) in
     let t = has_truths h leaves start bits n ns part parts all fit are (field_count true (length (nodes_at h.nodes (n ∷ ns)))) place valid in
     let s : Datum = structure (items_at (front_parts (part ∷ parts)) k) in
@@ -200,7 +201,7 @@ struct_row h leaves start bits true (n ∷ ns) (part ∷ parts) head all fit val
     let B : DataType → Type 0 = λ t. Fits t v in
     let is_truth : Fits (bool_type NonNullable) v = subst B t.dtype (fits_there t.last.dtype t.last.values k t.fit (omega arith)) in
     let own : row_value leaves (handed_in h) h.offset (last_plan (map (plan_at h.nodes) (n ∷ ns))) r ≡ Some v = value_there (row_value leaves (handed_in h) h.offset (last_plan (map (plan_at h.nodes) (n ∷ ns)))) (rows_of start bits) t.last.values t.values k r at in
-    let fields : option_map struct_of_values (FieldValues h leaves (front_plans (map (plan_at h.nodes) (n ∷ ns))) r) ≡ Some s = ap (option_map struct_of_values) (front_values h leaves start bits n ns part parts all are k r at) in
+    let fields : option_map struct_row (FieldValues h leaves (front_plans (map (plan_at h.nodes) (n ∷ ns))) r) ≡ Some s = ap (option_map struct_row) (front_values h leaves start bits n ns part parts all are k r at) in
     let mask : validity_part true (part ∷ parts) ≡ Some (map truth_in t.last.values) = ap truths_of t.is in
     ap (λ (o : Option Datum). on_both where_valid o (row_value leaves (handed_in h) h.offset (last_plan (map (plan_at h.nodes) (n ∷ ns))) r)) fields
     ∙ ap (on_both where_valid (Some s)) own
@@ -218,6 +219,6 @@ structs_computed h good n start bits parts column over known all fit values leav
     subst F (sym over.law)
     (by_places (row_value leaves (handed_in h) h.offset p) g (rows_of start bits) 0 (λ k r at.
     let zero_more : k ≡ 0 + k = omega arith in
-    struct_row h leaves start bits over.has_validity ns parts (head_of h.nodes n) all fit valid are k r at ∙ ap (λ (j : ℕ). Some (g j)) zero_more)
+    struct_here h leaves start bits over.has_validity ns parts (head_of h.nodes n) all fit valid are k r at ∙ ap (λ (j : ℕ). Some (g j)) zero_more)
     ∙ ap (λ (count : ℕ). map Some (map g (range_with_len 0 count))) (rows_count start bits)
     ∙ ap (map Some) (ap (λ (b : Bool). structs_at b parts (true_count bits)) (sym kind) ∙ sym values))

@@ -4,7 +4,8 @@ use Rattle.std.specs.Prelude.{nat_lt, IsSomeAnd}
 use Rattle.vx_base.specs.Data.{Datum}
 use Rattle.vx_expr.specs.Meaning.{meaning}
 use Rattle.vx_expr.specs.Terms.{Term}
-use Rattle.vx_rows.specs.Derivations.{Leaves, no_bound, derived}
+use Rattle.vx_expr.specs.Rows.{no_bound}
+use Rattle.vx_rows.specs.Derivations.{Leaves, derived}
 use Rattle.vx_rows.specs.Given.{GivenValues}
 use Rattle.vx_rows.specs.Reads.{IsPlaceAmong}
 use Rattle.vx_plan.specs.Plans.{Plan, no_plan, concat_plan, eval_plan, filter_plan, pack_plan, take_plan, share_plan, list_plan, row_idx_plan, scan_plan, zoned_plan, Plans, no_plans, plan, PlanValidity, all_valid, valid_as, plan_head}

@@ -2,7 +2,8 @@
 use Rattle.std.specs.List.{slice_get}
 use Rattle.std.specs.Prelude.{◌≡◌, ℕ, ◌+◌, ◌<◌, ◌≤◌, ◌⊎◌, [], Bool, List, Some, None, IfSome, IsSomeAnd, length}
 use Rattle.vx_expr.specs.Meaning.{meaning}
-use Rattle.vx_rows.specs.Derivations.{Derivation, nothing, cell, list_row, given, packed, valid_where, looked_up, worked_out, read_whole, Derivations, no_more, also, Leaves, no_bound, derived}
+use Rattle.vx_expr.specs.Rows.{no_bound}
+use Rattle.vx_rows.specs.Derivations.{Derivation, nothing, cell, list_row, given, packed, valid_where, looked_up, worked_out, read_whole, Derivations, no_more, also, Leaves, derived}
 use Rattle.vx_rows.specs.Given.{GivenValues, with_given}
 use Rattle.vx_rows.specs.Reads.{directly, Found, a_code, a_list_row, Read, reads_of, Finds, FindsBy, IsIn, IsCodeOf, IsBadCode}
 use Rattle.vx_plan.specs.FittingRows.{HasFittingRows}

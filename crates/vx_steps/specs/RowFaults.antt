@@ -4,8 +4,8 @@ use Rattle.std.specs.List.{slice_get}
 use Rattle.vx_base.specs.Data.{DataType, Datum, number}
 use Rattle.vx_expr.specs.Meaning.{meaning}
 use Rattle.vx_expr.specs.Terms.{Term}
+use Rattle.vx_expr.specs.Rows.{no_bound}
 use Rattle.vx_plan.specs.Refs.{number_of}
-use Rattle.vx_rows.specs.Derivations.{no_bound}
 use Rattle.vx_steps.specs.declared.errors.StepError.{StepError}
 use Rattle.vx_steps.specs.declared.errors.StepError.TheVariants.{BadCode, EvalFault, Memory}
 use Rattle.vx_steps.specs.Rows.{rows_of}

@@ -1,6 +1,7 @@
 use Rattle.std.proofs.Common.{sym}
 use Rattle.vx_expr.specs.TermViews.{terms_of}
-use Rattle.vx_expr.specs.Types.{are_distinct, names_in}
+use Rattle.vx_base.specs.Names.{are_distinct}
+use Rattle.vx_expr.specs.Types.{names_in}
 use Rattle.vx_expr.proofs.DistinctNames.{names_start, names_more, names_end}
 use Rattle.vx_expr.proofs.typing.has_distinct_names.Goals as goal
 
