@@ -21,7 +21,7 @@ use Rattle.vx_layout.specs.declared.rules.ShapeRule.{ShapeRule}
 use Rattle.vx_layout.specs.declared.rules.ShapeRule.TheVariants.{ChildCount, FittingTypes, UnsignedCodes, RowCounts, FittingZones}
 use Rattle.vx_layout.specs.Children.{EachChild}
 use Rattle.vx_layout.specs.Shape.{validity_count, IsOffsets, ZonesCount, CountFits, TypesFit, CodesFit, RowsFit, ZonesFit, rows_of, Asks, IsGoodTree}
-use Rattle.vx_layout.specs.Zones.{zones_type, StandOver}
+use Rattle.vx_rows.specs.Zones.{zones_type, StandOver}
 use Rattle.vx_layout.proofs.Unfolding.{good_later}
 use Rattle.vx_layout.proofs.Growing.{grows_sound}
 

@@ -2,7 +2,6 @@ pub mod Nodes
 pub mod NodeCodes
 pub mod Children
 pub mod Depths
-pub mod Zones
 pub mod Shape
 pub mod Facts
 pub mod Faults

@@ -20,7 +20,7 @@ use Rattle.vx_layout.specs.Nodes.{Node}
 use Rattle.vx_layout.specs.Children.{ChildAt, EachChild, times_child}
 use Rattle.vx_layout.specs.Depths.{depth_of, dtype_depth}
 use Rattle.vx_base.specs.Names.{HasDistinctNames}
-use Rattle.vx_layout.specs.Zones.{zones_type, StandOver}
+use Rattle.vx_rows.specs.Zones.{zones_type, StandOver}
 
 -- a list of nodes has fewer than this
 abbrev pub node_limit : ℕ

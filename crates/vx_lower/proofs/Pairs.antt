@@ -18,7 +18,7 @@ use Rattle.vx_plan.specs.Nodes.{Node as PlanNode}
 use Rattle.vx_plan.specs.Plans.{Plan, PlanValidity, plan_head, zoned_plan}
 use Rattle.vx_plan.specs.Rules.{given_validity, is_given, list_node, node_at, nodes_at, take_node, AreZones, KeepsRules}
 use Rattle.vx_plan.specs.Tables.{AreIn, IsAdded}
-use Rattle.vx_plan.specs.Zones.{zones_type, StandOver}
+use Rattle.vx_rows.specs.Zones.{zones_type, StandOver}
 use Rattle.vx_lower.specs.KeptRows.{kept_type}
 use Rattle.vx_lower.specs.Lowered.{lowered, lowered_validity, kept_head, plan_head_of, plan_zones_of, tell, with_zones}
 use Rattle.vx_lower.specs.NodeParts.{tree_head, validity_of, lowered_each, most_plans, zones_node, CanLower, CanLowerEach, IsListNode, IsLookUp, IsPlainNode, IsTypeAt, IsZonedNode}

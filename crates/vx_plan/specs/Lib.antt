@@ -4,7 +4,6 @@ pub mod NodeCodes
 pub mod Kinds
 pub mod Plans
 pub mod PlanRows
-pub mod Zones
 pub mod Rules
 pub mod ChildNames
 pub mod Tables

@@ -21,7 +21,7 @@ use Rattle.vx_plan.specs.declared.nodes.PlanKind.TheVariants as kinds
 use Rattle.vx_plan.specs.declared.rules.PlanRule.{PlanRule}
 use Rattle.vx_plan.specs.declared.rules.PlanRule.TheVariants as rules
 use Rattle.vx_plan.specs.Nodes.{Node, absent}
-use Rattle.vx_plan.specs.Zones.{zones_type, StandOver}
+use Rattle.vx_rows.specs.Zones.{zones_type, StandOver}
 
 -- ---- the nodes of children
 

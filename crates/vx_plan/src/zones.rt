@@ -2,7 +2,7 @@
 
 ghost use Rattle.std.specs.Prelude.{◌≡◌, ◌↔◌, codes, map, IfOk, IsTrue};
 ghost use Rattle.vx_base.specs.Views.{data_type, field_data};
-ghost use Rattle.vx_plan.specs.Zones.{name_of, statistic_type, statistic_field, zones_type, StandsOver, StandOver};
+ghost use Rattle.vx_rows.specs.Zones.{name_of, statistic_type, statistic_field, zones_type, StandsOver, StandOver};
 
 use std::alloc::{AllocError, Global};
 use vx_base::{DType, Field, Fields, IntKind, Nullability, Text, is_leaf};

@@ -6,3 +6,4 @@ pub mod Whole
 pub mod Renumbered
 pub mod Given
 pub mod Laws
+pub mod Zones

@@ -1,7 +1,7 @@
 use Rattle.std.proofs.Common.{take}
 use Rattle.std.specs.List.{All}
 use Rattle.vx_base.specs.Views.{data_type}
-use Rattle.vx_plan.specs.Zones.{StandsOver}
+use Rattle.vx_rows.specs.Zones.{StandsOver}
 use Rattle.vx_plan.proofs.zones.stand_over.Given as goal
 
 abbrev pub invariant-loop-stat : goal.invariant-loop-stat

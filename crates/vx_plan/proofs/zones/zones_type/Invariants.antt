@@ -1,6 +1,6 @@
 use Rattle.std.proofs.Common.{◌≡◌, map, take}
 use Rattle.vx_base.specs.Views.{data_type, field_data}
-use Rattle.vx_plan.specs.Zones.{statistic_field}
+use Rattle.vx_rows.specs.Zones.{statistic_field}
 use Rattle.vx_plan.proofs.zones.zones_type.Given as goal
 
 abbrev pub invariant-loop-stat : goal.invariant-loop-stat
