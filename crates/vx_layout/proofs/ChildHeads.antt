@@ -12,7 +12,8 @@ use Rattle.vx_layout.specs.declared.nodes.LayoutKind.TheVariants as kinds
 use Rattle.vx_layout.specs.Nodes.{Node}
 use Rattle.vx_layout.specs.Trees.{Head, head_at, zones_of}
 use Rattle.vx_layout.specs.Rows.{struct_members}
-use Rattle.vx_layout.specs.Sound.{IsHead, IsStruct, IsDictionary, IsList, AreZones}
+use Rattle.vx_rows.specs.TypeForms.{IsStruct}
+use Rattle.vx_layout.specs.Sound.{IsHead, IsDictionary, IsList, AreZones}
 
 abbrev pub ForHead : ℕ → Option Node → (Head → Type 0) → Type 0
 ForHead n None P = ⊥

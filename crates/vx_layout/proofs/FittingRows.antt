@@ -14,8 +14,9 @@ use Rattle.vx_layout.specs.Trees.{Tree, missing, leaf, chunks, fields, dict, lis
 use Rattle.vx_layout.specs.Kept.{all}
 use Rattle.vx_rows.specs.Derivations.{Derivation, packed, each_row, Leaves, where_valid, look_up, one_more, derived, derived_each}
 use Rattle.vx_layout.specs.Rows.{struct_members, derivation, derivation_in, field_derivations, where_valid_by}
-use Rattle.vx_layout.specs.Sound.{IsSound, IsStruct, AreChunks, AreFields, IsValidity}
+use Rattle.vx_layout.specs.Sound.{IsSound, AreChunks, AreFields, IsValidity}
 use Rattle.vx_rows.specs.Whole.{GiveFitting}
+use Rattle.vx_rows.specs.TypeForms.{IsStruct}
 
 -- ---- dtypes that take nulls
 

@@ -6,7 +6,7 @@ use Rattle.std.specs.List.{slice_get}
 use Rattle.std.specs.Option.{option_map_or}
 use Rattle.vx_base.specs.declared.dtypes.Nullability.{Nullability}
 use Rattle.vx_base.specs.declared.dtypes.Nullability.TheVariants.{NonNullable, Nullable}
-use Rattle.vx_base.specs.Data.{DataType, bool_type, int_type, struct_type, list_type, Members}
+use Rattle.vx_base.specs.Data.{DataType, bool_type, struct_type, list_type, Members}
 use Rattle.vx_base.specs.ColumnCalls.{nullable_where, IsUnsigned}
 use Rattle.vx_base.specs.Fits.{nullability_of}
 use Rattle.vx_base.specs.Leaf.{IsLeaf}
@@ -20,6 +20,7 @@ use Rattle.vx_layout.specs.Nodes.{Node}
 use Rattle.vx_layout.specs.Children.{ChildAt, EachChild, times_child}
 use Rattle.vx_layout.specs.Depths.{depth_of, dtype_depth}
 use Rattle.vx_base.specs.Names.{HasDistinctNames}
+use Rattle.vx_rows.specs.TypeForms.{IsOffsets}
 use Rattle.vx_rows.specs.Zones.{zones_type, StandOver}
 
 -- a list of nodes has fewer than this
@@ -87,11 +88,6 @@ abbrev pub FieldsFrom : List Node → Node → ℕ → Members → Type 0
 FieldsFrom nodes node first ms =
     (place : ℕ) → IfSome (slice_get (fields_in ms) place)
     (λ field. ChildAt nodes node (first + place) (λ child. child.dtype ≡ field.dtype))
-
--- a non-nullable Int
-abbrev pub IsOffsets : DataType → Type 0
-IsOffsets (int_type kind NonNullable) = Unit {0}
-IsOffsets t = ⊥
 
 -- The dtype is that of the values, made nullable where the codes are.
 abbrev pub IsLookedUp : List Node → Node → DataType → Type 0

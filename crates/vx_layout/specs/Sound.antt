@@ -3,11 +3,12 @@
 use Rattle.std.specs.Prelude.{◌≡◌, ℕ, ◌+◌}
 use Rattle.vx_base.specs.declared.dtypes.Nullability.{Nullability}
 use Rattle.vx_base.specs.declared.dtypes.Nullability.TheVariants.{NonNullable, Nullable}
-use Rattle.vx_base.specs.Data.{DataType, bool_type, struct_type, list_type, Members, no_members, member}
+use Rattle.vx_base.specs.Data.{DataType, bool_type, Members, no_members, member}
 use Rattle.vx_base.specs.Leaf.{IsLeaf}
 use Rattle.vx_base.specs.Fits.{nullability_of}
 use Rattle.vx_base.specs.ColumnCalls.{nullable_where, IsUnsigned}
-use Rattle.vx_layout.specs.Shape.{IsOffsets, ZonesCount}
+use Rattle.vx_layout.specs.Shape.{ZonesCount}
+use Rattle.vx_rows.specs.TypeForms.{IsStruct, IsListOf, IsOffsets}
 use Rattle.vx_rows.specs.Zones.{zones_type, StandOver}
 use Rattle.vx_layout.specs.Trees.{Head, Zones, Tree, missing, leaf, chunks, fields, dict, lists, zoned, Forest, no_trees, tree, Validity, always, valid_by, head_of}
 use Rattle.vx_layout.specs.Rows.{struct_members, rows_in}
@@ -16,14 +17,6 @@ use Rattle.vx_layout.specs.Rows.{struct_members, rows_in}
 pub record IsHead (head : Head) (t : DataType) (count : ℕ) : Type 0 where
   pub dtype : head.dtype ≡ t
   pub rows : head.rows ≡ count
-
-abbrev pub IsStruct : DataType → Type 0
-IsStruct (struct_type ms n) = Unit {0}
-IsStruct t = ⊥
-
-abbrev pub IsListOf : DataType → DataType → Type 0
-IsListOf (list_type t n) element = element ≡ t
-IsListOf s element = ⊥
 
 -- a dictionary has the dtype of its values, which takes nulls where that of the codes does
 pub record IsDictionary (head values codes : Head) : Type 0 where

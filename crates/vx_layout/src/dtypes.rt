@@ -3,7 +3,7 @@
 ghost use Rattle.std.specs.Prelude.{◌≤◌, ◌↔◌, IsTrue};
 ghost use Rattle.vx_base.specs.Views.{data_type, members_of};
 ghost use Rattle.vx_layout.specs.Depths.{dtype_depth, members_depth};
-ghost use Rattle.vx_layout.specs.Shape.{IsOffsets};
+ghost use Rattle.vx_rows.specs.TypeForms.{IsOffsets};
 
 use vx_base::{DType, Field, Nullability};
 

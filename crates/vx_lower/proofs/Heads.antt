@@ -3,7 +3,8 @@ use Rattle.std.proofs.Common.{◌≡◌, Bool, true, false, refl, sym, ap, ◌�
 use Rattle.vx_base.specs.Data.{DataType, bool_type, int_type, utf8_type, struct_type, list_type}
 use Rattle.vx_base.specs.Leaf.{IsLeaf}
 use Rattle.vx_layout.specs.Kept.{KeptFields, all, only}
-use Rattle.vx_layout.specs.Sound.{IsSound, IsListOf}
+use Rattle.vx_rows.specs.TypeForms.{IsListOf}
+use Rattle.vx_layout.specs.Sound.{IsSound}
 use Rattle.vx_layout.specs.Trees.{Tree, missing, leaf, chunks, fields, dict, lists, zoned, head_of}
 use Rattle.vx_layout.specs.Trees.{Head as TreeHead}
 use Rattle.vx_plan.specs.Plans.{Zones, Plan, plan_head}

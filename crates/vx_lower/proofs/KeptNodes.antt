@@ -4,7 +4,7 @@ use Rattle.std.specs.List.{All}
 use Rattle.vx_base.specs.Data.{DataType, bool_type, int_type, utf8_type, struct_type, list_type}
 use Rattle.vx_base.specs.Leaf.{IsLeaf}
 use Rattle.vx_layout.specs.Nodes.{Node}
-use Rattle.vx_layout.specs.Sound.{IsListOf, IsStruct}
+use Rattle.vx_rows.specs.TypeForms.{IsStruct, IsListOf}
 use Rattle.vx_layout.specs.Trees.{leaf, lists, subtree}
 use Rattle.vx_plan.specs.Nodes.{Node as PlanNode}
 use Rattle.vx_plan.specs.Rules.{given_validity}

@@ -9,7 +9,8 @@ use Rattle.vx_base.specs.Names.{names_in}
 use Rattle.vx_layout.specs.Kept.{KeptFields, all, only, is_kept}
 use Rattle.vx_layout.specs.Nodes.{Node}
 use Rattle.vx_layout.specs.Rows.{struct_members}
-use Rattle.vx_layout.specs.Sound.{IsSound, IsStruct, AreFields, IsValidity}
+use Rattle.vx_rows.specs.TypeForms.{IsStruct}
+use Rattle.vx_layout.specs.Sound.{IsSound, AreFields, IsValidity}
 use Rattle.vx_layout.specs.Trees.{Tree, tree, fields, forest_from, subtree}
 use Rattle.vx_plan.specs.Nodes.{Node as PlanNode}
 use Rattle.vx_plan.specs.Plans.{Plan, Plans, plan, plans_from, pack_plan}

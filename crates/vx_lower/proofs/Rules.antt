@@ -7,15 +7,14 @@ use Rattle.std.proofs.lemmas.List.Elements.{All-cons, All-nil}
 use Rattle.vx_base.specs.declared.dtypes.Nullability.{Nullability}
 use Rattle.vx_base.specs.declared.dtypes.Nullability.TheVariants.{NonNullable, Nullable}
 use Rattle.vx_base.specs.ColumnCalls.{IsUnsigned}
-use Rattle.vx_base.specs.Data.{DataType, bool_type, int_type, utf8_type, struct_type, list_type, Members, no_members, member}
+use Rattle.vx_base.specs.Data.{DataType, bool_type, struct_type, Members, no_members, member}
 use Rattle.vx_base.specs.Fits.{takes_null}
 use Rattle.vx_base.specs.Views.{fields_in}
 use Rattle.vx_expr.specs.declared.statistics.Statistic.{Statistic}
-use Rattle.vx_layout.specs.Shape.{IsOffsets as IsOffsetsType}
-use Rattle.vx_layout.specs.Sound.{IsStruct as IsTreeStruct}
 use Rattle.vx_plan.specs.Nodes.{Node}
 use Rattle.vx_plan.specs.Plans.{Plan, PlanValidity, all_valid, valid_as, plan_head}
-use Rattle.vx_plan.specs.Rules.{concat_node, field_count, given_validity, is_given, list_node, node_at, nodes_at, packed_node, take_node, AreZones, FieldFits, IsOffsets, IsStruct, KeepsRules, PackCountFits, PackFits}
+use Rattle.vx_rows.specs.TypeForms.{IsOffsets}
+use Rattle.vx_plan.specs.Rules.{concat_node, field_count, given_validity, is_given, list_node, node_at, nodes_at, packed_node, take_node, AreZones, FieldFits, KeepsRules, PackCountFits, PackFits}
 use Rattle.vx_plan.proofs.Keeping.{concat_keeps, legacy_keeps, list_keeps, pack_keeps, take_keeps, zoned_keeps}
 use Rattle.vx_lower.specs.NodeParts.{zones_node}
 use Rattle.vx_lower.proofs.Appending.{AreLike}
@@ -121,13 +120,6 @@ pack_can mid ms n rows ns v ps w like given fit valid =
     (all_rows ms n rows below ps w like fit valid)
     (subst Counts (sym given) (counted w (length ps) (length (ns ++ given_validity v)) count ∙ field_plans_count ms rows ps fit, given_where n rows w valid))
 
-pub struct_too : (t : DataType) → IsTreeStruct t → IsStruct t
-struct_too (struct_type ms n) is = tt
-struct_too (bool_type n) is = absurd is
-struct_too (int_type kind n) is = absurd is
-struct_too (utf8_type n) is = absurd is
-struct_too (list_type t n) is = absurd is
-
 -- ---- dictionaries
 
 pub take_can : (mid : List Node) (c v : ℕ) (p q : Plan) → AreLike (nodes_at mid (c ∷ v ∷ [])) (p ∷ q ∷ []) → IsUnsigned (plan_head p).dtype → KeepsRules (take_node mid c v) (nodes_at mid (c ∷ v ∷ []))
@@ -135,25 +127,17 @@ take_can mid c v p q like unsigned = take_keeps mid c v (subst IsUnsigned (sym l
 
 -- ---- lists
 
-offsets_type : (t : DataType) → IsOffsetsType t → IsOffsets t
-offsets_type (int_type kind NonNullable) is = tt
-offsets_type (int_type kind Nullable) is = absurd is
-offsets_type (bool_type n) is = absurd is
-offsets_type (utf8_type n) is = absurd is
-offsets_type (struct_type ms n) is = absurd is
-offsets_type (list_type t n) is = absurd is
-
-pub list_can : (mid : List Node) (k : Nullability) (rows e o : ℕ) (v : Option ℕ) (p q : Plan) (w : PlanValidity) → AreLike (nodes_at mid (e ∷ o ∷ given_validity v)) (p ∷ q ∷ validity_list w) → is_given v ≡ is_valid_as w → IsOffsetsType (plan_head q).dtype → (plan_head q).rows ≡ rows + 1 → IsValidityPlan k rows w → KeepsRules (list_node mid k rows e o v) (nodes_at mid (e ∷ o ∷ given_validity v))
+pub list_can : (mid : List Node) (k : Nullability) (rows e o : ℕ) (v : Option ℕ) (p q : Plan) (w : PlanValidity) → AreLike (nodes_at mid (e ∷ o ∷ given_validity v)) (p ∷ q ∷ validity_list w) → is_given v ≡ is_valid_as w → IsOffsets (plan_head q).dtype → (plan_head q).rows ≡ rows + 1 → IsValidityPlan k rows w → KeepsRules (list_node mid k rows e o v) (nodes_at mid (e ∷ o ∷ given_validity v))
 list_can mid NonNullable rows e o None p q all_valid like given offsets count valid =
     list_keeps mid NonNullable rows e o None (nodes_at mid (e ∷ o ∷ []))
-    (subst IsOffsets (sym like.1.0.dtype) (offsets_type (plan_head q).dtype offsets), tt) (like.1.0.rows ∙ count, tt) refl
+    (subst IsOffsets (sym like.1.0.dtype) offsets, tt) (like.1.0.rows ∙ count, tt) refl
 list_can mid Nullable rows e o None p q all_valid like given offsets count valid = absurd valid
 list_can mid k rows e o None p q (valid_as r) like given offsets count valid = absurd cc
 list_can mid k rows e o (Some a) p q all_valid like given offsets count valid = absurd cc
 list_can mid NonNullable rows e o (Some a) p q (valid_as r) like given offsets count valid = absurd valid
 list_can mid Nullable rows e o (Some a) p q (valid_as r) like given offsets count valid =
     list_keeps mid Nullable rows e o (Some a) (nodes_at mid (e ∷ o ∷ a ∷ []))
-    (subst IsOffsets (sym like.1.0.dtype) (offsets_type (plan_head q).dtype offsets), like.1.1.0.dtype ∙ valid.0) (like.1.0.rows ∙ count, like.1.1.0.rows ∙ valid.1) refl
+    (subst IsOffsets (sym like.1.0.dtype) offsets, like.1.1.0.dtype ∙ valid.0) (like.1.0.rows ∙ count, like.1.1.0.rows ∙ valid.1) refl
 
 -- ---- zones
 

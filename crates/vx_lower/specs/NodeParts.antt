@@ -7,7 +7,8 @@ use Rattle.vx_layout.specs.Kept.{KeptFields, all}
 use Rattle.vx_layout.specs.Nodes.{Node}
 use Rattle.vx_layout.specs.Rows.{struct_members}
 use Rattle.vx_layout.specs.Shape.{IsGoodTree}
-use Rattle.vx_layout.specs.Sound.{IsStruct, AreFields, IsValidity}
+use Rattle.vx_rows.specs.TypeForms.{IsStruct}
+use Rattle.vx_layout.specs.Sound.{AreFields, IsValidity}
 use Rattle.vx_layout.specs.Trees.{Head, Zones, zones_of, Tree, leaf, chunks, fields, dict, lists, zoned, Forest, Validity, always, valid_by, head_of, forest_from, subtree}
 use Rattle.vx_plan.specs.Nodes.{Node as PlanNode}
 use Rattle.vx_plan.specs.Plans.{Head as PlanHead, Plan, pack_plan, plans_from}

@@ -5,7 +5,7 @@ use Rattle.std.specs.Int.{div_ceil}
 use Rattle.std.specs.List.{slice_get, slice_index_or, sum_by}
 use Rattle.vx_base.specs.declared.dtypes.Nullability.{Nullability}
 use Rattle.vx_base.specs.declared.dtypes.Nullability.TheVariants.{NonNullable}
-use Rattle.vx_base.specs.Data.{DataType, bool_type, int_type, struct_type, list_type, Members, no_members}
+use Rattle.vx_base.specs.Data.{DataType, bool_type, struct_type, list_type, Members, no_members}
 use Rattle.vx_base.specs.ColumnCalls.{IsUnsigned, nullable_where}
 use Rattle.vx_base.specs.Fits.{nullability_of, takes_null}
 use Rattle.vx_base.specs.Leaf.{IsLeaf}
@@ -21,6 +21,7 @@ use Rattle.vx_plan.specs.declared.nodes.PlanKind.TheVariants as kinds
 use Rattle.vx_plan.specs.declared.rules.PlanRule.{PlanRule}
 use Rattle.vx_plan.specs.declared.rules.PlanRule.TheVariants as rules
 use Rattle.vx_plan.specs.Nodes.{Node, absent}
+use Rattle.vx_rows.specs.TypeForms.{IsStruct, IsListOf, IsOffsets}
 use Rattle.vx_rows.specs.Zones.{zones_type, StandOver}
 
 -- ---- the nodes of children
@@ -73,10 +74,6 @@ FieldsFit ms count below = (place : ℕ) → place < count → FieldFits (slice_
 abbrev pub PackFits : Bool → DataType → List Node → Type 0
 PackFits has_validity (struct_type ms n) below = FieldsFit ms (field_count has_validity (length below)) below × ValidityFits has_validity (field_count has_validity (length below)) below
 PackFits has_validity t below = ⊥
-
-abbrev pub IsOffsets : DataType → Type 0
-IsOffsets (int_type kind NonNullable) = Unit {0}
-IsOffsets t = ⊥
 
 abbrev pub ListFits : Bool → List Node → Type 0
 ListFits has_validity below = IsSomeAnd (slice_get below 1) (λ offsets. IsOffsets offsets.dtype) × ValidityFits has_validity 2 below
@@ -205,14 +202,6 @@ IsLookUp node below = ⊥
 abbrev pub IsWorkedOut : DataType → Node → List Node → Type 0
 IsWorkedOut t node (child ∷ []) = (node.dtype ≡ t) × (node.rows ≡ child.rows)
 IsWorkedOut t node below = ⊥
-
-abbrev pub IsStruct : DataType → Type 0
-IsStruct (struct_type ms n) = Unit {0}
-IsStruct t = ⊥
-
-abbrev pub IsListOf : DataType → DataType → Type 0
-IsListOf (list_type t n) element = element ≡ t
-IsListOf s element = ⊥
 
 abbrev pub IsList : Bool → Node → List Node → Type 0
 IsList false node (elements ∷ offsets ∷ []) = IsListOf node.dtype elements.dtype

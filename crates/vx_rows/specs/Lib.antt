@@ -7,3 +7,4 @@ pub mod Renumbered
 pub mod Given
 pub mod Laws
 pub mod Zones
+pub mod TypeForms

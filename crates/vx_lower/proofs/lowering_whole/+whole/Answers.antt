@@ -17,7 +17,6 @@ use Rattle.vx_lower.proofs.Chunks.{chunked_adds, chunked_can, chunks_can, chunks
 use Rattle.vx_lower.proofs.Nodes.{back_can, first_can, first_later, front_can, if_ok, place_added, place_can, rest_can, room_over}
 use Rattle.vx_lower.proofs.Packs.{fields_can, packed_adds, packed_can, packed_known, struct_adds, struct_packed}
 use Rattle.vx_lower.proofs.Pairs.{content_can, content_type, given_type, list_parts_can, listed_adds, listed_can, listed_known, look_up_can, plain_adds, plain_can, plain_later, plain_type, taken_adds, taken_can, told_adds, zone_table_can, zoned_keeps, zoned_known, zoned_room, zones_later}
-use Rattle.vx_lower.proofs.Rules.{struct_too}
 use Rattle.vx_lower.proofs.lowering_whole.+whole.Goals as goal
 
 -- ---- nodes in a row
@@ -63,7 +62,7 @@ lower_packed-add_pack-requires-clause-known g c =
     packed_known c.args.tree.now c.args.table.now c.lower_each.new.table c.lower_validity.new.table c.args.fields.now c.args.validity c.in_ok-field_plans.field_plans (option_map number_of c.in_ok-validity.validity) c.in_ok-field_plans.ensures c.in_ok-validity.ensures.adds
 
 pub lower_packed-add_pack-requires-clause-structs : goal.lower_packed-add_pack-requires-clause-structs
-lower_packed-add_pack-requires-clause-structs g c = struct_too (data_type (arc_value c.args.dtype)) c.requires.packed.structs
+lower_packed-add_pack-requires-clause-structs g c = c.requires.packed.structs
 
 pub lower_packed-add_pack-requires-clause-kept : goal.lower_packed-add_pack-requires-clause-kept
 lower_packed-add_pack-requires-clause-kept g c =
