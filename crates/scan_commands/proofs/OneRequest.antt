@@ -8,7 +8,8 @@ use Rattle.vx_expr.specs.declared.binding.BindError.{BindError}
 use Rattle.vx_expr.specs.declared.binding.BindError.TheVariants as bind
 use Rattle.vx_layout.specs.Nodes.{Node}
 use Rattle.vx_layout.specs.Shape.{IsGoodTree}
-use Rattle.vx_layout.specs.Trees.{Head, head_of, subtree}
+use Rattle.vx_rows.specs.Heads.{Head}
+use Rattle.vx_layout.specs.Trees.{head_of, subtree}
 use Rattle.vx_layout.proofs.FaultLaws.{good_has_none}
 use Rattle.vx_layout.proofs.Unfolding.{good_later, head_of_subtree}
 use Rattle.scan_commands.specs.RequestForms.{Asked, Parts, said_by, requested, root_dtype, IsRequest, HasBadLayout, HasBadProjection}

@@ -10,9 +10,11 @@ use Rattle.vx_base.specs.Leaf.{IsLeaf}
 use Rattle.vx_layout.specs.declared.nodes.LayoutKind.{LayoutKind}
 use Rattle.vx_layout.specs.declared.nodes.LayoutKind.TheVariants as kinds
 use Rattle.vx_layout.specs.Nodes.{Node}
-use Rattle.vx_layout.specs.Trees.{Head, head_at, zones_of}
+use Rattle.vx_layout.specs.Trees.{head_at}
 use Rattle.vx_layout.specs.Rows.{struct_members}
 use Rattle.vx_rows.specs.TypeForms.{IsStruct}
+use Rattle.vx_rows.specs.Heads.{Head}
+use Rattle.vx_rows.specs.Zones.{zones_of}
 use Rattle.vx_layout.specs.Sound.{IsHead, IsDictionary, IsList, AreZones}
 
 abbrev pub ForHead : ℕ → Option Node → (Head → Type 0) → Type 0

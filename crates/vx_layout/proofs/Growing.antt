@@ -11,7 +11,9 @@ use Rattle.vx_base.specs.Fits.{nullability_of}
 use Rattle.vx_layout.specs.declared.nodes.LayoutKind.{LayoutKind}
 use Rattle.vx_layout.specs.declared.nodes.LayoutKind.TheVariants as kinds
 use Rattle.vx_layout.specs.Nodes.{Node}
-use Rattle.vx_layout.specs.Trees.{Head, Zones, zones_of, Tree, zoned, head_of, head_at, forest_from, child_in, validity_in, field_trees, grown_as, grown, subtree}
+use Rattle.vx_rows.specs.Heads.{Head}
+use Rattle.vx_rows.specs.Zones.{Zones, zones_of}
+use Rattle.vx_layout.specs.Trees.{Tree, zoned, head_of, head_at, forest_from, child_in, validity_in, field_trees, grown_as, grown, subtree}
 use Rattle.vx_layout.specs.Rows.{struct_members, rows_in}
 use Rattle.vx_layout.specs.Sound.{IsSound, IsHead, IsDictionary, IsList, AreZones, AreChunks, AreFields, IsValidity}
 use Rattle.vx_layout.proofs.ChildHeads.{ForHead, ChildHead, rows_at, ChunksFit, rows_of_all, FieldsFit, StructFits, BothHeads, PairFits, ListFits, FitsKind, FitsChildren}

@@ -7,10 +7,12 @@ use Rattle.vx_base.specs.Data.{Members, no_members, member, Datum, null, truth, 
 use Rattle.vx_base.specs.ColumnCalls.{value_at}
 use Rattle.vx_expr.specs.Types.{on_both}
 use Rattle.vx_expr.specs.Packs.{struct_row}
-use Rattle.vx_layout.specs.Trees.{Head, Zones, Tree, leaf, chunks, fields, dict, zoned, Forest, no_trees, tree, always, valid_by, head_of}
+use Rattle.vx_layout.specs.Trees.{Tree, leaf, chunks, fields, dict, zoned, Forest, no_trees, tree, always, valid_by, head_of}
 use Rattle.vx_layout.specs.Kept.{KeptFields, all}
 use Rattle.vx_rows.specs.Derivations.{Derivation, each_row, Leaves, look_up, derived, derived_each}
 use Rattle.vx_rows.specs.Reads.{IsPlaceAmong}
+use Rattle.vx_rows.specs.Heads.{Head}
+use Rattle.vx_rows.specs.Zones.{Zones}
 use Rattle.vx_layout.specs.Rows.{struct_members, derivation, field_derivations, value, value_in, AreValuesOf, AreTreeValues, rows_in, AreForestValues}
 use Rattle.vx_layout.specs.Columns.{AreColumns, row_of, valid_row_of}
 use Rattle.vx_layout.specs.Sound.{AreFields}

@@ -13,7 +13,7 @@ use Rattle.vx_base.specs.Views.{fields_in}
 use Rattle.vx_layout.specs.declared.nodes.LayoutKind.{LayoutKind}
 use Rattle.vx_layout.specs.declared.nodes.LayoutKind.TheVariants as kinds
 use Rattle.vx_layout.specs.Nodes.{Node}
-use Rattle.vx_layout.specs.Trees.{Head, Zones, zones_of, head_at, subtree}
+use Rattle.vx_layout.specs.Trees.{head_at, subtree}
 use Rattle.vx_layout.specs.Rows.{struct_members}
 use Rattle.vx_layout.specs.Sound.{IsSound, IsHead, IsDictionary, IsList, AreZones}
 use Rattle.vx_layout.proofs.ChildHeads.{ForHead, ChildHead, ChunksFit, rows_of_all, FieldsFit, StructFits, BothHeads, PairFits, ListFits, FitsKind}
@@ -21,8 +21,9 @@ use Rattle.vx_layout.specs.declared.rules.ShapeRule.{ShapeRule}
 use Rattle.vx_layout.specs.declared.rules.ShapeRule.TheVariants.{ChildCount, FittingTypes, UnsignedCodes, RowCounts, FittingZones}
 use Rattle.vx_layout.specs.Children.{EachChild}
 use Rattle.vx_layout.specs.Shape.{validity_count, ZonesCount, CountFits, TypesFit, CodesFit, RowsFit, ZonesFit, rows_of, Asks, IsGoodTree}
-use Rattle.vx_rows.specs.Zones.{zones_type, StandOver}
+use Rattle.vx_rows.specs.Zones.{zones_type, StandOver, Zones, zones_of}
 use Rattle.vx_rows.specs.TypeForms.{IsOffsets, IsStruct, IsListOf}
+use Rattle.vx_rows.specs.Heads.{Head}
 use Rattle.vx_layout.proofs.Unfolding.{good_later}
 use Rattle.vx_layout.proofs.Growing.{grows_sound}
 

@@ -1,9 +1,11 @@
 -- What some row of a child finds, some row of the node finds, whatever it is.
 use Rattle.std.proofs.Common.{◌≡◌, ℕ, ◌+◌, ◌<◌, Some, sym, subst, refl, arith}
-use Rattle.vx_layout.specs.Trees.{Head, Zones, Tree, chunks, fields, dict, zoned, Forest, Validity, valid_by, head_of}
+use Rattle.vx_layout.specs.Trees.{Tree, chunks, fields, dict, zoned, Forest, Validity, valid_by, head_of}
 use Rattle.vx_layout.specs.Kept.{KeptFields, all}
 use Rattle.vx_rows.specs.Derivations.{Derivation}
 use Rattle.vx_rows.specs.Reads.{directly, inside, Found, Read, reads_of, Finds}
+use Rattle.vx_rows.specs.Heads.{Head}
+use Rattle.vx_rows.specs.Zones.{Zones}
 use Rattle.vx_layout.specs.Rows.{struct_members, derivation, derivation_in, rows_in, SomeRowFinds}
 use Rattle.vx_layout.specs.Parts.{tree_at, rows_before, IsKeptField}
 use Rattle.vx_rows.proofs.ReadRows.{found_anywhere}

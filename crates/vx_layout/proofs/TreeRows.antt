@@ -5,13 +5,14 @@ use Rattle.vx_base.specs.declared.dtypes.Nullability.{Nullability}
 use Rattle.vx_base.specs.declared.dtypes.Nullability.TheVariants.{NonNullable, Nullable}
 use Rattle.vx_base.specs.Data.{DataType, Members, no_members, member, null}
 use Rattle.vx_base.specs.Fits.{nullability_of}
-use Rattle.vx_layout.specs.Trees.{Head, Tree, missing, leaf, chunks, fields, dict, lists, zoned, Forest, no_trees, tree, Validity, always, valid_by, head_of}
+use Rattle.vx_layout.specs.Trees.{Tree, missing, leaf, chunks, fields, dict, lists, zoned, Forest, no_trees, tree, Validity, always, valid_by, head_of}
 use Rattle.vx_layout.specs.Kept.{KeptFields, all, is_kept}
 use Rattle.vx_rows.specs.Derivations.{Derivation, nothing, given, packed, Derivations, also, each_row}
 use Rattle.vx_rows.specs.Reads.{Way, inside, Read, reads_of, reads_of_each, AnyOf}
 use Rattle.vx_layout.specs.Rows.{struct_members, derivation, derivation_in, field_derivations, where_valid_by, rows_in, reads}
 use Rattle.vx_layout.specs.Sound.{IsSound, AreChunks, AreFields, IsValidity}
 use Rattle.vx_rows.specs.Whole.{IsWhole, AreWhole, IsStrict, AreStrict}
+use Rattle.vx_rows.specs.Heads.{Head}
 use Rattle.vx_layout.specs.Parts.{tree_at, rows_before, IsKeptField}
 use Rattle.vx_rows.proofs.ReadRows.{any_left, any_right}
 

@@ -8,7 +8,8 @@ use Rattle.std.proofs.lemmas.Option.{slice_get_past}
 use Rattle.vx_layout.specs.declared.nodes.LayoutKind.{LayoutKind}
 use Rattle.vx_layout.specs.declared.nodes.LayoutKind.TheVariants as kinds
 use Rattle.vx_layout.specs.Nodes.{Node}
-use Rattle.vx_layout.specs.Trees.{Head, Tree, head_of, head_at, gap, grown_as, grown, grow, subtree}
+use Rattle.vx_rows.specs.Heads.{Head}
+use Rattle.vx_layout.specs.Trees.{Tree, head_of, head_at, gap, grown_as, grown, grow, subtree}
 use Rattle.vx_layout.specs.declared.rules.ShapeRule.TheVariants.{LaterChildren}
 use Rattle.vx_layout.specs.Shape.{HasLaterChildren, IsGoodTree}
 

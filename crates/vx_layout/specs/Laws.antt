@@ -7,10 +7,12 @@ use Rattle.vx_base.specs.ColumnCalls.{value_at}
 use Rattle.vx_rows.specs.Derivations.{Leaves}
 use Rattle.vx_rows.specs.Reads.{Way, through, inside, AreAmong, Finds, FindsOnly, AreComeToBy, found_in, IsPlaceAmong, IsFaulty, IsFine}
 use Rattle.vx_rows.specs.Whole.{GiveEachRow, GiveFitting, AgreeOn}
+use Rattle.vx_rows.specs.Heads.{Head}
+use Rattle.vx_rows.specs.Zones.{Zones}
 use Rattle.vx_layout.specs.Nodes.{Node}
 use Rattle.vx_layout.specs.Faults.{IsFirstFault}
 use Rattle.vx_layout.specs.Shape.{IsGoodTree}
-use Rattle.vx_layout.specs.Trees.{Head, Zones, Tree, leaf, chunks, fields, dict, zoned, Forest, tree, Validity, always, valid_by, head_of, grown, subtree}
+use Rattle.vx_layout.specs.Trees.{Tree, leaf, chunks, fields, dict, zoned, Forest, tree, Validity, always, valid_by, head_of, grown, subtree}
 use Rattle.vx_layout.specs.Kept.{KeptFields, all}
 use Rattle.vx_layout.specs.Rows.{struct_members, derivation, derivation_in, value, reads, AreValuesOf, AreTreeValues, AreForestValues, rows_in, IsReached}
 use Rattle.vx_layout.specs.Parts.{tree_at, rows_before, IsKeptField}

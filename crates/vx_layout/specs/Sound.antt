@@ -9,8 +9,9 @@ use Rattle.vx_base.specs.Fits.{nullability_of}
 use Rattle.vx_base.specs.ColumnCalls.{nullable_where, IsUnsigned}
 use Rattle.vx_layout.specs.Shape.{ZonesCount}
 use Rattle.vx_rows.specs.TypeForms.{IsStruct, IsListOf, IsOffsets}
-use Rattle.vx_rows.specs.Zones.{zones_type, StandOver}
-use Rattle.vx_layout.specs.Trees.{Head, Zones, Tree, missing, leaf, chunks, fields, dict, lists, zoned, Forest, no_trees, tree, Validity, always, valid_by, head_of}
+use Rattle.vx_rows.specs.Zones.{zones_type, StandOver, Zones}
+use Rattle.vx_rows.specs.Heads.{Head}
+use Rattle.vx_layout.specs.Trees.{Tree, missing, leaf, chunks, fields, dict, lists, zoned, Forest, no_trees, tree, Validity, always, valid_by, head_of}
 use Rattle.vx_layout.specs.Rows.{struct_members, rows_in}
 
 -- a head of a dtype and so many rows

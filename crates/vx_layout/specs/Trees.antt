@@ -1,28 +1,16 @@
 -- The tree that a list of nodes stands for. The list is unfolded once, here; all meaning is by recursion
 -- over the tree.
-use Rattle.std.specs.Prelude.{ℕ, zero, suc, Bool, true, false, List, [], ◌∷◌, length, map, Option, Some, None}
+use Rattle.std.specs.Prelude.{ℕ, zero, suc, true, false, List, [], ◌∷◌, length, map, Option, Some, None}
 use Rattle.std.specs.List.{slice_get}
 use Rattle.vx_base.specs.declared.dtypes.Nullability.{Nullability}
 use Rattle.vx_base.specs.declared.dtypes.Nullability.TheVariants.{NonNullable, Nullable}
-use Rattle.vx_base.specs.Data.{DataType, bool_type}
+use Rattle.vx_base.specs.Data.{bool_type}
 use Rattle.vx_base.specs.Fits.{nullability_of}
-use Rattle.vx_expr.specs.declared.statistics.Statistic.{Statistic}
 use Rattle.vx_layout.specs.declared.nodes.LayoutKind.{LayoutKind}
 use Rattle.vx_layout.specs.declared.nodes.LayoutKind.TheVariants as kinds
 use Rattle.vx_layout.specs.Nodes.{Node}
-
--- what each tree knows of its node: the number in the list, the dtype and the rows
-pub record Head : Type 0 where
-  pub number : ℕ
-  pub dtype : DataType
-  pub rows : ℕ
-
--- How the rows of a node are cut into zones: so many rows for each, and what is told of it. A node of the older
--- form has zones too, which are never asked.
-pub record Zones : Type 0 where
-  pub is_legacy : Bool
-  pub zone_len : ℕ
-  pub statistics : List Statistic
+use Rattle.vx_rows.specs.Heads.{Head}
+use Rattle.vx_rows.specs.Zones.{Zones, zones_of}
 
 -- A leaf names its segment. A dictionary has its values, then its codes; a list its elements, then its
 -- offsets; zoned data the data, then the zones.
@@ -82,9 +70,6 @@ abbrev pub field_trees : Nullability → List Tree → List Tree
 field_trees NonNullable ts = ts
 field_trees Nullable [] = []
 field_trees Nullable (t ∷ ts) = ts
-
-abbrev pub zones_of : Bool → ℕ → List Statistic → Zones
-zones_of is_legacy zone_len stats = record { is_legacy = is_legacy; zone_len = zone_len; statistics = stats }
 
 -- a node of a kind over the trees of its children
 abbrev pub grown_as : Head → LayoutKind → List Tree → Tree

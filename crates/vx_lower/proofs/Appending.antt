@@ -5,7 +5,8 @@ use Rattle.std.proofs.lemmas.List.Elements.{All-append, All-cons, All-nil, All-w
 use Rattle.vx_plan.specs.Alike.{SameHead}
 use Rattle.vx_plan.specs.Kinds.{IsRowIdx}
 use Rattle.vx_plan.specs.Nodes.{Node}
-use Rattle.vx_plan.specs.Plans.{Head, Plan, no_plan, concat_plan, eval_plan, filter_plan, pack_plan, take_plan, share_plan, list_plan, row_idx_plan, scan_plan, zoned_plan, plan_head, head_at, plan_at, plan_grown_as}
+use Rattle.vx_rows.specs.Heads.{Head}
+use Rattle.vx_plan.specs.Plans.{Plan, no_plan, concat_plan, eval_plan, filter_plan, pack_plan, take_plan, share_plan, list_plan, row_idx_plan, scan_plan, zoned_plan, plan_head, head_at, plan_at, plan_grown_as}
 use Rattle.vx_plan.specs.Rules.{node_at, nodes_at}
 use Rattle.vx_plan.specs.Tables.{AreIn, IsAdded, IsGoodTable}
 use Rattle.vx_plan.proofs.Adding.{all_stay, head_in_table, length_added, plan_added}

@@ -8,7 +8,8 @@ use Rattle.vx_layout.specs.declared.rules.ShapeRule.TheVariants.{DistinctNames}
 use Rattle.vx_layout.specs.Nodes.{Node}
 use Rattle.vx_layout.specs.Shape.{IsGoodTree}
 use Rattle.vx_layout.specs.Sound.{IsSound}
-use Rattle.vx_layout.specs.Trees.{Head, Tree, head_of, subtree}
+use Rattle.vx_rows.specs.Heads.{Head}
+use Rattle.vx_layout.specs.Trees.{Tree, head_of, subtree}
 use Rattle.vx_layout.proofs.Ruled.{good_sound}
 use Rattle.vx_layout.proofs.Unfolding.{good_later, head_of_subtree}
 use Rattle.vx_lower.specs.Planned.{CanBePlanned}

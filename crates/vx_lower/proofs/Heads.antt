@@ -4,15 +4,16 @@ use Rattle.vx_base.specs.Data.{DataType, bool_type, int_type, utf8_type, struct_
 use Rattle.vx_base.specs.Leaf.{IsLeaf}
 use Rattle.vx_layout.specs.Kept.{KeptFields, all, only}
 use Rattle.vx_rows.specs.TypeForms.{IsListOf}
+use Rattle.vx_rows.specs.Heads.{Head}
+use Rattle.vx_rows.specs.Zones.{Zones}
 use Rattle.vx_layout.specs.Sound.{IsSound}
 use Rattle.vx_layout.specs.Trees.{Tree, missing, leaf, chunks, fields, dict, lists, zoned, head_of}
-use Rattle.vx_layout.specs.Trees.{Head as TreeHead}
-use Rattle.vx_plan.specs.Plans.{Zones, Plan, plan_head}
+use Rattle.vx_plan.specs.Plans.{Plan, plan_head}
 use Rattle.vx_lower.specs.KeptRows.{kept_type}
 use Rattle.vx_lower.specs.Lowered.{lowered, kept_head, packing, plan_zones_of, tell, with_zones}
 
 -- a plan's head, by that of a tree
-pub record IsHeadOf (kept : KeptFields) (head : TreeHead) (p : Plan) : Type 0 where
+pub record IsHeadOf (kept : KeptFields) (head : Head) (p : Plan) : Type 0 where
   pub dtype : (plan_head p).dtype ≡ kept_type kept head.dtype
   pub rows : (plan_head p).rows ≡ head.rows
 
@@ -32,11 +33,11 @@ list_kept (only names) (int_type kind n) element is = absurd is
 list_kept (only names) (utf8_type n) element is = absurd is
 list_kept (only names) (struct_type ms n) element is = absurd is
 
-packed_head : (kept : KeptFields) (head : TreeHead) (p : Plan) → IsHeadOf all head p → IsHeadOf kept head (packing kept head p)
+packed_head : (kept : KeptFields) (head : Head) (p : Plan) → IsHeadOf all head p → IsHeadOf kept head (packing kept head p)
 packed_head all head p is = is
 packed_head (only names) head p is = record { dtype = refl; rows = refl }
 
-zones_head : (tells : Bool) (kept : KeptFields) (head : TreeHead) (zones : Zones) (content table : Plan) → IsHeadOf kept head content → IsHeadOf kept head (with_zones tells (kept_head kept head) zones content table)
+zones_head : (tells : Bool) (kept : KeptFields) (head : Head) (zones : Zones) (content table : Plan) → IsHeadOf kept head content → IsHeadOf kept head (with_zones tells (kept_head kept head) zones content table)
 zones_head true kept head zones content table is = record { dtype = refl; rows = refl }
 zones_head false kept head zones content table is = is
 

@@ -8,11 +8,13 @@ use Rattle.vx_base.specs.declared.dtypes.Nullability.TheVariants.{NonNullable, N
 use Rattle.vx_layout.specs.Kept.{KeptFields, all, only, is_kept}
 use Rattle.vx_layout.specs.Rows.{struct_members, derivation, derivation_in, field_derivations, where_valid_by}
 use Rattle.vx_layout.specs.Sound.{IsSound, AreChunks, AreFields, IsValidity}
-use Rattle.vx_layout.specs.Trees.{Head as TreeHead, Tree, missing, leaf, chunks, fields, dict, lists, zoned, Forest, no_trees, tree, Validity, always, valid_by, head_of}
-use Rattle.vx_plan.specs.Plans.{Head, Zones, Plan, take_plan, Plans, plan, plan_head}
+use Rattle.vx_layout.specs.Trees.{Tree, missing, leaf, chunks, fields, dict, lists, zoned, Forest, no_trees, tree, Validity, always, valid_by, head_of}
+use Rattle.vx_plan.specs.Plans.{Plan, take_plan, Plans, plan, plan_head}
 use Rattle.vx_plan.specs.PlanRows.{plan_derivation, plan_derivation_in, plan_derivations, plan_where_valid}
 use Rattle.vx_rows.specs.Derivations.{Derivation, given, packed, Derivations, also, each_row}
 use Rattle.vx_rows.specs.Reads.{Way, Read, reads_of, reads_of_each}
+use Rattle.vx_rows.specs.Heads.{Head}
+use Rattle.vx_rows.specs.Zones.{Zones}
 use Rattle.vx_lower.specs.Lowered.{tell, with_zones, packing, plan_head_of, plan_zones_of, kept_head, lowered, lowered_in, lowered_fields, lowered_validity}
 use Rattle.vx_lower.proofs.Heads.{lowered_head}
 
@@ -73,7 +75,7 @@ mutual
 
 -- ---- reads, whatever is kept
 
-reads_packing : (kept : KeptFields) (way : Way) (offset : ℕ) (head : TreeHead) (p : Plan) (row : ℕ) → reads_of way (plan_derivation offset (packing kept head p) row) ≡ reads_of way (plan_derivation offset p row)
+reads_packing : (kept : KeptFields) (way : Way) (offset : ℕ) (head : Head) (p : Plan) (row : ℕ) → reads_of way (plan_derivation offset (packing kept head p) row) ≡ reads_of way (plan_derivation offset p row)
 reads_packing all way offset head p row = refl
 reads_packing (only names) way offset head p row = refl
 

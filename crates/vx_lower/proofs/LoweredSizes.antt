@@ -7,8 +7,10 @@ use Rattle.vx_base.specs.declared.dtypes.Nullability.TheVariants.{NonNullable, N
 use Rattle.vx_layout.specs.Kept.{KeptFields, all, only, is_kept}
 use Rattle.vx_layout.specs.Rows.{struct_members}
 use Rattle.vx_layout.specs.Sound.{IsSound, AreChunks, AreFields, IsValidity}
-use Rattle.vx_layout.specs.Trees.{Head as TreeHead, Tree, missing, leaf, chunks, fields, dict, lists, zoned, Forest, no_trees, tree, Validity, always, valid_by}
-use Rattle.vx_plan.specs.Plans.{Head, Zones, Plan, take_plan, Plans, plan}
+use Rattle.vx_layout.specs.Trees.{Tree, missing, leaf, chunks, fields, dict, lists, zoned, Forest, no_trees, tree, Validity, always, valid_by}
+use Rattle.vx_rows.specs.Heads.{Head}
+use Rattle.vx_rows.specs.Zones.{Zones}
+use Rattle.vx_plan.specs.Plans.{Plan, take_plan, Plans, plan}
 use Rattle.vx_lower.specs.Lowered.{tell, with_zones, packing, plan_head_of, plan_zones_of, kept_head, lowered, lowered_in, lowered_fields, lowered_validity}
 use Rattle.vx_lower.specs.Sizes.{tree_size, forest_size, validity_size, plan_size, plans_size, plan_validity_size}
 
@@ -16,7 +18,7 @@ zones_size : (b : Bool) (head : Head) (zones : Zones) (content table : Plan) →
 zones_size true head zones content table = omega arith
 zones_size false head zones content table = omega arith
 
-packing_size : (kept : KeptFields) (head : TreeHead) (p : Plan) → plan_size (packing kept head p) ≤ 1 + plan_size p
+packing_size : (kept : KeptFields) (head : Head) (p : Plan) → plan_size (packing kept head p) ≤ 1 + plan_size p
 packing_size all head p = omega arith
 packing_size (only names) head p = omega arith
 

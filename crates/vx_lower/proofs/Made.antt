@@ -11,7 +11,9 @@ use Rattle.vx_expr.specs.Bound.{Bound}
 use Rattle.vx_expr.specs.Terms.{Term}
 use Rattle.vx_plan.specs.Alike.{SameHead}
 use Rattle.vx_plan.specs.Nodes.{Node}
-use Rattle.vx_plan.specs.Plans.{Head, zones_of, Plan, plan, concat_plan, eval_plan, filter_plan, pack_plan, take_plan, list_plan, scan_plan, zoned_plan, PlanValidity, all_valid, valid_as, plan_head, head_at, plans_from, front_plans, last_plan, field_plans, last_validity}
+use Rattle.vx_rows.specs.Heads.{Head}
+use Rattle.vx_rows.specs.Zones.{zones_of}
+use Rattle.vx_plan.specs.Plans.{Plan, plan, concat_plan, eval_plan, filter_plan, pack_plan, take_plan, list_plan, scan_plan, zoned_plan, PlanValidity, all_valid, valid_as, plan_head, head_at, plans_from, front_plans, last_plan, field_plans, last_validity}
 use Rattle.vx_plan.specs.Rules.{concat_node, eval_node, filter_node, given_validity, is_given, list_node, node_at, nodes_at, packed_node, rows_of, scan_node, take_node}
 use Rattle.vx_plan.specs.Tables.{IsAdded, IsGoodTable}
 use Rattle.vx_lower.specs.NodeParts.{zones_node}

@@ -9,7 +9,8 @@ use Rattle.vx_layout.specs.Kept.{KeptFields}
 use Rattle.vx_layout.specs.Nodes.{Node}
 use Rattle.vx_layout.specs.Shape.{most_rows, HasFewRows, IsGoodTree}
 use Rattle.vx_layout.specs.Sound.{IsSound}
-use Rattle.vx_layout.specs.Trees.{Head, Tree, head_at, subtree}
+use Rattle.vx_rows.specs.Heads.{Head}
+use Rattle.vx_layout.specs.Trees.{Tree, head_at, subtree}
 use Rattle.vx_layout.proofs.Ruled.{good_sound}
 use Rattle.vx_layout.proofs.Unfolding.{HaveLaterChildren, good_later, head_of_subtree}
 use Rattle.vx_plan.specs.Nodes.{Node as PlanNode}

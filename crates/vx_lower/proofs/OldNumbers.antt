@@ -2,12 +2,13 @@
 use Rattle.std.proofs.Common.{◌≡◌, ℕ, suc, ◌+◌, ◌-◌, ◌<◌, List, [], ◌∷◌, ◌++◌, length, map, get_or, refl, sym, ap, ◌∙◌, arith}
 use Rattle.std.proofs.lemmas.List.{length-append}
 use Rattle.vx_plan.specs.Alike.{SameHead, IsAlike, AreAlike, ValidityIsAlike}
-use Rattle.vx_plan.specs.Plans.{Head, Plan, no_plan, concat_plan, eval_plan, filter_plan, pack_plan, take_plan, share_plan, list_plan, row_idx_plan, scan_plan, zoned_plan, Plans, no_plans, plan, PlanValidity, all_valid, valid_as}
+use Rattle.vx_plan.specs.Plans.{Plan, no_plan, concat_plan, eval_plan, filter_plan, pack_plan, take_plan, share_plan, list_plan, row_idx_plan, scan_plan, zoned_plan, Plans, no_plans, plan, PlanValidity, all_valid, valid_as}
 use Rattle.vx_plan.specs.PlanRows.{plan_derivation, plan_value, plan_reads}
 use Rattle.vx_plan.proofs.AlikePlans.{concat_alike, pack_alike, take_alike, eval_alike, zoned_alike, list_alike, alike_values, alike_reads}
 use Rattle.vx_rows.specs.Derivations.{Derivation, nothing, cell, list_row, given, packed, valid_where, looked_up, worked_out, read_whole, Derivations, no_more, also, Leaves}
 use Rattle.vx_rows.specs.Reads.{Way, directly, through, Found, a_cell, a_code, a_list_row, Read}
 use Rattle.vx_rows.specs.Renumbered.{renumbered, each_renumbered, way_renumbered, found_renumbered, read_renumbered}
+use Rattle.vx_rows.specs.Heads.{Head}
 use Rattle.vx_lower.specs.Numbered.{head_with, numbered, each_numbered, validity_numbered}
 use Rattle.vx_lower.specs.OldNumbers.{numbers_of, each_numbers_of, validity_numbers_of, old_number}
 use Rattle.vx_lower.specs.Sizes.{plan_size, plans_size, plan_validity_size}

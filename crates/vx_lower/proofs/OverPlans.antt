@@ -13,7 +13,7 @@ use Rattle.vx_expr.specs.Types.{row_number_type}
 use Rattle.vx_plan.specs.Alike.{SameHead}
 use Rattle.vx_plan.specs.Kinds.{HasKind, IsRowIdx}
 use Rattle.vx_plan.specs.Nodes.{Node, absent}
-use Rattle.vx_plan.specs.Plans.{Head, Plan, eval_plan, pack_plan, row_idx_plan, no_plans, plan, all_valid, head_at, plan_at, plan_head}
+use Rattle.vx_plan.specs.Plans.{Plan, eval_plan, pack_plan, row_idx_plan, no_plans, plan, all_valid, head_at, plan_at, plan_head}
 use Rattle.vx_plan.specs.PlanRows.{plan_derivation, plan_value, plan_reads}
 use Rattle.vx_plan.specs.Rules.{eval_node, node_at, row_idx_node}
 use Rattle.vx_plan.specs.Tables.{AreIn, IsAdded, IsGoodTable}
@@ -21,6 +21,7 @@ use Rattle.vx_plan.proofs.Adding.{head_in_table, length_added, node_added, plan_
 use Rattle.vx_plan.proofs.Unfolding.{have_earlier, HaveEarlier}
 use Rattle.vx_rows.specs.Derivations.{Leaves, Derivation, derived}
 use Rattle.vx_rows.specs.Reads.{directly, reads_of}
+use Rattle.vx_rows.specs.Heads.{Head}
 use Rattle.vx_lower.specs.PlannedOver.{HoldsAll, IsPlannedOver, IsWorthOver, ReadsOver}
 use Rattle.vx_lower.specs.RowIndex.{head_with, row_index_plan, row_index_plan_by, row_index_plan_from, row_index_plan_from_by}
 use Rattle.vx_lower.specs.RowNumberPlans.{empty_node, numbered_node}

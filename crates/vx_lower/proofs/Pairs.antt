@@ -12,13 +12,13 @@ use Rattle.vx_layout.specs.Nodes.{Node}
 use Rattle.vx_layout.specs.Shape.{ZonesCount}
 use Rattle.vx_layout.specs.Sound.{IsSound}
 use Rattle.vx_layout.specs.Sound.{AreZones as AreTreeZones}
-use Rattle.vx_layout.specs.Trees.{Zones, Tree, dict, lists, zoned, subtree}
+use Rattle.vx_layout.specs.Trees.{Tree, dict, lists, zoned, subtree}
 use Rattle.vx_plan.specs.Alike.{SameHead}
 use Rattle.vx_plan.specs.Nodes.{Node as PlanNode}
 use Rattle.vx_plan.specs.Plans.{Plan, PlanValidity, plan_head, zoned_plan}
 use Rattle.vx_plan.specs.Rules.{given_validity, is_given, list_node, node_at, nodes_at, take_node, AreZones, KeepsRules}
 use Rattle.vx_plan.specs.Tables.{AreIn, IsAdded}
-use Rattle.vx_rows.specs.Zones.{zones_type, StandOver}
+use Rattle.vx_rows.specs.Zones.{zones_type, StandOver, Zones}
 use Rattle.vx_rows.specs.TypeForms.{IsListOf}
 use Rattle.vx_lower.specs.KeptRows.{kept_type}
 use Rattle.vx_lower.specs.Lowered.{lowered, lowered_validity, kept_head, plan_head_of, plan_zones_of, tell, with_zones}

@@ -13,7 +13,9 @@ use Rattle.vx_layout.specs.declared.nodes.LayoutKind.TheVariants as kinds
 use Rattle.vx_layout.specs.declared.rules.ShapeRule.TheVariants.{ChildCount}
 use Rattle.vx_layout.specs.Nodes.{Node}
 use Rattle.vx_layout.specs.Shape.{validity_count, CountFits, HasFittingCount, IsGoodTree}
-use Rattle.vx_layout.specs.Trees.{Head, Tree, fields, dict, lists, zoned, zones_of, head_at, forest_from, child_in, field_trees, validity_in, grown_as, grown, subtree}
+use Rattle.vx_rows.specs.Heads.{Head}
+use Rattle.vx_rows.specs.Zones.{zones_of}
+use Rattle.vx_layout.specs.Trees.{Tree, fields, dict, lists, zoned, head_at, forest_from, child_in, field_trees, validity_in, grown_as, grown, subtree}
 use Rattle.vx_layout.proofs.Unfolding.{good_later, unfolds, head_of_subtree}
 use Rattle.vx_lower.specs.NodeParts.{tree_head, AreLater, IsChunked, IsLeafNode, IsListNode, IsLookUp, IsOver, IsStructNode}
 

@@ -8,7 +8,7 @@ use Rattle.vx_layout.specs.declared.rules.ShapeRule.TheVariants.{DistinctNames}
 use Rattle.vx_layout.specs.Kept.{KeptFields}
 use Rattle.vx_layout.specs.Nodes.{Node}
 use Rattle.vx_layout.specs.Shape.{IsGoodTree}
-use Rattle.vx_layout.specs.Trees.{Head}
+use Rattle.vx_rows.specs.Heads.{Head}
 use Rattle.vx_layout.proofs.Unfolding.{good_later, head_of_subtree}
 use Rattle.vx_lower.specs.KeptRows.{MayKeep}
 use Rattle.vx_lower.specs.NodeParts.{tree_head}

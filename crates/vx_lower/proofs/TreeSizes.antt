@@ -14,7 +14,8 @@ use Rattle.vx_layout.specs.declared.rules.ShapeRule.TheVariants.{ChildOnce, Chil
 use Rattle.vx_layout.specs.Children.{times_child}
 use Rattle.vx_layout.specs.Nodes.{Node}
 use Rattle.vx_layout.specs.Shape.{validity_count, CountFits, HasFittingCount, IsChildOnce, IsGoodTree}
-use Rattle.vx_layout.specs.Trees.{Head, Tree, head_at, forest_from, child_in, validity_in, field_trees, grown_as, grown, subtree}
+use Rattle.vx_rows.specs.Heads.{Head}
+use Rattle.vx_layout.specs.Trees.{Tree, head_at, forest_from, child_in, validity_in, field_trees, grown_as, grown, subtree}
 use Rattle.vx_layout.proofs.Unfolding.{HaveLaterChildren, good_later, unfolds}
 use Rattle.vx_lower.specs.Sizes.{tree_size, forest_size, validity_size}
 use Rattle.vx_lower.proofs.NumberSums.{total, total_first, total_same, total_one_more, times, times_in, sum_is_total, total_but_first, zero_nowhere}

@@ -5,8 +5,9 @@ use Rattle.vx_expr.specs.declared.statistics.Statistic.{Statistic}
 use Rattle.vx_layout.specs.Kept.{KeptFields, all, only, is_kept}
 use Rattle.vx_layout.specs.Rows.{struct_members}
 use Rattle.vx_layout.specs.Trees.{Tree, missing, leaf, chunks, fields, dict, lists, zoned, Forest, no_trees, tree, Validity, always, valid_by}
-use Rattle.vx_layout.specs.Trees.{Head as TreeHead, Zones as TreeZones}
-use Rattle.vx_plan.specs.Plans.{Head, Zones, Plan, no_plan, concat_plan, eval_plan, filter_plan, pack_plan, take_plan, list_plan, scan_plan, zoned_plan, Plans, no_plans, plan, PlanValidity, all_valid, valid_as, zones_of}
+use Rattle.vx_rows.specs.Heads.{Head}
+use Rattle.vx_rows.specs.Zones.{Zones, zones_of}
+use Rattle.vx_plan.specs.Plans.{Plan, no_plan, concat_plan, eval_plan, filter_plan, pack_plan, take_plan, list_plan, scan_plan, zoned_plan, Plans, no_plans, plan, PlanValidity, all_valid, valid_as}
 use Rattle.vx_lower.specs.KeptRows.{kept_type, kept_pack}
 
 -- zones that tell something: their length isn't 0, and there are statistics
@@ -16,19 +17,19 @@ tell (suc n) [] = false
 tell (suc n) (statistic ∷ statistics) = true
 
 -- the head of a plan of the node
-abbrev pub plan_head_of : TreeHead → Head
+abbrev pub plan_head_of : Head → Head
 plan_head_of head = record { number = head.number; dtype = head.dtype; rows = head.rows }
 
 -- the same without the fields that aren't kept
-abbrev pub kept_head : KeptFields → TreeHead → Head
+abbrev pub kept_head : KeptFields → Head → Head
 kept_head kept head = record { number = head.number; dtype = kept_type kept head.dtype; rows = head.rows }
 
 -- a plan of the whole of a node, and an eval over it where not all fields are kept
-abbrev pub packing : KeptFields → TreeHead → Plan → Plan
+abbrev pub packing : KeptFields → Head → Plan → Plan
 packing all head p = p
 packing (only names) head p = eval_plan (kept_head (only names) head) (kept_pack (only names) head.dtype) p
 
-abbrev pub plan_zones_of : TreeZones → Zones
+abbrev pub plan_zones_of : Zones → Zones
 plan_zones_of zones = zones_of zones.is_legacy zones.zone_len zones.statistics
 
 -- zones beside their data, where they tell something

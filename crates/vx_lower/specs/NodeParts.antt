@@ -8,10 +8,12 @@ use Rattle.vx_layout.specs.Nodes.{Node}
 use Rattle.vx_layout.specs.Rows.{struct_members}
 use Rattle.vx_layout.specs.Shape.{IsGoodTree}
 use Rattle.vx_rows.specs.TypeForms.{IsStruct}
+use Rattle.vx_rows.specs.Heads.{Head}
+use Rattle.vx_rows.specs.Zones.{Zones, zones_of}
 use Rattle.vx_layout.specs.Sound.{AreFields, IsValidity}
-use Rattle.vx_layout.specs.Trees.{Head, Zones, zones_of, Tree, leaf, chunks, fields, dict, lists, zoned, Forest, Validity, always, valid_by, head_of, forest_from, subtree}
+use Rattle.vx_layout.specs.Trees.{Tree, leaf, chunks, fields, dict, lists, zoned, Forest, Validity, always, valid_by, head_of, forest_from, subtree}
 use Rattle.vx_plan.specs.Nodes.{Node as PlanNode}
-use Rattle.vx_plan.specs.Plans.{Head as PlanHead, Plan, pack_plan, plans_from}
+use Rattle.vx_plan.specs.Plans.{Plan, pack_plan, plans_from}
 use Rattle.vx_plan.specs.Rules.{given_validity, legacy_node, zoned_node}
 use Rattle.vx_plan.specs.Tables.{IsGoodTable}
 use Rattle.vx_lower.specs.declared.node_parts.NodeParts.{NodeParts}
@@ -118,7 +120,7 @@ pub record ArePacked (nodes : List Node) (t : DataType) (rows : ℕ) (ns : List 
   pub valid : IsValidity (nullability_of t) rows (validity_of nodes validity)
 
 -- the plan of such structs
-abbrev pub packed_plan : List Node → PlanHead → List ℕ → Option ℕ → Plan
+abbrev pub packed_plan : List Node → Head → List ℕ → Option ℕ → Plan
 packed_plan nodes head ns validity = pack_plan head (plans_from (lowered_each nodes all ns)) (lowered_validity (validity_of nodes validity))
 
 -- the node of a plan of data and of its zones, in either form

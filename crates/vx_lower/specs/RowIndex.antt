@@ -9,9 +9,10 @@ use Rattle.vx_expr.specs.Rewritten.{with_row_number, row_number_as_root, over_ro
 use Rattle.vx_expr.specs.Terms.{Term}
 use Rattle.vx_expr.specs.Types.{row_number_type}
 use Rattle.vx_expr.specs.Rows.{no_bound}
-use Rattle.vx_plan.specs.Plans.{Head, Plan, eval_plan, pack_plan, row_idx_plan, no_plans, plan, all_valid, plan_head}
+use Rattle.vx_plan.specs.Plans.{Plan, eval_plan, pack_plan, row_idx_plan, no_plans, plan, all_valid, plan_head}
 use Rattle.vx_plan.specs.PlanRows.{plan_value}
 use Rattle.vx_rows.specs.Derivations.{Leaves}
+use Rattle.vx_rows.specs.Heads.{Head}
 
 -- the head of a new plan of a dtype, with the rows of another
 abbrev pub new_head : DataType → Plan → Head

@@ -10,11 +10,12 @@ use Rattle.vx_expr.specs.declared.statistics.Statistic.TheVariants.{Max}
 use Rattle.vx_expr.specs.Terms.{Term, root, literal, get_field, pack, arithmetic, row_number, no_terms, named}
 use Rattle.vx_layout.specs.Kept.{KeptFields, only}
 use Rattle.vx_layout.specs.Trees.{Tree, leaf, chunks, fields, dict, lists, zoned, no_trees, tree, always, valid_by}
-use Rattle.vx_layout.specs.Trees.{Head as TreeHead, zones_of as tree_zones}
-use Rattle.vx_plan.specs.Plans.{Head, Plan, concat_plan, eval_plan, filter_plan, pack_plan, take_plan, list_plan, scan_plan, zoned_plan, no_plans, plan, all_valid, valid_as, zones_of}
+use Rattle.vx_plan.specs.Plans.{Plan, concat_plan, eval_plan, filter_plan, pack_plan, take_plan, list_plan, scan_plan, zoned_plan, no_plans, plan, all_valid, valid_as}
 use Rattle.vx_plan.specs.PlanRows.{plan_value, plan_reads}
 use Rattle.vx_rows.specs.Derivations.{Leaves}
 use Rattle.vx_rows.specs.Reads.{Found, a_cell, a_code, a_list_row, Read}
+use Rattle.vx_rows.specs.Heads.{Head}
+use Rattle.vx_rows.specs.Zones.{zones_of}
 use Rattle.vx_lower.specs.Planned.{planned}
 use Rattle.vx_lower.specs.Projected.{Projection, projected_at}
 
@@ -27,7 +28,7 @@ u64 = int_type U64 NonNullable
 abbrev codes_type : DataType
 codes_type = int_type U8 Nullable
 
-abbrev node : ℕ → DataType → ℕ → TreeHead
+abbrev node : ℕ → DataType → ℕ → Head
 node n t rows = record { number = n; dtype = t; rows = rows }
 
 abbrev pub head : ℕ → DataType → ℕ → Head
@@ -115,7 +116,7 @@ abbrev one_zone_packed : ℕ → ℕ → Plan
 one_zone_packed n segment = pack_plan (head n greatest 1) (plan (scanned (n + 1) (int_type I64 Nullable) 1 segment) no_plans) all_valid
 
 abbrev pub in_zones : ℕ → List Statistic → Tree
-in_zones zone_len stats = zoned (node 0 i64 3) (tree_zones false zone_len stats) (flat 1 i64 3 0) (one_zone 2 1)
+in_zones zone_len stats = zoned (node 0 i64 3) (zones_of false zone_len stats) (flat 1 i64 3 0) (one_zone 2 1)
 
 abbrev pub zones_beside : Plan
 zones_beside = zoned_plan (head 0 i64 3) (zones_of false 3 (Max ∷ [])) (scanned 1 i64 3 0) (one_zone_packed 2 1)
@@ -132,7 +133,7 @@ abbrev no_zone : Tree
 no_zone = fields (node 8 (struct_type no_members NonNullable) 2) no_trees always
 
 abbrev pub zoned_pairs : ℕ → Tree
-zoned_pairs zone_len = zoned (node 0 pair 6) (tree_zones false zone_len (Max ∷ [])) (chunked_pairs 1) no_zone
+zoned_pairs zone_len = zoned (node 0 pair 6) (zones_of false zone_len (Max ∷ [])) (chunked_pairs 1) no_zone
 
 abbrev pub zoned_b : Plan
 zoned_b = zoned_plan (head 0 field_b 6) (zones_of false 3 (Max ∷ [])) (chunked_b 1) (pack_plan (head 8 (struct_type no_members NonNullable) 2) no_plans all_valid)

@@ -6,7 +6,8 @@ use Rattle.std.proofs.lemmas.Option.{get_or_from_slice_get, slice_get-get_or}
 use Rattle.vx_plan.specs.declared.nodes.PlanKind.{PlanKind}
 use Rattle.vx_plan.specs.declared.nodes.PlanKind.TheVariants as kinds
 use Rattle.vx_plan.specs.Nodes.{Node, absent}
-use Rattle.vx_plan.specs.Plans.{Head, Plan, plan_head, head_at, plan_at, plan_grown_as}
+use Rattle.vx_rows.specs.Heads.{Head}
+use Rattle.vx_plan.specs.Plans.{Plan, plan_head, head_at, plan_at, plan_grown_as}
 use Rattle.vx_plan.specs.Rules.{node_at}
 use Rattle.vx_plan.specs.Tables.{AreIn, IsAdded, IsGoodTable}
 use Rattle.vx_plan.proofs.Growing.{get_in_front, get_at_seam}

@@ -3,9 +3,11 @@ use Rattle.std.proofs.Common.{◌≡◌, ℕ, zero, suc, ◌+◌, ◌-◌, ltb, 
 use Rattle.vx_expr.specs.Terms.{Term}
 use Rattle.vx_rows.specs.Derivations.{Derivation, packed, list_row, each_row, Leaves, derived}
 use Rattle.vx_rows.specs.Reads.{directly, reads_of}
-use Rattle.vx_plan.specs.Plans.{Head, Zones, Plan, concat_plan, eval_plan, filter_plan, pack_plan, take_plan, list_plan, scan_plan, zoned_plan, Plans, no_plans, plan, PlanValidity, all_valid, valid_as, plan_head}
+use Rattle.vx_plan.specs.Plans.{Plan, concat_plan, eval_plan, filter_plan, pack_plan, take_plan, list_plan, scan_plan, zoned_plan, Plans, no_plans, plan, PlanValidity, all_valid, valid_as, plan_head}
 use Rattle.vx_plan.specs.PlanRows.{plan_derivation, plan_derivation_in, plan_derivations, plan_where_valid, plan_value, plan_reads}
 use Rattle.vx_rows.specs.Renumbered.{renumbered, each_renumbered, read_renumbered}
+use Rattle.vx_rows.specs.Heads.{Head}
+use Rattle.vx_rows.specs.Zones.{Zones}
 use Rattle.vx_plan.specs.Alike.{SameHead, IsAlike, AreAlike, ValidityIsAlike}
 use Rattle.vx_rows.proofs.Renumbering.{same_worth, reads_moved}
 

@@ -9,7 +9,8 @@ use Rattle.vx_plan.specs.declared.nodes.PlanKind.TheVariants as kinds
 use Rattle.vx_plan.specs.declared.rules.PlanRule.TheVariants.{ChildTypes, ChildRows}
 use Rattle.vx_plan.specs.FittingRows.{HasFittingRows, HaveFittingRows, FieldsHaveRows, ValidityHasRows}
 use Rattle.vx_plan.specs.Nodes.{Node, absent}
-use Rattle.vx_plan.specs.Plans.{Head, plan_head, head_at, plan_at, plan_grown_as, plans_from, front_plans, last_plan, field_plans, last_validity}
+use Rattle.vx_rows.specs.Heads.{Head}
+use Rattle.vx_plan.specs.Plans.{plan_head, head_at, plan_at, plan_grown_as, plans_from, front_plans, last_plan, field_plans, last_validity}
 use Rattle.vx_plan.specs.Rules.{node_at, nodes_at, IsMadeAs, RowsFit, TypesFit}
 use Rattle.vx_plan.specs.Tables.{AreIn, IsGoodTable}
 use Rattle.vx_plan.proofs.Adding.{head_in_table}

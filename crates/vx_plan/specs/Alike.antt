@@ -3,9 +3,11 @@
 use Rattle.std.specs.Prelude.{◌≡◌, ℕ, map}
 use Rattle.vx_expr.specs.Terms.{Term}
 use Rattle.vx_rows.specs.Derivations.{Leaves}
-use Rattle.vx_plan.specs.Plans.{Head, Zones, Plan, concat_plan, eval_plan, filter_plan, pack_plan, take_plan, list_plan, scan_plan, zoned_plan, Plans, no_plans, plan, PlanValidity, all_valid, valid_as, plan_head}
+use Rattle.vx_plan.specs.Plans.{Plan, concat_plan, eval_plan, filter_plan, pack_plan, take_plan, list_plan, scan_plan, zoned_plan, Plans, no_plans, plan, PlanValidity, all_valid, valid_as, plan_head}
 use Rattle.vx_plan.specs.PlanRows.{plan_derivation, plan_value, plan_reads}
 use Rattle.vx_rows.specs.Renumbered.{renumbered, read_renumbered}
+use Rattle.vx_rows.specs.Heads.{Head}
+use Rattle.vx_rows.specs.Zones.{Zones}
 
 -- heads of one dtype and one number of rows
 pub record SameHead (head other : Head) : Type 0 where

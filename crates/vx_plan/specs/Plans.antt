@@ -2,25 +2,12 @@
 -- recursion over the tree.
 use Rattle.std.specs.Prelude.{ℕ, zero, suc, Bool, true, false, List, [], ◌∷◌, map, Option, Some, None}
 use Rattle.std.specs.List.{slice_get}
-use Rattle.vx_base.specs.Data.{DataType}
-use Rattle.vx_expr.specs.declared.statistics.Statistic.{Statistic}
 use Rattle.vx_expr.specs.Terms.{Term}
 use Rattle.vx_plan.specs.declared.nodes.PlanKind.{PlanKind}
 use Rattle.vx_plan.specs.declared.nodes.PlanKind.TheVariants as kinds
 use Rattle.vx_plan.specs.Nodes.{Node, absent}
-
--- what each plan knows of its node: the number in the table, the dtype and the rows
-pub record Head : Type 0 where
-  pub number : ℕ
-  pub dtype : DataType
-  pub rows : ℕ
-
--- How rows are cut into zones: so many for each, and what is told of it. The older form has zones too, which are
--- never asked.
-pub record Zones : Type 0 where
-  pub is_legacy : Bool
-  pub zone_len : ℕ
-  pub statistics : List Statistic
+use Rattle.vx_rows.specs.Heads.{Head}
+use Rattle.vx_rows.specs.Zones.{Zones, zones_of}
 
 -- A scan names its segment; a take has its codes, then its values; a list its elements, then its offsets; zoned
 -- data the data, then the zones.
@@ -96,9 +83,6 @@ last_validity true ps = valid_as (last_plan ps)
 abbrev pub field_plans : Bool → List Plan → List Plan
 field_plans false ps = ps
 field_plans true ps = front_plans ps
-
-abbrev pub zones_of : Bool → ℕ → List Statistic → Zones
-zones_of is_legacy zone_len stats = record { is_legacy = is_legacy; zone_len = zone_len; statistics = stats }
 
 -- a plan of a kind over the plans of its children
 abbrev pub plan_grown_as : Head → PlanKind → List Plan → Plan

@@ -8,7 +8,8 @@ use Rattle.vx_plan.specs.declared.nodes.PlanKind.TheVariants as kinds
 use Rattle.vx_plan.specs.declared.shapes.Shape.{Shape}
 use Rattle.vx_plan.specs.declared.shapes.Shape.TheVariants as shapes
 use Rattle.vx_plan.specs.Nodes.{Node}
-use Rattle.vx_plan.specs.Plans.{Plan, head_at, plan_at, plan_grown_as, plans_from, field_plans, last_validity, zones_of, concat_plan, eval_plan, filter_plan, pack_plan, take_plan, share_plan, row_idx_plan, scan_plan, zoned_plan}
+use Rattle.vx_rows.specs.Zones.{zones_of}
+use Rattle.vx_plan.specs.Plans.{Plan, head_at, plan_at, plan_grown_as, plans_from, field_plans, last_validity, concat_plan, eval_plan, filter_plan, pack_plan, take_plan, share_plan, row_idx_plan, scan_plan, zoned_plan}
 use Rattle.vx_plan.specs.Tables.{IsGoodNode}
 
 -- The plan of the number is this one; its node has the kind and the children.

@@ -8,8 +8,9 @@ use Rattle.vx_expr.specs.declared.operators.ArithOp.TheVariants.{Add, Div}
 use Rattle.vx_expr.specs.Terms.{root, literal, get_field, arithmetic}
 use Rattle.vx_rows.specs.Derivations.{Leaves}
 use Rattle.vx_rows.specs.Reads.{Way, Found, a_cell, a_code, a_list_row, Read}
+use Rattle.vx_rows.specs.Heads.{Head}
 use Rattle.vx_plan.specs.declared.reaching.SegmentReach.{SegmentReach}
-use Rattle.vx_plan.specs.Plans.{Head, Plan, concat_plan, eval_plan, filter_plan, pack_plan, take_plan, share_plan, list_plan, row_idx_plan, scan_plan, no_plans, plan, all_valid, valid_as}
+use Rattle.vx_plan.specs.Plans.{Plan, concat_plan, eval_plan, filter_plan, pack_plan, take_plan, share_plan, list_plan, row_idx_plan, scan_plan, no_plans, plan, all_valid, valid_as}
 use Rattle.vx_plan.specs.PlanRows.{plan_value, plan_reads}
 
 abbrev pub i64 : DataType

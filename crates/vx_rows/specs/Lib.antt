@@ -8,3 +8,4 @@ pub mod Given
 pub mod Laws
 pub mod Zones
 pub mod TypeForms
+pub mod Heads

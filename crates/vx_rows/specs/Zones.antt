@@ -1,5 +1,5 @@
--- What a table of zones holds of the rows of a dtype.
-use Rattle.std.specs.Prelude.{ℕ, codes, List, map, All}
+-- How rows are cut into zones, and what a table of zones holds of the rows of a dtype.
+use Rattle.std.specs.Prelude.{ℕ, Bool, codes, List, map, All}
 use Rattle.vx_base.specs.declared.dtypes.IntKind.TheVariants.{U64}
 use Rattle.vx_base.specs.declared.dtypes.Nullability.TheVariants.{NonNullable, Nullable}
 use Rattle.vx_base.specs.Data.{DataType, int_type, struct_type}
@@ -8,6 +8,17 @@ use Rattle.vx_base.specs.ColumnCalls.{made_nullable}
 use Rattle.vx_base.specs.Views.{FieldData, members_from}
 use Rattle.vx_expr.specs.declared.statistics.Statistic.{Statistic}
 use Rattle.vx_expr.specs.declared.statistics.Statistic.TheVariants.{Min, Max, NullCount}
+
+-- So many rows for each zone, and what is told of it. A node of the older form has zones too, which are never asked.
+pub record Zones : Type 0 where
+  pub is_legacy : Bool
+  pub zone_len : ℕ
+  pub statistics : List Statistic
+
+abbrev pub zones_of : Bool → ℕ → List Statistic → Zones
+zones_of is_legacy zone_len stats = record { is_legacy = is_legacy; zone_len = zone_len; statistics = stats }
+
+-- ---- tables of zones
 
 abbrev pub name_of : Statistic → List ℕ
 name_of Min = codes "min"

@@ -14,7 +14,7 @@ use Rattle.vx_io.specs.Ranges.{IsTableOf}
 use Rattle.vx_layout.specs.Kept.{KeptFields, kept_fields}
 use Rattle.vx_layout.specs.Nodes.{Node}
 use Rattle.vx_layout.specs.Shape.{IsGoodTree}
-use Rattle.vx_layout.specs.Trees.{Head, head_at, head_of, subtree}
+use Rattle.vx_layout.specs.Trees.{head_at, head_of, subtree}
 use Rattle.vx_layout.proofs.Unfolding.{good_later, head_of_subtree}
 use Rattle.vx_lower.specs.KeptRows.{kept_type}
 use Rattle.vx_lower.specs.Lowered.{lowered}
@@ -25,7 +25,8 @@ use Rattle.vx_lower.proofs.GoodTrees.{can_be_planned}
 use Rattle.vx_lower.proofs.Planning.{kept_typed}
 use Rattle.vx_plan.specs.Kinds.{HasKind, IsRowIdx}
 use Rattle.vx_plan.specs.Nodes.{Node as PlanNode}
-use Rattle.vx_plan.specs.Plans.{Head as PlanHead, Plan, plan_at}
+use Rattle.vx_rows.specs.Heads.{Head}
+use Rattle.vx_plan.specs.Plans.{Plan, plan_at}
 use Rattle.vx_plan.specs.Refs.{number_of}
 use Rattle.vx_plan.specs.Rules.{node_at}
 use Rattle.vx_plan.specs.Tables.{IsGoodTable}
@@ -111,7 +112,7 @@ pub child_typed : (p : Projection) (table : List PlanNode) (child : ℕ) → Hol
 child_typed p table child holds bound =
     let below : child < length table = let last = holds.last in omega (arith, last) in
     let t : DataType = (head_of p.root).dtype in
-    let dtype : (node_at table child).dtype ≡ kept_type (kept_of p) t = sym (ap (λ (head : PlanHead). head.dtype) (head_in_table table holds.good child below)) ∙ holds.dtype in
+    let dtype : (node_at table child).dtype ≡ kept_type (kept_of p) t = sym (ap (λ (head : Head). head.dtype) (head_in_table table holds.good child below)) ∙ holds.dtype in
     ap (λ (s : DataType). type_of s p.expression.term) dtype ∙ (kept_typed t p.expression.term (subst IsSome (sym bound) refl) ∙ bound)
 
 -- the table still keeps its rules
@@ -129,7 +130,7 @@ no_numbers (node ∷ table) none (suc n) has = no_numbers table none.1 n has
 child_rows : (p : Projection) (table : List PlanNode) (child : ℕ) → HoldsTree p table child → (node_at table child).rows ≡ (head_of p.root).rows
 child_rows p table child holds =
     let below : child < length table = let last = holds.last in omega (arith, last) in
-    sym (ap (λ (head : PlanHead). head.rows) (head_in_table table holds.good child below)) ∙ holds.rows
+    sym (ap (λ (head : Head). head.rows) (head_in_table table holds.good child below)) ∙ holds.rows
 
 over_numbers : (p : Projection) (old new : List PlanNode) (child n : ℕ) → HoldsTree p old child → HasKind IsRowIdx old n ⊎ ((node_at new n).rows ≡ (node_at old child).rows) → (node_at new n).rows ≡ (head_of p.root).rows
 over_numbers p old new child n holds (inl before) = absurd (no_numbers old holds.unnumbered n before)

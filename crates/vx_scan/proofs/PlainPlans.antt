@@ -12,9 +12,11 @@ use Rattle.vx_layout.specs.Trees.{Tree, missing, leaf, chunks, fields, dict, lis
 use Rattle.vx_lower.specs.Lowered.{lowered, lowered_in, lowered_fields, lowered_validity, with_zones, kept_head, plan_zones_of, tell}
 use Rattle.vx_lower.specs.Numbered.{numbered, each_numbered, validity_numbered}
 use Rattle.vx_lower.specs.Sizes.{plan_size, plans_size}
-use Rattle.vx_plan.specs.Plans.{Head, Zones, Plan, plan_head, no_plan, concat_plan, eval_plan, filter_plan, pack_plan, take_plan, share_plan, list_plan, row_idx_plan, scan_plan, zoned_plan, Plans, no_plans, plan, PlanValidity, all_valid, valid_as}
+use Rattle.vx_plan.specs.Plans.{Plan, plan_head, no_plan, concat_plan, eval_plan, filter_plan, pack_plan, take_plan, share_plan, list_plan, row_idx_plan, scan_plan, zoned_plan, Plans, no_plans, plan, PlanValidity, all_valid, valid_as}
 use Rattle.vx_plan.specs.PlanRows.{plan_derivation, plan_derivation_in, plan_derivations}
 use Rattle.vx_rows.specs.Derivations.{Derivation, Leaves, each_row}
+use Rattle.vx_rows.specs.Heads.{Head}
+use Rattle.vx_rows.specs.Zones.{Zones}
 use Rattle.vx_steps.specs.Laws.{HasPart, HavePart, IsFaultyTerm}
 
 abbrev mutual

@@ -11,7 +11,7 @@ use Rattle.vx_layout.specs.declared.rules.ShapeRule.TheVariants.{FewRows}
 use Rattle.vx_layout.specs.Nodes.{Node}
 use Rattle.vx_layout.specs.Shape.{most_rows, IsGoodTree}
 use Rattle.vx_layout.specs.Trees.{head_of, subtree}
-use Rattle.vx_plan.specs.Plans.{Head}
+use Rattle.vx_rows.specs.Heads.{Head}
 use Rattle.vx_plan.specs.Refs.{number_of}
 use Rattle.vx_plan.specs.Rules.{node_at}
 use Rattle.vx_plan.proofs.Adding.{head_in_table}

@@ -6,11 +6,11 @@ use Rattle.std.proofs.lemmas.List.{length-map}
 use Rattle.vx_base.specs.Columns.{ColumnData}
 use Rattle.vx_base.specs.Masks.{true_count}
 use Rattle.vx_base.specs.Sources.{SourceState}
-use Rattle.vx_plan.specs.Plans.{Head}
 use Rattle.vx_plan.specs.Refs.{number_of}
 use Rattle.vx_plan.proofs.Adding.{head_in_table}
 use Rattle.vx_layout.specs.Rows.{file_leaves}
 use Rattle.vx_rows.specs.SegmentLeaves.{Bytes, leaves_of}
+use Rattle.vx_rows.specs.Heads.{Head}
 use Rattle.vx_splits.specs.declared.selected_rows.SelectedRows.{SelectedRows}
 use Rattle.vx_splits.specs.Trimmed.{chosen_rows}
 use Rattle.vx_steps.proofs.SelectedRows.{rows_count}

@@ -11,10 +11,11 @@ use Rattle.vx_rows.specs.Derivations.{Derivation, nothing, cell, list_row, given
 use Rattle.vx_rows.specs.Given.{GivenValues, all_given, given_row, values_with, share_with, with_given, each_with_given}
 use Rattle.vx_rows.specs.Reads.{Way, directly, inside, CodeRow, Found, a_code, code_row, Read, reads_of, reads_of_each, Finds, IsIn}
 use Rattle.vx_rows.specs.SegmentLeaves.{Bytes, leaves_of}
+use Rattle.vx_rows.specs.Heads.{Head}
 use Rattle.vx_rows.proofs.ReadRows.{any_either, any_left, any_right}
 use Rattle.vx_plan.specs.declared.children.PlanRef.{PlanRef}
 use Rattle.vx_plan.specs.Nodes.{Node}
-use Rattle.vx_plan.specs.Plans.{Head, Plan, plan_at, plan_head}
+use Rattle.vx_plan.specs.Plans.{Plan, plan_at, plan_head}
 use Rattle.vx_plan.specs.PlanRows.{plan_derivation}
 use Rattle.vx_plan.specs.Refs.{number_of}
 use Rattle.vx_plan.specs.Rules.{node_at}

@@ -7,13 +7,14 @@ use Rattle.vx_expr.specs.Mentions.{is_root, uses_root, uses_row_number}
 use Rattle.vx_layout.specs.Kept.{KeptFields, all, only, is_kept}
 use Rattle.vx_layout.specs.Rows.{struct_members}
 use Rattle.vx_layout.specs.Trees.{Tree, missing, leaf, chunks, fields, dict, lists, zoned, Forest, no_trees, tree, Validity, always, valid_by}
-use Rattle.vx_layout.specs.Trees.{Head as TreeHead}
 use Rattle.vx_lower.specs.Lowered.{lowered, lowered_in, lowered_fields, lowered_validity, packing, plan_head_of, kept_head, plan_zones_of, tell, with_zones}
 use Rattle.vx_lower.specs.Numbered.{numbered, each_numbered, validity_numbered}
 use Rattle.vx_lower.specs.Projected.{Projection, kept_of}
 use Rattle.vx_lower.specs.RowIndex.{row_index_plan_from_by}
 use Rattle.vx_lower.specs.Sizes.{plan_size, plans_size}
-use Rattle.vx_plan.specs.Plans.{Head, Zones, Plan, no_plan, concat_plan, eval_plan, filter_plan, pack_plan, take_plan, share_plan, list_plan, row_idx_plan, scan_plan, zoned_plan, Plans, no_plans, plan, PlanValidity, all_valid, valid_as}
+use Rattle.vx_rows.specs.Heads.{Head}
+use Rattle.vx_rows.specs.Zones.{Zones}
+use Rattle.vx_plan.specs.Plans.{Plan, no_plan, concat_plan, eval_plan, filter_plan, pack_plan, take_plan, share_plan, list_plan, row_idx_plan, scan_plan, zoned_plan, Plans, no_plans, plan, PlanValidity, all_valid, valid_as}
 use Rattle.vx_steps.specs.Below.{StandsIn, StandsAmong, StandsInValidity, IsSharePlan, HasNoShare}
 use Rattle.vx_scan.specs.PlanTexts.{held_tree, IsProjectionPlan, IsProjectionPlanBy}
 
@@ -65,7 +66,7 @@ mutual
 
 -- ---- lowered trees
 
-packed_none : (kept : KeptFields) (head : TreeHead) (p : Plan) → (Shares p → ⊥) → Shares (packing kept head p) → ⊥
+packed_none : (kept : KeptFields) (head : Head) (p : Plan) → (Shares p → ⊥) → Shares (packing kept head p) → ⊥
 packed_none all head p none s = none s
 packed_none (only names) head p none (inl s) = s
 packed_none (only names) head p none (inr s) = none s

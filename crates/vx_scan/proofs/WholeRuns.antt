@@ -9,7 +9,7 @@ use Rattle.vx_base.specs.Masks.{true_count}
 use Rattle.vx_base.specs.Sources.{SourceState, Cleared}
 use Rattle.vx_plan.specs.declared.children.PlanRef.{PlanRef}
 use Rattle.vx_plan.specs.Nodes.{Node}
-use Rattle.vx_plan.specs.Plans.{Head, Plan, plan_at}
+use Rattle.vx_plan.specs.Plans.{Plan, plan_at}
 use Rattle.vx_plan.specs.PlanRows.{plan_derivation}
 use Rattle.vx_plan.specs.Refs.{number_of}
 use Rattle.vx_plan.specs.Rules.{node_at}
@@ -18,6 +18,7 @@ use Rattle.vx_plan.proofs.Adding.{head_in_table}
 use Rattle.vx_rows.specs.Derivations.{Leaves, derived, derived_each, each_row}
 use Rattle.vx_rows.specs.Given.{with_given}
 use Rattle.vx_rows.specs.SegmentLeaves.{leaves_of}
+use Rattle.vx_rows.specs.Heads.{Head}
 use Rattle.vx_splits.specs.declared.selected_rows.SelectedRows.{SelectedRows}
 use Rattle.vx_steps.specs.Given.{handed_by, row_value, whole_value}
 use Rattle.vx_steps.specs.Offers.{IsForPlan}

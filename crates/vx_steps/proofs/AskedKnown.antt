@@ -6,13 +6,14 @@ use Rattle.std.proofs.lemmas.Option.{slice_get-get_or}
 use Rattle.vx_plan.specs.declared.nodes.PlanKind.{PlanKind}
 use Rattle.vx_plan.specs.declared.nodes.PlanKind.TheVariants as kinds
 use Rattle.vx_plan.specs.Nodes.{Node, absent}
-use Rattle.vx_plan.specs.Plans.{Head, Plan, plan_head, head_at, plan_at, plan_gap, plan_grown_as}
+use Rattle.vx_plan.specs.Plans.{Plan, plan_head, head_at, plan_at, plan_gap, plan_grown_as}
 use Rattle.vx_plan.specs.Rules.{node_at, nodes_at, IsMadeAs}
 use Rattle.vx_plan.specs.Tables.{AreIn, IsGoodTable}
 use Rattle.vx_plan.proofs.Adding.{head_in_table}
 use Rattle.vx_plan.proofs.Growing.{below_known}
 use Rattle.vx_plan.proofs.Unfolding.{Known, known}
 use Rattle.vx_rows.specs.Reads.{IsAmong}
+use Rattle.vx_rows.specs.Heads.{Head}
 use Rattle.vx_steps.specs.Asked.{AreAsked}
 use Rattle.vx_steps.specs.Given.{Handed, handed_by}
 use Rattle.vx_steps.specs.Visits.{IsWholeRead}

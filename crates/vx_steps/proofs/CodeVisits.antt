@@ -5,8 +5,9 @@ use Rattle.vx_base.specs.Data.{Datum}
 use Rattle.vx_rows.specs.Derivations.{Derivation, Leaves, count_of, each_row}
 use Rattle.vx_rows.specs.Reads.{Way, a_code, code_row, CodeRow, IsPlaceAmong}
 use Rattle.vx_rows.specs.Given.{all_given, values_with, with_given}
+use Rattle.vx_rows.specs.Heads.{Head}
 use Rattle.vx_plan.specs.FittingRows.{HasFittingRows}
-use Rattle.vx_plan.specs.Plans.{Head, Plan, no_plan, concat_plan, eval_plan, filter_plan, pack_plan, take_plan, share_plan, list_plan, row_idx_plan, scan_plan, zoned_plan, Plans, no_plans, plan, PlanValidity, all_valid, valid_as, plan_head}
+use Rattle.vx_plan.specs.Plans.{Plan, no_plan, concat_plan, eval_plan, filter_plan, pack_plan, take_plan, share_plan, list_plan, row_idx_plan, scan_plan, zoned_plan, Plans, no_plans, plan, PlanValidity, all_valid, valid_as, plan_head}
 use Rattle.vx_plan.specs.PlanRows.{plan_derivation}
 use Rattle.vx_steps.specs.Given.{Handed, row_value, values_for}
 use Rattle.vx_steps.specs.Laws.{GivenFits, GivenFitsEach, GivenFitsValidity, IsBadCodeAt}

@@ -15,10 +15,11 @@ use Rattle.vx_expr.specs.Rows.{no_bound}
 use Rattle.vx_rows.specs.Derivations.{Derivation, Leaves, look_up, one_more, each_row, derived, derived_each}
 use Rattle.vx_rows.specs.Given.{all_given, given_row, share_with, values_with}
 use Rattle.vx_rows.specs.Reads.{IsPlaceAmong}
+use Rattle.vx_rows.specs.Zones.{zones_of}
 use Rattle.vx_plan.specs.declared.children.PlanRef.{PlanRef}
 use Rattle.vx_plan.specs.declared.shapes.Shape.TheVariants as shapes
 use Rattle.vx_plan.specs.Nodes.{Node}
-use Rattle.vx_plan.specs.Plans.{Plan, plan_head, plan_at, zones_of, eval_plan, filter_plan, take_plan, share_plan, row_idx_plan, scan_plan, zoned_plan}
+use Rattle.vx_plan.specs.Plans.{Plan, plan_head, plan_at, eval_plan, filter_plan, take_plan, share_plan, row_idx_plan, scan_plan, zoned_plan}
 use Rattle.vx_plan.specs.PlanRows.{plan_derivation}
 use Rattle.vx_plan.specs.Refs.{number_of}
 use Rattle.vx_plan.specs.Rules.{node_at}

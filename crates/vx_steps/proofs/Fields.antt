@@ -21,9 +21,10 @@ use Rattle.vx_steps.specs.Structs.{field_parts, front_parts, last_part, structs_
 use Rattle.vx_steps.proofs.SelectedRows.{count_of, rows_count}
 use Rattle.vx_base.specs.Columns.{ColumnData}
 use Rattle.vx_plan.specs.Nodes.{Node}
-use Rattle.vx_plan.specs.Plans.{Head, Plan, plan_at, plans_from, field_plans, front_plans, last_plan, last_validity, pack_plan}
+use Rattle.vx_plan.specs.Plans.{Plan, plan_at, plans_from, field_plans, front_plans, last_plan, last_validity, pack_plan}
 use Rattle.vx_plan.specs.Rules.{field_count, node_at, nodes_at, IsValidityType, ValidityFits}
 use Rattle.vx_rows.specs.Derivations.{Leaves, derived_each, valid_value, where_valid}
+use Rattle.vx_rows.specs.Heads.{Head}
 use Rattle.vx_steps.specs.declared.errors.StepError.{StepError}
 use Rattle.vx_steps.specs.Computed.{AreParts, Computes, IsPart, Outcome}
 use Rattle.vx_steps.specs.Given.{Handed, row_value, values_for}

@@ -9,6 +9,7 @@ use Rattle.vx_base.specs.Data.{Datum}
 use Rattle.vx_rows.specs.Derivations.{Cell, Derivation, packed, read_whole, Derivations, each_row}
 use Rattle.vx_rows.specs.Reads.{Way, directly, inside, Found, a_cell, a_code, a_list_row, code_row, Read, reads_of, reads_of_each, Finds, ReadsCell, IsIn}
 use Rattle.vx_rows.specs.Given.{GivenValues, all_given, given_row, values_with, share_with, with_given, each_with_given}
+use Rattle.vx_rows.specs.Heads.{Head}
 use Rattle.vx_rows.proofs.Givens.{reads_no_more}
 use Rattle.vx_rows.proofs.ReadRows.{any_either}
 use Rattle.vx_plan.specs.FittingRows.{HasFittingRows, HaveFittingRows, FieldsHaveRows, ValidityHasRows}
@@ -16,7 +17,7 @@ use Rattle.vx_plan.specs.declared.nodes.PlanKind.{PlanKind}
 use Rattle.vx_plan.specs.declared.nodes.PlanKind.TheVariants as kinds
 use Rattle.vx_plan.specs.Laws.{IsReadBy}
 use Rattle.vx_plan.specs.Nodes.{Node}
-use Rattle.vx_plan.specs.Plans.{Head, Plan, no_plan, concat_plan, eval_plan, filter_plan, pack_plan, take_plan, share_plan, list_plan, row_idx_plan, scan_plan, zoned_plan, Plans, no_plans, plan, PlanValidity, all_valid, valid_as, plan_head}
+use Rattle.vx_plan.specs.Plans.{Plan, no_plan, concat_plan, eval_plan, filter_plan, pack_plan, take_plan, share_plan, list_plan, row_idx_plan, scan_plan, zoned_plan, Plans, no_plans, plan, PlanValidity, all_valid, valid_as, plan_head}
 use Rattle.vx_plan.specs.PlanRows.{plan_derivation, plan_derivation_in, plan_derivations, plan_where_valid, plan_reads}
 use Rattle.vx_steps.specs.declared.leaf_reads.LeafRead.{LeafRead}
 use Rattle.vx_steps.specs.Given.{Handed, given_as, given_at, given_for, values_for, whole_at}

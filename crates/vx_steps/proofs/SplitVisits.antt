@@ -4,9 +4,10 @@ use Rattle.std.specs.Prelude.{IsSomeAnd}
 use Rattle.vx_base.specs.Reading.{decoded}
 use Rattle.vx_rows.specs.Reads.{directly, IsIn}
 use Rattle.vx_rows.specs.SegmentLeaves.{Bytes, leaves_of}
+use Rattle.vx_rows.specs.Heads.{Head}
 use Rattle.vx_plan.specs.Laws.{IsReadBy}
 use Rattle.vx_plan.specs.Nodes.{Node}
-use Rattle.vx_plan.specs.Plans.{Head, Plan, no_plan, concat_plan, eval_plan, filter_plan, pack_plan, take_plan, share_plan, list_plan, row_idx_plan, scan_plan, zoned_plan, plan_at, plan_head, plan_gap, head_at}
+use Rattle.vx_plan.specs.Plans.{Plan, no_plan, concat_plan, eval_plan, filter_plan, pack_plan, take_plan, share_plan, list_plan, row_idx_plan, scan_plan, zoned_plan, plan_at, plan_head, plan_gap, head_at}
 use Rattle.vx_plan.specs.Rules.{node_at}
 use Rattle.vx_plan.specs.Tables.{IsGoodTable}
 use Rattle.vx_plan.proofs.Adding.{head_in_table}

@@ -4,7 +4,8 @@ use Rattle.std.proofs.lemmas.List.{map-append}
 use Rattle.vx_base.specs.Data.{DataType}
 use Rattle.vx_base.specs.Views.{data_type}
 use Rattle.vx_layout.specs.Kept.{KeptFields}
-use Rattle.vx_layout.specs.Trees.{subtree, Zones}
+use Rattle.vx_rows.specs.Zones.{Zones}
+use Rattle.vx_layout.specs.Trees.{subtree}
 use Rattle.vx_plan.specs.Refs.{number_of}
 use Rattle.vx_plan.specs.Rules.{concat_node}
 use Rattle.vx_plan.specs.Tables.{IsAdded}

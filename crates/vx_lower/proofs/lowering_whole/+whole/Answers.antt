@@ -5,7 +5,8 @@ use Rattle.std.proofs.lemmas.List.{map-append}
 use Rattle.vx_base.specs.Data.{DataType}
 use Rattle.vx_base.specs.Views.{data_type}
 use Rattle.vx_layout.specs.Kept.{all}
-use Rattle.vx_layout.specs.Trees.{subtree, Zones}
+use Rattle.vx_rows.specs.Zones.{Zones}
+use Rattle.vx_layout.specs.Trees.{subtree}
 use Rattle.vx_plan.specs.Refs.{number_of}
 use Rattle.vx_plan.specs.Rules.{concat_node, given_validity, list_node, nodes_at, packed_node, take_node, KeepsRules}
 use Rattle.vx_plan.specs.Tables.{IsAdded}

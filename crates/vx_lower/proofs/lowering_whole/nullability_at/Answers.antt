@@ -1,7 +1,7 @@
 use Rattle.std.proofs.Common.{ap, ◌∙◌}
 use Rattle.vx_base.specs.Fits.{nullability_of}
 use Rattle.vx_layout.specs.Nodes.{node_data}
-use Rattle.vx_layout.specs.Trees.{Head}
+use Rattle.vx_rows.specs.Heads.{Head}
 use Rattle.vx_lower.proofs.Nodes.{node_head}
 use Rattle.vx_lower.proofs.lowering_whole.nullability_at.Goals as goal
 
