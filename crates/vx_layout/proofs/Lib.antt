@@ -1,6 +1,5 @@
 pub mod Places
 pub mod LaterChild
-pub mod Each
 pub mod Levels
 pub mod FieldDepths
 pub mod FieldChildren

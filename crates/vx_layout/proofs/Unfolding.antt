@@ -12,6 +12,7 @@ use Rattle.vx_rows.specs.Heads.{Head}
 use Rattle.vx_layout.specs.Trees.{Tree, head_of, head_at, gap, grown_as, grown, grow, subtree}
 use Rattle.vx_layout.specs.declared.rules.ShapeRule.TheVariants.{LaterChildren}
 use Rattle.vx_layout.specs.Shape.{HasLaterChildren, IsGoodTree}
+use Rattle.vx_rows.proofs.Each.{if_some_weaker}
 
 -- the children of a node, if there is one, come later
 abbrev pub LaterAt : List Node → ℕ → Type 0
@@ -30,10 +31,6 @@ good_later nodes good n lt = some_later nodes n (slice_get nodes n) (good.kept L
 -- also past the end, where there is no node
 later_at : (nodes : List Node) → HaveLaterChildren nodes → (n : ℕ) → LaterAt nodes n
 later_at nodes later n = ⊎_elim (λ (h : n < length nodes). later n h) (λ (h : length nodes ≤ n). rw (slice_get_past nodes n h) tt) (cases_lt n (length nodes))
-
-if_some_weaker : {X : Type 0} (P Q : X → Type 0) → ((x : X) → P x → Q x) → (o : Option X) → IfSome o P → IfSome o Q
-if_some_weaker P Q f None h = tt
-if_some_weaker P Q f (Some x) h = f x h
 
 -- ---- the same trees below make the same tree
 

@@ -8,13 +8,10 @@ use Rattle.vx_plan.specs.declared.nodes.PlanKind.{PlanKind}
 use Rattle.vx_plan.specs.Plans.{Plan, head_at, plan_grown_as, plan_grown, plan_grow, plan_at}
 use Rattle.vx_plan.specs.Tables.{HasEarlierChildren, IsGoodNode, IsGoodTable}
 use Rattle.vx_plan.proofs.Growing.{get_in_front}
+use Rattle.vx_rows.proofs.Each.{if_some_weaker}
 
 abbrev pub HaveEarlier : List Node → Type 0
 HaveEarlier nodes = (n : ℕ) → HasEarlierChildren nodes n
-
-if_some_weaker : {X : Type 0} (P Q : X → Type 0) → ((x : X) → P x → Q x) → (o : Option X) → IfSome o P → IfSome o Q
-if_some_weaker P Q f None h = tt
-if_some_weaker P Q f (Some x) h = f x h
 
 abbrev Same : (ℕ → Plan) → (ℕ → Plan) → List ℕ → Type 0
 Same f g ns = All (λ n. f n ≡ g n) ns

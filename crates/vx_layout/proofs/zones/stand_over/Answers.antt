@@ -3,7 +3,7 @@ use Rattle.std.proofs.lemmas.List.Elements.{All-more}
 use Rattle.vx_base.specs.Views.{data_type}
 use Rattle.vx_expr.specs.declared.statistics.Statistic.TheVariants.{Min}
 use Rattle.vx_rows.specs.Zones.{StandsOver}
-use Rattle.vx_layout.proofs.Each.{each_passed}
+use Rattle.vx_rows.proofs.Each.{each_passed}
 use Rattle.vx_layout.proofs.zones.stand_over.Goals as goal
 
 pub loop-stat-preserved : goal.loop-stat-preserved

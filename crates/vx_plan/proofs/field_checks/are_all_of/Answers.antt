@@ -3,7 +3,8 @@ use Rattle.std.proofs.lemmas.List.{length-map}
 use Rattle.vx_base.specs.Views.{data_type}
 use Rattle.vx_plan.specs.Nodes.{Node, node_data}
 use Rattle.vx_plan.specs.Rules.{node_at, nodes_at}
-use Rattle.vx_plan.proofs.Each.{each_next, each_passed}
+use Rattle.vx_plan.proofs.Each.{each_next}
+use Rattle.vx_rows.proofs.Each.{each_passed}
 use Rattle.vx_plan.proofs.field_checks.are_all_of.Goals as goal
 
 pub loop-place-preserved : goal.loop-place-preserved
