@@ -28,22 +28,19 @@ u64 = int_type U64 NonNullable
 abbrev codes_type : DataType
 codes_type = int_type U8 Nullable
 
-abbrev node : ℕ → DataType → ℕ → Head
-node n t rows = record { number = n; dtype = t; rows = rows }
-
 abbrev pub head : ℕ → DataType → ℕ → Head
 head n t rows = record { number = n; dtype = t; rows = rows }
 
 -- ---- leaves and chunks
 
 abbrev pub flat : ℕ → DataType → ℕ → ℕ → Tree
-flat n t rows segment = leaf (node n t rows) segment
+flat n t rows segment = leaf (head n t rows) segment
 
 abbrev pub scanned : ℕ → DataType → ℕ → ℕ → Plan
 scanned n t rows segment = filter_plan (head n t rows) (scan_plan (head n t rows) segment)
 
 abbrev pub two_chunks : Tree
-two_chunks = chunks (node 0 i64 3) (tree (flat 1 i64 1 0) (tree (flat 2 i64 2 1) no_trees))
+two_chunks = chunks (head 0 i64 3) (tree (flat 1 i64 1 0) (tree (flat 2 i64 2 1) no_trees))
 
 abbrev pub two_scanned : Plan
 two_scanned = concat_plan (head 0 i64 3) (plan (scanned 1 i64 1 0) (plan (scanned 2 i64 2 1) no_plans))
@@ -61,7 +58,7 @@ b_alone = only (codes "b" ∷ [])
 
 -- three structs, with this number and those behind it, from a segment on
 abbrev pub pairs : ℕ → ℕ → Tree
-pairs n segment = fields (node n pair 3) (tree (flat (n + 1) i64 3 segment) (tree (flat (n + 2) u64 3 (segment + 1)) no_trees)) always
+pairs n segment = fields (head n pair 3) (tree (flat (n + 1) i64 3 segment) (tree (flat (n + 2) u64 3 (segment + 1)) no_trees)) always
 
 abbrev pub packed_pairs : ℕ → ℕ → Plan
 packed_pairs n segment = pack_plan (head n pair 3) (plan (scanned (n + 1) i64 3 segment) (plan (scanned (n + 2) u64 3 (segment + 1)) no_plans)) all_valid
@@ -74,7 +71,7 @@ abbrev null_a : DataType
 null_a = struct_type (member (codes "a") i64 no_members) Nullable
 
 abbrev pub null_structs : Tree
-null_structs = fields (node 0 null_a 3) (tree (flat 2 i64 3 1) no_trees) (valid_by (flat 1 (bool_type NonNullable) 3 0))
+null_structs = fields (head 0 null_a 3) (tree (flat 2 i64 3 1) no_trees) (valid_by (flat 1 (bool_type NonNullable) 3 0))
 
 abbrev pub packed_nulls : Plan
 packed_nulls = pack_plan (head 0 null_a 3) (plan (scanned 2 i64 3 1) no_plans) (valid_as (scanned 1 (bool_type NonNullable) 3 0))
@@ -82,13 +79,13 @@ packed_nulls = pack_plan (head 0 null_a 3) (plan (scanned 2 i64 3 1) no_plans) (
 -- ---- dictionaries and lists
 
 abbrev pub looked_up_numbers : Tree
-looked_up_numbers = dict (node 0 (int_type I64 Nullable) 4) (flat 1 i64 2 0) (flat 2 codes_type 4 1)
+looked_up_numbers = dict (head 0 (int_type I64 Nullable) 4) (flat 1 i64 2 0) (flat 2 codes_type 4 1)
 
 abbrev pub taken_numbers : Plan
 taken_numbers = take_plan (head 0 (int_type I64 Nullable) 4) (scanned 2 codes_type 4 1) (scanned 1 i64 2 0)
 
 abbrev pub looked_up_pairs : Tree
-looked_up_pairs = dict (node 0 pair 4) (pairs 1 0) (flat 4 (int_type U8 NonNullable) 4 2)
+looked_up_pairs = dict (head 0 pair 4) (pairs 1 0) (flat 4 (int_type U8 NonNullable) 4 2)
 
 abbrev pub taken_pairs : Plan
 taken_pairs = take_plan (head 0 pair 4) (scanned 4 (int_type U8 NonNullable) 4 2) (packed_pairs 1 0)
@@ -98,7 +95,7 @@ abbrev pub b_of_each : Plan → Plan
 b_of_each p = eval_plan (head 0 field_b 4) (pack (named (codes "b") (get_field (codes "b") root) no_terms)) p
 
 abbrev pub two_lists : Tree
-two_lists = lists (node 0 (list_type i64 NonNullable) 2) (flat 1 i64 5 0) (flat 2 i64 3 1) always
+two_lists = lists (head 0 (list_type i64 NonNullable) 2) (flat 1 i64 5 0) (flat 2 i64 3 1) always
 
 abbrev pub packed_lists : Plan
 packed_lists = list_plan (head 0 (list_type i64 NonNullable) 2) (scanned 1 i64 5 0) (scanned 2 i64 3 1) all_valid
@@ -110,13 +107,13 @@ greatest = struct_type (member (codes "max") (int_type I64 Nullable) no_members)
 
 -- a zone's greatest number
 abbrev one_zone : ℕ → ℕ → Tree
-one_zone n segment = fields (node n greatest 1) (tree (flat (n + 1) (int_type I64 Nullable) 1 segment) no_trees) always
+one_zone n segment = fields (head n greatest 1) (tree (flat (n + 1) (int_type I64 Nullable) 1 segment) no_trees) always
 
 abbrev one_zone_packed : ℕ → ℕ → Plan
 one_zone_packed n segment = pack_plan (head n greatest 1) (plan (scanned (n + 1) (int_type I64 Nullable) 1 segment) no_plans) all_valid
 
 abbrev pub in_zones : ℕ → List Statistic → Tree
-in_zones zone_len stats = zoned (node 0 i64 3) (zones_of false zone_len stats) (flat 1 i64 3 0) (one_zone 2 1)
+in_zones zone_len stats = zoned (head 0 i64 3) (zones_of false zone_len stats) (flat 1 i64 3 0) (one_zone 2 1)
 
 abbrev pub zones_beside : Plan
 zones_beside = zoned_plan (head 0 i64 3) (zones_of false 3 (Max ∷ [])) (scanned 1 i64 3 0) (one_zone_packed 2 1)
@@ -124,16 +121,16 @@ zones_beside = zoned_plan (head 0 i64 3) (zones_of false 3 (Max ∷ [])) (scanne
 -- ---- structs in two chunks, and those in zones
 
 abbrev pub chunked_pairs : ℕ → Tree
-chunked_pairs n = chunks (node n pair 6) (tree (pairs (n + 1) 0) (tree (pairs (n + 4) 2) no_trees))
+chunked_pairs n = chunks (head n pair 6) (tree (pairs (n + 1) 0) (tree (pairs (n + 4) 2) no_trees))
 
 abbrev pub chunked_b : ℕ → Plan
 chunked_b n = concat_plan (head n field_b 6) (plan (packed_b (n + 1) 0) (plan (packed_b (n + 4) 2) no_plans))
 
 abbrev no_zone : Tree
-no_zone = fields (node 8 (struct_type no_members NonNullable) 2) no_trees always
+no_zone = fields (head 8 (struct_type no_members NonNullable) 2) no_trees always
 
 abbrev pub zoned_pairs : ℕ → Tree
-zoned_pairs zone_len = zoned (node 0 pair 6) (zones_of false zone_len (Max ∷ [])) (chunked_pairs 1) no_zone
+zoned_pairs zone_len = zoned (head 0 pair 6) (zones_of false zone_len (Max ∷ [])) (chunked_pairs 1) no_zone
 
 abbrev pub zoned_b : Plan
 zoned_b = zoned_plan (head 0 field_b 6) (zones_of false 3 (Max ∷ [])) (chunked_b 1) (pack_plan (head 8 (struct_type no_members NonNullable) 2) no_plans all_valid)
