@@ -10,7 +10,7 @@ use Rattle.vx_layout.specs.Sound.{IsSound}
 use Rattle.vx_layout.specs.Trees.{Tree, missing, leaf, chunks, fields, dict, lists, zoned, head_of}
 use Rattle.vx_plan.specs.Plans.{Plan, plan_head}
 use Rattle.vx_lower.specs.KeptRows.{kept_type}
-use Rattle.vx_lower.specs.Lowered.{lowered, kept_head, packing, plan_zones_of, tell, with_zones}
+use Rattle.vx_lower.specs.Lowered.{lowered, kept_head, packing, tell, with_zones}
 
 -- a plan's head, by that of a tree
 pub record IsHeadOf (kept : KeptFields) (head : Head) (p : Plan) : Type 0 where
@@ -50,5 +50,5 @@ lowered_head (dict head values codes) kept sound = packed_head kept head (lowere
 lowered_head (lists head elements offsets validity) kept sound = record { dtype = sym (list_kept kept head.dtype (head_of elements).dtype sound.2.dtype); rows = refl }
 lowered_head (zoned head zones content table) kept sound =
     let below : IsHeadOf kept (head_of content) (lowered content kept) = lowered_head content kept sound.0 in
-    zones_head (tell zones.zone_len zones.statistics) kept head (plan_zones_of zones) (lowered content kept) (lowered table all)
+    zones_head (tell zones.zone_len zones.statistics) kept head zones (lowered content kept) (lowered table all)
     (record { dtype = below.dtype ∙ ap (kept_type kept) sound.1.dtype; rows = below.rows ∙ sound.1.rows })

@@ -15,7 +15,7 @@ use Rattle.vx_rows.specs.Derivations.{Derivation, given, packed, Derivations, al
 use Rattle.vx_rows.specs.Reads.{Way, Read, reads_of, reads_of_each}
 use Rattle.vx_rows.specs.Heads.{Head}
 use Rattle.vx_rows.specs.Zones.{Zones}
-use Rattle.vx_lower.specs.Lowered.{tell, with_zones, packing, plan_head_of, plan_zones_of, kept_head, lowered, lowered_in, lowered_fields, lowered_validity}
+use Rattle.vx_lower.specs.Lowered.{tell, with_zones, packing, kept_head, lowered, lowered_in, lowered_fields, lowered_validity}
 use Rattle.vx_lower.proofs.Heads.{lowered_head}
 
 pub lowered_rows : (t : Tree) (kept : KeptFields) → IsSound t → (plan_head (lowered t kept)).rows ≡ (head_of t).rows
@@ -48,7 +48,7 @@ mutual
       ap (each_row (plan_derivation offset (lowered values all)) 0) (lowered_rows values all sound.0) ∙ each_row_same (plan_derivation offset (lowered values all)) (derivation values all) (λ r. lowered_all offset values r sound.0) 0 (head_of values).rows in
       cc
   lowered_all offset (lists head elements offsets validity) row sound = refl
-  lowered_all offset (zoned head zones content table) row sound = zones_same (tell zones.zone_len zones.statistics) offset (kept_head all head) (plan_zones_of zones) (lowered content all) (lowered table all) row ∙ lowered_all offset content row sound.0
+  lowered_all offset (zoned head zones content table) row sound = zones_same (tell zones.zone_len zones.statistics) offset (kept_head all head) zones (lowered content all) (lowered table all) row ∙ lowered_all offset content row sound.0
 
   lowered_all_in : (offset : ℕ) (t : DataType) (forest : Forest) (row : ℕ) → AreChunks t forest → plan_derivation_in offset (lowered_in forest all) row ≡ derivation_in forest all row
   lowered_all_in offset t no_trees row sound = refl
@@ -98,10 +98,10 @@ mutual
       lowered_reads_valid offset (nullability_of head.dtype) head.rows validity way row (packed (plan_derivations offset (lowered_fields (struct_members head.dtype) forest kept) row)) (packed (field_derivations (struct_members head.dtype) forest kept row))
       (lowered_reads_fields offset (struct_members head.dtype) head.rows forest kept way row sound.1) sound.2
   lowered_reads offset (dict head values codes) kept way row sound =
-      reads_packing kept way offset head (take_plan (plan_head_of head) (lowered codes all) (lowered values all)) row ∙ ap (reads_of way) (lowered_all offset (dict head values codes) row sound)
+      reads_packing kept way offset head (take_plan head (lowered codes all) (lowered values all)) row ∙ ap (reads_of way) (lowered_all offset (dict head values codes) row sound)
   lowered_reads offset (lists head elements offsets validity) kept way row sound = refl
   lowered_reads offset (zoned head zones content table) kept way row sound =
-      ap (reads_of way) (zones_same (tell zones.zone_len zones.statistics) offset (kept_head kept head) (plan_zones_of zones) (lowered content kept) (lowered table all) row) ∙ lowered_reads offset content kept way row sound.0
+      ap (reads_of way) (zones_same (tell zones.zone_len zones.statistics) offset (kept_head kept head) zones (lowered content kept) (lowered table all) row) ∙ lowered_reads offset content kept way row sound.0
 
   lowered_reads_in : (offset : ℕ) (t : DataType) (forest : Forest) (kept : KeptFields) (way : Way) (row : ℕ) → AreChunks t forest → reads_of way (plan_derivation_in offset (lowered_in forest kept) row) ≡ reads_of way (derivation_in forest kept row)
   lowered_reads_in offset t no_trees kept way row sound = refl

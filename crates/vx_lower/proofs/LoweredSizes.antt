@@ -11,7 +11,7 @@ use Rattle.vx_layout.specs.Trees.{Tree, missing, leaf, chunks, fields, dict, lis
 use Rattle.vx_rows.specs.Heads.{Head}
 use Rattle.vx_rows.specs.Zones.{Zones}
 use Rattle.vx_plan.specs.Plans.{Plan, take_plan, Plans, plan}
-use Rattle.vx_lower.specs.Lowered.{tell, with_zones, packing, plan_head_of, plan_zones_of, kept_head, lowered, lowered_in, lowered_fields, lowered_validity}
+use Rattle.vx_lower.specs.Lowered.{tell, with_zones, packing, kept_head, lowered, lowered_in, lowered_fields, lowered_validity}
 use Rattle.vx_lower.specs.Sizes.{tree_size, forest_size, validity_size, plan_size, plans_size, plan_validity_size}
 
 zones_size : (b : Bool) (head : Head) (zones : Zones) (content table : Plan) → plan_size (with_zones b head zones content table) ≤ 1 + (plan_size content + plan_size table)
@@ -33,11 +33,11 @@ mutual
   lowered_size (chunks head forest) kept sound = omega (arith, forest_lowered head.dtype forest kept sound.0)
   lowered_size (fields head forest validity) kept sound = omega (arith, fields_lowered (struct_members head.dtype) head.rows forest kept sound.1, validity_lowered (nullability_of head.dtype) head.rows validity sound.2)
   lowered_size (dict head values codes) kept sound =
-      let p : plan_size (packing kept head (take_plan (plan_head_of head) (lowered codes all) (lowered values all))) ≤ 1 + (1 + (plan_size (lowered codes all) + plan_size (lowered values all))) = packing_size kept head (take_plan (plan_head_of head) (lowered codes all) (lowered values all)) in
+      let p : plan_size (packing kept head (take_plan head (lowered codes all) (lowered values all))) ≤ 1 + (1 + (plan_size (lowered codes all) + plan_size (lowered values all))) = packing_size kept head (take_plan head (lowered codes all) (lowered values all)) in
       omega (arith, lowered_size codes all sound.1, lowered_size values all sound.0)
   lowered_size (lists head elements offsets validity) kept sound = omega (arith, lowered_size elements all sound.0, lowered_size offsets all sound.1, validity_lowered (nullability_of head.dtype) head.rows validity sound.3)
   lowered_size (zoned head zones content table) kept sound =
-      let p : plan_size (with_zones (tell zones.zone_len zones.statistics) (kept_head kept head) (plan_zones_of zones) (lowered content kept) (lowered table all)) ≤ 1 + (plan_size (lowered content kept) + plan_size (lowered table all)) = zones_size (tell zones.zone_len zones.statistics) (kept_head kept head) (plan_zones_of zones) (lowered content kept) (lowered table all) in
+      let p : plan_size (with_zones (tell zones.zone_len zones.statistics) (kept_head kept head) zones (lowered content kept) (lowered table all)) ≤ 1 + (plan_size (lowered content kept) + plan_size (lowered table all)) = zones_size (tell zones.zone_len zones.statistics) (kept_head kept head) zones (lowered content kept) (lowered table all) in
       omega (arith, lowered_size content kept sound.0, lowered_size table all sound.2)
 
   forest_lowered : (t : DataType) (forest : Forest) (kept : KeptFields) → AreChunks t forest → plans_size (lowered_in forest kept) ≤ 2 * forest_size forest

@@ -25,7 +25,7 @@ use Rattle.vx_plan.specs.PlanRows.{plan_derivation, plan_derivation_in, plan_der
 use Rattle.vx_rows.specs.Derivations.{Derivation, given, packed, Leaves, derived, derived_each, one_more}
 use Rattle.vx_rows.specs.Whole.{GiveFitting}
 use Rattle.vx_lower.specs.KeptRows.{kept_items, kept_value, kept_terms, kept_pack}
-use Rattle.vx_lower.specs.Lowered.{tell, plan_head_of, plan_zones_of, kept_head, lowered, lowered_in, lowered_fields, lowered_validity}
+use Rattle.vx_lower.specs.Lowered.{tell, kept_head, lowered, lowered_in, lowered_fields, lowered_validity}
 use Rattle.vx_lower.proofs.LoweredRows.{lowered_rows, lowered_all, zones_same}
 use Rattle.vx_lower.proofs.KeptTypes.{and_first, and_second}
 use Rattle.vx_layout.proofs.FittingRows.{fits_row}
@@ -173,13 +173,13 @@ mutual
       (pack_of (only names) ms names NonNullable refl (derived_each leaves (plan_derivations offset (lowered_fields (struct_members head.dtype) forest (only names)) row)) (derived_each leaves (field_derivations (struct_members head.dtype) forest (only names) row)) more)
   lowered_kept offset leaves fitting names ms distinct (dict head values codes) row sound is =
       let v : Option Datum = derived leaves (derivation (dict head values codes) all row) in
-      let whole : derived leaves (plan_derivation offset (take_plan (plan_head_of head) (lowered codes all) (lowered values all)) row) ≡ v = ap (derived leaves) (lowered_all offset (dict head values codes) row sound) in
+      let whole : derived leaves (plan_derivation offset (take_plan head (lowered codes all) (lowered values all)) row) ≡ v = ap (derived leaves) (lowered_all offset (dict head values codes) row sound) in
       let fit : IfSome v (Fits (struct_type ms NonNullable)) = subst (λ (t : DataType). IfSome v (Fits t)) is (fits_row leaves fitting (dict head values codes) row sound) in
       let F : DataType → Option Datum → Option Datum = λ (t : DataType) (w : Option Datum). option_and_then (λ (x : Datum). meaning t no_bound (kept_pack (only names) t) x 0) w in
       ap (F head.dtype) whole ∙ ap (λ (t : DataType). F t v) is ∙ worked_out_kept names ms v distinct fit
   lowered_kept offset leaves fitting names ms distinct (lists head elements offsets validity) row sound is = refl
   lowered_kept offset leaves fitting names ms distinct (zoned head zones content table) row sound is =
-      ap (derived leaves) (zones_same (tell zones.zone_len zones.statistics) offset (kept_head (only names) head) (plan_zones_of zones) (lowered content (only names)) (lowered table all) row) ∙ lowered_kept offset leaves fitting names ms distinct content row sound.0 (sound.1.dtype ∙ is)
+      ap (derived leaves) (zones_same (tell zones.zone_len zones.statistics) offset (kept_head (only names) head) zones (lowered content (only names)) (lowered table all) row) ∙ lowered_kept offset leaves fitting names ms distinct content row sound.0 (sound.1.dtype ∙ is)
 
   lowered_kept_in : (offset : ℕ) (leaves : Leaves) → GiveFitting leaves → (names : List (List ℕ)) (ms : Members) → IsTrue (are_distinct (names_in ms)) → (t : DataType) (forest : Forest) (row : ℕ) → AreChunks t forest → t ≡ struct_type ms NonNullable → LowersAs leaves names (struct_type ms NonNullable) (plan_derivation_in offset (lowered_in forest (only names)) row) (derivation_in forest (only names) row)
   lowered_kept_in offset leaves fitting names ms distinct t no_trees row sound is = refl

@@ -21,7 +21,7 @@ use Rattle.vx_plan.specs.Tables.{AreIn, IsAdded}
 use Rattle.vx_rows.specs.Zones.{zones_type, StandOver, Zones}
 use Rattle.vx_rows.specs.TypeForms.{IsListOf}
 use Rattle.vx_lower.specs.KeptRows.{kept_type}
-use Rattle.vx_lower.specs.Lowered.{lowered, lowered_validity, kept_head, plan_head_of, plan_zones_of, tell, with_zones}
+use Rattle.vx_lower.specs.Lowered.{lowered, lowered_validity, kept_head, tell, with_zones}
 use Rattle.vx_lower.specs.NodeParts.{tree_head, validity_of, lowered_each, most_plans, zones_node, CanLower, CanLowerEach, IsListNode, IsLookUp, IsPlainNode, IsTypeAt, IsZonedNode}
 use Rattle.vx_lower.specs.Numbered.{AddsPlan, AddsPlans}
 use Rattle.vx_lower.specs.Sizes.{plan_size}
@@ -55,7 +55,7 @@ taken_adds nodes n codes values old mid new last c v k can over of_codes of_valu
     let hq : IsHeadOf all (tree_head nodes values) q = lowered_head (subtree nodes values) all sound.0 in
     let t : (tree_head nodes n).dtype ≡ nullable_where (nullability_of (plan_head p).dtype) (plan_head q).dtype = sound.2.dtype ∙ (λ i. nullable_where (nullability_of (sym hp.dtype i)) (sym hq.dtype i)) in
     subst (λ (t : Tree). AddsPlan old last (lowered t all) k) (sym over.tree)
-    (take_adds old new last p q c v k (plan_head_of (tree_head nodes n)) (two_added old mid new p q c v of_codes of_values) added t (hp.rows ∙ sound.2.rows))
+    (take_adds old new last p q c v k (tree_head nodes n) (two_added old mid new p q c v of_codes of_values) added t (hp.rows ∙ sound.2.rows))
 
 -- ---- lists
 
@@ -111,17 +111,17 @@ listed_adds nodes n elements offsets validity old first mid new last e o w k row
     let hp : IsHeadOf all (tree_head nodes elements) p = lowered_head (subtree nodes elements) all has.sound.0 in
     let t : (tree_head nodes n).dtype ≡ list_type (plan_head p).dtype k = list_type_is (tree_head nodes n).dtype (tree_head nodes elements).dtype has.sound.2.dtype ∙ (λ j. list_type (sym hp.dtype j) (sym nulls j)) in
     subst (λ (t : Tree). AddsPlan old last (lowered t all) i) (sym over.tree)
-    (list_adds old new last p q (lowered_validity (validity_of nodes validity)) e o w k rows i (plan_head_of (tree_head nodes n)) has.adds has.given added t (sym count))
+    (list_adds old new last p q (lowered_validity (validity_of nodes validity)) e o w k rows i (tree_head nodes n) has.adds has.given added t (sym count))
 
 -- ---- zones
 
-zoned_plan_is : (nodes : List Node) (n : ℕ) (zones : Zones) (content table : ℕ) (kept : KeptFields) → IsZonedNode nodes n true zones content table → lowered (subtree nodes n) kept ≡ zoned_plan (kept_head kept (tree_head nodes n)) (plan_zones_of zones) (lowered (subtree nodes content) kept) (lowered (subtree nodes table) all)
+zoned_plan_is : (nodes : List Node) (n : ℕ) (zones : Zones) (content table : ℕ) (kept : KeptFields) → IsZonedNode nodes n true zones content table → lowered (subtree nodes n) kept ≡ zoned_plan (kept_head kept (tree_head nodes n)) zones (lowered (subtree nodes content) kept) (lowered (subtree nodes table) all)
 zoned_plan_is nodes n zones content table kept is =
-    ap (λ (t : Tree). lowered t kept) is.over.tree ∙ ap (λ (b : Bool). with_zones b (kept_head kept (tree_head nodes n)) (plan_zones_of zones) (lowered (subtree nodes content) kept) (lowered (subtree nodes table) all)) is.tells_is
+    ap (λ (t : Tree). lowered t kept) is.over.tree ∙ ap (λ (b : Bool). with_zones b (kept_head kept (tree_head nodes n)) zones (lowered (subtree nodes content) kept) (lowered (subtree nodes table) all)) is.tells_is
 
 plain_plan_is : (nodes : List Node) (n content : ℕ) (kept : KeptFields) → IsPlainNode nodes n content → lowered (subtree nodes n) kept ≡ lowered (subtree nodes content) kept
 plain_plan_is nodes n content kept is =
-    ap (λ (t : Tree). lowered t kept) is.is.over.tree ∙ ap (λ (b : Bool). with_zones b (kept_head kept (tree_head nodes n)) (plan_zones_of is.zones) (lowered (subtree nodes content) kept) (lowered (subtree nodes is.table) all)) is.is.tells_is
+    ap (λ (t : Tree). lowered t kept) is.is.over.tree ∙ ap (λ (b : Bool). with_zones b (kept_head kept (tree_head nodes n)) is.zones (lowered (subtree nodes content) kept) (lowered (subtree nodes is.table) all)) is.is.tells_is
 
 -- what is known of data and its zones
 record HasZones (nodes : List Node) (n : ℕ) (zones : Zones) (content table : ℕ) : Type 0 where

@@ -6,7 +6,7 @@ use Rattle.vx_layout.specs.Kept.{KeptFields, all, only, is_kept}
 use Rattle.vx_layout.specs.Rows.{struct_members}
 use Rattle.vx_layout.specs.Trees.{Tree, missing, leaf, chunks, fields, dict, lists, zoned, Forest, no_trees, tree, Validity, always, valid_by}
 use Rattle.vx_rows.specs.Heads.{Head}
-use Rattle.vx_rows.specs.Zones.{Zones, zones_of}
+use Rattle.vx_rows.specs.Zones.{Zones}
 use Rattle.vx_plan.specs.Plans.{Plan, no_plan, concat_plan, eval_plan, filter_plan, pack_plan, take_plan, list_plan, scan_plan, zoned_plan, Plans, no_plans, plan, PlanValidity, all_valid, valid_as}
 use Rattle.vx_lower.specs.KeptRows.{kept_type, kept_pack}
 
@@ -16,11 +16,7 @@ tell zero statistics = false
 tell (suc n) [] = false
 tell (suc n) (statistic ∷ statistics) = true
 
--- the head of a plan of the node
-abbrev pub plan_head_of : Head → Head
-plan_head_of head = record { number = head.number; dtype = head.dtype; rows = head.rows }
-
--- the same without the fields that aren't kept
+-- the head of a plan of the node, without the fields that aren't kept
 abbrev pub kept_head : KeptFields → Head → Head
 kept_head kept head = record { number = head.number; dtype = kept_type kept head.dtype; rows = head.rows }
 
@@ -28,9 +24,6 @@ kept_head kept head = record { number = head.number; dtype = kept_type kept head
 abbrev pub packing : KeptFields → Head → Plan → Plan
 packing all head p = p
 packing (only names) head p = eval_plan (kept_head (only names) head) (kept_pack (only names) head.dtype) p
-
-abbrev pub plan_zones_of : Zones → Zones
-plan_zones_of zones = zones_of zones.is_legacy zones.zone_len zones.statistics
 
 -- zones beside their data, where they tell something
 abbrev pub with_zones : Bool → Head → Zones → Plan → Plan → Plan
@@ -43,16 +36,16 @@ with_zones false head zones content table = content
 -- fields.
 abbrev mutual
   pub lowered : Tree → KeptFields → Plan
-  lowered (missing head) kept = no_plan (plan_head_of head)
-  lowered (leaf head segment) kept = filter_plan (plan_head_of head) (scan_plan (plan_head_of head) segment)
+  lowered (missing head) kept = no_plan head
+  lowered (leaf head segment) kept = filter_plan head (scan_plan head segment)
   lowered (chunks head forest) kept = concat_plan (kept_head kept head) (lowered_in forest kept)
   lowered (fields head forest validity) kept =
       pack_plan (kept_head kept head) (lowered_fields (struct_members head.dtype) forest kept) (lowered_validity validity)
-  lowered (dict head values codes) kept = packing kept head (take_plan (plan_head_of head) (lowered codes all) (lowered values all))
+  lowered (dict head values codes) kept = packing kept head (take_plan head (lowered codes all) (lowered values all))
   lowered (lists head elements offsets validity) kept =
-      list_plan (plan_head_of head) (lowered elements all) (lowered offsets all) (lowered_validity validity)
+      list_plan head (lowered elements all) (lowered offsets all) (lowered_validity validity)
   lowered (zoned head zones content table) kept =
-      with_zones (tell zones.zone_len zones.statistics) (kept_head kept head) (plan_zones_of zones) (lowered content kept) (lowered table all)
+      with_zones (tell zones.zone_len zones.statistics) (kept_head kept head) zones (lowered content kept) (lowered table all)
 
   pub lowered_in : Forest → KeptFields → Plans
   lowered_in no_trees kept = no_plans

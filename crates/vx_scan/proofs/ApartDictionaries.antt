@@ -18,7 +18,7 @@ use Rattle.vx_layout.specs.Rows.{struct_members}
 use Rattle.vx_layout.specs.Shape.{IsChildOnce, IsGoodTree}
 use Rattle.vx_layout.specs.Trees.{Tree, missing, leaf, chunks, fields, dict, lists, zoned, Forest, no_trees, tree, Validity, always, valid_by, head_at, forest_from, child_in, validity_in, field_trees, grown_as, grown, subtree}
 use Rattle.vx_layout.proofs.Unfolding.{HaveLaterChildren, good_later, unfolds}
-use Rattle.vx_lower.specs.Lowered.{lowered, lowered_in, lowered_fields, lowered_validity, packing, plan_head_of, kept_head, plan_zones_of, tell, with_zones}
+use Rattle.vx_lower.specs.Lowered.{lowered, lowered_in, lowered_fields, lowered_validity, packing, kept_head, tell, with_zones}
 use Rattle.vx_lower.specs.Projected.{Projection, kept_of}
 use Rattle.vx_lower.proofs.NumberSums.{total, total_first, times, times_in, sum_is_total, total_but_first, zero_nowhere}
 use Rattle.vx_plan.specs.Plans.{Plan, no_plan, take_plan, Plans, plan}
@@ -75,14 +75,14 @@ mutual
   lowered_takes k (fields head forest validity) kept =
       let one = fields_takes k (struct_members head.dtype) forest kept in let two = validity_takes k validity in omega (arith, one, two)
   lowered_takes k (dict head values codes) kept =
-      let same = packed_takes k kept head (take_plan (plan_head_of head) (lowered codes all) (lowered values all)) in
+      let same = packed_takes k kept head (take_plan head (lowered codes all) (lowered values all)) in
       let one = lowered_takes k codes all in
       let two = lowered_takes k values all in
       omega (arith, same, one, two)
   lowered_takes k (lists head elements offsets validity) kept =
       let one = lowered_takes k elements all in let two = lowered_takes k offsets all in let three = validity_takes k validity in omega (arith, one, two, three)
   lowered_takes k (zoned head zones content table) kept =
-      let all_of = zones_takes k (tell zones.zone_len zones.statistics) (kept_head kept head) (plan_zones_of zones) (lowered content kept) (lowered table all) in
+      let all_of = zones_takes k (tell zones.zone_len zones.statistics) (kept_head kept head) zones (lowered content kept) (lowered table all) in
       let one = lowered_takes k content kept in
       let two = lowered_takes k table all in
       omega (arith, all_of, one, two)

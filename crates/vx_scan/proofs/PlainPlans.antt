@@ -9,7 +9,7 @@ use Rattle.vx_layout.specs.Kept.{all}
 use Rattle.vx_layout.specs.Rows.{struct_members}
 use Rattle.vx_layout.specs.Sound.{IsSound, AreChunks, AreFields, IsValidity}
 use Rattle.vx_layout.specs.Trees.{Tree, missing, leaf, chunks, fields, dict, lists, zoned, Forest, no_trees, tree, Validity, always, valid_by}
-use Rattle.vx_lower.specs.Lowered.{lowered, lowered_in, lowered_fields, lowered_validity, with_zones, kept_head, plan_zones_of, tell}
+use Rattle.vx_lower.specs.Lowered.{lowered, lowered_in, lowered_fields, lowered_validity, with_zones, kept_head, tell}
 use Rattle.vx_lower.specs.Numbered.{numbered, each_numbered, validity_numbered}
 use Rattle.vx_lower.specs.Sizes.{plan_size, plans_size}
 use Rattle.vx_plan.specs.Plans.{Plan, plan_head, no_plan, concat_plan, eval_plan, filter_plan, pack_plan, take_plan, share_plan, list_plan, row_idx_plan, scan_plan, zoned_plan, Plans, no_plans, plan, PlanValidity, all_valid, valid_as}
@@ -56,7 +56,7 @@ mutual
   lowered_plain (dict head values codes) sound = (lowered_plain codes sound.1, lowered_plain values sound.0)
   lowered_plain (lists head elements offsets validity) sound = (lowered_plain elements sound.0, lowered_plain offsets sound.1, validity_plain validity head.rows (nullability_of head.dtype) sound.3)
   lowered_plain (zoned head zones content table) sound =
-      zones_plain (tell zones.zone_len zones.statistics) (kept_head all head) (plan_zones_of zones) (lowered content all) (lowered table all) (lowered_plain content sound.0) (lowered_plain table sound.2)
+      zones_plain (tell zones.zone_len zones.statistics) (kept_head all head) zones (lowered content all) (lowered table all) (lowered_plain content sound.0) (lowered_plain table sound.2)
 
   chunks_plain : (t : DataType) (forest : Forest) → AreChunks t forest → ArePlain (lowered_in forest all)
   chunks_plain t no_trees are = tt

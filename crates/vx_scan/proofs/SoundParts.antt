@@ -14,7 +14,7 @@ use Rattle.vx_layout.specs.Rows.{derivation, struct_members}
 use Rattle.vx_layout.specs.Sound.{IsSound, AreChunks, AreFields}
 use Rattle.vx_layout.specs.Trees.{Tree, missing, leaf, chunks, fields, dict, lists, zoned, Forest, no_trees, tree, head_of}
 use Rattle.vx_lower.specs.KeptRows.{kept_pack, kept_value}
-use Rattle.vx_lower.specs.Lowered.{kept_head, lowered, lowered_in, lowered_fields, plan_head_of, plan_zones_of, tell}
+use Rattle.vx_lower.specs.Lowered.{kept_head, lowered, lowered_in, lowered_fields, tell}
 use Rattle.vx_lower.proofs.LoweredRows.{lowered_all, zones_same}
 use Rattle.vx_lower.proofs.LoweredValues.{lowered_kept}
 use Rattle.vx_plan.specs.Plans.{Plan, Plans, plan, take_plan, plan_head}
@@ -148,17 +148,17 @@ mutual
       plain_sound leaves offset (lowered (fields head forest validity) (only names))
       (kept_plain (struct_members head.dtype) forest head.rows (only names) sound.1, validity_plain validity head.rows (nullability_of head.dtype) sound.2) row any
   kept_sound offset leaves fitting names ms distinct (dict head values codes) row sound is (inl here) =
-      let d : Derivation = plan_derivation offset (take_plan (plan_head_of head) (lowered codes all) (lowered values all)) row in
+      let d : Derivation = plan_derivation offset (take_plan head (lowered codes all) (lowered values all)) row in
       let v : Option Datum = derived leaves (derivation (dict head values codes) all row) in
       let whole : derived leaves d ≡ v = ap (derived leaves) (lowered_all offset (dict head values codes) row sound) in
       not_faulty (λ w. meaning head.dtype no_bound (kept_pack (only names) head.dtype) w 0) (kept_value (only names) (struct_type ms NonNullable)) (derived leaves d) v whole here
       (lowered_kept offset leaves fitting names ms distinct (dict head values codes) row sound is)
   kept_sound offset leaves fitting names ms distinct (dict head values codes) row sound is (inr below) =
-      plain_sound leaves offset (take_plan (plan_head_of head) (lowered codes all) (lowered values all)) (lowered_plain codes sound.1, lowered_plain values sound.0) row below
+      plain_sound leaves offset (take_plan head (lowered codes all) (lowered values all)) (lowered_plain codes sound.1, lowered_plain values sound.0) row below
   kept_sound offset leaves fitting names ms distinct (lists head elements offsets validity) row sound is any = any
   kept_sound offset leaves fitting names ms distinct (zoned head zones content table) row sound is any =
       kept_sound offset leaves fitting names ms distinct content row sound.0 (sound.1.dtype ∙ is)
-      (subst (HasFault leaves) (zones_same (tell zones.zone_len zones.statistics) offset (kept_head (only names) head) (plan_zones_of zones) (lowered content (only names)) (lowered table all) row) any)
+      (subst (HasFault leaves) (zones_same (tell zones.zone_len zones.statistics) offset (kept_head (only names) head) zones (lowered content (only names)) (lowered table all) row) any)
 
   kept_sound_in : (offset : ℕ) (leaves : Leaves) → GiveFitting leaves → (names : List (List ℕ)) (ms : Members) → IsTrue (are_distinct (names_in ms)) → (t : DataType) (forest : Forest) (row : ℕ) → AreChunks t forest → t ≡ struct_type ms NonNullable → HasFault leaves (plan_derivation_in offset (lowered_in forest (only names)) row) → ⊥
   kept_sound_in offset leaves fitting names ms distinct t no_trees row sound is any = any

@@ -7,7 +7,7 @@ use Rattle.vx_expr.specs.Mentions.{is_root, uses_root, uses_row_number}
 use Rattle.vx_layout.specs.Kept.{KeptFields, all, only, is_kept}
 use Rattle.vx_layout.specs.Rows.{struct_members}
 use Rattle.vx_layout.specs.Trees.{Tree, missing, leaf, chunks, fields, dict, lists, zoned, Forest, no_trees, tree, Validity, always, valid_by}
-use Rattle.vx_lower.specs.Lowered.{lowered, lowered_in, lowered_fields, lowered_validity, packing, plan_head_of, kept_head, plan_zones_of, tell, with_zones}
+use Rattle.vx_lower.specs.Lowered.{lowered, lowered_in, lowered_fields, lowered_validity, packing, kept_head, tell, with_zones}
 use Rattle.vx_lower.specs.Numbered.{numbered, each_numbered, validity_numbered}
 use Rattle.vx_lower.specs.Projected.{Projection, kept_of}
 use Rattle.vx_lower.specs.RowIndex.{row_index_plan_from_by}
@@ -101,14 +101,14 @@ mutual
   lowered_none (fields head forest validity) kept (inr (inl s)) = fields_none (struct_members head.dtype) forest kept s
   lowered_none (fields head forest validity) kept (inr (inr s)) = validity_none validity s
   lowered_none (dict head values codes) kept s =
-      packed_none kept head (take_plan (plan_head_of head) (lowered codes all) (lowered values all))
-      (take_none (plan_head_of head) (lowered codes all) (lowered values all) (lowered_none codes all) (lowered_none values all)) s
+      packed_none kept head (take_plan head (lowered codes all) (lowered values all))
+      (take_none head (lowered codes all) (lowered values all) (lowered_none codes all) (lowered_none values all)) s
   lowered_none (lists head elements offsets validity) kept (inl s) = s
   lowered_none (lists head elements offsets validity) kept (inr (inl s)) = lowered_none elements all s
   lowered_none (lists head elements offsets validity) kept (inr (inr (inl s))) = lowered_none offsets all s
   lowered_none (lists head elements offsets validity) kept (inr (inr (inr s))) = validity_none validity s
   lowered_none (zoned head zones content table) kept s =
-      zones_none (tell zones.zone_len zones.statistics) (kept_head kept head) (plan_zones_of zones) (lowered content kept) (lowered table all) (lowered_none content kept) (lowered_none table all) s
+      zones_none (tell zones.zone_len zones.statistics) (kept_head kept head) zones (lowered content kept) (lowered table all) (lowered_none content kept) (lowered_none table all) s
 
   chunks_none : (forest : Forest) (kept : KeptFields) → AnyShares (lowered_in forest kept) → ⊥
   chunks_none no_trees kept s = s
