@@ -1,7 +1,9 @@
 //! Columns whose values lie packed: numbers of a kind in a vector of that kind, texts in one buffer,
-//! and beside them a mask of the rows that have a value.
+//! and beside them a mask of the rows that have a value. The definitions on literals: [`places_by_hand`],
+//! [`texts_by_hand`], [`structs_by_hand`].
 #![tactic(auto)]
 
+mod by_hand;
 mod cells;
 mod decode_errors;
 mod decoded_numbers;
@@ -18,6 +20,7 @@ mod text_ends;
 mod texts;
 mod validity;
 
+pub use by_hand::{places_by_hand, structs_by_hand, texts_by_hand};
 pub use cells::Cell;
 pub use decode_errors::DecodeError;
 pub use decoded_numbers::decode_numbers;
