@@ -12,10 +12,12 @@
 //!   [`FileSource`]; [`ScriptSource`], which keeps to a [`Script`]; [`GateSource`], whose reads wait at a [`Gate`].
 //! - Streams that are read: the trait [`Source`] with [`StreamError`]; [`BytesSource`], [`ReadSource`].
 //! - Streams that are written: the trait [`Sink`]; [`BytesSink`], [`WriteSink`].
+//! - The definitions on literals: [`runs_by_hand`], [`scripts_by_hand`], [`reads_by_hand`].
 #![tactic(auto)]
 
 mod adapters;
 mod built_columns;
+mod by_hand;
 mod column_calls;
 mod columns;
 mod decoding;
@@ -33,6 +35,7 @@ mod script_sources;
 mod stored_rows;
 
 pub use adapters::{ReadSource, WriteSink};
+pub use by_hand::{reads_by_hand, runs_by_hand, scripts_by_hand};
 pub use columns::{Column, ColumnError};
 pub use decoding::decode;
 pub use encoding::encode;
