@@ -13,8 +13,8 @@ ghost use Rattle.vx_packed.specs.Texts.{cut, ends_after, moved, start_in};
 ghost use Rattle.vx_words.specs.Rows.{taken};
 
 /// Of three rows that are looked up, the places 0 and 2 are such rows; a null, a number below 0 and a number past
-/// the last row have the place past the last one, and so has a number that is not valid. What is taken at that place
-/// is null, and rows are taken in the order of their places.
+/// the last row have the place past the last one, and so has a number that is not valid. What is taken at the place
+/// past the last row is null, and rows are taken in the order of their places.
 pub fn places_by_hand()
     ensures codes { code_places 3 (number (pos 2) ∷ null ∷ number (pos 0) ∷ number (negsuc 0) ∷ number (pos 7) ∷ []) ≡ 2 ∷ 3 ∷ 0 ∷ 3 ∷ 3 ∷ [] }
     ensures numbers { places_in 3 (true ∷ false ∷ true ∷ true ∷ []) (pos 2 ∷ pos 0 ∷ negsuc 0 ∷ pos 7 ∷ []) ≡ 2 ∷ 3 ∷ 3 ∷ 3 ∷ [] }
