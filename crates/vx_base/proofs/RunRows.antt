@@ -18,44 +18,6 @@ pub record GoodSoFar (count : ℕ) (ends : List ℕ) (place before : ℕ) : Type
   pub last : before ≡ start_in ends place
   pub good : (earlier : ℕ) → earlier < place → IsGoodEnd count ends earlier
 
-pub good_none : (count : ℕ) (ends : List ℕ) → GoodSoFar count ends 0 0
-good_none count ends = record { last = refl; good = λ earlier lt. absurd (omega arith) }
-
-pub good_more : (count : ℕ) (ends : List ℕ) (place before : ℕ) → place < length ends → place < count → before < get_or ends place 0 → GoodSoFar count ends place before → GoodSoFar count ends (place + 1) (get_or ends place 0)
-good_more count ends place before lt some up h = record {
-  last = rw add-one refl;
-  good = λ earlier less. elim (cases earlier place less) [
-    | inl same ↦ subst (λ (p : ℕ). IsGoodEnd count ends p) (sym same) (record { value = some; there = lt; above = omega (arith, h.last) })
-    | inr lower ↦ h.good earlier lower
-  ];
-}
-  where
-    cases : (a b : ℕ) → a < b + 1 → (a ≡ b) ⊎ (a < b)
-    cases zero zero h = inl refl
-    cases zero (suc b) h = inr (omega arith)
-    cases (suc a) zero h = absurd (omega arith)
-    cases (suc a) (suc b) h = elim (cases a b (omega arith)) [ inl e ↦ inl (ap suc e) | inr l ↦ inr (omega arith) ]
-
-pub bad_here : (count : ℕ) (ends : List ℕ) (place before : ℕ) → place < length ends → (IsGoodEnd count ends place → ⊥) → GoodSoFar count ends place before → IsFirstBadEnd count ends place
-bad_here count ends place before lt bad h = record { there = inr lt; bad = bad; before = h.good }
-
-pub bad_past : (count : ℕ) (ends : List ℕ) (place before : ℕ) → length ends ≤ place → place ≤ length ends → length ends < count → GoodSoFar count ends place before → IsFirstBadEnd count ends (length ends)
-bad_past count ends place before le ge lt h =
-    let end : place ≡ length ends = omega arith in
-    subst (λ (p : ℕ). IsFirstBadEnd count ends p) end (record { there = inl (omega arith); bad = λ g. omega (arith, g.there); before = h.good })
-
-pub good_all : (count : ℕ) (ends : List ℕ) (place before : ℕ) → length ends ≤ place → place ≤ length ends → count ≤ length ends → GoodSoFar count ends place before → AreGoodEnds count ends
-good_all count ends place before le ge enough h = record {
-  same = elim (cases_of (length ends) count enough) [ inl e ↦ e | inr more ↦ absurd (let last = h.good count (omega arith) in omega (arith, last.value)) ];
-  good = λ p lt. h.good p (omega arith);
-}
-  where
-    cases_of : (a b : ℕ) → b ≤ a → (a ≡ b) ⊎ (b < a)
-    cases_of zero zero h = inl refl
-    cases_of (suc a) zero h = inr (omega arith)
-    cases_of zero (suc b) h = absurd (omega arith)
-    cases_of (suc a) (suc b) h = elim (cases_of a b (omega arith)) [ inl e ↦ inl (ap suc e) | inr l ↦ inr (omega arith) ]
-
 -- ---- the places so far
 pub record PlacesSoFar (ends places : List ℕ) (run : ℕ) : Type 0 where
   pub rows : length places ≡ start_in ends run

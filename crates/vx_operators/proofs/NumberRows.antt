@@ -15,12 +15,6 @@ use Rattle.vx_operators.specs.Kernels.{of_two, compares, exact_inside}
 use Rattle.vx_operators.proofs.LiftedRows.{lifted_two, blank_of_two, comparison_lifts, arithmetic_lifts}
 use Rattle.vx_operators.proofs.TestedRows.{tested_part}
 
-pub whole_mask : (n : ℕ) (xs : List Bool) → length xs ≤ n → xs ≡ take n xs
-whole_mask zero [] e = refl
-whole_mask (suc n) [] e = refl
-whole_mask zero (x ∷ xs) e = absurd (omega arith)
-whole_mask (suc n) (x ∷ xs) e = ap (λ (ys : List Bool). x ∷ ys) (whole_mask n xs (omega arith))
-
 -- ---- how many rows
 pub both_len : (xs ys : List Bool) → length ys ≡ length xs → length (both xs ys) ≡ length xs
 both_len [] ys e = refl

@@ -39,17 +39,6 @@ pair_same rows one two made ones others a b h = same_head a b ones others h.alik
 pub pair_smaller : (rows : ℕ) (one two : StructRows) (made ones others : List ColumnData) (a b : ColumnData) → AreJoining rows one two made (a ∷ ones) (b ∷ others) → type_size a.dtype ≤ members_size one.members
 pair_smaller rows one two made ones others a b h = omega (arith, h.smaller)
 
-pub pair_joined : (rows : ℕ) (one two : StructRows) (made more ones others : List ColumnData) (a b c : ColumnData) → c ≡ joined a b → more ≡ made ++ c ∷ [] → AreJoining rows one two made (a ∷ ones) (b ∷ others) → AreJoining rows one two more ones others
-pair_joined rows one two made more ones others a b c is pushed h =
-    let whole : more ++ joined_each ones others ≡ made ++ joined_each (a ∷ ones) (b ∷ others) = ap (λ (ps : List ColumnData). ps ++ joined_each ones others) pushed ∙ append_assoc made (c ∷ []) (joined_each ones others) ∙ ap (λ (p : ColumnData). made ++ p ∷ joined_each ones others) is in
-    record {
-      alike = same_rest a b ones others h.alike;
-      smaller = omega (arith, h.smaller);
-      have = subst (λ (ps : List ColumnData). HaveRows rows ps) (sym whole) h.have;
-      members = ap members_in whole ∙ h.members;
-      filled = ap (rows_of rows) whole ∙ h.filled;
-    }
-
 pub none_left : (rows : ℕ) (one two : StructRows) (made ones others : List ColumnData) → ones ≡ [] → AreJoining rows one two made ones others → AreJoining rows one two made [] others
 none_left rows one two made ones others e h = subst (λ (ps : List ColumnData). AreJoining rows one two made ps others) e h
 

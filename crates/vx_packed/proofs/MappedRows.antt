@@ -31,8 +31,6 @@ pub map_joined : {X Y : Type 0} (f : X → Y) (xs ys : List X) → map f (xs ++ 
 map_joined f xs ys = map-append f xs ys
 
 -- ---- lists that agree under the same view
-pub lengths_same : {X Y : Type 0} (f : X → Y) (xs ys : List X) → map f xs ≡ map f ys → length xs ≡ length ys
-lengths_same f xs ys e = sym (length-map xs f) ∙ ap length e ∙ length-map ys f
 
 pub same_at : {X Y : Type 0} (f : X → Y) (xs ys : List X) (i : ℕ) (x y : X) → i < length xs → length xs ≡ length ys → x ≡ get_or xs i x → y ≡ get_or ys i y → map f xs ≡ map f ys → f x ≡ f y
 same_at {X} {Y} f xs ys i x y lt len p q same =

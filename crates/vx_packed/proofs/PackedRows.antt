@@ -171,13 +171,6 @@ column_of_numbers kind other n mask zs rows e type values inside takes = record 
       (all_fit (int_type kind n) mask (map number zs) takes (numbers_fit n kind zs (subst (λ (k : IntKind). AllByRecursion (IsInside k) zs) e inside)));
 }
 
-pub column_of_texts : (n : Nullability) (mask : List Bool) (ts : List (List ℕ)) (rows : ColumnData) → rows.dtype ≡ utf8_type NonNullable → rows.values ≡ where_valid mask (map text ts)
-    → AllByRecursion IsUtf8 ts → AllByRecursion (Takes n) mask → IsColumn (utf8_type n) rows
-column_of_texts n mask ts rows type values utf8 takes = record {
-  shape = sym type;
-  fit = subst (λ (vs : List Datum). AllByRecursion (Fits (utf8_type n)) vs) (sym values) (all_fit (utf8_type n) mask (map text ts) takes (texts_fit n ts utf8));
-}
-
 -- ---- rows behind rows
 all_append : {X : Type 0} (P : X → Type 0) (xs ys : List X) → AllByRecursion P xs → AllByRecursion P ys → AllByRecursion P (xs ++ ys)
 all_append P [] ys g h = h
@@ -192,12 +185,6 @@ column_joined s t rows others made e is g h =
     subst (λ (c : ColumnData). IsColumn t c) (sym is) (record { shape = g.shape; fit = all_append (Fits t) rows.values others.values g.fit fit })
 
 -- ---- lists
-nulls_fit : (t : DataType) (n : ℕ) → AllByRecursion (Fits (list_type t Nullable)) (replicate n null)
-nulls_fit t zero = tt
-nulls_fit t (suc n) = (tt, nulls_fit t n)
-
-pub column_of_nulls : (t : DataType) (n : ℕ) (rows : ColumnData) → rows.dtype ≡ list_type (bool_type NonNullable) NonNullable → rows.values ≡ replicate n null → IsColumn (list_type t Nullable) rows
-column_of_nulls t n rows type values = record { shape = sym type; fit = subst (λ (vs : List Datum). AllByRecursion (Fits (list_type t Nullable)) vs) (sym values) (nulls_fit t n) }
 
 -- ---- columns of values
 pub all_nullable : (t : DataType) (vs : List Datum) → AllByRecursion (Fits t) vs → AllByRecursion (Fits (made_nullable t)) vs
@@ -206,9 +193,3 @@ all_nullable t (v ∷ vs) h = (fits_nullable t v h.0, all_nullable t vs h.1)
 
 pub column_of_values : (t : DataType) (vs : List Datum) (rows : ColumnData) → AllByRecursion (Fits t) vs → rows.dtype ≡ bare t → rows.values ≡ vs → IsColumn t rows
 column_of_values t vs rows fit type values = record { shape = sym type; fit = subst (AllByRecursion (Fits t)) (sym values) fit }
-
-pub column_of_truths : (n : Nullability) (mask bits : List Bool) (rows : ColumnData) → rows.dtype ≡ bool_type NonNullable → rows.values ≡ where_valid mask (map truth bits) → AllByRecursion (Takes n) mask → IsColumn (bool_type n) rows
-column_of_truths n mask bits rows type values takes = record {
-  shape = sym type;
-  fit = subst (λ (vs : List Datum). AllByRecursion (Fits (bool_type n)) vs) (sym values) (all_fit (bool_type n) mask (map truth bits) takes (truths_fit n bits));
-}

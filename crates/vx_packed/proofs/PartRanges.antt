@@ -144,9 +144,6 @@ numbers_part mask numbers len held = record { rows = len ∙ sym (length-map (nu
 pub texts_part : (mask : List Bool) (ts : List (List ℕ)) → length mask ≡ length ts → NullsHold [] mask ts → IsPart mask (variants.Texts ts)
 texts_part mask ts len held = record { rows = len ∙ sym (length-map ts text); held = held_texts mask ts held }
 
-pub structs_part : (mask : List Bool) (structs : StructRows) → length mask ≡ length structs.rows → IsPart mask (variants.Structs structs)
-structs_part mask structs len = record { rows = len ∙ sym (length-map structs.rows structure); held = tt }
-
 pub truths_are : (mask bits truths : List Bool) (slots : Slots) (column : ColumnData) → part_column mask slots ≡ column → IsPart mask slots → slots ≡ variants.Truths bits → truths ≡ bits → truths ≡ map truth_in column.values
 truths_are mask bits truths slots column view h e g =
     let whole : IsPart mask (variants.Truths bits) = subst (λ (s : Slots). IsPart mask s) e h in

@@ -57,12 +57,6 @@ part_of rows parts items i part structs e view h lt is = subst (λ (s : StructRo
 pub all_mapped : (f : ColumnData → ColumnData) (parts items made : List ColumnData) (i : ℕ) → items ≡ parts → length items ≤ i → made ≡ map f (take i items) → made ≡ map f parts
 all_mapped f parts items made i e past h = h ∙ ap (map f) (take_all i items past ∙ e)
 
-pub mapped_more : (f : ColumnData → ColumnData) (parts made more : List ColumnData) (i : ℕ) (part one : ColumnData) → i < length parts → part ≡ get_or parts i part → one ≡ f part → more ≡ made ++ one ∷ []
-    → made ≡ map f (take i parts) → more ≡ map f (take (i + 1) parts)
-mapped_more f parts made more i part one lt e is pushed so_far =
-    let step = take_more parts i part lt in
-    rw (pushed, step, ← e, map-append f (take i parts) (part ∷ []), so_far, is) refl
-
 -- ---- a range
 no_rows : (values : List Datum) → beside values [] ≡ []
 no_rows [] = refl

@@ -25,11 +25,6 @@ chosen_skip bits rows kept row value len lt bit is h =
     let more = rw (one, bit, two) at h.kept_all in
     record { kept_all = more }
 
-pub chosen_all : {X : Type 0} (bits : List Bool) (rows kept : List X) (row : ℕ) → length bits ≡ length rows → length rows ≤ row → ChosenSoFar bits rows kept row → kept ≡ chosen bits rows
-chosen_all bits rows kept row len past h =
-    let more = rw (drop_all row bits (omega arith), append-nil kept) at h.kept_all in
-    more
-
 some_same : {X : Type 0} (a b : X) → Some a ≡ Some b → a ≡ b
 some_same a b e = cc
 

@@ -86,9 +86,6 @@ rows_more xs ys i lt lu e h =
     let here : get_or xs i null ≡ get_or ys i null = some_same (get_or xs i null) (get_or ys i null) (sym (there_or xs i null lt) ∙ e ∙ there_or ys i null lu) in
     take_more xs i null lt ∙ (λ j. h j ++ here j ∷ []) ∙ sym (take_more ys i null lu)
 
-pub rows_all : (xs ys : List Datum) (i : ℕ) → length xs ≤ i → length ys ≤ i → take i xs ≡ take i ys → xs ≡ ys
-rows_all xs ys i le lf h = sym (take_all i xs le) ∙ h ∙ take_all i ys lf
-
 -- ---- a row of two parts
 null_here : (mask : List Bool) (slots : Slots) (a : ColumnData) (row : ℕ) → part_column mask slots ≡ a → IsPart mask slots → slice_get mask row ≡ Some false → slice_get a.values row ≡ Some null
 null_here mask slots a row view h e = ap (λ (c : ColumnData). slice_get c.values row) (sym view) ∙ null_cell mask (slot_values slots) row h.rows e

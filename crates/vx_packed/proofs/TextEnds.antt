@@ -13,19 +13,6 @@ pub record EndsSoFar (rows row room : ℕ) (lengths ends : List ℕ) (end : ℕ)
   pub so_far : ends ++ ends_after end (lengths_read (rows - row) rest) ≡ ends_read rows lengths
   pub filled : AreEnds 0 end ends
 
-pub ends_none : (rows room : ℕ) (lengths ends : List ℕ) → ends ≡ [] → length lengths ≡ 4 * rows → EndsSoFar rows 0 room lengths ends 0 lengths
-ends_none rows room lengths ends e len =
-    let all : rows - 0 ≡ rows = omega arith in
-    subst (λ (es : List ℕ). EndsSoFar rows 0 room lengths es 0 lengths) (sym e) (record {
-      left = omega (arith, len);
-      inside = omega arith;
-      so_far = ap (λ (n : ℕ). ends_after 0 (lengths_read n lengths)) all;
-      filled = refl;
-    })
-
-pub ends_room : (rows row room : ℕ) (lengths ends : List ℕ) (end : ℕ) (rest : List ℕ) → row < rows → EndsSoFar rows row room lengths ends end rest → 4 ≤ length rest
-ends_room rows row room lengths ends end rest lt h = omega (arith, h.left)
-
 -- the next length is read
 word_read : (n len : ℕ) (more : List ℕ) → len < 2 ^ 32 → lengths_read (suc n) (to_le_bytes w32 len ++ more) ≡ len ∷ lengths_read n more
 unfolding lengths_read
@@ -73,9 +60,6 @@ nothing_left rows row ends rest end past =
 
 pub ends_all : (rows row room : ℕ) (lengths ends : List ℕ) (end : ℕ) (rest : List ℕ) → rows ≤ row → EndsSoFar rows row room lengths ends end rest → ends ≡ ends_read rows lengths
 ends_all rows row room lengths ends end rest past h = sym (nothing_left rows row ends rest end past) ∙ h.so_far
-
-pub ends_filled : (rows row room : ℕ) (lengths ends : List ℕ) (end : ℕ) (rest : List ℕ) → end ≡ room → EndsSoFar rows row room lengths ends end rest → AreEnds 0 room ends
-ends_filled rows row room lengths ends end rest e h = subst (λ (k : ℕ). AreEnds 0 k ends) e h.filled
 
 pub ends_short : (rows row room : ℕ) (lengths ends : List ℕ) (end : ℕ) (rest : List ℕ) → rows ≤ row → ¬ (end ≡ room) → EndsSoFar rows row room lengths ends end rest → ¬ (AreEnds 0 room (ends_read rows lengths))
 ends_short rows row room lengths ends end rest past other h are =

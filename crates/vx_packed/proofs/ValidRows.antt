@@ -102,31 +102,8 @@ append-NullsHold blank [] more (x ∷ xs) ys e g h = absurd (omega arith)
 append-NullsHold blank (bit ∷ mask) more [] ys e g h = absurd (omega arith)
 
 -- ---- a row
-pub get_or-where_valid : (mask : List Bool) (slots : List Datum) (row : ℕ) → get_or (where_valid mask slots) row null ≡ cond (get_or mask row false) (get_or slots row null) null
-get_or-where_valid [] slots row = refl
-get_or-where_valid (true ∷ mask) [] row = nothing mask row
-  where
-    nothing : (mask : List Bool) (row : ℕ) → null ≡ cond (get_or (true ∷ mask) row false) null null
-    nothing mask row = elim (get_or (true ∷ mask) row false) as (λ b. null ≡ cond b null null) [ true ↦ refl | false ↦ refl ]
-get_or-where_valid (false ∷ mask) [] row = nothing mask row
-  where
-    nothing : (mask : List Bool) (row : ℕ) → null ≡ cond (get_or (false ∷ mask) row false) null null
-    nothing mask row = elim (get_or (false ∷ mask) row false) as (λ b. null ≡ cond b null null) [ true ↦ refl | false ↦ refl ]
-get_or-where_valid (bit ∷ mask) (v ∷ slots) zero = refl
-get_or-where_valid (bit ∷ mask) (v ∷ slots) (suc row) = get_or-where_valid mask slots row
 
 -- ---- what fits
-pub all-where_valid : (P : Datum → Type 0) (mask : List Bool) (slots : List Datum) → P null → AllByRecursion P slots → AllByRecursion P (where_valid mask slots)
-all-where_valid P [] slots n h = tt
-all-where_valid P (bit ∷ mask) [] n h = tt
-all-where_valid P (true ∷ mask) (v ∷ slots) n h = (h.0, all-where_valid P mask slots n h.1)
-all-where_valid P (false ∷ mask) (v ∷ slots) n h = (n, all-where_valid P mask slots n h.1)
-
-pub all_valid : (mask : List Bool) (slots : List Datum) → length mask ≡ length slots → AllByRecursion (λ bit. bit ≡ true) mask → where_valid mask slots ≡ slots
-all_valid [] [] e h = refl
-all_valid (bit ∷ mask) (v ∷ slots) e h = (λ i. cond (h.0 i) v null ∷ all_valid mask slots (omega arith) h.1 i)
-all_valid [] (v ∷ slots) e h = absurd (omega arith)
-all_valid (bit ∷ mask) [] e h = absurd (omega arith)
 
 -- ---- the mask and the slots again
 pub valid_again : (mask : List Bool) (slots : List Datum) → length mask ≡ length slots → AllByRecursion (λ v. is_value v ≡ true) slots → map is_value (where_valid mask slots) ≡ mask

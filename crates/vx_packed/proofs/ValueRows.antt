@@ -26,11 +26,6 @@ use Rattle.vx_packed.specs.PartRows.{members_in, beside, rows_of, StructRows, st
 use Rattle.vx_packed.specs.Slots.{bare, bare_members}
 
 -- ---- one row more
-pub seen_more : {Y : Type 0} (f : Datum → Y) (values : List Value) (i : ℕ) (x : Value) → i < length values → x ≡ get_or values i x → map f (map datum (take (i + 1) values)) ≡ map f (map datum (take i values)) ++ f (datum x) ∷ []
-seen_more {Y} f values i x lt e =
-    ap (λ (vs : List Value). map f (map datum vs)) (take_more values i x lt) ∙ ap (map f) (map-append datum (take i values) (get_or values i x ∷ []))
-    ∙ map-append f (map datum (take i values)) (datum (get_or values i x) ∷ [])
-    ∙ ap (λ (v : Value). map f (map datum (take i values)) ++ f (datum v) ∷ []) (sym e)
 
 pub all_seen_at : {Y : Type 0} (P : Y → Type 0) (f : Datum → Y) (values : List Value) (i : ℕ) (x : Value) → i < length values → x ≡ get_or values i x → AllByRecursion P (map f (map datum values)) → P (f (datum x))
 all_seen_at P f [] i x lt e h = absurd (omega arith)
@@ -132,25 +127,12 @@ column_fits ms fields place field values column view lt e is h =
     subst (λ (vs : List Datum). AllByRecursion (Fits (made_nullable (data_type field.dtype))) vs) (sym is) (all_field_fits fields place field (map datum values) lt e fit)
 
 -- ---- the columns so far
-pub columns_more : (fields : List Field) (place : ℕ) (field : Field) (values : List Datum) (made more whole : List ColumnData) (part : ColumnData) → place < length fields → field ≡ get_or fields place field → part.dtype ≡ bare (data_type field.dtype) → part.values ≡ map (field_at place) values → more ≡ made ++ part ∷ []
-    → made ++ columns_for place (members_of (drop place fields)) values ≡ whole → more ++ columns_for (place + 1) (members_of (drop (place + 1) fields)) values ≡ whole
-columns_more fields place field values made more whole part lt e type is pushed h =
-    let left : drop place fields ≡ field ∷ drop (place + 1) fields = drop_more fields place field lt ∙ ap (λ (f : Field). f ∷ drop (place + 1) fields) (sym e) in
-    let rest = columns_for (suc place) (members_of (drop (place + 1) fields)) values in
-    let next : columns_for (place + 1) (members_of (drop (place + 1) fields)) values ≡ rest = rw add-one refl in
-    let one : part ≡ record { dtype = bare (data_type field.dtype); values = map (field_at place) values } = λ i. record { dtype = type i; values = is i } in
-    ap (λ (cs : List ColumnData). cs ++ columns_for (place + 1) (members_of (drop (place + 1) fields)) values) pushed
-    ∙ append_assoc made (part ∷ []) (columns_for (place + 1) (members_of (drop (place + 1) fields)) values)
-    ∙ (λ i. made ++ one i ∷ next i)
-    ∙ ap (λ (fs : List Field). made ++ columns_for place (members_of fs) values) (sym left) ∙ h
 
 pub columns_all : (ms : Members) (fields : List Field) (place : ℕ) (values : List Datum) (made : List ColumnData) → members_of fields ≡ ms → length fields ≤ place → made ++ columns_for place (members_of (drop place fields)) values ≡ columns_for 0 (members_of fields) values → made ≡ columns_for 0 ms values
 columns_all ms fields place values made view past h =
     sym (append-nil made) ∙ ap (λ (fs : List Field). made ++ columns_for place (members_of fs) values) (sym (drop_all place fields past)) ∙ h ∙ ap (λ (ns : Members). columns_for 0 ns values) view
 
 -- ---- what the rows are made of
-pub counts : {X Y : Type 0} (f : Datum → X) (g : Datum → Y) (vs : List Datum) (xs : List X) (ys : List Y) → xs ≡ map f vs → ys ≡ map g vs → length xs ≡ length ys
-counts f g vs xs ys e h = ap length e ∙ length-map vs f ∙ sym (ap length h ∙ length-map vs g)
 
 fit_as : (s t : DataType) (vs : List Datum) → s ≡ t → AllByRecursion (Fits (made_nullable s)) vs → AllByRecursion (Fits (made_nullable t)) vs
 fit_as s t vs e h = subst (λ (r : DataType). AllByRecursion (Fits (made_nullable r)) vs) e h

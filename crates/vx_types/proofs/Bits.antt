@@ -104,15 +104,6 @@ byte_small [] = omega arith
 byte_small (true ∷ bits) = twice_small 1 (byte_of bits) (length bits) (omega arith) (byte_small bits)
 byte_small (false ∷ bits) = twice_small 0 (byte_of bits) (length bits) (omega arith) (byte_small bits)
 
-bit_small : (bit : Bool) → cond bit 1 0 ≤ 1
-bit_small true = omega arith
-bit_small false = omega arith
-
-pub small_in : (k : ℕ) (bits : List Bool) → length bits ≤ k → byte_of bits < 2 ^ k
-small_in k [] h = omega (arith, pow_pos k)
-small_in zero (bit ∷ bits) h = absurd (omega arith)
-small_in (suc k) (bit ∷ bits) h = twice_small (cond bit 1 0) (byte_of bits) k (bit_small bit) (small_in k bits (omega arith))
-
 one_more_byte : (n b : ℕ) (bytes : List ℕ) → IsPadded n bytes → IsPadded (eight_more n) (b ∷ bytes)
 one_more_byte n b bytes h =
     let place : (eight_more n) / 8 ≡ suc (n / 8) = omega arith in
@@ -174,33 +165,6 @@ read_packed (suc (suc (suc (suc (suc (suc zero)))))) bytes len pad small = few_s
 read_packed (suc (suc (suc (suc (suc (suc (suc zero))))))) bytes len pad small = few_spelled 7 bytes (omega arith) (omega arith) len pad
 
 -- ---- the bit of a row
-row_bit_in : (b : ℕ) (bytes : List ℕ) (row : ℕ) → row < 8 → get_or (flat_map bits_of (b ∷ bytes)) row false ≡ (bit_at b row == 1)
-row_bit_in b bytes zero h = refl
-row_bit_in b bytes (suc zero) h = refl
-row_bit_in b bytes (suc (suc zero)) h = refl
-row_bit_in b bytes (suc (suc (suc zero))) h = refl
-row_bit_in b bytes (suc (suc (suc (suc zero)))) h = refl
-row_bit_in b bytes (suc (suc (suc (suc (suc zero))))) h = refl
-row_bit_in b bytes (suc (suc (suc (suc (suc (suc zero)))))) h = refl
-row_bit_in b bytes (suc (suc (suc (suc (suc (suc (suc zero))))))) h = refl
-row_bit_in b bytes (suc (suc (suc (suc (suc (suc (suc (suc row)))))))) h = absurd (omega arith)
-
-pub row_bit : (bytes : List ℕ) (row : ℕ) → row / 8 < length bytes → get_or (flat_map bits_of bytes) row false ≡ (bit_at (get_or bytes (row / 8) 0) (row % 8) == 1)
-row_bit [] row h = absurd (omega arith)
-row_bit (b ∷ bytes) (suc (suc (suc (suc (suc (suc (suc (suc row)))))))) h =
-    let place : eight_more row / 8 ≡ suc (row / 8) = omega arith in
-    let left : eight_more row % 8 ≡ row % 8 = omega arith in
-    let back = sym place in
-    let same = sym left in
-    row_bit bytes row (omega arith) ∙ (λ i. bit_at (get_or (b ∷ bytes) (back i) 0) (same i) == 1)
-row_bit (b ∷ bytes) zero h = row_bit_in b bytes 0 (omega arith)
-row_bit (b ∷ bytes) (suc zero) h = row_bit_in b bytes 1 (omega arith)
-row_bit (b ∷ bytes) (suc (suc zero)) h = row_bit_in b bytes 2 (omega arith)
-row_bit (b ∷ bytes) (suc (suc (suc zero))) h = row_bit_in b bytes 3 (omega arith)
-row_bit (b ∷ bytes) (suc (suc (suc (suc zero)))) h = row_bit_in b bytes 4 (omega arith)
-row_bit (b ∷ bytes) (suc (suc (suc (suc (suc zero))))) h = row_bit_in b bytes 5 (omega arith)
-row_bit (b ∷ bytes) (suc (suc (suc (suc (suc (suc zero)))))) h = row_bit_in b bytes 6 (omega arith)
-row_bit (b ∷ bytes) (suc (suc (suc (suc (suc (suc (suc zero))))))) h = row_bit_in b bytes 7 (omega arith)
 
 pub length-bits_of : (bytes : List ℕ) → length (flat_map bits_of bytes) ≡ 8 * length bytes
 length-bits_of [] = refl

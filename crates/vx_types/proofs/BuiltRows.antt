@@ -95,10 +95,6 @@ parts_have (member name t ms) (part ∷ parts) rows h = (h.1, parts_have ms part
 parts_have no_members (part ∷ parts) rows h = absurd h
 parts_have (member name t ms) [] rows h = absurd h
 
-pub rows_inside : (parts : List ColumnData) (row rows : ℕ) → row < rows → AllByRecursion (λ part. length part.values ≡ rows) parts → AllByRecursion (λ part. row < length part.values) parts
-rows_inside [] row rows lt h = tt
-rows_inside (part ∷ parts) row rows lt h = (omega (arith, h.0), rows_inside parts row rows lt h.1)
-
 each_part_fits : (ms : Members) (parts : List ColumnData) (row rows : ℕ) → row < rows → ArePartsOf ms parts rows → AllByRecursion IsFitting parts → EachFits ms (items_at parts row)
 each_part_fits no_members [] row rows lt h f = tt
 each_part_fits (member name t ms) (part ∷ parts) row rows lt h f =
@@ -122,50 +118,11 @@ pub packed_fit : (ms : Members) (parts : List ColumnData) (validity : Option (Li
 packed_fit ms parts validity rows h f = all_rows_fit ms parts validity 0 rows rows (omega arith) h f
 
 -- ---- one more
-all_at_place : {X : Type 0} (P : X → Type 0) (xs : List X) (i : ℕ) (x : X) → i < length xs → x ≡ get_or xs i x → AllByRecursion P xs → P x
-all_at_place P [] i x lt e h = absurd (omega arith)
-all_at_place P (y ∷ xs) zero x lt e h = subst P (sym e) h.0
-all_at_place P (y ∷ xs) (suc i) x lt e h = all_at_place P xs i x (omega arith) e h.1
-
-all_taken_more_suc : {X : Type 0} (P : X → Type 0) (xs : List X) (i : ℕ) (x : X) → i < length xs → x ≡ get_or xs i x → P x → AllByRecursion P (take i xs) → AllByRecursion P (take (suc i) xs)
-all_taken_more_suc P [] i x lt e p h = absurd (omega arith)
-all_taken_more_suc P (y ∷ xs) zero x lt e p h = (subst P e p, tt)
-all_taken_more_suc P (y ∷ xs) (suc i) x lt e p h = (h.0, all_taken_more_suc P xs i x (omega arith) e p h.1)
-
-pub place_at : (rows : ℕ) (codes : List Value) (i : ℕ) (code : Value) → i < length codes → code ≡ get_or codes i code → AllByRecursion (IsPlaceBelow rows) (map datum codes) → IsPlaceBelow rows (datum code)
-place_at rows [] i code lt e h = absurd (omega arith)
-place_at rows (c ∷ codes) zero code lt e h = subst (λ (w : Value). IsPlaceBelow rows (datum w)) (sym e) h.0
-place_at rows (c ∷ codes) (suc i) code lt e h = place_at rows codes i code (omega arith) e h.1
-
-pub found_more : (vs : List Datum) (codes found more : List Value) (i : ℕ) (code value : Value) → i < length codes → code ≡ get_or codes i code → datum value ≡ value_at vs (datum code) → more ≡ found ++ value ∷ []
-    → map datum found ≡ map (value_at vs) (map datum (take i codes)) → map datum more ≡ map (value_at vs) (map datum (take (i + 1) codes))
-found_more vs codes found more i code value lt e is pushed so_far =
-    let one = take_more codes i code lt in
-    rw (pushed, one, ← e, map-append datum found (value ∷ []), map-append datum (take i codes) (code ∷ []), map-append (value_at vs) (map datum (take i codes)) (datum code ∷ []), so_far, is) refl
-
-pub inside_at : (parts : List ColumnData) (row i : ℕ) (part : ColumnData) → i < length parts → part ≡ get_or parts i part → AllByRecursion (λ p. row < length p.values) parts → row < length part.values
-inside_at parts row i part lt e h = all_at_place (λ (p : ColumnData). row < length p.values) parts i part lt e h
-
-pub column_inside : (part : ColumnData) (column : List Value) (row : ℕ) → map datum column ≡ part.values → row < length part.values → row < length column
-column_inside part column row e lt = omega (arith, lt, ap length e, length-map column datum)
-
-pub fitting_more : (parts : List ColumnData) (i : ℕ) (part : ColumnData) → i < length parts → part ≡ get_or parts i part → IsFitting part → AllByRecursion IsFitting (take i parts) → AllByRecursion IsFitting (take (i + 1) parts)
-fitting_more parts i part lt e f h = rw add-one (all_taken_more_suc IsFitting parts i part lt e f h)
 
 abbrev pub in_row : ℕ → ColumnData → Datum
 in_row row part = get_or part.values row null
-
-pub items_more : (parts : List ColumnData) (values more : List Value) (i row : ℕ) (part : ColumnData) (column : List Value) (x value : Value) → i < length parts → part ≡ get_or parts i part → map datum column ≡ part.values → row < length column → x ≡ get_or column row x → datum value ≡ datum x → more ≡ values ++ value ∷ []
-    → map datum values ≡ map (in_row row) (take i parts) → map datum more ≡ map (in_row row) (take (i + 1) parts)
-items_more parts values more i row part column x value lt e shown inside at same pushed so_far =
-    let one = take_more parts i part lt in
-    let here : in_row row part ≡ datum x = ap (λ (vs : List Datum). get_or vs row null) (sym shown) ∙ get_or-map datum column row x null inside ∙ ap datum (sym at) in
-    rw (pushed, one, ← e, map-append datum values (value ∷ []), map-append (in_row row) (take i parts) (part ∷ []), so_far, same, here) refl
 
 pub rows_more : (validity : Option (List Bool)) (parts : List ColumnData) (values more : List Value) (row : ℕ) (value : Value) → more ≡ values ++ value ∷ [] → datum value ≡ packed_at validity parts row
     → map datum values ≡ map (packed_at validity parts) (range_with_len 0 row) → map datum more ≡ map (packed_at validity parts) (range_with_len 0 (row + 1))
 rows_more validity parts values more row value pushed is so_far =
     ap (map datum) pushed ∙ map-append datum values (value ∷ []) ∙ ap (λ (vs : List Datum). vs ++ datum value ∷ []) so_far ∙ ap (λ (v : Datum). map (packed_at validity parts) (range_with_len 0 row) ++ v ∷ []) is ∙ sym (map-range_with_len_more (packed_at validity parts) 0 row row (omega arith))
-
-pub fit_more : (parts : List ColumnData) (values more : List Value) (value : Value) → more ≡ values ++ value ∷ [] → FitsParts parts (datum value) → AllByRecursion (FitsParts parts) (map datum values) → AllByRecursion (FitsParts parts) (map datum more)
-fit_more parts values more value pushed f h = rw (pushed, map-append datum values (value ∷ [])) (all-append (FitsParts parts) (map datum values) (datum value ∷ []) h (f, tt))

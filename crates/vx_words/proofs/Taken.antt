@@ -102,6 +102,3 @@ sifted_more mask values i c w v picked words more rest next len one two rows fit
       counted = passed_more mask i c w len one h.counted;
       rows = subst (λ (bs : List Bool). Filtered Bool mask values bs (i + 1)) (sym kept) (filtered_more Bool mask values (low_bits len (total words rest)) i c w one h.rows);
     }
-
-pub sifted_all : (mask values : List Bool) (i : ℕ) (words : List ℕ) (rest len : ℕ) → length mask ≤ 64 * i → Sifted mask values i words rest len → low_bits len (total words rest) ≡ chosen mask values
-sifted_all mask values i words rest len past h = filtered_all Bool mask values (low_bits len (total words rest)) i past h.rows

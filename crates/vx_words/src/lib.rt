@@ -1,6 +1,8 @@
 //! Truth values packed into words: [`Mask`], [`filter`], and the calls over words that it rests on, [`kernels`].
+//! [`bytes_by_hand`] and [`masks_by_hand`] check the definitions on literals.
 #![tactic(auto)]
 
+mod by_hand;
 mod deposits;
 mod filters;
 mod joins;
@@ -9,5 +11,6 @@ mod masks;
 mod pairs;
 mod parts;
 
+pub use by_hand::{bytes_by_hand, masks_by_hand};
 pub use filters::filter;
 pub use masks::{Mask, masks_choose_twice};
