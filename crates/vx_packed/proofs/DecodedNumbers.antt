@@ -12,26 +12,14 @@ use Rattle.vx_types.specs.Parts.{IsValidity, valid_bits}
 use Rattle.vx_types.specs.Segment.{Spells, is_value, number_in, number_bytes, validity_bytes, packed}
 use Rattle.vx_types.specs.Reading.{bits_of, bits_read, where_valid, numbers_read}
 use Rattle.vx_types.proofs.Bits.{read_packed, length-bits_of}
-use Rattle.vx_types.proofs.Decoded.{Known, AreBytes, numbers_short}
+use Rattle.vx_types.proofs.Decoded.{Known, AreBytes, front_bytes, numbers_short, valid_len}
 use Rattle.vx_types.proofs.KindNumbers.{numbers_again}
-use Rattle.vx_types.proofs.Leaves.{two_parts, all_inside}
+use Rattle.vx_types.proofs.Leaves.{two_parts, all_inside, slots_of_numbers}
 use Rattle.vx_words.specs.Rows.{NullsHold}
 use Rattle.vx_packed.specs.Slots.{Takes}
 use Rattle.vx_packed.proofs.ValidRows.{length-where_valid, valid_again}
 
 -- ---- the validity
-pub valid_len : (n : Nullability) (rows : ℕ) (validity : List ℕ) → IsValidity n rows validity → length (valid_bits n rows validity) ≡ rows
-valid_len NonNullable rows validity h = length-replicate rows true
-valid_len Nullable rows validity h = omega (arith, length-take rows (flat_map bits_of validity), length-bits_of validity, h.0)
-
-pub front_bytes : (bytes front back : List ℕ) → bytes ≡ front ++ back → AreBytes bytes → AreBytes front
-front_bytes bytes front back e h i = front_byte front i (λ lt. subst (λ (b : ℕ). b < 256) (ap (λ (bs : List ℕ). get_or bs i 0) e ∙ get_or_append_left front back 0 i lt) (h i))
-  where
-    front_byte : (xs : List ℕ) (k : ℕ) → (k < length xs → get_or xs k 0 < 256) → get_or xs k 0 < 256
-    front_byte [] k f = omega arith
-    front_byte (x ∷ xs) zero f = f (omega arith)
-    front_byte (x ∷ xs) (suc k) f = front_byte xs k (λ lt. f (omega arith))
-
 -- the validity bytes of rows that have this mask
 pub validity_is : (n : Nullability) (rows : ℕ) (validity : List ℕ) (values : List Datum) → IsValidity n rows validity → AreBytes validity → map is_value values ≡ valid_bits n rows validity → validity_bytes n values ≡ validity
 validity_is NonNullable rows validity values h small e = sym h
@@ -91,10 +79,6 @@ numbers_spell kind n rows bytes validity slots mask zs joined ok small is count 
     }
 
 -- ---- what else spells the bytes
-slots_of_numbers : (kind : IntKind) (values : List Datum) → flat_map (number_slot kind) values ≡ flat_map (number_bytes kind) (map number_in values)
-slots_of_numbers kind [] = refl
-slots_of_numbers kind (v ∷ vs) = ap (λ (bs : List ℕ). number_slot kind v ++ bs) (slots_of_numbers kind vs)
-
 same_numbers : (kind : IntKind) (ys zs : List ℤ) → length ys ≡ length zs → AllByRecursion (IsInside kind) ys → AllByRecursion (IsInside kind) zs → flat_map (number_bytes kind) ys ≡ flat_map (number_bytes kind) zs → ys ≡ zs
 same_numbers kind ys zs len p q e =
     sym (numbers_again kind ys p) ∙ (λ i. numbers_read kind (len i) (e i)) ∙ numbers_again kind zs q

@@ -13,13 +13,13 @@ use Rattle.vx_types.specs.Leaf.{length_slot}
 use Rattle.vx_types.specs.Parts.{IsValidity, valid_bits}
 use Rattle.vx_types.specs.Segment.{Spells, IsShort, is_value, text_in, validity_bytes}
 use Rattle.vx_types.specs.Reading.{where_valid, lengths_read}
-use Rattle.vx_types.proofs.Decoded.{AreBytes}
+use Rattle.vx_types.proofs.Decoded.{AreBytes, back_bytes, front_bytes, valid_len}
 use Rattle.vx_types.proofs.Leaves.{two_parts}
 use Rattle.vx_words.specs.Rows.{NullsHold}
 use Rattle.vx_packed.specs.Slots.{Takes}
 use Rattle.vx_packed.specs.Texts.{cut, AreEnds, ends_after, ends_read}
 use Rattle.vx_packed.proofs.CutTexts.{ends_below, flat-cut, length_cut}
-use Rattle.vx_packed.proofs.DecodedNumbers.{valid_len, validity_is, front_bytes, mask_taken}
+use Rattle.vx_packed.proofs.DecodedNumbers.{validity_is, mask_taken}
 use Rattle.vx_packed.proofs.ValidRows.{length-where_valid, valid_again}
 
 -- ---- UTF-8 of the whole buffer and of its texts
@@ -266,9 +266,6 @@ nulls_are_empty n [] h = tt
 nulls_are_empty n (null ∷ vs) h = (refl, nulls_are_empty n vs h.1)
 nulls_are_empty n (text t ∷ vs) h = nulls_are_empty n vs h.1
 nulls_are_empty n (_ ∷ vs) h = absurd h.0
-
-pub back_bytes : (bytes front back : List ℕ) → bytes ≡ front ++ back → AreBytes bytes → AreBytes back
-back_bytes bytes front back e h i = subst (λ (b : ℕ). b < 256) (ap (λ (bs : List ℕ). get_or bs (length front + i) 0) e ∙ get_or-append-add front back i 0) (h (length front + i))
 
 pub length_bytes : (bytes validity slots lengths : List ℕ) (n : ℕ) → bytes ≡ validity ++ slots → lengths ≡ take n slots → AreBytes bytes → AreBytes lengths
 length_bytes bytes validity slots lengths n joined front small =

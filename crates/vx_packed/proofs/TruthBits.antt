@@ -9,12 +9,12 @@ use Rattle.vx_types.specs.Parts.{IsValidity, valid_bits}
 use Rattle.vx_types.specs.Segment.{Spells, is_value, truth_in, validity_bytes, packed}
 use Rattle.vx_types.specs.Reading.{bits_read, where_valid}
 use Rattle.vx_types.proofs.Bits.{packed_read}
-use Rattle.vx_types.proofs.Decoded.{Known, AreBytes, truths_short}
+use Rattle.vx_types.proofs.Decoded.{Known, AreBytes, truths_short, valid_len, front_bytes}
 use Rattle.vx_types.proofs.Leaves.{two_parts}
 use Rattle.vx_words.specs.Masks.{both}
 use Rattle.vx_words.specs.Rows.{NullsHold}
 use Rattle.vx_packed.specs.Slots.{Takes}
-use Rattle.vx_packed.proofs.DecodedNumbers.{valid_len, validity_is, front_bytes, mask_taken}
+use Rattle.vx_packed.proofs.DecodedNumbers.{validity_is, mask_taken}
 use Rattle.vx_packed.proofs.PackedRows.{all_fit, held_truths}
 use Rattle.vx_packed.proofs.SlotRows.{truths_fit}
 use Rattle.vx_packed.proofs.ValidRows.{length-where_valid, valid_again, slots_again}

@@ -25,7 +25,7 @@ use Rattle.vx_types.proofs.Leaves.{none_null, validity_len, all_inside, two_part
 abbrev pub AreBytes : List ℕ → Type 0
 AreBytes bytes = (i : ℕ) → get_or bytes i 0 < 256
 
-front_bytes : (bytes front back : List ℕ) → bytes ≡ front ++ back → AreBytes bytes → AreBytes front
+pub front_bytes : (bytes front back : List ℕ) → bytes ≡ front ++ back → AreBytes bytes → AreBytes front
 front_bytes bytes front back e h i = front_byte front i (λ lt. subst (λ (b : ℕ). b < 256) (ap (λ (bs : List ℕ). get_or bs i 0) e ∙ get_or_append_left front back 0 i lt) (h i))
   where
     front_byte : (xs : List ℕ) (k : ℕ) → (k < length xs → get_or xs k 0 < 256) → get_or xs k 0 < 256
@@ -33,23 +33,13 @@ front_bytes bytes front back e h i = front_byte front i (λ lt. subst (λ (b : �
     front_byte (x ∷ xs) zero f = f (omega arith)
     front_byte (x ∷ xs) (suc k) f = front_byte xs k (λ lt. f (omega arith))
 
-back_bytes : (bytes front back : List ℕ) → bytes ≡ front ++ back → AreBytes bytes → AreBytes back
+pub back_bytes : (bytes front back : List ℕ) → bytes ≡ front ++ back → AreBytes bytes → AreBytes back
 back_bytes bytes front back e h i = subst (λ (b : ℕ). b < 256) (ap (λ (bs : List ℕ). get_or bs (length front + i) 0) e ∙ get_or-append-add front back i 0) (h (length front + i))
 
 -- ---- the validity
-valid_len : (n : Nullability) (rows : ℕ) (validity : List ℕ) → IsValidity n rows validity → length (valid_bits n rows validity) ≡ rows
+pub valid_len : (n : Nullability) (rows : ℕ) (validity : List ℕ) → IsValidity n rows validity → length (valid_bits n rows validity) ≡ rows
 valid_len NonNullable rows validity h = length-replicate rows true
 valid_len Nullable rows validity h = omega (arith, length-take rows (flat_map bits_of validity), length-bits_of validity, h.0)
-
-validity_is : (n : Nullability) (rows : ℕ) (validity : List ℕ) (values : List Datum) → IsValidity n rows validity → AreBytes validity → map is_value values ≡ take rows (valid_bits n rows validity) → validity_bytes n values ≡ validity
-validity_is NonNullable rows validity values h small e = sym h
-validity_is Nullable rows validity values h small e = ap packed (e ∙ take-take rows rows (flat_map bits_of validity) (omega arith)) ∙ read_packed rows validity h.0 h.1 small
-
--- ---- what was read so far
-pub record HasRead (t : DataType) (n : Nullability) (rows row : ℕ) (validity : List ℕ) (values : List Value) : Type 0 where
-  pub count : length values ≡ row
-  pub valid : map is_value (map datum values) ≡ take row (valid_bits n rows validity)
-  pub fit : AllByRecursion (Fits t) (map datum values)
 
 -- ---- what a spelling has
 pub record Known (t : DataType) (n : Nullability) (rows : ℕ) (validity slots : List ℕ) (values : List Datum) : Type 0 where

@@ -94,7 +94,7 @@ all_inside kind n (null ∷ vs) h = (zero_inside kind, all_inside kind n vs h.1)
 all_inside kind n (number z ∷ vs) h = (h.0, all_inside kind n vs h.1)
 all_inside kind n (_ ∷ vs) h = absurd h.0
 
-slots_of_numbers : (kind : IntKind) (values : List Datum) → flat_map (number_slot kind) values ≡ flat_map (number_bytes kind) (map number_in values)
+pub slots_of_numbers : (kind : IntKind) (values : List Datum) → flat_map (number_slot kind) values ≡ flat_map (number_bytes kind) (map number_in values)
 slots_of_numbers kind [] = refl
 slots_of_numbers kind (v ∷ vs) = ap (λ (bs : List ℕ). number_slot kind v ++ bs) (slots_of_numbers kind vs)
 

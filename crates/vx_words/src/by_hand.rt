@@ -1,6 +1,6 @@
 //! Masks and bytes that were spelled by hand, on which the definitions of truth values are checked.
 
-ghost use Rattle.std.specs.Prelude.{◌≡◌, ◌∷◌, [], true, false};
+ghost use Rattle.std.specs.Prelude.{◌≡◌, ℕ, ◌∷◌, [], true, false};
 ghost use Rattle.vx_words.specs.Bytes.{packed};
 ghost use Rattle.vx_words.specs.Masks.{both, chosen, chosen_of_chosen, either, is_among, place_of_rank, true_count, without};
 ghost use Rattle.vx_words.specs.Rows.{taken};
@@ -17,7 +17,7 @@ pub fn bytes_by_hand()
 /// What a mask chooses: the rows at its true places, in order. A choice among the chosen keeps or drops the true
 /// rows alone; ranks and places count from 0.
 pub fn masks_by_hand()
-    ensures picked { chosen (true ∷ false ∷ true ∷ []) (10 ∷ 20 ∷ 30 ∷ []) ≡ 10 ∷ 30 ∷ [] }
+    ensures picked { chosen {X = ℕ} (true ∷ false ∷ true ∷ []) (10 ∷ 20 ∷ 30 ∷ []) ≡ 10 ∷ 30 ∷ [] }
     ensures among_picked { chosen_of_chosen (true ∷ false ∷ true ∷ true ∷ []) (false ∷ true ∷ true ∷ []) ≡ false ∷ false ∷ true ∷ true ∷ [] }
     ensures in_both { both (true ∷ true ∷ false ∷ []) (true ∷ false ∷ true ∷ []) ≡ true ∷ false ∷ false ∷ [] }
     ensures in_one { either (true ∷ false ∷ false ∷ []) (true ∷ false ∷ true ∷ []) ≡ true ∷ false ∷ true ∷ [] }
@@ -25,5 +25,5 @@ pub fn masks_by_hand()
     ensures count { true_count (true ∷ false ∷ true ∷ []) ≡ 2 }
     ensures second_true { place_of_rank (false ∷ true ∷ false ∷ true ∷ []) 1 ≡ 3 }
     ensures listed { is_among (2 ∷ 5 ∷ []) 5 ≡ true }
-    ensures by_place { taken 0 (10 ∷ 20 ∷ []) (1 ∷ 0 ∷ 2 ∷ []) ≡ 20 ∷ 10 ∷ 0 ∷ [] }
+    ensures by_place { taken {X = ℕ} 0 (10 ∷ 20 ∷ []) (1 ∷ 0 ∷ 2 ∷ []) ≡ 20 ∷ 10 ∷ 0 ∷ [] }
 {}

@@ -4,10 +4,10 @@ use Rattle.std.specs.List.{AllByRecursion}
 use Rattle.vx_types.specs.declared.dtypes.IntKind.{IntKind}
 use Rattle.vx_types.specs.Fits.{IsInside}
 use Rattle.vx_types.specs.Data.{int_type}
-use Rattle.vx_types.proofs.Decoded.{known, numbers_fill}
+use Rattle.vx_types.proofs.Decoded.{known, numbers_fill, valid_len}
 use Rattle.vx_packed.specs.Numbers.{numbers_in}
 use Rattle.vx_words.specs.Rows.{NullsHold}
-use Rattle.vx_packed.proofs.DecodedNumbers.{valid_len, mask_taken, numbers_spell, spelled_zero}
+use Rattle.vx_packed.proofs.DecodedNumbers.{mask_taken, numbers_spell, spelled_zero}
 use Rattle.vx_packed.proofs.decoded_numbers.decode_numbers.Goals as goal
 
 pub returns-then-not-is_filled-clause-refused : goal.returns-then-not-is_filled-clause-refused

@@ -5,10 +5,10 @@ use Rattle.std.specs.Str.{IsUtf8}
 use Rattle.vx_types.specs.Data.{utf8_type, text}
 use Rattle.vx_types.specs.Reading.{where_valid}
 use Rattle.vx_types.specs.Segment.{Spells, text_in, is_value}
-use Rattle.vx_types.proofs.Decoded.{AreBytes, known, texts_room, texts_known}
+use Rattle.vx_types.proofs.Decoded.{AreBytes, known, texts_room, texts_known, valid_len}
 use Rattle.vx_words.specs.Rows.{NullsHold}
 use Rattle.vx_packed.specs.Texts.{cut, AreEnds, ends_read}
-use Rattle.vx_packed.proofs.DecodedNumbers.{valid_len, mask_taken}
+use Rattle.vx_packed.proofs.DecodedNumbers.{mask_taken}
 use Rattle.vx_packed.proofs.DecodedTexts.{length_texts, length_bytes, texts_spell, texts_of, values_utf8, nulls_are_empty}
 use Rattle.vx_packed.proofs.decoded_texts.decode_texts.Goals as goal
 

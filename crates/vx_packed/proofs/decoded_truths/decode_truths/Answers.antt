@@ -2,10 +2,10 @@ use Rattle.std.proofs.Common.{◌≡◌, ◌∙◌, arith, ap, sym, length, map,
 use Rattle.std.specs.Prelude.{IsTrue}
 use Rattle.vx_types.specs.Data.{bool_type}
 use Rattle.vx_types.specs.Segment.{truth_in}
-use Rattle.vx_types.proofs.Decoded.{known}
+use Rattle.vx_types.proofs.Decoded.{known, valid_len}
 use Rattle.vx_words.specs.Bytes.{packed, SpellNoRows}
 use Rattle.vx_words.specs.Rows.{NullsHold}
-use Rattle.vx_packed.proofs.DecodedNumbers.{valid_len, mask_taken}
+use Rattle.vx_packed.proofs.DecodedNumbers.{mask_taken}
 use Rattle.vx_packed.proofs.TruthBits.{both_held, held_both, truths_spell, spelled_false, truths_spelled}
 use Rattle.vx_packed.proofs.decoded_truths.decode_truths.Goals as goal
 
