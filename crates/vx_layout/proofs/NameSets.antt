@@ -1,16 +1,13 @@
 -- Sets of names, and the fields whose names stand in one.
-use Rattle.std.proofs.Common.{◌≡◌, ℕ, zero, suc, ◌+◌, ◌<◌, Bool, true, false, cond, not, ◌||◌, List, [], ◌∷◌, ◌++◌, Option, Some, None, map, length, get_or, take, refl, sym, ap, ◌∙◌, arith, Bor, Ordering}
+use Rattle.std.proofs.Common.{◌≡◌, ℕ, zero, suc, ◌+◌, ◌<◌, Bool, true, false, cond, not, ◌||◌, List, [], ◌∷◌, ◌++◌, Option, Some, None, map, length, get_or, take, refl, sym, ap, ◌∙◌, arith, Bor}
 use Rattle.std.specs.Prelude.{filter, option_map}
 use Rattle.std.specs.List.{list_any}
 use Rattle.std.specs.Str.{bytes_eq}
 use Rattle.std.specs.BTreeSet.{insert_key}
 use Rattle.std.specs.BTreeMap.{is_at}
-use Rattle.std.specs.Ordering.{is_eq, nat_cmp, match_ordering}
-use Rattle.std.specs.declared.cmp.Ordering.TheVariants.{Less, Equal, Greater}
-use Rattle.std.specs.Cmp.Lexicographic.{slice_cmp}
 use Rattle.std.proofs.lemmas.List.{map-append, take_more}
-use Rattle.std.proofs.lemmas.Map.Text.{is_eq-slice_cmp}
 use Rattle.std.proofs.lemmas.Slice.Eq.{bytes_eq-Decides}
+use Rattle.vx_types.proofs.SeenNames.{inserted, looked_up, or_swap, text_cmp, texts}
 use Rattle.vx_base.specs.declared.dtypes.Field.{Field}
 use Rattle.vx_base.specs.Data.{Members}
 use Rattle.vx_base.specs.Names.{names_in}
@@ -21,50 +18,6 @@ use Rattle.vx_layout.specs.Kept.{is_kept, kept_among, names_among, only}
 -- whether the name is one of these
 abbrev pub stands_in : List (List ℕ) → List ℕ → Bool
 stands_in names name = is_kept (only names) name
-
-eq_swap : (xs ys : List ℕ) (a b : Bool) → bytes_eq xs ys ≡ a → bytes_eq ys xs ≡ b → a ≡ b
-eq_swap xs ys true true e f = refl
-eq_swap xs ys false false e f = refl
-eq_swap xs ys true false e f = let no = (bytes_eq-Decides ys xs).1 (sym ((bytes_eq-Decides xs ys).0 e)) in absurd cc
-eq_swap xs ys false true e f = let no = (bytes_eq-Decides xs ys).1 (sym ((bytes_eq-Decides ys xs).0 f)) in absurd cc
-
-swapped : (xs ys : List ℕ) → bytes_eq xs ys ≡ bytes_eq ys xs
-swapped xs ys = eq_swap xs ys _ _ refl refl
-
--- the texts of a set's keys
-abbrev pub texts : List (Bor (List ℕ)) → List (List ℕ)
-texts keys = map (λ key. key.now) keys
-
-abbrev text_cmp : Bor (List ℕ) → Bor (List ℕ) → Ordering
-text_cmp x y = slice_cmp nat_cmp x.now y.now
-
--- a set looks a key up by its bytes
-pub looked_up : (keys : List (Bor (List ℕ))) (key : Bor (List ℕ)) → list_any (is_at (text_cmp key)) keys ≡ stands_in (texts keys) key.now
-looked_up [] key = refl
-looked_up (k ∷ ks) key = let here = is_eq-slice_cmp key.now k.now ∙ swapped key.now k.now in let later = looked_up ks key in λ i. here i || later i
-
-or_swap : (a b c : Bool) → (a || (b || c)) ≡ (b || (a || c))
-or_swap true true c = refl
-or_swap true false c = refl
-or_swap false b c = refl
-
-or_same : (a b : Bool) → (a || (a || b)) ≡ (a || b)
-or_same true b = refl
-or_same false b = refl
-
-inserted_at : (o : Ordering) (k : Bor (List ℕ)) (key : Bor (List ℕ)) (ks rest : List (Bor (List ℕ))) (q : List ℕ) → (o ≡ Equal → key.now ≡ k.now) → stands_in (texts rest) q ≡ (bytes_eq key.now q || stands_in (texts ks) q)
-    → stands_in (texts (match_ordering o (key ∷ k ∷ ks) (k ∷ ks) (k ∷ rest))) q ≡ (bytes_eq key.now q || (bytes_eq k.now q || stands_in (texts ks) q))
-inserted_at Less k key ks rest q same later = refl
-inserted_at Equal k key ks rest q same later = sym (ap (λ (x : List ℕ). bytes_eq x q || (bytes_eq k.now q || stands_in (texts ks) q)) (same refl) ∙ or_same (bytes_eq k.now q) (stands_in (texts ks) q))
-inserted_at Greater k key ks rest q same later = ap (λ (b : Bool). bytes_eq k.now q || b) later ∙ or_swap (bytes_eq k.now q) (bytes_eq key.now q) (stands_in (texts ks) q)
-
-same_text : (xs ys : List ℕ) → slice_cmp nat_cmp xs ys ≡ Equal → xs ≡ ys
-same_text xs ys e = (bytes_eq-Decides xs ys).0 (sym (is_eq-slice_cmp xs ys) ∙ ap is_eq e)
-
--- what a set has seen after an insertion
-pub inserted : (keys : List (Bor (List ℕ))) (key : Bor (List ℕ)) (q : List ℕ) → stands_in (texts (insert_key text_cmp keys key)) q ≡ stands_in (key.now ∷ texts keys) q
-inserted [] key q = refl
-inserted (k ∷ ks) key q = inserted_at (text_cmp key k) k key ks (insert_key text_cmp ks key) q (same_text key.now k.now) (inserted ks key q)
 
 seen_last : (xs : List (List ℕ)) (x q : List ℕ) → stands_in (xs ++ x ∷ []) q ≡ (bytes_eq x q || stands_in xs q)
 seen_last [] x q = refl

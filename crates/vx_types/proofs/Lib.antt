@@ -10,4 +10,5 @@ pub mod Leaves
 pub mod Lists
 pub mod Members
 pub mod Rows
+pub mod SeenNames
 pub mod Spelled

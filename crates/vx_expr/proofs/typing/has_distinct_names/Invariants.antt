@@ -2,7 +2,7 @@ use Rattle.std.proofs.Common.{◌≡◌, drop}
 use Rattle.vx_expr.specs.TermViews.{terms_of}
 use Rattle.vx_base.specs.Names.{are_distinct}
 use Rattle.vx_expr.specs.Types.{names_in}
-use Rattle.vx_expr.proofs.DistinctNames.{are_fresh, texts}
+use Rattle.vx_types.proofs.SeenNames.{are_fresh, texts}
 use Rattle.vx_expr.proofs.typing.has_distinct_names.Given as goal
 
 -- the names left are fresh beside those in the set where all names are distinct

@@ -1,5 +1,6 @@
 use Rattle.std.proofs.Common.{◌≡◌, ℕ, List, take}
-use Rattle.vx_layout.proofs.NameSets.{stands_in, texts}
+use Rattle.vx_layout.proofs.NameSets.{stands_in}
+use Rattle.vx_types.proofs.SeenNames.{texts}
 use Rattle.vx_layout.proofs.kept_fields.set_of.Given as goal
 
 abbrev pub invariant-loop-name : goal.invariant-loop-name
