@@ -13,12 +13,12 @@ use Rattle.vx_words.specs.Rows.{NullsHold}
 use Rattle.vx_packed.specs.Slots.{Takes}
 
 -- ---- one value more
-inside : (xs : List Datum) (row : ℕ) (v : Datum) → slice_get xs row ≡ Some v → row < length xs
+pub inside : (xs : List Datum) (row : ℕ) (v : Datum) → slice_get xs row ≡ Some v → row < length xs
 inside [] row v e = absurd cc
 inside (x ∷ xs) zero v e = omega arith
 inside (x ∷ xs) (suc row) v e = omega (arith, inside xs row v e)
 
-value_at : (xs : List Datum) (row : ℕ) (v : Datum) → slice_get xs row ≡ Some v → get_or xs row null ≡ v
+pub value_at : (xs : List Datum) (row : ℕ) (v : Datum) → slice_get xs row ≡ Some v → get_or xs row null ≡ v
 value_at [] row v e = absurd cc
 value_at (x ∷ xs) zero v e = cc
 value_at (x ∷ xs) (suc row) v e = value_at xs row v e

@@ -12,6 +12,7 @@ use Rattle.vx_packed.specs.PackedColumns.{IsColumn}
 use Rattle.vx_packed.specs.PartRows.{picked_at}
 use Rattle.vx_packed.specs.Slots.{bare}
 use Rattle.vx_packed.specs.Texts.{start_in}
+use Rattle.vx_types.proofs.AllFit.{all-append}
 
 -- ---- the ends so far
 pub record GoodSoFar (count : ℕ) (ends : List ℕ) (place before : ℕ) : Type 0 where
@@ -84,14 +85,10 @@ all_alike : (P : Datum → Type 0) (n : ℕ) (v : Datum) → P v → AllByRecurs
 all_alike P zero v h = tt
 all_alike P (suc n) v h = (h, all_alike P n v h)
 
-all_behind : (P : Datum → Type 0) (xs ys : List Datum) → AllByRecursion P xs → AllByRecursion P ys → AllByRecursion P (xs ++ ys)
-all_behind P [] ys g h = h
-all_behind P (x ∷ xs) ys g h = (g.0, all_behind P xs ys g.1 h)
-
 spread_fits : (P : Datum → Type 0) (from : ℕ) (vs : List Datum) (ends : List ℕ) → AllByRecursion P vs → AllByRecursion P (spread from vs ends)
 spread_fits P from [] ends h = tt
 spread_fits P from (v ∷ vs) [] h = tt
-spread_fits P from (v ∷ vs) (end ∷ ends) h = all_behind P (replicate (end - from) v) (spread end vs ends) (all_alike P (end - from) v h.0) (spread_fits P end vs ends h.1)
+spread_fits P from (v ∷ vs) (end ∷ ends) h = all-append P (replicate (end - from) v) (spread end vs ends) (all_alike P (end - from) v h.0) (spread_fits P end vs ends h.1)
 
 pub column_of_runs : (t : DataType) (vs : List Datum) (ends : List ℕ) (rows : ColumnData) → AllByRecursion (Fits t) vs → rows.dtype ≡ bare t → rows.values ≡ spread 0 vs ends → IsColumn t rows
 column_of_runs t vs ends rows fit type is = record { shape = sym type; fit = subst (AllByRecursion (Fits t)) (sym is) (spread_fits (Fits t) 0 vs ends fit) }

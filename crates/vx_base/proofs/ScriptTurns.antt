@@ -31,10 +31,10 @@ polled_unlisted (wait ∷ waits) (suc ticket) le = ap (λ (rest : List ℕ). wai
 
 -- ---- the order
 
-any_here : (P : ℕ → Type 0) (x : ℕ) (xs : List ℕ) → P x → Any P (x ∷ xs)
+pub any_here : (P : ℕ → Type 0) (x : ℕ) (xs : List ℕ) → P x → Any P (x ∷ xs)
 any_here P x xs p = (zero, x, omega arith, refl, p)
 
-any_there : (P : ℕ → Type 0) (x : ℕ) (xs : List ℕ) → Any P xs → Any P (x ∷ xs)
+pub any_there : (P : ℕ → Type 0) (x : ℕ) (xs : List ℕ) → Any P xs → Any P (x ∷ xs)
 any_there P x xs a = let lt : a.0 < length xs = a.2 in (suc a.0, a.1, omega arith, a.3, a.4)
 
 any_split : (P : ℕ → Type 0) (x : ℕ) (xs : List ℕ) → Any P (x ∷ xs) → P x ⊎ Any P xs

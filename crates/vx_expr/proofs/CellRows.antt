@@ -18,20 +18,12 @@ use Rattle.vx_expr.specs.declared.steps.TwoStep.TheVariants.{Arith}
 use Rattle.vx_expr.specs.Meaning.{arithmetic_of}
 use Rattle.vx_expr.specs.Rows.{along, front}
 use Rattle.vx_expr.specs.Steps.{cell_datum, evaluated_rows, item_at, two_step}
+use Rattle.vx_base.proofs.ColumnRows.{inside, value_at}
+use Rattle.vx_operators.proofs.Somes.{front_somes}
 use Rattle.vx_expr.proofs.Fronts.{along_none}
 use Rattle.vx_operators.specs.declared.operators.ArithOp.{ArithOp}
 use Rattle.vx_operators.specs.declared.worths.Worth.{Worth}
 use Rattle.vx_operators.specs.Worths.{worth_rows}
-
-inside : (xs : List Datum) (row : ℕ) (v : Datum) → slice_get xs row ≡ Some v → row < length xs
-inside [] row v e = absurd cc
-inside (x ∷ xs) zero v e = omega arith
-inside (x ∷ xs) (suc row) v e = omega (arith, inside xs row v e)
-
-value_at : (xs : List Datum) (row : ℕ) (v : Datum) → slice_get xs row ≡ Some v → get_or xs row null ≡ v
-value_at [] row v e = absurd cc
-value_at (x ∷ xs) zero v e = cc
-value_at (x ∷ xs) (suc row) v e = value_at xs row v e
 
 -- one cell more
 pub cells_more : (xs : List Datum) (cells more : List Cell) (row : ℕ) (cell : Cell) (v : Datum) → slice_get xs row ≡ Some v → cell_datum cell ≡ v → more ≡ cells ++ cell ∷ [] → map cell_datum cells ≡ take row xs → map cell_datum more ≡ take (row + 1) xs
@@ -45,10 +37,6 @@ all_valid [] (v ∷ vs) h e = absurd (omega arith)
 all_valid (bit ∷ mask) [] h e = absurd (omega arith)
 all_valid (true ∷ mask) (v ∷ vs) h e = ap (λ (rest : List Datum). v ∷ rest) (all_valid mask vs (λ k d lt. h (suc k) d (omega (arith, lt))) (omega arith))
 all_valid (false ∷ mask) (v ∷ vs) h e = let none : false ≡ true = h zero true (omega arith) in absurd cc
-
-front_somes : {A : Type 0} (xs : List A) → front (map (λ x. Some x) xs) ≡ xs
-front_somes [] = refl
-front_somes {A} (x ∷ xs) = ap (λ (ys : List A). x ∷ ys) (front_somes xs)
 
 items_at : (place : ℕ) (rows : List Items) → map (item_at (Some place)) (map structure rows) ≡ map (λ vs. slice_get (data_in vs) place) rows
 items_at place [] = refl

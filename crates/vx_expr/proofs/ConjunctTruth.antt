@@ -7,6 +7,7 @@ use Rattle.vx_expr.specs.Laws.{IsTrueAt}
 use Rattle.vx_expr.specs.Meaning.{meaning, and_of}
 use Rattle.vx_expr.specs.Terms.{Term, root, literal, get_field, pack, negation, conjunction, disjunction, comparison, null_test, value_test, arithmetic, row_number, bound_test}
 use Rattle.vx_expr.specs.Types.{on_both}
+use Rattle.vx_types.proofs.AllFit.{all-append}
 
 abbrev yes : Option Datum
 yes = Some (truth true)
@@ -47,14 +48,10 @@ all_back : (P : Term → Type 0) (xs ys : List Term) → AllByRecursion P (xs ++
 all_back P [] ys h = h
 all_back P (x ∷ xs) ys h = all_back P xs ys h.1
 
-all_joined : (P : Term → Type 0) (xs ys : List Term) → AllByRecursion P xs → AllByRecursion P ys → AllByRecursion P (xs ++ ys)
-all_joined P [] ys h k = k
-all_joined P (x ∷ xs) ys h k = (h.0, all_joined P xs ys h.1 k)
-
 pub conjuncts_from : (t : DataType) (e : Term) (bound : ℕ) (v : Datum) (row : ℕ) → IsTrueAt t bound v row e → AllByRecursion (IsTrueAt t bound v row) (conjuncts_of e)
 conjuncts_from t (conjunction a b) bound v row h =
     let p = both_from (meaning t bound a v row) (meaning t bound b v row) h in
-    all_joined (IsTrueAt t bound v row) (conjuncts_of a) (conjuncts_of b) (conjuncts_from t a bound v row p.0) (conjuncts_from t b bound v row p.1)
+    all-append (IsTrueAt t bound v row) (conjuncts_of a) (conjuncts_of b) (conjuncts_from t a bound v row p.0) (conjuncts_from t b bound v row p.1)
 conjuncts_from t root bound v row h = (h, tt)
 conjuncts_from t (literal w s) bound v row h = (h, tt)
 conjuncts_from t (get_field name e) bound v row h = (h, tt)

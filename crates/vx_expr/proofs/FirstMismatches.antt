@@ -12,6 +12,7 @@ use Rattle.vx_expr.specs.Refusals.{capped, first_part, behind, unless, field_ref
 use Rattle.vx_expr.specs.Terms.{Term, root, literal, get_field, pack, negation, conjunction, disjunction, comparison, null_test, value_test, arithmetic, row_number, bound_test, Terms, no_terms, named}
 use Rattle.vx_expr.specs.Types.{on_both, type_of, types_in, field_type, pack_type, names_in, negation_type, logic_type, comparison_type, test_type, arithmetic_type, bound_test_type, one_more_member}
 use Rattle.vx_expr.proofs.Refused.{none_refused, both_some}
+use Rattle.vx_types.proofs.AllFit.{all-append}
 
 -- ---- how many places a part takes
 counts_itself : (e : Term) → 0 < node_count e
@@ -50,10 +51,6 @@ mutual
   places_of_all (named name e es) = omega (arith, length-append (parts_in_preorder e) (parts_of_all es), places_of e, places_of_all es)
 
 -- ---- an expression with a dtype has no part without one
-all_join : (P : Term → Type 0) (xs ys : List Term) → AllByRecursion P xs → AllByRecursion P ys → AllByRecursion P (xs ++ ys)
-all_join P [] ys p q = q
-all_join P (x ∷ xs) ys p q = (p.0, all_join P xs ys p.1 q)
-
 some_from : {A B : Type 0} (f : A → Option B) (x : Option A) (s : B) → option_and_then f x ≡ Some s → (u : A) × (x ≡ Some u)
 some_from f None s e = absurd cc
 some_from f (Some u) s e = (u, refl)
@@ -73,7 +70,7 @@ two_typed : (t s : DataType) (a b : Term) (f : DataType → DataType → Option 
     → on_both f (type_of t a) (type_of t b) ≡ Some s → AllByRecursion (HasType t) (parts_in_preorder a ++ parts_in_preorder b)
 two_typed t s a b f left right h =
     let found = some_from_both f (type_of t a) (type_of t b) s h in
-    all_join (HasType t) (parts_in_preorder a) (parts_in_preorder b) (left found.0 found.2) (right found.1 found.3)
+    all-append (HasType t) (parts_in_preorder a) (parts_in_preorder b) (left found.0 found.2) (right found.1 found.3)
 
 mutual
   all_typed : (t : DataType) (e : Term) (s : DataType) → type_of t e ≡ Some s → AllByRecursion (HasType t) (parts_in_preorder e)
@@ -95,7 +92,7 @@ mutual
   all_typed_in t no_terms ms h = tt
   all_typed_in t (named name e es) ms h =
       let found = both_some name (type_of t e) (types_in t es) ms h in
-      all_join (HasType t) (parts_in_preorder e) (parts_of_all es) (all_typed t e found.0 found.2) (all_typed_in t es found.1 found.3)
+      all-append (HasType t) (parts_in_preorder e) (parts_of_all es) (all_typed t e found.0 found.2) (all_typed_in t es found.1 found.3)
 
 -- ---- the first part without a dtype, in longer lists
 -- the whole of these parts ends behind them
@@ -217,7 +214,7 @@ of_two t whole a b n (Some s) None d f parts none left right wants =
     (subst (λ (m : ℕ). Explains t (parts_in_preorder b) (n + 1 + node_count a) (refusal t b m)) number (right refl)))
 of_two t whole a b n (Some s) (Some u) d f parts none left right wants =
     of_itself t whole (parts_in_preorder a ++ parts_in_preorder b) n (TypeMismatch (capped n)) none
-    (subst (λ (ps : List Term). AllByRecursion (HasType t) (drop 1 ps)) (sym parts) (all_join (HasType t) (parts_in_preorder a) (parts_in_preorder b) (all_typed t a s d) (all_typed t b u f)))
+    (subst (λ (ps : List Term). AllByRecursion (HasType t) (drop 1 ps)) (sym parts) (all-append (HasType t) (parts_in_preorder a) (parts_in_preorder b) (all_typed t a s d) (all_typed t b u f)))
     (ap (λ (o : Option (List ℕ)). reason o (capped n)) (sym wants))
 
 field_told : (name : List ℕ) (n : ℕ) (x : Option DataType) → field_refusal name n x ≡ reason (wanted_of name x) n

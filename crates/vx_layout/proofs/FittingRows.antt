@@ -17,31 +17,9 @@ use Rattle.vx_layout.specs.Rows.{struct_members, derivation, derivation_in, fiel
 use Rattle.vx_layout.specs.Sound.{IsSound, AreChunks, AreFields, IsValidity}
 use Rattle.vx_rows.specs.Whole.{GiveFitting}
 use Rattle.vx_rows.specs.TypeForms.{IsStruct}
+use Rattle.vx_types.proofs.BuiltRows.{fits_where, null_fits}
 
 -- ---- dtypes that take nulls
-
-nullable_fits : (t : DataType) (v : Datum) → Fits t v → Fits (made_nullable t) v
-nullable_fits (bool_type n) null fit = tt
-nullable_fits (int_type kind n) null fit = tt
-nullable_fits (utf8_type n) null fit = tt
-nullable_fits (struct_type ms n) null fit = tt
-nullable_fits (list_type t n) null fit = tt
-nullable_fits (bool_type n) (truth b) fit = fit
-nullable_fits (int_type kind n) (number z) fit = fit
-nullable_fits (utf8_type n) (text bytes) fit = fit
-nullable_fits (struct_type ms n) (structure vs) fit = fit
-nullable_fits _ _ fit = absurd fit
-
-null_fits : (t : DataType) → Fits (made_nullable t) null
-null_fits (bool_type n) = tt
-null_fits (int_type kind n) = tt
-null_fits (utf8_type n) = tt
-null_fits (struct_type ms n) = tt
-null_fits (list_type t n) = tt
-
-where_fits : (n : Nullability) (t : DataType) (v : Datum) → Fits t v → Fits (nullable_where n t) v
-where_fits NonNullable t v fit = fit
-where_fits Nullable t v fit = nullable_fits t v fit
 
 -- a null code fits where nulls are taken
 null_code_fits : (s t : DataType) → IsUnsigned s → Fits s null → Fits (nullable_where (nullability_of s) t) null
@@ -70,7 +48,7 @@ if_some_at P Q f (Some v) h = f v h
 look_up_fits : (s t : DataType) (values : List Datum) (code : Datum) → IsUnsigned s → AllByRecursion (Fits t) values → Fits s code → IfSome (look_up values code) (Fits (nullable_where (nullability_of s) t))
 look_up_fits s t values null unsigned each fit = null_code_fits s t unsigned fit
 look_up_fits s t values (truth b) unsigned each fit = tt
-look_up_fits s t values (number (pos place)) unsigned each fit = if_some_at (Fits t) (Fits (nullable_where (nullability_of s) t)) (λ v h. where_fits (nullability_of s) t v h) (slice_get values place) (get_fits (Fits t) values place each)
+look_up_fits s t values (number (pos place)) unsigned each fit = if_some_at (Fits t) (Fits (nullable_where (nullability_of s) t)) (λ v h. fits_where (nullability_of s) t v h) (slice_get values place) (get_fits (Fits t) values place each)
 look_up_fits s t values (number (negsuc n)) unsigned each fit = tt
 look_up_fits s t values (text bytes) unsigned each fit = tt
 look_up_fits s t values (structure vs) unsigned each fit = tt

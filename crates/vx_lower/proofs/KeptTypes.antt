@@ -19,6 +19,7 @@ use Rattle.vx_expr.specs.Types.{names_in as names_of_terms}
 use Rattle.vx_layout.specs.Kept.{KeptFields, only, is_kept}
 use Rattle.vx_lower.specs.Keeping.{bound_pack}
 use Rattle.vx_lower.specs.KeptRows.{kept_members, kept_pack, kept_terms, kept_type, MayKeep}
+use Rattle.vx_expr.proofs.RewrittenTypes.{or_left, or_right}
 
 -- ---- the fields by name
 
@@ -42,14 +43,6 @@ not_true : (a : Bool) → not a ≡ true → a ≡ false
 not_true true e = absurd cc
 not_true false e = refl
 
-or_first : (a b : Bool) → (a || b) ≡ false → a ≡ false
-or_first true b e = absurd cc
-or_first false b e = refl
-
-or_second : (a b : Bool) → (a || b) ≡ false → b ≡ false
-or_second true b e = absurd cc
-or_second false b e = e
-
 differs : (one other : List ℕ) → bytes_eq other one ≡ false → (b : Bool) → bytes_eq one other ≡ b → b ≡ false
 differs one other e true f = let same = (bytes_eq-Decides other one).1 (sym ((bytes_eq-Decides one other).0 f)) in absurd cc
 differs one other e false f = refl
@@ -58,8 +51,8 @@ differs one other e false f = refl
 found_behind : (name : List ℕ) (t : DataType) (whole ms : Members) → is_among name ms ≡ false → AreFound whole ms → AreFound (member name t whole) ms
 found_behind name t whole no_members apart found = tt
 found_behind name t whole (member other s ms) apart found =
-    let here : bytes_eq name other ≡ false = differs name other (or_first (bytes_eq other name) (is_among name ms) apart) (bytes_eq name other) refl in
-    (ap (λ (b : Bool). cond b (Some t) (type_in whole other)) here ∙ found.0, found_behind name t whole ms (or_second (bytes_eq other name) (is_among name ms) apart) found.1)
+    let here : bytes_eq name other ≡ false = differs name other (or_left (bytes_eq other name) (is_among name ms) apart) (bytes_eq name other) refl in
+    (ap (λ (b : Bool). cond b (Some t) (type_in whole other)) here ∙ found.0, found_behind name t whole ms (or_right (bytes_eq other name) (is_among name ms) apart) found.1)
 
 all_found : (ms : Members) → are_distinct (names_in ms) ≡ true → AreFound ms ms
 all_found no_members distinct = tt
@@ -87,8 +80,8 @@ apart_step false c name other es e apart rest = rest
 kept_apart : (kept : KeptFields) (name : List ℕ) (ms : Members) → is_among name ms ≡ false → list_any (λ other. bytes_eq other name) (names_of_terms (kept_terms kept ms)) ≡ false
 kept_apart kept name no_members apart = refl
 kept_apart kept name (member other t ms) apart =
-    apart_step (is_kept kept other) (bytes_eq other name) name other (kept_terms kept ms) refl (or_first (bytes_eq other name) (is_among name ms) apart)
-    (kept_apart kept name ms (or_second (bytes_eq other name) (is_among name ms) apart))
+    apart_step (is_kept kept other) (bytes_eq other name) name other (kept_terms kept ms) refl (or_left (bytes_eq other name) (is_among name ms) apart)
+    (kept_apart kept name ms (or_right (bytes_eq other name) (is_among name ms) apart))
 
 distinct_step : (b : Bool) (name : List ℕ) (es : Terms) → list_any (λ other. bytes_eq other name) (names_of_terms es) ≡ false → are_distinct (names_of_terms es) ≡ true → are_distinct (names_of_terms (cond b (named name (get_field name root) es) es)) ≡ true
 distinct_step true name es apart rest = ap (λ (d : Bool). not d && are_distinct (names_of_terms es)) apart ∙ rest

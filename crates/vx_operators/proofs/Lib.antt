@@ -1,8 +1,8 @@
-mod LiftedRows
+pub mod LiftedRows
 mod LogicRows
 mod NumberRows
-mod SideRows
+pub mod SideRows
 mod SingleRows
-mod Somes
+pub mod Somes
 mod Steps
 mod TestedRows

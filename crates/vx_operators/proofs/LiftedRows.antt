@@ -54,7 +54,7 @@ blank_of_two {X} {Y} {Z} op blank (true ∷ mask) (x ∷ xs) (y ∷ ys) =
 blank_of_two op blank (false ∷ mask) (x ∷ xs) (y ∷ ys) = (refl, blank_of_two op blank mask xs ys)
 
 -- ---- the operators
-null_right : (op : CompareOp) (v : Datum) → comparison_of op v null ≡ Some null
+pub null_right : (op : CompareOp) (v : Datum) → comparison_of op v null ≡ Some null
 null_right op null = refl
 null_right op (truth b) = refl
 null_right op (number z) = refl

@@ -40,7 +40,7 @@ nulls_for seen zero x = refl
 nulls_for seen (suc rows) x = ap (λ (vs : List Datum). null ∷ vs) (nulls_for seen rows x)
 
 -- ---- how many rows
-valid_len : (mask : List Bool) (vs : List Datum) → length mask ≡ length vs → length (where_valid mask vs) ≡ length vs
+pub valid_len : (mask : List Bool) (vs : List Datum) → length mask ≡ length vs → length (where_valid mask vs) ≡ length vs
 valid_len [] [] e = refl
 valid_len (bit ∷ mask) (v ∷ vs) e = omega (arith, valid_len mask vs (omega arith))
 valid_len [] (v ∷ vs) e = absurd (omega arith)

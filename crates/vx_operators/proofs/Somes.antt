@@ -2,7 +2,7 @@
 use Rattle.std.proofs.Common.{◌≡◌, List, [], ◌∷◌, map, Option, Some, refl, sym, ap, ◌∙◌}
 use Rattle.vx_operators.specs.Rows.{front}
 
-front_somes : {A : Type 0} (xs : List A) → front (map (λ x. Some x) xs) ≡ xs
+pub front_somes : {A : Type 0} (xs : List A) → front (map (λ x. Some x) xs) ≡ xs
 front_somes [] = refl
 front_somes {A} (x ∷ xs) = ap (λ (ys : List A). x ∷ ys) (front_somes xs)
 

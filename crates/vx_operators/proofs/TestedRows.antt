@@ -8,10 +8,7 @@ use Rattle.vx_operators.specs.declared.operators.CompareOp.TheVariants.{Eq, Ne, 
 use Rattle.vx_operators.specs.Rows.{along, front}
 use Rattle.vx_operators.specs.Kernels.{LiftsTwo, of_two, compares_truth}
 use Rattle.vx_operators.proofs.LiftedRows.{lifted_two}
-
-front_some : {A : Type 0} (xs : List A) → front (map (λ x. Some x) xs) ≡ xs
-front_some [] = refl
-front_some {A} (x ∷ xs) = ap (λ (ys : List A). x ∷ ys) (front_some xs)
+use Rattle.vx_operators.proofs.Somes.{front_somes}
 
 masked : {X Y : Type 0} (f : X → Y → Bool) (mask : List Bool) (xs : List X) (ys : List Y) → map Some (both mask (along f xs ys)) ≡ of_two (λ x y. Some (f x y)) false mask xs ys
 masked f [] xs ys = refl
@@ -32,7 +29,7 @@ pub tested_sides : {X Y : Type 0} (seen : X → Datum) (other : Y → Datum) (f 
     → (lv rv truths : List Bool) (ls : List X) (rs : List Y) → truths ≡ along f ls rs → length lv ≡ length ls → length rv ≡ length rs
     → where_valid (both lv rv) (map truth (both (both lv rv) truths)) ≡ front (along step (where_valid lv (map seen ls)) (where_valid rv (map other rs)))
 tested_sides seen other f step lifts lv rv truths ls rs e c d =
-    let same : both (both lv rv) truths ≡ front (of_two (λ x y. Some (f x y)) false (both lv rv) ls rs) = sym (front_some (both (both lv rv) truths)) ∙ ap front (ap (λ (bits : List Bool). map Some (both (both lv rv) bits)) e ∙ masked f (both lv rv) ls rs) in
+    let same : both (both lv rv) truths ≡ front (of_two (λ x y. Some (f x y)) false (both lv rv) ls rs) = sym (front_somes (both (both lv rv) truths)) ∙ ap front (ap (λ (bits : List Bool). map Some (both (both lv rv) bits)) e ∙ masked f (both lv rv) ls rs) in
     ap (λ (ts : List Bool). where_valid (both lv rv) (map truth ts)) same ∙ sym (lifted_two seen other truth (λ x y. Some (f x y)) step false lifts lv rv ls rs c d)
 
 -- the part that is made

@@ -6,7 +6,8 @@ use Rattle.std.proofs.Math.Seq.{drop-append-add}
 use Rattle.std.proofs.lemmas.List.{length-append, length-take, length-drop, drop-take, drop-drop, take-take}
 use Rattle.vx_packed.specs.Texts.{cut, start_in, moved, AreEnds, AreTexts}
 use Rattle.vx_packed.proofs.PackedRows.{all_take, all_drop}
-use Rattle.vx_packed.proofs.CutTexts.{start_from, start_same, ends_below, ends-append, cut-append, cut-front, all-append}
+use Rattle.vx_packed.proofs.CutTexts.{start_from, start_same, ends_below, ends-append, cut-append, cut-front}
+use Rattle.vx_types.proofs.AllFit.{all-append}
 
 -- ---- texts whose bytes lie behind others
 moved_range : (bytes others : List ℕ) (from to start end : ℕ) → from ≤ start → start ≤ end → end ≤ to → slice_range (bytes ++ slice_range others from to) (moved (length bytes) from start) (moved (length bytes) from end) ≡ slice_range others start end

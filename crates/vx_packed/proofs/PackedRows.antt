@@ -12,6 +12,7 @@ use Rattle.vx_types.specs.Segment.{truth_in}
 use Rattle.std.specs.Str.{IsUtf8}
 use Rattle.vx_types.specs.declared.dtypes.IntKind.{IntKind}
 use Rattle.vx_packed.proofs.SlotRows.{truths_fit, numbers_fit, texts_fit}
+use Rattle.vx_types.proofs.AllFit.{all-append}
 use Rattle.vx_types.proofs.BuiltRows.{fits_nullable}
 use Rattle.vx_words.specs.Masks.{chosen}
 use Rattle.vx_types.specs.Reading.{where_valid}
@@ -172,17 +173,13 @@ column_of_numbers kind other n mask zs rows e type values inside takes = record 
 }
 
 -- ---- rows behind rows
-all_append : {X : Type 0} (P : X → Type 0) (xs ys : List X) → AllByRecursion P xs → AllByRecursion P ys → AllByRecursion P (xs ++ ys)
-all_append P [] ys g h = h
-all_append P (x ∷ xs) ys g h = (g.0, all_append P xs ys g.1 h)
-
 pub same_shape : (s t : DataType) (rows others : ColumnData) → s ≡ t → IsColumn t rows → IsColumn s others → others.dtype ≡ rows.dtype
 same_shape s t rows others e g h = sym h.shape ∙ ap bare e ∙ g.shape
 
 pub column_joined : (s t : DataType) (rows others made : ColumnData) → s ≡ t → made ≡ joined rows others → IsColumn t rows → IsColumn s others → IsColumn t made
 column_joined s t rows others made e is g h =
     let fit : AllByRecursion (Fits t) others.values = subst (λ (r : DataType). AllByRecursion (Fits r) others.values) e h.fit in
-    subst (λ (c : ColumnData). IsColumn t c) (sym is) (record { shape = g.shape; fit = all_append (Fits t) rows.values others.values g.fit fit })
+    subst (λ (c : ColumnData). IsColumn t c) (sym is) (record { shape = g.shape; fit = all-append (Fits t) rows.values others.values g.fit fit })
 
 -- ---- lists
 

@@ -15,7 +15,7 @@ use Rattle.vx_types.specs.Segment.{is_value, truth_in, number_in, text_in}
 use Rattle.vx_types.specs.ValueViews.{datum, items_of}
 use Rattle.vx_types.specs.Views.{data_type, members_of}
 use Rattle.vx_types.specs.declared.dtypes.Nullability.{Nullability}
-use Rattle.vx_types.proofs.BuiltRows.{fits_nullable}
+use Rattle.vx_types.proofs.BuiltRows.{fits_nullable, null_fits}
 use Rattle.vx_types.proofs.Leaves.{truths_again, again_where_valid, texts_where_valid, all_inside}
 use Rattle.vx_words.specs.Rows.{NullsHold}
 use Rattle.vx_packed.proofs.DecodedNumbers.{nulls_are_zero}
@@ -99,13 +99,6 @@ fields_left (suc place) (f ∷ fields) no_items h = absurd h
 first_fits : (t : DataType) (name : List ℕ) (ms : Members) (vs : Items) → EachFits (member name t ms) vs → Fits (made_nullable t) (first_item vs)
 first_fits t name ms (item v vs) h = fits_nullable t v h.0
 first_fits t name ms no_items h = absurd h
-
-null_fits : (t : DataType) → Fits (made_nullable t) null
-null_fits (bool_type n) = tt
-null_fits (int_type kind n) = tt
-null_fits (utf8_type n) = tt
-null_fits (struct_type ms n) = tt
-null_fits (list_type t n) = tt
 
 field_fits : (fields : List Field) (place : ℕ) (field : Field) (v : Datum) → place < length fields → field ≡ get_or fields place field → Fits (struct_type (members_of fields) Nullable) v → Fits (made_nullable (data_type field.dtype)) (field_at place v)
 field_fits fields place field null lt e h = null_fits (data_type field.dtype)

@@ -6,16 +6,9 @@ use Rattle.vx_plan.specs.declared.reaching.Reach.{Reach}
 use Rattle.vx_plan.specs.declared.reaching.SegmentReach.{SegmentReach}
 use Rattle.vx_plan.specs.Plans.{Plan, no_plan, concat_plan, eval_plan, filter_plan, pack_plan, take_plan, share_plan, list_plan, row_idx_plan, scan_plan, zoned_plan, Plans, no_plans, plan, PlanValidity, all_valid, valid_as, plan_head, plans_from, field_plans, front_plans, last_plan, last_validity}
 use Rattle.vx_plan.specs.Reaches.{any_row, chosen_rows, shifted, selected_of, selected_chunks, selected_fields, selected_validity}
+use Rattle.vx_expr.proofs.RewrittenTypes.{or_left, or_right}
 
 -- ---- no row is selected
-
-or_left : (a b : Bool) → (a || b) ≡ false → a ≡ false
-or_left false b e = refl
-or_left true b e = e
-
-or_right : (a b : Bool) → (a || b) ≡ false → b ≡ false
-or_right false b e = e
-or_right true b e = absurd cc
 
 pub none_in_front : (n : ℕ) (bits : List Bool) → any_row bits ≡ false → any_row (take n bits) ≡ false
 none_in_front zero bits none = refl

@@ -23,6 +23,6 @@ first_unfit_at t xs i x lt e bad h = record {
   before = rw take-map h;
 }
 
-pub all-append : (P : Datum → Type 0) (xs ys : List Datum) → AllByRecursion P xs → AllByRecursion P ys → AllByRecursion P (xs ++ ys)
+pub all-append : {X : Type 0} (P : X → Type 0) (xs ys : List X) → AllByRecursion P xs → AllByRecursion P ys → AllByRecursion P (xs ++ ys)
 all-append P [] ys g h = h
 all-append P (x ∷ xs) ys g h = (g.0, all-append P xs ys g.1 h)

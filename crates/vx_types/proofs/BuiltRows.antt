@@ -51,7 +51,7 @@ fits_nullable (utf8_type n) (text bytes) h = h
 fits_nullable (struct_type ms n) (structure vs) h = h
 fits_nullable _ _ h = absurd h
 
-null_fits : (t : DataType) → Fits (made_nullable t) null
+pub null_fits : (t : DataType) → Fits (made_nullable t) null
 null_fits (bool_type n) = tt
 null_fits (int_type kind n) = tt
 null_fits (utf8_type n) = tt
