@@ -13,13 +13,6 @@ use Rattle.scan_demo.specs.DemoBytes.{bytes_of, location_at, locations_from, seg
 use Rattle.scan_demo.specs.Flats.{chunk_flats, demo_flats, name_flat}
 use Rattle.scan_demo.specs.Writing.{nodes_in, Wrote}
 
-pub wrote_none : (writer : FileWriter) → Wrote writer writer [] []
-wrote_none writer = record {
-  nodes = sym (append-nil (nodes_in writer));
-  locations = sym (append-nil writer.locations.items);
-  bytes = sym (append-nil writer.bytes.items);
-}
-
 pub locations_append : (offset : ℕ) (xs ys : List ColumnData) → locations_from offset (xs ++ ys) ≡ locations_from offset xs ++ locations_from (offset + length (bytes_of xs)) ys
 locations_append offset [] ys = ap (λ (at : ℕ). locations_from at ys) (let e : offset ≡ offset + 0 = omega arith in e)
 locations_append offset (x ∷ xs) ys =

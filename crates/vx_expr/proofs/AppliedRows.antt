@@ -81,10 +81,6 @@ whole_told a vs ns xs k len e count le = rw e (front_whole (worth a vs ns) (omeg
 pub worth_fit : (a : Bound) (vs ns xs : List Datum) → type_of a.root a.term ≡ Some a.dtype → (IsTrue (uses_root a.term) → AllByRecursion (Fits a.root) vs) → AllByRecursion (Fits row_number_type) ns → xs ≡ front (worth a vs ns) → AllByRecursion (Fits a.dtype) xs
 worth_fit a vs ns xs typed fit rows e = rw e (front_fits a.root a.term a.dtype vs ns typed fit rows)
 
--- values of a dtype that the expression is bound to
-pub bound_fit : (a : Bound) (t : DataType) (vs : List Datum) → IsBoundTo a t → AllByRecursion (Fits t) vs → IsTrue (uses_root a.term) → AllByRecursion (Fits a.root) vs
-bound_fit a t vs bound fit u = subst (λ (s : DataType). AllByRecursion (Fits s) vs) (sym (bound u)) fit
-
 -- all rows
 take_whole : (k : ℕ) (xs : List Datum) → k ≡ length xs → take k xs ≡ xs
 take_whole zero [] e = refl
@@ -94,10 +90,3 @@ take_whole (suc k) (x ∷ xs) e = ap (λ (rest : List Datum). x ∷ rest) (take_
 
 pub whole_front : (a : Bound) (t : DataType) (e : Term) (k : ℕ) (vs ns xs : List Datum) → t ≡ a.root → e ≡ a.term → k ≡ length vs → length ns ≡ length vs → xs ≡ front_at t e (take k vs) (map number_of_row (take k ns)) → xs ≡ front (worth a vs ns)
 whole_front a t e k vs ns xs p q count level here = front_same t a.root e a.term (take k vs) vs (map number_of_row (take k ns)) (map number_of_row ns) xs p q (take_whole k vs count) (ap (map number_of_row) (take_whole k ns (omega (arith, count, level)))) here
-
--- the same over the rows of columns
-pub values_over : {E : Type 0} (r : Result ColumnData E) (a : Bound) (vs ws ns ms : List Datum) → vs ≡ ws → ns ≡ ms → IfOk r (λ column. map Some column.values ≡ worth a vs ns) → IfOk r (λ column. map Some column.values ≡ worth a ws ms)
-values_over r a vs ws ns ms e f h = subst (λ (rows : List (Option Datum)). IfOk r (λ column. map Some column.values ≡ rows)) (λ i. worth a (e i) (f i)) h
-
-pub fault_over : (a : Bound) (vs ws ns ms : List Datum) (row : ℕ) → vs ≡ ws → ns ≡ ms → IsFirstFault (worth a vs ns) row → IsFirstFault (worth a ws ms) row
-fault_over a vs ws ns ms row e f h = subst (λ (rows : List (Option Datum)). IsFirstFault rows row) (λ i. worth a (e i) (f i)) h

@@ -23,11 +23,6 @@ place_in name fields = position (λ (field : FieldData). bytes_eq field.name nam
 abbrev pub HasFrom : BTreeMap (Bor (List ℕ)) ℕ → List FieldData → ℕ → Type 0
 HasFrom places fields from = (name : Bor (List ℕ)) → get name_cmp places name ≡ option_map (λ k. from + k) (place_in name.now (drop from fields))
 
-pub none_yet : (places : BTreeMap (Bor (List ℕ)) ℕ) (fields : List FieldData) (from : ℕ) → places.entries ≡ [] → length fields ≤ from → HasFrom places fields from
-none_yet places fields from none past = λ name.
-    ap (λ (entries : List (Bor (List ℕ) × ℕ)). lookup (is_at (name_cmp name)) entries) none
-    ∙ sym (ap (λ (rest : List FieldData). option_map (λ k. from + k) (place_in name.now rest)) (drop_all from fields past))
-
 here_and_on : (fields : List FieldData) (k : ℕ) (field : FieldData) → slice_get fields k ≡ Some field → drop k fields ≡ field ∷ drop (k + 1) fields
 here_and_on [] k field e = absurd cc
 here_and_on (one ∷ fields) zero field e = let same : one ≡ field = cc in ap (λ (f : FieldData). f ∷ fields) same
@@ -49,28 +44,6 @@ one_before old new fields k from field key next is same put has = λ name.
     ∙ sym (ap (λ (fs : List FieldData). option_map (λ j. k + j) (place_in name.now fs)) (here_and_on fields k field is)
     ∙ ap (option_map (λ j. k + j)) (place_step (bytes_eq field.name name.now) (position_or_len (λ (f : FieldData). bytes_eq f.name name.now) (drop (k + 1) fields)) (length (drop (k + 1) fields)))
     ∙ counted_on (bytes_eq field.name name.now) k rest)
-
-from_start : (place : Option ℕ) → option_map (λ j. 0 + j) place ≡ place
-from_start None = refl
-from_start (Some j) = let same : 0 + j ≡ j = omega arith in ap Some same
-
--- all fields
-pub all_places : (places : BTreeMap (Bor (List ℕ)) ℕ) (ms : Members) (n : Nullability) (from : ℕ) → from ≤ 0 → HasFrom places (fields_in ms) from → HasPlaces places (struct_type ms n)
-all_places places ms n zero le has = λ name. has name ∙ from_start (place_in name.now (fields_in ms))
-all_places places ms n (suc k) le has = absurd (omega arith)
-
--- what is no struct has no fields
-no_place : (d : DType) → ((ms : Members) (n : Nullability) → d ≡ variants.Struct ms n → ⊥) → (name : List ℕ) → place_found (Some (data_type d)) name ≡ None
-no_place (variants.Bool n) s name = refl
-no_place (variants.Int kind n) s name = refl
-no_place (variants.Utf8 n) s name = refl
-no_place (variants.Struct ms n) s name = absurd (s ms n refl)
-no_place (variants.List t n) s name = refl
-
-pub no_places : (d : DType) (places : BTreeMap (Bor (List ℕ)) ℕ) → ((ms : Members) (n : Nullability) → d ≡ variants.Struct ms n → ⊥) → places.entries ≡ [] → HasPlaces places (data_type d)
-no_places d places s none = λ name.
-    ap (λ (entries : List (Bor (List ℕ) × ℕ)). lookup (is_at (name_cmp name)) entries) none
-    ∙ sym (no_place d s name.now)
 
 pub struct_places : {E : Type 0} (r : Result (BTreeMap (Bor (List ℕ)) ℕ) E) (d : DType) (ms : Members) (n : Nullability) → d ≡ variants.Struct ms n → IfOk r (λ places. (m : Nullability) → HasPlaces places (struct_type ms m)) → IfOk r (λ places. HasPlaces places (data_type d))
 struct_places (Ok places) d ms n is has = subst (λ (other : DType). HasPlaces places (data_type other)) (sym is) (has n)

@@ -7,7 +7,7 @@ use Rattle.vx_operators.specs.declared.operators.ArithOp.{ArithOp}
 use Rattle.vx_expr.specs.Meaning.{meaning, is_strict, field_of, negated, bound_test_of, comparison_of, arithmetic_of}
 use Rattle.vx_expr.specs.Terms.{Term, root, literal, get_field, pack, negation, conjunction, disjunction, comparison, null_test, value_test, arithmetic, row_number, bound_test}
 use Rattle.vx_expr.specs.Types.{on_both, type_of}
-use Rattle.vx_operators.proofs.LiftedRows.{null_right}
+use Rattle.vx_operators.proofs.LiftedRows.{null_beside}
 
 -- null or a fault
 abbrev pub IsNullOrFault : Option Datum → Type 0
@@ -27,7 +27,7 @@ null_left op (Some w) (Some x) h = rw h refl
 null_right : (op : CompareOp) (o p : Option Datum) → IsNullOrFault p → IsNullOrFault (on_both (comparison_of op) o p)
 null_right op None p h = tt
 null_right op (Some w) None h = tt
-null_right op (Some w) (Some x) h = rw (h, null_right op w) refl
+null_right op (Some w) (Some x) h = rw (h, null_beside op w) refl
 
 null_first : (op : ArithOp) (s : Option DataType) (o p : Option Datum) → IsNullOrFault o → IsNullOrFault (on_both (arithmetic_of op s) o p)
 null_first op s None p h = tt

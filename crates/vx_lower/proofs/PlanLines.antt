@@ -69,10 +69,6 @@ lines_next header nodes depth n place child name there named old items new far g
     ∙ ap (λ (children : List ℕ). items ++ each_from (child_lines header nodes depth n) place children) (sym e)
     ∙ far
 
-pub lines_done : (header : Header) (nodes : List Node) (depth n place : ℕ) (old items : List ℕ) → length (node_at nodes n).children ≤ place → items ++ lines_left header nodes depth n place ≡ old → items ≡ old
-lines_done header nodes depth n place old items le far =
-    sym (append-nil items) ∙ ap (λ (children : List ℕ). items ++ each_from (child_lines header nodes depth n) place children) (sym (drop_all place (node_at nodes n).children le)) ∙ far
-
 -- ---- indents
 
 pub indent_next : (depth level : ℕ) → level < depth → (old items new : List ℕ) → items ++ indent (depth - level) ≡ old → new ≡ items ++ codes "  " → new ++ indent (depth - (level + 1)) ≡ old

@@ -54,12 +54,12 @@ blank_of_two {X} {Y} {Z} op blank (true ∷ mask) (x ∷ xs) (y ∷ ys) =
 blank_of_two op blank (false ∷ mask) (x ∷ xs) (y ∷ ys) = (refl, blank_of_two op blank mask xs ys)
 
 -- ---- the operators
-pub null_right : (op : CompareOp) (v : Datum) → comparison_of op v null ≡ Some null
-null_right op null = refl
-null_right op (truth b) = refl
-null_right op (number z) = refl
-null_right op (text bytes) = refl
-null_right op (structure vs) = refl
+pub null_beside : (op : CompareOp) (v : Datum) → comparison_of op v null ≡ Some null
+null_beside op null = refl
+null_beside op (truth b) = refl
+null_beside op (number z) = refl
+null_beside op (text bytes) = refl
+null_beside op (structure vs) = refl
 
 number_null_right : (kind : IntKind) (n : Nullability) (op : ArithOp) (v : Datum) → arithmetic_of op (Some (int_type kind n)) v null ≡ Some null
 number_null_right kind n op null = refl
@@ -69,13 +69,13 @@ number_null_right kind n op (text bytes) = refl
 number_null_right kind n op (structure vs) = refl
 
 pub comparison_lifts : (op : CompareOp) → LiftsTwo number number truth (compared op) (comparison_of op)
-comparison_lifts op = record { none = λ w. refl; left = null_right op; values = λ x y. refl }
+comparison_lifts op = record { none = λ w. refl; left = null_beside op; values = λ x y. refl }
 
 pub text_comparison_lifts : (op : CompareOp) → LiftsTwo text text truth (compared_text op) (comparison_of op)
-text_comparison_lifts op = record { none = λ w. refl; left = null_right op; values = λ x y. refl }
+text_comparison_lifts op = record { none = λ w. refl; left = null_beside op; values = λ x y. refl }
 
 pub truth_comparison_lifts : (op : CompareOp) → LiftsTwo truth truth truth (compared_truth op) (comparison_of op)
-truth_comparison_lifts op = record { none = λ w. refl; left = null_right op; values = λ x y. refl }
+truth_comparison_lifts op = record { none = λ w. refl; left = null_beside op; values = λ x y. refl }
 
 inside_lifts : (kind : IntKind) (r : Option ℤ) → option_and_then (if_inside kind) r ≡ option_map number (option_and_then (inside kind) r)
 inside_lifts kind None = refl

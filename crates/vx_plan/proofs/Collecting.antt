@@ -99,18 +99,6 @@ zoned_part nodes n content table known has =
 
 -- ---- kinds
 
-pub is_pack : (nodes : List Node) (n : ℕ) (has_validity : Bool) → n < length nodes → HasShape nodes n (shapes.Fields has_validity) → HasKind IsPack nodes n
-is_pack nodes n has_validity known has =
-    let over = shape_there nodes n (shapes.Fields has_validity) known has in
-    let here : IsPack (node_at nodes n).kind = subst IsPack (sym over.kind_is) tt in
-    subst (λ (o : Option Node). IsSomeAnd o (λ node. IsPack node.kind)) (sym (slice_get-get_or nodes n absent known)) here
-
-pub is_concat : (nodes : List Node) (n : ℕ) → n < length nodes → HasShape nodes n shapes.Chunks → HasKind IsConcat nodes n
-is_concat nodes n known has =
-    let over = shape_there nodes n shapes.Chunks known has in
-    let here : IsConcat (node_at nodes n).kind = subst IsConcat (sym over.kind_is) tt in
-    subst (λ (o : Option Node). IsSomeAnd o (λ node. IsConcat node.kind)) (sym (slice_get-get_or nodes n absent known)) here
-
 pub kind_known : (Is : PlanKind → Type 0) (nodes : List Node) (n : ℕ) → HasKind Is nodes n → n < length nodes
 kind_known Is [] n has = absurd has
 kind_known Is (node ∷ nodes) zero has = omega arith
@@ -182,10 +170,6 @@ pub fits_less : (at : Reach) (row more : ℕ) → row ≤ more → fits at more 
 fits_less (Offset offset) row more le fit = omega arith
 fits_less (Fixed rows) row more le fit = tt
 
-pub fits_behind : (at : Reach) (before rows : ℕ) → fits at (before + rows) → fits (shifted at before) rows
-fits_behind (Offset offset) before rows fit = omega arith
-fits_behind (Fixed range) before rows fit = tt
-
 -- ---- chunks
 
 -- the rows of the plans in front of a place
@@ -252,9 +236,6 @@ held f (Some x) n h = h
 
 pub same_law : (nodes : List Node) (n child : ℕ) → n < length nodes → HasShape nodes n (shapes.Same child) → (at : Reach) (start : ℕ) (bits : List Bool) → selected_of (plan_at nodes child) at start bits ≡ selected_of (plan_at nodes n) at start bits
 same_law nodes n child known has at start bits = sym (ap (λ (p : Plan). selected_of p at start bits) (shape_there nodes n (shapes.Same child) known has).law)
-
-pub over_law : (nodes : List Node) (n child : ℕ) → n < length nodes → HasShape nodes n (shapes.Over child) → (at : Reach) (start : ℕ) (bits : List Bool) → selected_of (plan_at nodes child) at start bits ≡ selected_of (plan_at nodes n) at start bits
-over_law nodes n child known has at start bits = sym (ap (λ (p : Plan). selected_of p at start bits) (shape_there nodes n (shapes.Over child) known has).over.law)
 
 pub zoned_law : (nodes : List Node) (n content table : ℕ) → n < length nodes → HasShape nodes n (shapes.Zoned content table) → (at : Reach) (start : ℕ) (bits : List Bool) → selected_of (plan_at nodes content) at start bits ≡ selected_of (plan_at nodes n) at start bits
 zoned_law nodes n content table known has at start bits = sym (ap (λ (p : Plan). selected_of p at start bits) (shape_there nodes n (shapes.Zoned content table) known has).over.law)

@@ -12,46 +12,6 @@ use Rattle.vx_plan.specs.declared.rules.PlanRule.TheVariants.{ChildTypes, ChildR
 use Rattle.vx_plan.specs.Nodes.{Node}
 use Rattle.vx_plan.specs.Rules.{concat_node, eval_node, filter_node, given_validity, is_given, legacy_node, list_node, node_at, nodes_at, pack_node, row_idx_node, rows_of, scan_node, share_node, take_node, zoned_node, AreZones, CountFits, KeepsRules, ListFits, ListRowsFit, PackCountFits, PackFits}
 
-pub scan_keeps : (t : DataType) (rows segment : ℕ) (below : List Node) → IsLeaf t → KeepsRules (scan_node t rows segment) below
-scan_keeps t rows segment below leaf ChildTypes = tt
-scan_keeps t rows segment below leaf ChildRows = tt
-scan_keeps t rows segment below leaf BoundExpression = tt
-scan_keeps t rows segment below leaf NoRowIndex = tt
-scan_keeps t rows segment below leaf FieldCount = tt
-scan_keeps t rows segment below leaf UnsignedCodes = tt
-scan_keeps t rows segment below leaf LeafType = leaf
-scan_keeps t rows segment below leaf FittingZones = tt
-
-pub row_idx_keeps : (rows : ℕ) (below : List Node) → KeepsRules (row_idx_node rows) below
-row_idx_keeps rows below ChildTypes = tt
-row_idx_keeps rows below ChildRows = tt
-row_idx_keeps rows below BoundExpression = tt
-row_idx_keeps rows below NoRowIndex = tt
-row_idx_keeps rows below FieldCount = tt
-row_idx_keeps rows below UnsignedCodes = tt
-row_idx_keeps rows below LeafType = tt
-row_idx_keeps rows below FittingZones = tt
-
-pub filter_keeps : (nodes : List Node) (child : ℕ) (below : List Node) → KeepsRules (filter_node nodes child) below
-filter_keeps nodes child below ChildTypes = tt
-filter_keeps nodes child below ChildRows = tt
-filter_keeps nodes child below BoundExpression = tt
-filter_keeps nodes child below NoRowIndex = tt
-filter_keeps nodes child below FieldCount = tt
-filter_keeps nodes child below UnsignedCodes = tt
-filter_keeps nodes child below LeafType = tt
-filter_keeps nodes child below FittingZones = tt
-
-pub share_keeps : (nodes : List Node) (child : ℕ) (below : List Node) → KeepsRules (share_node nodes child) below
-share_keeps nodes child below ChildTypes = tt
-share_keeps nodes child below ChildRows = tt
-share_keeps nodes child below BoundExpression = tt
-share_keeps nodes child below NoRowIndex = tt
-share_keeps nodes child below FieldCount = tt
-share_keeps nodes child below UnsignedCodes = tt
-share_keeps nodes child below LeafType = tt
-share_keeps nodes child below FittingZones = tt
-
 pub concat_keeps : (nodes : List Node) (t : DataType) (children : List ℕ) → All (λ child. child.dtype ≡ t) (nodes_at nodes children) → sum_by rows_of (nodes_at nodes children) < 2 ^ 64 → KeepsRules (concat_node nodes t children) (nodes_at nodes children)
 concat_keeps nodes t children fit few ChildTypes = fit
 concat_keeps nodes t children fit few ChildRows = few

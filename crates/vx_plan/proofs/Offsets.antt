@@ -18,9 +18,6 @@ pub record AreOffsetsSoFar (below : List Node) (place rows : ℕ) (offsets : Lis
   pub all : rows + sum_by rows_of (drop place below) ≡ sum_by rows_of below
   pub running : offsets ++ offsets_from rows (drop place below) ≡ offsets_from 0 below
 
-pub none_so_far : (below : List Node) → AreOffsetsSoFar below 0 0 []
-none_so_far below = record { all = omega arith; running = refl }
-
 pub one_more : (below : List Node) (place rows : ℕ) (offsets : List ℕ) (child : Node) → slice_get below place ≡ Some child → AreOffsetsSoFar below place rows offsets → AreOffsetsSoFar below (place + 1) (rows + child.rows) (offsets ++ rows ∷ [])
 one_more below place rows offsets child at far =
     let e : drop place below ≡ child ∷ drop (place + 1) below = drop_at below place child at in
@@ -37,11 +34,3 @@ too_many below place rows offsets child at far =
     let a : rows + sum_by rows_of (child ∷ drop (place + 1) below) ≡ sum_by rows_of below = subst All e far.all in
     let b : sum_by rows_of (child ∷ drop (place + 1) below) ≡ child.rows + sum_by rows_of (drop (place + 1) below) = sum_by-cons rows_of child (drop (place + 1) below) in
     omega arith
-
-pub all_passed : (below : List Node) (place rows : ℕ) (offsets : List ℕ) → length below ≤ place → AreOffsetsSoFar below place rows offsets → AreOffsets below rows offsets
-all_passed below place rows offsets le far =
-    let e : drop place below ≡ [] = drop_all place below le in
-    let All : List Node → Type 0 = λ (rest : List Node). rows + sum_by rows_of rest ≡ sum_by rows_of below in
-    let Running : List Node → Type 0 = λ (rest : List Node). offsets ++ offsets_from rows rest ≡ offsets_from 0 below in
-    let a : rows + 0 ≡ sum_by rows_of below = subst All e far.all in
-    record { all = omega arith; running = sym (append-nil offsets) ∙ subst Running e far.running }

@@ -42,9 +42,6 @@ record SomeRow (P : ℕ → Type 0) (start : ℕ) (bits : List Bool) : Type 0 wh
   chosen : slice_get bits row ≡ Some true
   holds : P (start + row)
 
-some_row : (P Q : ℕ → Type 0) (start : ℕ) (bits : List Bool) → ((row : ℕ) → P row → Q row) → SomeRow P start bits → SomeRow Q start bits
-some_row P Q start bits f some = record { row = some.row; chosen = some.chosen; holds = f (start + some.row) some.holds }
-
 record HasRow (bits : List Bool) : Type 0 where
   row : ℕ
   chosen : slice_get bits row ≡ Some true

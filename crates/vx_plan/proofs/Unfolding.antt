@@ -52,10 +52,6 @@ plan_unfolds nodes earlier n =
     grow_same nodes nodes earlier n (suc (get_or node.children i d)) (get_or node.children i d) below (omega arith) (λ m le. refl))
     (slice_get nodes n) (earlier n))
 
--- a plan stays when others are appended
-pub append_keeps : (nodes more : List Node) → HaveEarlier nodes → (n : ℕ) → n < length nodes → plan_at (nodes ++ more) n ≡ plan_at nodes n
-append_keeps nodes more earlier n lt = sym (grow_same nodes (nodes ++ more) earlier (suc n) (suc n) n (omega arith) (omega arith) (λ m le. sym (get_in_front nodes more m (omega arith))))
-
 pub have_earlier : (nodes : List Node) → IsGoodTable nodes → HaveEarlier nodes
 have_earlier nodes good n = if_some_weaker (IsGoodNode nodes n) (λ (node : Node). All (λ child. child < n) node.children) (λ node here. here.below) (slice_get nodes n) (good n)
 

@@ -36,15 +36,6 @@ pub any_right : (P : Read → Type 0) (xs ys : List Read) → AnyOf P ys → Any
 any_right P [] ys any = any
 any_right P (x ∷ xs) ys any = inr (any_right P xs ys any)
 
-one_of : {X : Type 0} (P : X → Type 0) (x : X) (ys : List X) → P x → IsAmong x ys → AnyOf P ys
-one_of P x [] here is = absurd is
-one_of P x (y ∷ ys) here is = ⊎_elim (λ (same : y ≡ x). inl (subst P (sym same) here)) (λ (rest : IsAmong x ys). inr (one_of P x ys here rest)) is
-
--- P of one of these is P of one of those
-pub any_among : {X : Type 0} (P : X → Type 0) (xs ys : List X) → AreAmong xs ys → AnyOf P xs → AnyOf P ys
-any_among P [] ys among any = absurd any
-any_among P (x ∷ xs) ys among any = ⊎_elim (λ (here : P x). one_of P x ys here (among x (inl refl))) (λ (rest : AnyOf P xs). any_among P xs ys (λ y is. among y (inr is)) rest) any
-
 -- ---- leaves that agree on what is read give the same
 
 mutual

@@ -31,9 +31,6 @@ RowAsks nodes start bits m p = SomeVisit (IsWholeRead m) (free nodes) p start bi
 
 -- ---- nothing is asked for
 
-pub unselected_asked : (nodes : List Node) (n start : ℕ) (bits : List Bool) → SelectsNone bits → (old : List ℕ) → Adds (Asks nodes [] n start bits) old old
-unselected_asked nodes n start bits none old = adds_none (Asks nodes [] n start bits) old (λ m r. none r.0 r.1)
-
 pub none_asked : (nodes : List Node) (n start : ℕ) (bits : List Bool) → AsksNone nodes n → (old : List ℕ) → Adds (Asks nodes [] n start bits) old old
 none_asked nodes n start bits none old = adds_none (Asks nodes [] n start bits) old (λ m r. none [] start bits m r)
 

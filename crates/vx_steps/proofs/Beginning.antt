@@ -20,9 +20,6 @@ use Rattle.vx_steps.specs.Wholes.{UsesGiven}
 use Rattle.vx_steps.proofs.Apart.{apart_empty}
 use Rattle.vx_steps.proofs.Releasing.{serves_handed}
 
-pub typed_none : (nodes : List Node) (kept : List Kept) → kept ≡ [] → AreTyped nodes kept
-typed_none nodes kept none = subst (AreTyped nodes) (sym none) (λ n column at. absurd cc)
-
 uses_empty : (given : List Kept) → UsesGiven given [] []
 uses_empty given = record { grows = λ n column at. at; only = λ n column at. inl at; apart = λ apart. apart }
 
@@ -72,11 +69,3 @@ good_with_made nodes job progress new made unstarted good typed apart is =
     let still : IsUnstarted (record { next = progress.next; active = progress.active; reads = progress.reads; leaves = progress.leaves; wholes = record { made = made; used = progress.wholes.used } }) = record { next = unstarted.next; active = unstarted.active; wanted = unstarted.wanted; used = unstarted.used } in
     subst (λ (p : Progress). IsGood nodes job p) (sym is)
     (good_unstarted nodes job (record { next = progress.next; active = progress.active; reads = progress.reads; leaves = progress.leaves; wholes = record { made = made; used = progress.wholes.used } }) still good.known good.inside good.fits good.typed_given good.typed_leaves typed apart (record { gone_late = good.serves.gone_late; passed_late = good.serves.passed_late; served = good.serves.served; active_after = good.serves.active_after; gone_after = good.serves.gone_after }))
-
--- And it is that of any outside whose leaves and whole values were handed in.
-pub told_unstarted : (nodes : List Node) (job : Job) (progress : Progress) (outside : Bytes) → IsUnstarted progress → HaveLeaves nodes progress.leaves (leaves_of outside) → AreMade nodes job.offset progress.wholes.made (leaves_of outside) → IsTold nodes job progress outside
-told_unstarted nodes job progress outside unstarted have made = record {
-  bytes = subst (λ (wanted : List Wanted). Agrees wanted outside) (sym unstarted.wanted) (λ place w bytes at is. absurd cc);
-  leaves_are = have;
-  made_are = made;
-}

@@ -105,10 +105,6 @@ pub numbers_computed : (h : Held) (n start : ℕ) (bits : List Bool) (column : C
 numbers_computed h n start bits column law values leaves are =
     subst (OutcomeOf h leaves start bits (Ok column)) (sym law) (numbered_rows leaves h.nodes (handed_in h) h.offset n (rows_of start bits) ∙ ap (map Some) (sym values))
 
-pub list_failed : (h : Held) (n start : ℕ) (bits : List Bool) (list : PlanRef) → number_of list ≡ n → IsListPlan h.nodes n → SelectsSome bits → Computes h n start bits (Err (Unsupported list))
-list_failed h n start bits list is over some leaves are =
-    subst (OutcomeOf h leaves start bits (Err (Unsupported list))) (sym over.law) (some.0, some.1, sym is)
-
 -- ---- an expression
 
 eval_row : (leaves : Leaves) (handed : Handed) (offset : ℕ) (nodes : List Node) (n child : ℕ) (a : Bound) → IsEvalPlan nodes n child a → (t : DataType) → t ≡ (node_at nodes child).dtype → (row : ℕ) (v : Datum) → row_value leaves handed offset (plan_at nodes child) row ≡ Some v → row_value leaves handed offset (eval_plan (head_of nodes n) a.term (plan_at nodes child)) row ≡ root_meaning t a.term v

@@ -289,9 +289,6 @@ got_mapped (y ∷ xs) more zero x h =
     ap (λ (a : ActiveSplit). Some a.split) e
 got_mapped (y ∷ xs) more (suc i) x h = got_mapped xs more i x h
 
-pub wholes_none : (nodes : List Node) (job : Job) (numbers : List ℕ) (wholes : Wholes) → KeepsWholesFor nodes job numbers wholes wholes
-wholes_none nodes job numbers wholes = record { made = λ n column at. at; used = λ n column at. at; made_only = λ n kept. inl kept; used_only = λ n kept. inl kept }
-
 pub wholes_then : (nodes : List Node) (job : Job) (numbers : List ℕ) (old mid new : Wholes) → KeepsWholesFor nodes job numbers old mid → KeepsWholesFor nodes job numbers mid new → KeepsWholesFor nodes job numbers old new
 wholes_then nodes job numbers old mid new first second = record {
   made = λ n column at. second.made n column (first.made n column at);
@@ -345,9 +342,6 @@ gives_output nodes job first mid tried new place column active before out after 
       leaves = subst (λ (ks : List Kept). AreLeavesKept nodes job out.split ks) (sym leaves) out.leaves;
       handed = ap (λ r. r.handed) reads ∙ (after.handed ∙ before.handed);
     }
-
-pub keeps_none : (nodes : List Node) (job : Job) (progress : Progress) → OnlyKeeps nodes job progress progress
-keeps_none nodes job progress = record { next = refl; active = refl; wanted = refl; handed = refl; told = λ outside is. is; leaves = λ n column at. at; leaves_only = λ n kept. inl kept; wholes = wholes_none nodes job (map number_of_active progress.active.items) progress.wholes }
 
 pub only_keeps_then : (nodes : List Node) (job : Job) (old mid new : Progress) → OnlyKeeps nodes job old mid → OnlyKeeps nodes job mid new → OnlyKeeps nodes job old new
 only_keeps_then nodes job old mid new first second =

@@ -66,16 +66,6 @@ places_more old new kept node column places none put n =
         subst Q same (is_place_here kept node column none)
     chosen false e = is_place_other kept node column n e (place_in old n) (places n)
 
--- what a search says of the values that are given
-pub found_given : (found : Option (Bor ColumnData)) (kept : List Kept) (n : ℕ) → option_copied found ≡ kept_at kept n → is_some found ≡ true → whole_of kept n ≡ None → ⊥
-found_given None kept n e some none = absurd cc
-found_given (Some column) kept n e some none =
-    let w : whole_of kept n ≡ Some column.now.values = ap values_of (sym e) in
-    absurd (some_none column.now.values (sym w ∙ none))
-  where
-    some_none : (values : List Datum) → Some values ≡ None → ⊥
-    some_none values h = cc
-
 pub none_given : (found : Option (Bor ColumnData)) (kept : List Kept) (n : ℕ) → option_copied found ≡ kept_at kept n → is_some found ≡ false → whole_of kept n ≡ None
 none_given None kept n e none = ap values_of (sym e)
 none_given (Some column) kept n e none = absurd cc

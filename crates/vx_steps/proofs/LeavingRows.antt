@@ -26,9 +26,6 @@ RowsVisit leaf start count p = (place : ℕ) × (place < count) × Visits (IsLea
 
 -- ---- what was met
 
-pub meets_none : (P : ℕ → Type 0) (sieve : Sieve) → ((leaf : ℕ) → P leaf → ⊥) → Meets P sieve sieve
-meets_none P sieve none = record { only = λ leaf met. inl met; kept = λ leaf met. met; all = λ leaf p. absurd (none leaf p); gone = λ leaf none. none; wanted = refl; found = λ found. found }
-
 pub meets_then : (P Q : ℕ → Type 0) (old mid new : Sieve) → Meets P old mid → Meets Q mid new → Meets (λ leaf. P leaf ⊎ Q leaf) old new
 meets_then P Q old mid new p q = record {
   only = λ leaf met. ⊎_elim (λ (m : IsMet mid leaf). ⊎_elim (λ (o : IsMet old leaf). inl o) (λ (a : P leaf). inr (inl a)) (p.only leaf m)) (λ (b : Q leaf). inr (inr b)) (q.only leaf met);
@@ -48,9 +45,6 @@ meets_as P Q old new to from p = record {
   wanted = p.wanted;
   found = p.found;
 }
-
-pub no_rows : (nodes : List Node) (n start count : ℕ) (sieve : Sieve) → count ≡ 0 → Meets (RowsRead nodes n start count) sieve sieve
-no_rows nodes n start count sieve none = meets_none (RowsRead nodes n start count) sieve (λ leaf r. let less : r.0 < count = r.1 in absurd (omega arith))
 
 -- ---- a segment
 
@@ -90,16 +84,6 @@ pub over_rows : (nodes : List Node) (n child start count : ℕ) (old new : Sieve
 over_rows nodes n child start count old new over meets = child_rows nodes n child start count _ old new over.plan.law (λ leaf row. (λ v. inr v, λ v. only_right v)) meets
 
 -- ---- no leaf
-
-pub number_rows : (nodes : List Node) (n start count : ℕ) (sieve : Sieve) → plan_at nodes n ≡ row_idx_plan (head_of nodes n) → Meets (RowsRead nodes n start count) sieve sieve
-number_rows nodes n start count sieve law = meets_none (RowsRead nodes n start count) sieve (λ leaf r.
-    let r2 : RowsVisit leaf start count (row_idx_plan (head_of nodes n)) = subst (RowsVisit leaf start count) law r in
-    r2.2)
-
-pub list_rows : (nodes : List Node) (n start count : ℕ) (sieve : Sieve) → IsListPlan nodes n → Meets (RowsRead nodes n start count) sieve sieve
-list_rows nodes n start count sieve over = meets_none (RowsRead nodes n start count) sieve (λ leaf r.
-    let r2 : RowsVisit leaf start count (list_plan (head_of nodes n) over.elements over.offsets over.validity) = subst (RowsVisit leaf start count) over.law r in
-    r2.2)
 
 -- ---- whole values
 
@@ -147,12 +131,6 @@ share_rows nodes n child start count rows old new over some same meets =
 -- one of the children in front of the place has such a row
 abbrev pub FieldsRead : List Node → List ℕ → ℕ → ℕ → ℕ → ℕ → Type 0
 FieldsRead nodes children place start count leaf = (p : ℕ) × (child : ℕ) × (p < place) × (slice_get children p ≡ Some child) × RowsRead nodes child start count leaf
-
-pub no_fields : (nodes : List Node) (children : List ℕ) (start count : ℕ) (sieve : Sieve) → Meets (FieldsRead nodes children 0 start count) sieve sieve
-no_fields nodes children start count sieve = meets_none (FieldsRead nodes children 0 start count) sieve none
-  where
-    none : (leaf : ℕ) → FieldsRead nodes children 0 start count leaf → ⊥
-    none leaf (p, child, less, at, r) = absurd (omega arith)
 
 pub field_more : (nodes : List Node) (children : List ℕ) (place here start count : ℕ) (old mid new : Sieve) → slice_get children place ≡ Some here → Meets (FieldsRead nodes children place start count) old mid → Meets (RowsRead nodes here start count) mid new → Meets (FieldsRead nodes children (place + 1) start count) old new
 field_more nodes children place here start count old mid new at first second =
@@ -234,9 +212,6 @@ chunk_rows nodes good n start done here chunk old mid new is over fits first sec
     down : (leaf : ℕ) → RowsRead nodes n start (done + here) leaf → RowsRead nodes n start done leaf ⊎ RowsRead nodes chunk.child (start + done - chunk.start) here leaf
     down leaf (place, less, v) = ⊎_elim (λ (before : place < done). inl (place, before, v)) (λ (past : done ≤ place). inr (later leaf place less past v)) (cases_lt place done)
 
-pub chunks_done : (nodes : List Node) (n start done count : ℕ) (old new : Sieve) → done ≡ count → Meets (RowsRead nodes n start done) old new → Meets (RowsRead nodes n start count) old new
-chunks_done nodes n start done count old new same meets = subst (λ (k : ℕ). Meets (RowsRead nodes n start k) old new) same meets
-
 -- ---- one row
 
 -- there is such a row, and it reads the leaf
@@ -256,51 +231,9 @@ one_row nodes n row old new inside meets = meets_as (RowsRead nodes n row 1) (Is
         let same : row ≡ row + 0 = omega arith in
         (0, omega arith, subst (λ (k : ℕ). RowReads nodes n k leaf) same v)
 
-pub past_rows : (nodes : List Node) (n row : ℕ) (sieve : Sieve) → (node_at nodes n).rows ≤ row → Meets (IsRowRead nodes n row) sieve sieve
-past_rows nodes n row sieve past = meets_none (IsRowRead nodes n row) sieve (λ leaf r. let less : row < (node_at nodes n).rows = r.0 in absurd (omega arith))
-
 -- ---- the rows behind those of splits
 
-max_then : (a b c : ℕ) → max a (max b c) ≡ max (max a b) c
-max_then a b c = grind arith
-
-pub behind_start : (splits : List Split) → max 0 (behind_all (drop 0 splits)) ≡ behind_all splits
-behind_start [] = refl
-behind_start (split ∷ splits) = grind arith
-
--- the split at the place is gone past
-pub behind_next : (splits : List Split) (place row : ℕ) (split : Split) → place < length splits → split ≡ get_or splits place split → max row (behind_all (drop place splits)) ≡ behind_all splits → max (max row (behind_split split)) (behind_all (drop (place + 1) splits)) ≡ behind_all splits
-behind_next splits place row split inside is so_far =
-    let e : drop place splits ≡ split ∷ drop (place + 1) splits = rw add-one (drop-cons splits place split inside ∙ ap (λ (s : Split). s ∷ drop (suc place) splits) (sym is)) in
-    sym (max_then row (behind_split split) (behind_all (drop (place + 1) splits))) ∙ ap (λ (ss : List Split). max row (behind_all ss)) (sym e) ∙ so_far
-
-none_behind : (splits : List Split) (place : ℕ) → length splits ≤ place → behind_all (drop place splits) ≡ 0
-none_behind [] zero past = refl
-none_behind [] (suc place) past = refl
-none_behind (split ∷ splits) zero past = absurd (omega arith)
-none_behind (split ∷ splits) (suc place) past = none_behind splits place (omega arith)
-
-pub behind_end : (splits : List Split) (place row : ℕ) → length splits ≤ place → max row (behind_all (drop place splits)) ≡ behind_all splits → row ≡ behind_all splits
-behind_end splits place row past so_far =
-    let nothing : behind_all (drop place splits) ≡ 0 = none_behind splits place past in
-    let same : row ≡ max row 0 = grind arith in
-    same ∙ ap (λ (k : ℕ). max row k) (sym nothing) ∙ so_far
-
 -- ---- one leaf is met
-
-pub meets_one : (old : Sieve) (leaf : ℕ) (new : Sieve) → ((n : ℕ) → place_in new.places n ≡ cond (leaf == n) None (place_in old.places n)) → new.wanted ≡ old.wanted → new.found ≡ cond (old.wanted == leaf) true old.found → Meets (λ n. leaf ≡ n) old new
-meets_one old leaf new put same found = record {
-  only = λ n met. only (leaf == n) n refl met;
-  kept = λ n met. kept (leaf == n) n refl met;
-  all = λ n e. subst (IsMet new) e here;
-  gone = λ n none. put n ∙ either (leaf == n) n none;
-  wanted = same;
-  found = λ was. found ∙ still (old.wanted == leaf) was;
-}
-  where
-    either : (b : Bool) (n : ℕ) → place_in old.places n ≡ None → cond b None (place_in old.places n) ≡ None
-    either true n none = refl
-    either false n none = none
 
     still : (b : Bool) → old.found ≡ true → cond b true old.found ≡ true
     still true was = refl

@@ -126,9 +126,6 @@ pub record IsOwn {X : Type 0} (P : X → Test) (Q : Found → Type 0) (offset : 
   pub of_code : (handed : Handed) (head : Head) (codes values : Plan) (row : ℕ) → Q (a_code (code_row head.number row (with_given (values_for handed) (plan_derivation offset codes row)) (values_with (values_for handed head.number) (each_row (plan_derivation offset values) 0 (plan_head values).rows)))) →
       (x : X) × P x handed (take_plan head codes values) row
 
-abbrev SomeX : {X : Type 0} → (X → Test) → Handed → Plan → ℕ → Type 0
-SomeX {X} P handed p row = (x : X) × Visits (P x) handed p row
-
 abbrev ValidReads : (Found → Type 0) → Way → Handed → ℕ → PlanValidity → ℕ → Type 0
 ValidReads Q way handed offset all_valid row = ⊥
 ValidReads Q way handed offset (valid_as validity) row = RowReads Q way handed (plan_derivation offset validity row)

@@ -37,12 +37,6 @@ ready_same h n child start bits law ready = ready_child h n child start bits (fi
 pub ready_zoned : (h : Held) (n content table start : ℕ) (bits : List Bool) → IsZonedPlan h.nodes n content table → AreReady h n start bits → AreReady h content start bits
 ready_zoned h n content table start bits over ready read r = ready read (subst (RowReads h start bits read) (sym over.law) (r.0, r.1, inr r.2))
 
-pub ready_over : (h : Held) (n child start : ℕ) (bits : List Bool) → IsOverPlan h.nodes n child → AreReady h n start bits → AreReady h child start bits
-ready_over h n child start bits over ready read r = ready read (subst (RowReads h start bits read) (sym over.plan.law) (r.0, r.1, inr r.2))
-
-pub ready_codes : (h : Held) (n codes values start : ℕ) (bits : List Bool) → IsTakePlan h.nodes n codes values → AreReady h n start bits → AreReady h codes start bits
-ready_codes h n codes values start bits over ready read r = ready read (subst (RowReads h start bits read) (sym over.law) (r.0, r.1, inr (inl r.2)))
-
 -- the leaves of whole values, where none were handed in
 pub ready_values : (h : Held) (n codes values start : ℕ) (bits : List Bool) → IsTakePlan h.nodes n codes values → kept_in h.given values ≡ None → SelectsSome bits → AreReady h n start bits → AreReadyWhole h values
 ready_values h n codes values start bits over none some ready read w =

@@ -70,10 +70,6 @@ Reads nodes handed n start bits read = SomeVisit (IsLeafRead read) handed (plan_
 abbrev RowReads : Handed → ℕ → List Bool → LeafRead → Plan → Type 0
 RowReads handed start bits read p = SomeVisit (IsLeafRead read) handed p start bits
 
--- nothing that no selected row reads
-pub none_reads : (nodes : List Node) (handed : Handed) (n start : ℕ) (bits : List Bool) → SelectsNone bits → (old : List LeafRead) → Adds (Reads nodes handed n start bits) old old
-none_reads nodes handed n start bits none old = adds_none (Reads nodes handed n start bits) old (λ read r. none r.0 r.1)
-
 -- ---- a segment
 
 leaf_is : (read : LeafRead) (n segment : ℕ) → (n ≡ read.leaf) × (segment ≡ read.segment) → record { leaf = n; segment = segment } ≡ read
@@ -125,16 +121,6 @@ pub over_reads : (nodes : List Node) (handed : Handed) (n child start : ℕ) (bi
 over_reads nodes handed n child start bits over old new added = child_reads nodes handed n child start bits _ over.plan.law (λ read row. (λ v. inr v, λ v. only_right v)) old new added
 
 -- ---- nothing is read
-
-pub numbers_read : (nodes : List Node) (handed : Handed) (n start : ℕ) (bits : List Bool) → plan_at nodes n ≡ row_idx_plan (head_of nodes n) → (old : List LeafRead) → Adds (Reads nodes handed n start bits) old old
-numbers_read nodes handed n start bits law old = adds_none (Reads nodes handed n start bits) old (λ read r.
-    let r2 : RowReads handed start bits read (row_idx_plan (head_of nodes n)) = subst (RowReads handed start bits read) law r in
-    r2.2)
-
-pub list_reads : (nodes : List Node) (handed : Handed) (n start : ℕ) (bits : List Bool) → IsListPlan nodes n → (old : List LeafRead) → Adds (Reads nodes handed n start bits) old old
-list_reads nodes handed n start bits over old = adds_none (Reads nodes handed n start bits) old (λ read r.
-    let r2 : RowReads handed start bits read (list_plan (head_of nodes n) over.elements over.offsets over.validity) = subst (RowReads handed start bits read) over.law r in
-    r2.2)
 
 -- ---- whole values
 
@@ -233,9 +219,6 @@ whole_reads nodes given whole n none old new added =
 abbrev pub ReadsSome : List Node → Handed → ℕ → List Bool → List ℕ → LeafRead → Type 0
 ReadsSome nodes handed start bits [] read = ⊥
 ReadsSome nodes handed start bits (n ∷ ns) read = Reads nodes handed n start bits read ⊎ ReadsSome nodes handed start bits ns read
-
-pub no_fields : (nodes : List Node) (handed : Handed) (start : ℕ) (bits : List Bool) (old : List LeafRead) → Adds (ReadsSome nodes handed start bits []) old old
-no_fields nodes handed start bits old = adds_none (ReadsSome nodes handed start bits []) old (λ read none. none)
 
 some_more : (nodes : List Node) (handed : Handed) (start : ℕ) (bits : List Bool) (read : LeafRead) (ns : List ℕ) (n : ℕ) → ReadsSome nodes handed start bits ns read ⊎ Reads nodes handed n start bits read → ReadsSome nodes handed start bits (ns ++ n ∷ []) read
 some_more nodes handed start bits read [] n (inl none) = absurd none

@@ -241,12 +241,6 @@ pub record IsListPlan (nodes : List Node) (n : ℕ) : Type 0 where
   pub validity : PlanValidity
   pub law : plan_at nodes n ≡ list_plan (head_of nodes n) elements offsets validity
 
-pub list_law : (nodes : List Node) (n : ℕ) → n < length nodes → HasShape nodes n shapes.Lists → IsListPlan nodes n
-list_law nodes n known has =
-    let l = shape_there nodes n shapes.Lists known has in
-    let ps : List Plan = map (plan_at nodes) (node_at nodes n).children in
-    record { elements = plan_in ps 0; offsets = plan_in ps 1; validity = last_validity l.has_validity ps; law = l.over.law }
-
 -- ---- structs
 
 pub record IsPackPlan (nodes : List Node) (n : ℕ) : Type 0 where

@@ -45,9 +45,6 @@ numbers_step splits k split inside is =
     let e : drop k splits ≡ split ∷ drop (k + 1) splits = rw add-one (drop-cons splits k split inside ∙ ap (λ (s : Split). s ∷ drop (suc k) splits) (sym is)) in
     ap (numbers_from k) e
 
-pub numbers_pass : (splits : List Split) (k : ℕ) (split : Split) → k < length splits → split ≡ get_or splits k split → (true_count split.mask == 0) ≡ true → numbers_from k (drop k splits) ≡ numbers_from (k + 1) (drop (k + 1) splits)
-numbers_pass splits k split inside is none = numbers_step splits k split inside is ∙ ap (λ (b : Bool). if b then numbers_from (k + 1) (drop (k + 1) splits) else k ∷ numbers_from (k + 1) (drop (k + 1) splits)) none
-
 pub numbers_take : (splits : List Split) (k : ℕ) (split : Split) → k < length splits → split ≡ get_or splits k split → (true_count split.mask == 0) ≡ false → numbers_from k (drop k splits) ≡ k ∷ numbers_from (k + 1) (drop (k + 1) splits)
 numbers_take splits k split inside is some = numbers_step splits k split inside is ∙ ap (λ (b : Bool). if b then numbers_from (k + 1) (drop (k + 1) splits) else k ∷ numbers_from (k + 1) (drop (k + 1) splits)) some
 
@@ -94,16 +91,6 @@ good_wanted nodes job old reads grows stored good = record {
   uses = good.uses;
   actives = λ a m. active_grows nodes job old.leaves old.reads.wanted reads.wanted a grows (good.actives a m);
   serves = serves_stored nodes job old reads stored good.serves;
-}
-
-pub starts_none : (nodes : List Node) (job : Job) (progress : Progress) → Starts nodes job progress progress
-starts_none nodes job progress = record {
-  left = refl;
-  active = λ number among. among;
-  wants = λ segment asked. inl asked;
-  grows = λ place w at. at;
-  handed = refl;
-  leaves = refl;
 }
 
 pub starts_then : (nodes : List Node) (job : Job) (old mid new : Progress) → Starts nodes job old mid → Starts nodes job mid new → Starts nodes job old new

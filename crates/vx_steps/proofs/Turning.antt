@@ -16,23 +16,6 @@ use Rattle.vx_steps.specs.Wholes.{AddsAsked, AreThere, KeepsValues, UsesGiven}
 use Rattle.vx_steps.specs.declared.wholes.Wholes.{Wholes}
 use Rattle.vx_steps.proofs.Premises.{unless_by}
 
-pub values_none : (nodes : List Node) (leaves : List Kept) (offset : ℕ) (old : List Kept) → KeepsValues nodes leaves offset old old
-values_none nodes leaves offset old = record { grows = λ n column at. at; typed = λ typed. typed; apart = λ apart. apart; right = λ by have are. are }
-
-pub used_none : (given old : List Kept) → UsesGiven given old old
-used_none given old = record { grows = λ n column at. at; only = λ n column at. inl at; apart = λ apart. apart }
-
-pub asked_none : (nodes : List Node) (given : List Kept) (plan start : ℕ) (bits : List Bool) (old : Wholes) → AddsAsked nodes given plan start bits old old
-asked_none nodes given plan start bits old = record { used = λ n kept. inl kept; made = λ n kept. inl kept }
-
--- a refusal of decoding is one of the split
-pub torn_refusal : (nodes : List Node) (job : Job) (split : Split) (needs : List LeafRead) (wanted : List Wanted) (leaves made : List Kept) (error : StepError) → SomeTornCause nodes wanted needs error → IsRefusal nodes job split needs wanted leaves made error
-torn_refusal nodes job split needs wanted leaves made (BadSegment segment) torn = λ outside is. torn
-torn_refusal nodes job split needs wanted leaves made (Unsupported list) torn = absurd torn
-torn_refusal nodes job split needs wanted leaves made (BadCode take row) torn = absurd torn
-torn_refusal nodes job split needs wanted leaves made (EvalFault row) torn = absurd torn
-torn_refusal nodes job split needs wanted leaves made Memory torn = λ outside is. tt
-
 need_cause : (nodes : List Node) (job : Job) (split : Split) (needs : List LeafRead) (wanted : List Wanted) (outside : Bytes) (error : StepError) → HasRowCause nodes job split outside error → HasNeedCause nodes job split needs wanted outside error
 need_cause nodes job split needs wanted outside (BadSegment segment) cause = absurd cause
 need_cause nodes job split needs wanted outside (Unsupported list) cause = cause
@@ -45,13 +28,6 @@ pub row_refusal : (nodes : List Node) (job : Job) (split : Split) (needs : List 
 row_refusal nodes job split needs wanted leaves made error cause = λ outside is. need_cause nodes job split needs wanted outside error (cause outside is)
 
 -- ---- what a refusal leaves
-
-pub torn_leaves : (nodes : List Node) (job : Job) (split : Split) (needs : List LeafRead) (wanted : List Wanted) (leaves made : List Kept) (after : Wholes) (error : StepError) → SomeTornCause nodes wanted needs error → LeavesWholes nodes job split wanted leaves made after error
-torn_leaves nodes job split needs wanted leaves made after (BadSegment segment) torn = tt
-torn_leaves nodes job split needs wanted leaves made after (Unsupported list) torn = absurd torn
-torn_leaves nodes job split needs wanted leaves made after (BadCode take row) torn = absurd torn
-torn_leaves nodes job split needs wanted leaves made after (EvalFault row) torn = absurd torn
-torn_leaves nodes job split needs wanted leaves made after Memory torn = tt
 
 pub row_leaves : (nodes : List Node) (job : Job) (split : Split) (wanted : List Wanted) (leaves made : List Kept) (after : Wholes) (error : StepError) → AreThere nodes job.given after job.plan split.rows.start split.mask ⊎ FailsInWholes nodes job split wanted leaves made error → LeavesWholes nodes job split wanted leaves made after error
 row_leaves nodes job split wanted leaves made after (BadSegment segment) left = tt

@@ -138,21 +138,6 @@ up_chunk nodes good handed n start done here bits chunk is over fits P r =
     let F : ℕ → Type 0 = Visits P handed (plan_at nodes n) in
     (done + r.0, t.1, subst F same (chunk_up P handed nodes good n (start + done) chunk is over (start + done - chunk.start + r.0) (omega arith) r.2))
 
-taken_length : {X : Type 0} (xs : List X) (n : ℕ) → length (take n xs) ≤ n
-taken_length [] zero = omega arith
-taken_length [] (suc n) = omega arith
-taken_length (x ∷ xs) zero = omega arith
-taken_length (x ∷ xs) (suc n) = omega (arith, taken_length xs n)
-
--- and they are inside the child
-pub chunk_inside : (nodes : List Node) (n start done here : ℕ) (bits : List Bool) (chunk : Chunk) → IsChunk nodes n (start + done) chunk → here ≤ chunk.end - (start + done) → start + done - chunk.start + length (slice_range bits done (done + here)) ≤ (node_at nodes chunk.child).rows
-chunk_inside nodes n start done here bits chunk is fits =
-    let end : chunk.end ≡ chunk.start + (node_at nodes chunk.child).rows = is.end in
-    let low : chunk.start ≤ start + done = is.at_most in
-    let high : start + done < chunk.end = is.above in
-    let count : length (slice_range bits done (done + here)) ≤ done + here - done = taken_length (drop done bits) (done + here - done) in
-    omega arith
-
 -- besides itself a concat visits what the rows before do, and the child's
 pub down_chunk : (nodes : List Node) → IsGoodTable nodes → (handed : Handed) (n start done here : ℕ) (bits : List Bool) (chunk : Chunk) → IsChunk nodes n (start + done) chunk → IsConcatPlan nodes n → here ≤ chunk.end - (start + done) →
     (P : Test) → ((row : ℕ) → P handed (concat_plan (head_of nodes n) (plans_from (map (plan_at nodes) (node_at nodes n).children))) row → ⊥) → SomeVisit P handed (plan_at nodes n) start (take (done + here) bits) →

@@ -113,10 +113,6 @@ mutual
   none_inside_validity m all_valid row v = v
   none_inside_validity m (valid_as p) row v = none_inside m p row v
 
--- no row asks for any
-pub there_none : (nodes : List Node) (given : List Kept) (wholes : Wholes) (n start : ℕ) (bits : List Bool) → SelectsNone bits → AreThere nodes given wholes n start bits
-there_none nodes given wholes n start bits none m r = absurd (none r.0 r.1)
-
 abbrev AsksBy : List Node → List Kept → ℕ → ℕ → List Bool → Plan → Type 0
 AsksBy nodes given m start bits p = SomeVisit (IsWholeRead m) (handed_by nodes (Some given)) p start bits
 
@@ -154,22 +150,6 @@ there_share nodes given wholes n child start bits over own_there m r = by (subst
     by : AsksBy nodes given m start bits (share_plan (head_of nodes n) (plan_at nodes child)) → IsThere given wholes m
     by (place, at, inl own) = subst (IsThere given wholes) own own_there
     by (place, at, inr (none, (other, less, v))) = absurd (none_inside m (plan_at nodes child) other v)
-
--- these ask for nothing
-pub there_leaf : (nodes : List Node) (given : List Kept) (wholes : Wholes) (n segment start : ℕ) (bits : List Bool) → IsLeafPlan nodes n segment → AreThere nodes given wholes n start bits
-there_leaf nodes given wholes n segment start bits over m r =
-    let r2 : AsksBy nodes given m start bits (scan_plan (head_of nodes n) segment) = subst (AsksBy nodes given m start bits) over.law r in
-    absurd r2.2
-
-pub there_numbers : (nodes : List Node) (given : List Kept) (wholes : Wholes) (n start : ℕ) (bits : List Bool) → plan_at nodes n ≡ row_idx_plan (head_of nodes n) → AreThere nodes given wholes n start bits
-there_numbers nodes given wholes n start bits law m r =
-    let r2 : AsksBy nodes given m start bits (row_idx_plan (head_of nodes n)) = subst (AsksBy nodes given m start bits) law r in
-    absurd r2.2
-
-pub there_list : (nodes : List Node) (given : List Kept) (wholes : Wholes) (n start : ℕ) (bits : List Bool) → IsListPlan nodes n → AreThere nodes given wholes n start bits
-there_list nodes given wholes n start bits over m r =
-    let r2 : AsksBy nodes given m start bits (list_plan (head_of nodes n) over.elements over.offsets over.validity) = subst (AsksBy nodes given m start bits) over.law r in
-    absurd r2.2
 
 -- ---- fields
 
