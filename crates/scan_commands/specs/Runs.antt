@@ -1,6 +1,6 @@
 -- What a run of the program promises, by its ending. Promises on content speak of what is told: the request's bytes,
 -- the file, the ranges asked and the bytes written.
-use Rattle.std.specs.Prelude.{◌≡◌, ◌≢◌, ℕ, ◌≤◌, ◌⊎◌, ◌++◌, List, [], length, take, IfSome, option_map}
+use Rattle.std.specs.Prelude.{◌≡◌, ◌≢◌, ℕ, ◌≤◌, ◌⊎◌, ◌++◌, List, length, take, IfSome, option_map}
 use Rattle.vx_base.specs.Sources.{SourceState, Rose}
 use Rattle.vx_base.specs.Streams.{ReadState, WriteState}
 use Rattle.vx_layout.specs.Rows.{file_leaves}

@@ -1,12 +1,12 @@
 -- Runs and the rows that they fill.
-use Rattle.std.proofs.Common.{◌⊎◌, inl, inr, ◌≡◌, ℕ, zero, suc, ◌+◌, ◌-◌, ◌<◌, ◌≤◌, List, [], ◌∷◌, ◌++◌, length, map, get_or, drop, replicate, refl, sym, ap, ap₂, subst, ◌∙◌, arith, append_assoc, add-one}
+use Rattle.std.proofs.Common.{◌≡◌, ℕ, zero, suc, ◌+◌, ◌-◌, ◌<◌, ◌≤◌, List, [], ◌∷◌, ◌++◌, length, map, get_or, drop, replicate, refl, sym, ap, ap₂, subst, ◌∙◌, arith, append_assoc, add-one}
 use Rattle.std.specs.List.{AllByRecursion}
 use Rattle.std.proofs.lemmas.List.{length-append, length-replicate, drop_more, drop_all, map-append, append-nil}
 use Rattle.vx_base.specs.Data.{DataType, Datum, null}
 use Rattle.vx_base.specs.Columns.{ColumnData}
 use Rattle.vx_base.specs.Fits.{Fits}
 use Rattle.vx_base.specs.Rows.{taken}
-use Rattle.vx_base.specs.Runs.{spread, IsGoodEnd, AreGoodEnds, IsFirstBadEnd, run_places}
+use Rattle.vx_base.specs.Runs.{spread, IsGoodEnd, run_places}
 use Rattle.vx_base.specs.RunRows.{runs_column}
 use Rattle.vx_packed.specs.PackedColumns.{IsColumn}
 use Rattle.vx_packed.specs.PartRows.{picked_at}

@@ -1,6 +1,6 @@
 -- Each step on the claim word keeps its rule.
 use Rattle.std.proofs.Common.{◌≡◌, ℕ, ◌+◌, ◌<◌, ◌≤◌, ◌⊎◌, inl, inr, Bool, true, false, List, [], ◌∷◌, ◌++◌, set, refl, sym, ap, ◌∙◌, arith, rules}
-use Rattle.std.specs.Prelude.{min, nat_lt, ◌||◌}
+use Rattle.std.specs.Prelude.{min, ◌||◌}
 use Rattle.std.specs.List.{All, sum_by}
 use Rattle.std.proofs.lemmas.Bool.{cases_lt, lt-ltb, le-ltb}
 use Rattle.std.proofs.lemmas.List.Elements.{All-set, All-append, All-cons, All-nil}

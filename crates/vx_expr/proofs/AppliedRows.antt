@@ -1,13 +1,12 @@
 -- Rows that an expression is applied to.
-use Rattle.std.proofs.Common.{◌≡◌, ℕ, zero, suc, ◌<◌, ◌≤◌, ◌^◌, pos, negsuc, true, List, [], ◌∷◌, length, map, take, Option, Some, None, Result, refl, sym, ap, subst, ◌∙◌, arith}
-use Rattle.std.specs.Prelude.{IsTrue, IfOk, IfSome, is_some, slice_get}
+use Rattle.std.proofs.Common.{◌≡◌, ℕ, zero, suc, ◌<◌, ◌≤◌, ◌^◌, pos, negsuc, true, List, [], ◌∷◌, length, map, take, Option, Some, None, refl, sym, ap, subst, ◌∙◌, arith}
+use Rattle.std.specs.Prelude.{IsTrue, IfSome, is_some, slice_get}
 use Rattle.std.specs.List.{AllByRecursion, list_all}
 use Rattle.std.proofs.lemmas.Int.{ints}
 use Rattle.std.proofs.lemmas.List.{length-map}
-use Rattle.vx_base.specs.Columns.{ColumnData}
 use Rattle.vx_base.specs.Data.{DataType, Datum, null, truth, number, text, structure}
 use Rattle.vx_base.specs.Fits.{Fits}
-use Rattle.vx_expr.specs.Bound.{Bound, IsBoundTo}
+use Rattle.vx_expr.specs.Bound.{Bound}
 use Rattle.vx_expr.specs.Meaning.{meaning}
 use Rattle.vx_expr.specs.Mentions.{uses_root}
 use Rattle.vx_expr.specs.Rows.{along, front, no_bound, number_of_row, at_rows, IsFirstFault, front_at, worth}

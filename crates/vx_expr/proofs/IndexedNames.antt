@@ -1,17 +1,14 @@
 -- The places of fields by their names, put in from the last field to the first.
-use Rattle.std.proofs.Common.{◌≡◌, ℕ, zero, suc, ◌+◌, ◌≤◌, Bool, true, false, cond, List, [], ◌∷◌, length, drop, Option, Some, None, option_map, Result, Ok, Err, IfOk, refl, sym, ap, subst, ◌∙◌, Bor, arith}
+use Rattle.std.proofs.Common.{◌≡◌, ℕ, zero, suc, ◌+◌, Bool, true, false, cond, List, [], ◌∷◌, length, drop, Option, Some, None, option_map, Result, Ok, Err, IfOk, refl, sym, ap, subst, ◌∙◌, Bor, arith}
 use Rattle.std.specs.List.{position, position_or_len, slice_get}
 use Rattle.std.specs.Str.{bytes_eq}
 use Rattle.std.specs.BTreeMap.{BTreeMap, get, is_at}
-use Rattle.std.specs.Map.{lookup}
-use Rattle.std.proofs.lemmas.List.{drop_all}
 use Rattle.std.proofs.lemmas.Map.Text.{is_eq-slice_cmp}
 use Rattle.vx_base.specs.Data.{Members, struct_type}
 use Rattle.vx_base.specs.declared.dtypes.DType.{DType}
 use Rattle.vx_base.specs.declared.dtypes.DType.TheVariants as variants
 use Rattle.vx_base.specs.declared.dtypes.Nullability.{Nullability}
-use Rattle.vx_base.specs.Views.{FieldData, data_type, fields_in}
-use Rattle.vx_expr.specs.Finds.{place_found}
+use Rattle.vx_base.specs.Views.{FieldData, data_type}
 use Rattle.vx_expr.specs.Indexed.{name_cmp, HasPlaces}
 use Rattle.vx_expr.proofs.FieldPlaces.{place_step}
 

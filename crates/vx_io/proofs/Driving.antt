@@ -3,11 +3,10 @@ use Rattle.std.proofs.Common.{◌≡◌, ℕ, zero, suc, ◌+◌, ◌<◌, ◌�
 use Rattle.std.specs.Prelude.{slice_get, slice_index_or, remove, IsSomeAnd}
 use Rattle.std.specs.List.{All, Any, flat_map}
 use Rattle.std.proofs.lemmas.List.{append-nil, length-append, append_assoc}
-use Rattle.std.proofs.lemmas.List.Concat.{flat_map-cons}
 use Rattle.std.proofs.lemmas.Grind.{flat_map-append}
-use Rattle.std.proofs.lemmas.List.Elements.{All-cons, All-append, All-head, All-tail}
+use Rattle.std.proofs.lemmas.List.Elements.{All-cons, All-append}
 use Rattle.std.proofs.lemmas.List.Sums.{sum_by-append, sum_by-remove}
-use Rattle.vx_base.specs.Sources.{SourceState, IsSegment}
+use Rattle.vx_base.specs.Sources.{IsSegment}
 use Rattle.vx_io.specs.declared.requests.Completion.{Completion}
 use Rattle.vx_io.specs.declared.requests.IoOwnerId.{IoOwnerId}
 use Rattle.vx_io.specs.declared.requests.IoRequest.{IoRequest}
@@ -15,8 +14,8 @@ use Rattle.vx_io.specs.declared.commands.IoCommand.{IoCommand}
 use Rattle.vx_io.specs.declared.commands.IoCommand.TheVariants.{Submit, Poll}
 use Rattle.vx_io.specs.declared.commands.DriveError.{DriveError}
 use Rattle.vx_io.specs.declared.commands.Driven.{Driven}
-use Rattle.vx_io.specs.Ranges.{RangeTable, segment_of}
-use Rattle.vx_io.specs.Session.{Table, Flight, SessionState, requests_in}
+use Rattle.vx_io.specs.Ranges.{RangeTable}
+use Rattle.vx_io.specs.Session.{Table, Flight, SessionState}
 use Rattle.vx_io.specs.Sound.{HasWhatIsInFlight}
 use Rattle.vx_io.specs.Submits.{owned, Submitted, IsKnown, SubmitGives}
 use Rattle.vx_io.specs.Polls.{AllGoOn, EndsAt, HasBytes}

@@ -1,5 +1,5 @@
 -- A session stays sound where nothing is done, and where a fetch ends.
-use Rattle.std.proofs.Common.{◌≡◌, ◌≢◌, ℕ, zero, suc, ◌+◌, ◌<◌, ◌==◌, ◌⊎◌, inl, inr, Bool, true, false, List, [], ◌∷◌, length, Option, Some, None, refl, sym, ap, ◌∙◌, subst, arith, cond}
+use Rattle.std.proofs.Common.{◌≡◌, ◌≢◌, ℕ, zero, suc, ◌+◌, ◌<◌, ◌==◌, ◌⊎◌, inl, inr, true, false, List, [], ◌∷◌, length, Option, Some, None, refl, sym, ap, ◌∙◌, subst, arith, cond}
 use Rattle.std.specs.Prelude.{slice_index_or, remove, option_map, IsSome}
 use Rattle.std.specs.List.{All}
 use Rattle.std.proofs.lemmas.Bool.{eq-eqb, ne_eqb}
@@ -10,7 +10,7 @@ use Rattle.vx_base.specs.declared.locations.SegmentLocation.{SegmentLocation}
 use Rattle.vx_base.specs.declared.locations.AskedRange.{AskedRange}
 use Rattle.vx_base.specs.Sources.{SourceState, without, location_of, range_of}
 use Rattle.vx_io.specs.Ranges.{RangeTable, segment_of}
-use Rattle.vx_io.specs.Session.{Table, Flight, SessionState, state_in}
+use Rattle.vx_io.specs.Session.{Flight, SessionState, state_in}
 use Rattle.vx_io.specs.Sound.{IsSound, IsFetchRead, times_waiting, times_fetched, times_kept, HasRead, HasWhatIsInFlight}
 use Rattle.vx_io.proofs.InFlightReads.{located_without, gone_without}
 use Rattle.vx_io.proofs.Places.{all_removed}

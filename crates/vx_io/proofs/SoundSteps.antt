@@ -11,11 +11,9 @@ use Rattle.vx_base.specs.Sources.{SourceState, location_of, range_of}
 use Rattle.vx_io.specs.declared.requests.IoIntent.{IoIntent}
 use Rattle.vx_io.specs.declared.requests.IoIntent.TheVariants.{Announce, Prefetch, Fetch}
 use Rattle.vx_io.specs.declared.requests.IoOwnerId.{IoOwnerId}
-use Rattle.vx_io.specs.declared.requests.IoTarget.{IoTarget}
-use Rattle.vx_io.specs.declared.requests.IoTarget.TheVariants.{Range}
 use Rattle.vx_base.specs.declared.locations.AskedRange.{AskedRange}
 use Rattle.vx_io.specs.declared.requests.IoRequest.{IoRequest}
-use Rattle.vx_io.specs.Ranges.{RangeTable, segment_of, range_at, AreApart}
+use Rattle.vx_io.specs.Ranges.{RangeTable, segment_of, AreApart}
 use Rattle.vx_io.specs.Session.{Waiting, Table, Flight, SessionState, has_none, asks, waiting_after, fetched_read, if_fetch, fetch_of, put_at, requested_at, location_of_target, range_of_target}
 use Rattle.vx_io.specs.Sound.{IsSound, IsFetchRead, times, times_waiting, times_fetched, times_kept}
 use Rattle.vx_io.specs.Waits.{AsksWhere}

@@ -1,5 +1,5 @@
 -- A batch, request by request.
-use Rattle.std.proofs.Common.{◌≡◌, ℕ, zero, suc, ◌+◌, ◌<◌, ◌≤◌, List, [], ◌∷◌, Some, Ok, Err, length, take, refl, ap, ◌∙◌, arith}
+use Rattle.std.proofs.Common.{◌≡◌, ℕ, ◌+◌, ◌<◌, List, Some, Ok, Err, length, take, refl, ◌∙◌, arith}
 use Rattle.std.specs.Prelude.{slice_get, slice_index_or, IsSomeAnd}
 use Rattle.std.specs.List.{All}
 use Rattle.vx_base.specs.Sources.{SourceState}

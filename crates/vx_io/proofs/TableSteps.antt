@@ -1,7 +1,7 @@
 -- The table of a session after a request, from what its fields became.
 use Rattle.std.proofs.Common.{◌≡◌, ℕ, Bool, true, false, List, [], ◌∷◌, ◌++◌, Option, Some, Err, refl, ap, ◌∙◌}
 use Rattle.vx_base.specs.declared.locations.SegmentLocation.{SegmentLocation}
-use Rattle.vx_base.specs.Sources.{SourceState, RequestGives}
+use Rattle.vx_base.specs.Sources.{SourceState}
 use Rattle.vx_io.specs.declared.requests.IoIntent.{IoIntent}
 use Rattle.vx_io.specs.declared.requests.IoIntent.TheVariants.{Announce, Prefetch, Fetch}
 use Rattle.vx_io.specs.declared.requests.IoOwnerId.{IoOwnerId}

@@ -6,7 +6,7 @@ use Rattle.vx_base.specs.declared.dtypes.Nullability.{Nullability}
 use Rattle.vx_base.specs.declared.dtypes.Nullability.TheVariants.{NonNullable, Nullable}
 use Rattle.vx_base.specs.Data.{DataType, bool_type, int_type, utf8_type, struct_type, list_type, Members, no_members, member, Datum, null, truth, number, text, structure}
 use Rattle.vx_base.specs.Fits.{Fits, EachFits, nullability_of}
-use Rattle.vx_base.specs.ColumnCalls.{made_nullable, nullable_where, IsUnsigned}
+use Rattle.vx_base.specs.ColumnCalls.{nullable_where, IsUnsigned}
 use Rattle.vx_base.specs.ValueViews.{items_from}
 use Rattle.vx_expr.specs.Types.{on_both}
 use Rattle.vx_expr.specs.Packs.{struct_row}

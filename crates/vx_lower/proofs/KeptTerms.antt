@@ -1,5 +1,5 @@
 -- The kept fields and their children, gathered one after another.
-use Rattle.std.proofs.Common.{◌≡◌, ℕ, zero, suc, ◌<◌, ◌≤◌, Bool, true, false, cond, List, [], ◌∷◌, ◌++◌, length, map, get_or, take, drop, refl, sym, ap, ◌∙◌, arith, append_assoc, drop-cons}
+use Rattle.std.proofs.Common.{◌≡◌, ℕ, zero, suc, ◌<◌, Bool, true, false, cond, List, [], ◌∷◌, ◌++◌, length, map, get_or, take, drop, refl, sym, ap, ◌∙◌, arith, append_assoc, drop-cons}
 use Rattle.vx_base.specs.declared.dtypes.Field.{Field}
 use Rattle.vx_base.specs.Names.{names_in}
 use Rattle.vx_base.specs.Views.{members_of}

@@ -1,5 +1,5 @@
 -- An expression in which the row's number is replaced doesn't use it.
-use Rattle.std.proofs.Common.{◌≡◌, Bool, true, false, refl}
+use Rattle.std.proofs.Common.{◌≡◌, Bool, false, refl}
 use Rattle.std.specs.Prelude.{◌||◌}
 use Rattle.vx_expr.specs.Bound.{Bound}
 use Rattle.vx_expr.specs.Mentions.{uses_row_number}

@@ -1,12 +1,12 @@
 -- A plan of an expression that was added to a table, by what the expression uses.
-use Rattle.std.proofs.Common.{◌≡◌, ℕ, zero, suc, ◌+◌, ◌<◌, ◌≤◌, ◌⊎◌, inl, inr, get_or, pos, Bool, true, false, List, [], ◌∷◌, ◌++◌, Option, Some, None, length, take, map, refl, sym, ap, ◌∙◌, subst, arith, append-nil, append_assoc, length-append}
-use Rattle.std.specs.Prelude.{IsTrue, OnErr, Result, Ok, Err, IsSomeAnd}
+use Rattle.std.proofs.Common.{◌≡◌, ℕ, zero, suc, ◌+◌, ◌<◌, ◌≤◌, ◌⊎◌, inl, inr, get_or, Bool, true, false, List, [], ◌∷◌, ◌++◌, length, refl, sym, ap, ◌∙◌, subst, arith, append_assoc}
+use Rattle.std.specs.Prelude.{IsSomeAnd}
 use Rattle.std.specs.List.{slice_get}
-use Rattle.std.proofs.lemmas.List.{get_or_append_left, take_at}
+use Rattle.std.proofs.lemmas.List.{get_or_append_left}
 use Rattle.std.proofs.lemmas.List.Elements.{All-cons, All-nil}
 use Rattle.vx_base.specs.declared.dtypes.Nullability.TheVariants.{NonNullable}
 use Rattle.vx_base.specs.Data.{DataType, struct_type, no_members}
-use Rattle.vx_expr.specs.Bound.{Bound, IsBoundTo}
+use Rattle.vx_expr.specs.Bound.{Bound}
 use Rattle.vx_expr.specs.Mentions.{uses_root, uses_row_number}
 use Rattle.vx_expr.specs.Rewritten.{row_number_as_root, over_row_number, with_row_number}
 use Rattle.vx_expr.specs.Types.{row_number_type}
@@ -14,18 +14,17 @@ use Rattle.vx_plan.specs.Alike.{SameHead}
 use Rattle.vx_plan.specs.Kinds.{HasKind, IsRowIdx}
 use Rattle.vx_plan.specs.Nodes.{Node, absent}
 use Rattle.vx_plan.specs.Plans.{Plan, eval_plan, pack_plan, row_idx_plan, no_plans, plan, all_valid, head_at, plan_at, plan_head}
-use Rattle.vx_plan.specs.PlanRows.{plan_derivation, plan_value, plan_reads}
+use Rattle.vx_plan.specs.PlanRows.{plan_derivation}
 use Rattle.vx_plan.specs.Rules.{eval_node, node_at, row_idx_node}
 use Rattle.vx_plan.specs.Tables.{AreIn, IsAdded, IsGoodTable}
 use Rattle.vx_plan.proofs.Adding.{head_in_table, length_added, node_added, plan_added, stays}
 use Rattle.vx_plan.proofs.Unfolding.{have_earlier, HaveEarlier}
-use Rattle.vx_rows.specs.Derivations.{Leaves, Derivation, derived}
-use Rattle.vx_rows.specs.Reads.{directly, reads_of}
+use Rattle.vx_rows.specs.Derivations.{derived}
 use Rattle.vx_rows.specs.Heads.{Head}
-use Rattle.vx_lower.specs.PlannedOver.{HoldsAll, IsPlannedOver, IsWorthOver, ReadsOver}
+use Rattle.vx_lower.specs.PlannedOver.{HoldsAll, IsPlannedOver, IsWorthOver}
 use Rattle.vx_lower.specs.RowIndex.{head_with, row_index_plan, row_index_plan_by, row_index_plan_from, row_index_plan_from_by}
 use Rattle.vx_lower.specs.RowNumberPlans.{empty_node, numbered_node}
-use Rattle.vx_lower.proofs.RowIndexed.{row_index_keeps, row_index_reads}
+use Rattle.vx_lower.proofs.RowIndexed.{row_index_keeps}
 
 -- ---- tables that hold all that they held
 

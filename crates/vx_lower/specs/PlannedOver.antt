@@ -3,7 +3,6 @@ use Rattle.std.specs.Prelude.{◌≡◌, ℕ, ◌+◌, ◌≤◌, ◌⊎◌, if�
 use Rattle.vx_base.specs.Data.{DataType}
 use Rattle.vx_expr.specs.Bound.{Bound, IsBoundTo}
 use Rattle.vx_expr.specs.Mentions.{uses_root}
-use Rattle.vx_expr.specs.Rewritten.{with_row_number}
 use Rattle.vx_expr.specs.Terms.{Term}
 use Rattle.vx_plan.specs.declared.errors.PlanError.{PlanError}
 use Rattle.vx_plan.specs.declared.errors.PlanError.TheVariants.{BadPlan, Memory}

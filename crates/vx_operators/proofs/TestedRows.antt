@@ -1,5 +1,5 @@
 -- A test of the values of both sides at each row, whatever they are: what the meaning says of a comparison.
-use Rattle.std.proofs.Common.{◌≡◌, Bool, true, false, ◌&&◌, not, List, [], ◌∷◌, length, map, Option, Some, refl, sym, ap, ◌∙◌}
+use Rattle.std.proofs.Common.{◌≡◌, Bool, true, false, ◌&&◌, List, [], ◌∷◌, length, map, Option, Some, refl, sym, ap, ◌∙◌}
 use Rattle.vx_types.specs.Data.{Datum, truth}
 use Rattle.vx_types.specs.Reading.{where_valid}
 use Rattle.vx_words.specs.Masks.{both, either, without}

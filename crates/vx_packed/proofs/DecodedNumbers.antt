@@ -1,7 +1,7 @@
 -- Numbers of a leaf: what they spell, and what else would spell their bytes.
-use Rattle.std.proofs.Common.{◌≡◌, ℕ, zero, suc, ℤ, pos, ◌<◌, Bool, true, false, List, [], ◌∷◌, ◌++◌, length, map, replicate, get_or, Option, Some, refl, sym, ap, subst, ◌∙◌, arith}
+use Rattle.std.proofs.Common.{◌≡◌, ℕ, zero, suc, ℤ, pos, Bool, true, false, List, [], ◌∷◌, ◌++◌, length, map, replicate, Option, Some, refl, sym, ap, subst, ◌∙◌, arith}
 use Rattle.std.specs.List.{AllByRecursion, flat_map}
-use Rattle.std.proofs.lemmas.List.{length-map, length-take, length-replicate, get_or_append_left}
+use Rattle.std.proofs.lemmas.List.{length-map}
 use Rattle.vx_types.specs.declared.dtypes.IntKind.{IntKind}
 use Rattle.vx_types.specs.declared.dtypes.Nullability.{Nullability}
 use Rattle.vx_types.specs.declared.dtypes.Nullability.TheVariants.{NonNullable, Nullable}
@@ -10,8 +10,8 @@ use Rattle.vx_types.specs.Fits.{Fits, IsInside}
 use Rattle.vx_types.specs.Leaf.{number_slot}
 use Rattle.vx_types.specs.Parts.{IsValidity, valid_bits}
 use Rattle.vx_types.specs.Segment.{Spells, is_value, number_in, number_bytes, validity_bytes, packed}
-use Rattle.vx_types.specs.Reading.{bits_of, bits_read, where_valid, numbers_read}
-use Rattle.vx_types.proofs.Bits.{read_packed, length-bits_of}
+use Rattle.vx_types.specs.Reading.{bits_read, where_valid, numbers_read}
+use Rattle.vx_types.proofs.Bits.{read_packed}
 use Rattle.vx_types.proofs.Decoded.{Known, AreBytes, front_bytes, numbers_short, valid_len}
 use Rattle.vx_types.proofs.KindNumbers.{numbers_again}
 use Rattle.vx_types.proofs.Leaves.{two_parts, all_inside, slots_of_numbers}

@@ -3,7 +3,7 @@ use Rattle.std.proofs.Common.{◌≡◌, ℕ, zero, suc, ◌+◌, ◌-◌, ◌*�
 use Rattle.std.specs.List.{AllByRecursion, flat_map, slice_range}
 use Rattle.std.specs.Str.{IsUtf8, IsCharBoundary}
 use Rattle.std.specs.Int.{w32, to_le_bytes, from_le_bytes}
-use Rattle.std.proofs.lemmas.List.{length-append, length-map, take_at, drop_at, take-append-drop, get_or-append-add}
+use Rattle.std.proofs.lemmas.List.{length-append, length-map, take_at, drop_at, take-append-drop}
 use Rattle.std.proofs.lemmas.Nat.{le_bytes_4, from_le_bytes-to_le_bytes_4}
 use Rattle.std.proofs.lemmas.Str.{IsUtf8-between, IsUtf8-append, IsUtf8-nil, IsCharBoundary-start, IsCharBoundary-from_drop}
 use Rattle.vx_types.specs.declared.dtypes.Nullability.{Nullability}

@@ -1,10 +1,10 @@
 -- Structs behind structs, part by part.
-use Rattle.std.proofs.Common.{◌≡◌, ℕ, ◌+◌, ◌≤◌, List, [], ◌∷◌, ◌++◌, length, refl, sym, ap, subst, ◌∙◌, arith, append_assoc}
+use Rattle.std.proofs.Common.{◌≡◌, ℕ, ◌+◌, ◌≤◌, List, [], ◌∷◌, ◌++◌, length, refl, sym, ap, subst, ◌∙◌, arith}
 use Rattle.std.proofs.lemmas.List.{append-nil}
 use Rattle.vx_types.specs.Columns.{ColumnData}
 use Rattle.vx_types.specs.Sizes.{type_size, members_size}
-use Rattle.vx_packed.specs.PartRows.{members_in, rows_of, StructRows, struct_rows, HaveRows, joined, joined_each}
-use Rattle.vx_packed.proofs.PartRows.{joined_have, joined_members, struct_joined, struct_len, same_head, same_rest}
+use Rattle.vx_packed.specs.PartRows.{members_in, rows_of, StructRows, struct_rows, HaveRows, joined_each}
+use Rattle.vx_packed.proofs.PartRows.{joined_have, joined_members, struct_joined, struct_len, same_head}
 
 -- what was made so far, and what is left of both
 pub record AreJoining (rows : ℕ) (one two : StructRows) (made ones others : List ColumnData) : Type 0 where

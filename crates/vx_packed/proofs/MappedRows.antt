@@ -1,7 +1,7 @@
 -- Rows that are seen as something else: seen row by row, and picked, in either order.
 use Rattle.std.proofs.Common.{◌≡◌, ℕ, zero, suc, ◌-◌, ◌<◌, Bool, true, false, List, [], ◌∷◌, ◌++◌, length, map, get_or, take, drop, refl, sym, ap, ◌∙◌, arith}
 use Rattle.std.specs.List.{slice_range}
-use Rattle.std.proofs.lemmas.List.{length-map, drop-map, take-map, map-append}
+use Rattle.std.proofs.lemmas.List.{drop-map, take-map, map-append}
 use Rattle.vx_words.specs.Masks.{chosen}
 use Rattle.vx_words.specs.Rows.{taken}
 

@@ -1,5 +1,5 @@
 -- Packed columns, row by row.
-use Rattle.std.proofs.Common.{◌≡◌, ℕ, zero, suc, ℤ, pos, ◌-◌, Bool, true, false, List, [], ◌∷◌, ◌++◌, length, map, take, drop, replicate, Some, refl, sym, ap, subst, ◌∙◌, arith}
+use Rattle.std.proofs.Common.{◌≡◌, ℕ, zero, suc, ℤ, pos, ◌-◌, Bool, true, false, List, [], ◌∷◌, length, map, take, drop, Some, refl, sym, ap, subst, ◌∙◌, arith}
 use Rattle.std.specs.Prelude.{slice_get}
 use Rattle.std.specs.List.{AllByRecursion, slice_range}
 use Rattle.vx_types.specs.Columns.{ColumnData}
@@ -9,9 +9,8 @@ use Rattle.vx_types.specs.Data.{DataType, bool_type, int_type, utf8_type, struct
 use Rattle.vx_types.specs.Fits.{Fits, IsInside, TakesNull, nullability_of}
 use Rattle.vx_types.specs.ColumnCalls.{IsBool, made_nullable, nullable_where, IsUnsigned}
 use Rattle.vx_types.specs.Segment.{truth_in}
-use Rattle.std.specs.Str.{IsUtf8}
 use Rattle.vx_types.specs.declared.dtypes.IntKind.{IntKind}
-use Rattle.vx_packed.proofs.SlotRows.{truths_fit, numbers_fit, texts_fit}
+use Rattle.vx_packed.proofs.SlotRows.{numbers_fit}
 use Rattle.vx_types.proofs.AllFit.{all-append}
 use Rattle.vx_types.proofs.BuiltRows.{fits_nullable}
 use Rattle.vx_words.specs.Masks.{chosen}

@@ -14,7 +14,7 @@ use Rattle.vx_packed.specs.Places.{places_in}
 use Rattle.vx_packed.specs.declared.numbers.Numbers.{Numbers}
 use Rattle.vx_packed.specs.declared.parts.Slots.TheVariants as variants
 use Rattle.vx_packed.specs.declared.parts.Slots.{Slots}
-use Rattle.vx_packed.specs.PartRows.{StructRows, sliced, filtered, picked_at, joined}
+use Rattle.vx_packed.specs.PartRows.{sliced, filtered, picked_at, joined}
 use Rattle.vx_words.specs.Rows.{taken, NullsHold}
 use Rattle.vx_words.specs.Masks.{chosen}
 use Rattle.vx_packed.specs.Slots.{slot_type, slot_values, blank_in, LeafNullsHold, IsPart, part_column}

@@ -1,11 +1,9 @@
 -- Numbers of a kind and the bytes that spell them, number by number.
-use Rattle.std.proofs.Common.{◌≡◌, ℕ, suc, ℤ, ◌+◌, ◌-◌, ◌*◌, ◌<◌, ◌≤◌, List, [], ◌∷◌, ◌++◌, length, map, refl, sym, ap, subst, ◌∙◌, arith, append_assoc}
+use Rattle.std.proofs.Common.{◌≡◌, ℕ, ℤ, ◌+◌, ◌-◌, ◌*◌, List, ◌++◌, length, map}
 use Rattle.std.specs.List.{flat_map}
-use Rattle.std.proofs.lemmas.List.{append-nil, length-append, map-append, nil_from_length}
-use Rattle.std.proofs.lemmas.List.Concat.{flat_map-append}
 use Rattle.vx_types.specs.declared.dtypes.IntKind.{IntKind}
 use Rattle.vx_types.specs.Segment.{number_bytes}
-use Rattle.vx_types.proofs.KindNumbers.{size_of, number_len}
+use Rattle.vx_types.proofs.KindNumbers.{size_of}
 
 -- what was read of the bytes so far
 pub record ReadSoFar {X : Type 0} (kind : IntKind) (number : X → ℤ) (rows row : ℕ) (bytes : List ℕ) (numbers : List X) (rest : List ℕ) : Type 0 where

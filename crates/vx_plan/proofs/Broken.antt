@@ -1,11 +1,9 @@
 -- Rules by their numbers.
-use Rattle.std.proofs.Common.{◌≡◌, ℕ, zero, suc, ◌<◌, ◌≤◌, List, refl, sym, ap, ◌∙◌, arith}
-use Rattle.vx_plan.specs.declared.errors.PlanError.{PlanError}
-use Rattle.vx_plan.specs.declared.errors.PlanError.TheVariants.{BadPlan, Memory}
+use Rattle.std.proofs.Common.{ℕ, ◌<◌, ◌≤◌, List, arith}
 use Rattle.vx_plan.specs.declared.rules.PlanRule.{PlanRule}
 use Rattle.vx_plan.specs.declared.rules.PlanRule.TheVariants.{ChildTypes, ChildRows, BoundExpression, NoRowIndex, FieldCount, UnsignedCodes, LeafType, FittingZones}
 use Rattle.vx_plan.specs.Nodes.{Node}
-use Rattle.vx_plan.specs.Rules.{rule_number, Asks, KeepsRules, RefusedBy}
+use Rattle.vx_plan.specs.Rules.{rule_number, Asks}
 
 pub record IsNumbered (rule : PlanRule) : Type 0 where
   pub first : 1 ≤ rule_number rule

@@ -4,13 +4,12 @@ use Rattle.std.specs.List.{All, sum_by}
 use Rattle.vx_base.specs.declared.dtypes.Nullability.{Nullability}
 use Rattle.vx_base.specs.Data.{DataType, Members, struct_type}
 use Rattle.vx_base.specs.ColumnCalls.{IsUnsigned}
-use Rattle.vx_base.specs.Leaf.{IsLeaf}
 use Rattle.vx_expr.specs.declared.statistics.Statistic.{Statistic}
 use Rattle.vx_expr.specs.Bound.{Bound, IsBoundTo}
 use Rattle.vx_expr.specs.Mentions.{uses_row_number}
 use Rattle.vx_plan.specs.declared.rules.PlanRule.TheVariants.{ChildTypes, ChildRows, BoundExpression, NoRowIndex, FieldCount, UnsignedCodes, LeafType, FittingZones}
 use Rattle.vx_plan.specs.Nodes.{Node}
-use Rattle.vx_plan.specs.Rules.{concat_node, eval_node, filter_node, given_validity, is_given, legacy_node, list_node, node_at, nodes_at, pack_node, row_idx_node, rows_of, scan_node, share_node, take_node, zoned_node, AreZones, CountFits, KeepsRules, ListFits, ListRowsFit, PackCountFits, PackFits}
+use Rattle.vx_plan.specs.Rules.{concat_node, eval_node, given_validity, is_given, legacy_node, list_node, node_at, nodes_at, pack_node, rows_of, take_node, zoned_node, AreZones, CountFits, KeepsRules, ListFits, ListRowsFit, PackCountFits, PackFits}
 
 pub concat_keeps : (nodes : List Node) (t : DataType) (children : List ℕ) → All (λ child. child.dtype ≡ t) (nodes_at nodes children) → sum_by rows_of (nodes_at nodes children) < 2 ^ 64 → KeepsRules (concat_node nodes t children) (nodes_at nodes children)
 concat_keeps nodes t children fit few ChildTypes = fit

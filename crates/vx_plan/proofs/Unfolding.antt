@@ -1,5 +1,5 @@
 -- The plan of a node is the node's, grown over the plans of its children, and stays so when others are appended.
-use Rattle.std.proofs.Common.{◌≡◌, ℕ, zero, suc, ◌<◌, ◌≤◌, List, [], ◌∷◌, ◌++◌, Option, Some, None, length, map, get_or, refl, sym, ap, ◌∙◌, subst, arith}
+use Rattle.std.proofs.Common.{◌≡◌, ℕ, zero, suc, ◌<◌, ◌≤◌, List, [], ◌∷◌, Option, Some, None, map, get_or, refl, ap, ◌∙◌, subst, arith}
 use Rattle.std.specs.Prelude.{IfSome}
 use Rattle.std.specs.List.{slice_get, All}
 use Rattle.std.proofs.lemmas.List.Elements.{All-head, All-tail}
@@ -7,7 +7,6 @@ use Rattle.vx_plan.specs.Nodes.{Node}
 use Rattle.vx_plan.specs.declared.nodes.PlanKind.{PlanKind}
 use Rattle.vx_plan.specs.Plans.{Plan, head_at, plan_grown_as, plan_grown, plan_grow, plan_at}
 use Rattle.vx_plan.specs.Tables.{HasEarlierChildren, IsGoodNode, IsGoodTable}
-use Rattle.vx_plan.proofs.Growing.{get_in_front}
 use Rattle.vx_rows.proofs.Each.{if_some_weaker}
 
 abbrev pub HaveEarlier : List Node → Type 0

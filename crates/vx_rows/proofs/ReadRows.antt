@@ -1,5 +1,5 @@
 -- What reads say of what a row is worth: each law by one induction over derivations.
-use Rattle.std.proofs.Common.{◌≡◌, ℕ, zero, suc, ◌<◌, ◌⊎◌, inl, inr, ⊎_elim, pos, negsuc, true, false, List, [], ◌∷◌, ◌++◌, Option, Some, None, length, refl, sym, ap, subst, arith}
+use Rattle.std.proofs.Common.{◌≡◌, ℕ, zero, suc, ◌<◌, ◌⊎◌, inl, inr, ⊎_elim, pos, negsuc, true, false, List, [], ◌∷◌, ◌++◌, Option, Some, None, length, refl, ap, subst, arith}
 use Rattle.std.specs.Prelude.{option_and_then, option_map, IsSome, IfSome, IsSomeAnd}
 use Rattle.std.specs.List.{slice_get, AllByRecursion}
 use Rattle.vx_base.specs.Data.{Datum, null, truth, number, text, structure}
@@ -8,7 +8,7 @@ use Rattle.vx_expr.specs.Meaning.{meaning}
 use Rattle.vx_expr.specs.Rows.{no_bound}
 use Rattle.vx_expr.specs.Packs.{struct_row}
 use Rattle.vx_rows.specs.Derivations.{Cell, Derivation, nothing, cell, list_row, given, packed, valid_where, looked_up, worked_out, read_whole, Derivations, no_more, also, count_of, Leaves, where_valid, look_up, one_more, derived, derived_each}
-use Rattle.vx_rows.specs.Reads.{Way, through, inside, Found, a_cell, a_code, Read, code_row, reads_of, reads_of_each, AnyOf, IsAmong, AreAmong, Finds, FindsOnly, found_in, IsPlaceAmong, IsBadCode, IsFaulty, IsFine}
+use Rattle.vx_rows.specs.Reads.{Way, through, inside, Found, a_cell, a_code, Read, code_row, reads_of, reads_of_each, AnyOf, Finds, FindsOnly, found_in, IsPlaceAmong, IsBadCode, IsFaulty, IsFine}
 use Rattle.vx_rows.specs.Whole.{IsWhole, AreWhole, IsStrict, AreStrict, GiveEachRow, AgreeOn}
 
 -- ---- reads one after another

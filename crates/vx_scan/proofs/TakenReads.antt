@@ -1,7 +1,6 @@
 -- What a row of a table's plan reads through a take, each row reads that reads anything through it.
 use Rattle.std.proofs.Common.{◌≡◌, ℕ, ◌<◌, List, Some, None, length, sym, ap, ◌∙◌, subst}
 use Rattle.vx_rows.specs.Reads.{through}
-use Rattle.vx_rows.specs.Heads.{Head}
 use Rattle.vx_plan.specs.Nodes.{Node}
 use Rattle.vx_plan.specs.Plans.{Plan, no_plan, concat_plan, eval_plan, filter_plan, pack_plan, take_plan, share_plan, list_plan, row_idx_plan, scan_plan, zoned_plan, plan_head, plan_at, plan_gap}
 use Rattle.vx_plan.specs.Tables.{IsGoodTable}

@@ -11,7 +11,7 @@ use Rattle.vx_steps.specs.Asked.{AreAsked, AreSame}
 use Rattle.vx_steps.specs.Chunks.{IsChunk}
 use Rattle.vx_steps.specs.Given.{Handed, handed_by}
 use Rattle.vx_steps.specs.Needs.{Adds, Among}
-use Rattle.vx_steps.specs.Rows.{SomeRow, SelectsNone, SelectsSome}
+use Rattle.vx_steps.specs.Rows.{SomeRow, SelectsSome}
 use Rattle.vx_steps.specs.Visits.{Test, Visits, SomeVisit, IsWholeRead}
 use Rattle.vx_steps.specs.Wholes.{Asks, AsksNone}
 use Rattle.vx_steps.proofs.ChunkRows.{chunk_up, IsConcatPlan}

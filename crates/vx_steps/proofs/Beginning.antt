@@ -3,17 +3,14 @@ use Rattle.std.proofs.Common.{◌≡◌, ℕ, ◌<◌, inl, ⊎_elim, List, [], 
 use Rattle.std.specs.List.{AllByRecursion}
 use Rattle.vx_plan.specs.Nodes.{Node}
 use Rattle.vx_plan.specs.Rules.{node_at}
-use Rattle.vx_rows.specs.SegmentLeaves.{Bytes, leaves_of}
 use Rattle.vx_steps.specs.declared.jobs.ActiveSplit.{ActiveSplit}
 use Rattle.vx_steps.specs.declared.jobs.Job.{Job}
 use Rattle.vx_steps.specs.declared.jobs.Progress.{Progress}
-use Rattle.vx_steps.specs.Agreement.{Agrees}
-use Rattle.vx_steps.specs.Held.{AreMade, AreTyped, FitsOffset, HaveLeaves}
-use Rattle.vx_steps.specs.Jobs.{IsActive, IsGood, IsTold, IsUnstarted}
+use Rattle.vx_steps.specs.Held.{AreTyped, FitsOffset}
+use Rattle.vx_steps.specs.Jobs.{IsActive, IsGood, IsUnstarted}
 use Rattle.vx_steps.specs.KeptData.{Kept}
 use Rattle.vx_steps.specs.Kept.{kept_at, AreApart}
 use Rattle.vx_steps.specs.Needs.{Among}
-use Rattle.vx_steps.specs.ReadTableData.{Wanted}
 use Rattle.vx_steps.specs.Releasing.{ServesAll}
 use Rattle.vx_steps.specs.Splits.{IsInside}
 use Rattle.vx_steps.specs.Wholes.{UsesGiven}

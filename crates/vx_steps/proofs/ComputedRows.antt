@@ -12,8 +12,8 @@ use Rattle.vx_expr.specs.Meaning.{meaning}
 use Rattle.vx_expr.specs.Terms.{Term}
 use Rattle.vx_expr.specs.Types.{on_both}
 use Rattle.vx_expr.specs.Rows.{no_bound}
-use Rattle.vx_rows.specs.Derivations.{Derivation, Leaves, look_up, one_more, each_row, derived, derived_each}
-use Rattle.vx_rows.specs.Given.{all_given, given_row, share_with, values_with}
+use Rattle.vx_rows.specs.Derivations.{Leaves, look_up, one_more, each_row, derived, derived_each}
+use Rattle.vx_rows.specs.Given.{given_row, share_with, values_with}
 use Rattle.vx_rows.specs.Reads.{IsPlaceAmong}
 use Rattle.vx_rows.specs.Zones.{zones_of}
 use Rattle.vx_plan.specs.declared.children.PlanRef.{PlanRef}
@@ -34,10 +34,9 @@ use Rattle.vx_steps.specs.Kept.{kept_at, values_of, whole_of}
 use Rattle.vx_steps.specs.RowFaults.{root_meaning, IsCodeFault, IsEvalFault, IsPastCode, IsRowAt}
 use Rattle.vx_steps.specs.Rows.{rows_of, SelectsNone, SelectsSome}
 use Rattle.vx_steps.specs.Visits.{Test, Visits, SomeVisit, HasBadCode, HasEvalFault, IsListRead}
-use Rattle.vx_steps.proofs.Keeping.{got_inside}
 use Rattle.vx_steps.proofs.Premises.{is_by_for}
-use Rattle.vx_steps.proofs.SelectedRows.{map_same, picked_rows, row_bit, rows_all, rows_none, rows_same, then_rows, value_row}
-use Rattle.vx_steps.proofs.Shaping.{head_of, IsEvalPlan, IsLeafPlan, IsListPlan, IsSharePlan, IsTakePlan, IsZonedPlan}
+use Rattle.vx_steps.proofs.SelectedRows.{map_same, picked_rows, row_bit, rows_all, rows_none, then_rows, value_row}
+use Rattle.vx_steps.proofs.Shaping.{head_of, IsEvalPlan, IsLeafPlan, IsSharePlan, IsTakePlan, IsZonedPlan}
 use Rattle.vx_steps.proofs.WholeRows.{derived_given, each_at, each_same, length_all, row_below, same_below}
 use Rattle.vx_steps.proofs.FreeVisits.{IsNoPlace}
 

@@ -6,7 +6,6 @@ use Rattle.vx_base.specs.Columns.{ColumnData}
 use Rattle.vx_steps.specs.declared.places.PlaceTable.{PlaceTable}
 use Rattle.vx_steps.specs.KeptData.{Kept}
 use Rattle.std.specs.Option.{option_copied, is_some}
-use Rattle.vx_base.specs.Data.{Datum}
 use Rattle.vx_steps.specs.Kept.{kept_at, IsPlace, values_of, whole_of}
 use Rattle.vx_steps.specs.Places.{place_in}
 

@@ -1,22 +1,20 @@
 -- The leaves that so many rows of a plan read, kind by kind.
-use Rattle.std.proofs.Common.{◌≡◌, ℕ, zero, suc, ◌+◌, ◌-◌, ◌<◌, ◌≤◌, ◌==◌, ◌⊎◌, inl, inr, ⊎_elim, Bool, true, false, List, [], ◌∷◌, Some, None, length, map, drop, max, cond, get_or, refl, sym, ap, ◌∙◌, subst, arith, add-one}
+use Rattle.std.proofs.Common.{◌≡◌, ℕ, suc, ◌+◌, ◌-◌, ◌<◌, ◌≤◌, ◌==◌, ◌⊎◌, inl, inr, ⊎_elim, Bool, true, false, List, [], ◌∷◌, Some, None, length, map, cond, refl, sym, ap, ◌∙◌, subst, arith}
 use Rattle.std.specs.Prelude.{◌↔◌, IsTrue}
 use Rattle.std.specs.List.{slice_get}
-use Rattle.std.proofs.Math.Seq.{drop-cons}
 use Rattle.std.proofs.lemmas.Bool.{cases_lt}
 use Rattle.vx_plan.specs.Nodes.{Node}
-use Rattle.vx_plan.specs.Plans.{Plan, plan_head, plan_at, plans_from, field_plans, last_validity, filter_plan, list_plan, pack_plan, row_idx_plan, scan_plan, share_plan, take_plan}
+use Rattle.vx_plan.specs.Plans.{Plan, plan_head, plan_at, plans_from, field_plans, last_validity, filter_plan, pack_plan, scan_plan, share_plan, take_plan}
 use Rattle.vx_plan.specs.Rules.{node_at}
 use Rattle.vx_plan.specs.Tables.{IsGoodTable}
 use Rattle.vx_steps.specs.declared.chunks.Chunk.{Chunk}
 use Rattle.vx_steps.specs.declared.leavings.Sieve.{Sieve}
-use Rattle.vx_steps.specs.declared.splits.Split.{Split}
 use Rattle.vx_steps.specs.Chunks.{IsChunk}
-use Rattle.vx_steps.specs.Leavings.{behind_all, behind_split, IsLeafOf, IsMet, Meets, RowReads, RowsRead}
+use Rattle.vx_steps.specs.Leavings.{IsLeafOf, IsMet, Meets, RowReads, RowsRead}
 use Rattle.vx_steps.specs.Places.{place_in}
 use Rattle.vx_steps.specs.Visits.{Visits}
 use Rattle.vx_steps.proofs.ChunkRows.{chunk_down, chunk_up, IsConcatPlan}
-use Rattle.vx_steps.proofs.Shaping.{head_of, IsLeafPlan, IsListPlan, IsOverPlan, IsPackPlan, IsSharePlan, IsTakePlan, IsZonedPlan}
+use Rattle.vx_steps.proofs.Shaping.{head_of, IsLeafPlan, IsOverPlan, IsPackPlan, IsSharePlan, IsTakePlan, IsZonedPlan}
 use Rattle.vx_steps.proofs.Visiting.{any_packed, child_any, packed_any, AnyVisits}
 use Rattle.vx_steps.proofs.Selecting.{only_right}
 

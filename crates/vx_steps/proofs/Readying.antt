@@ -17,7 +17,7 @@ use Rattle.vx_steps.specs.Visits.{Visits, SomeVisit, IsLeafRead}
 use Rattle.vx_steps.proofs.ChunkRows.{chunk_up, IsConcatPlan}
 use Rattle.vx_steps.proofs.ComputedRows.{handed_values, none_kept}
 use Rattle.vx_steps.proofs.Selecting.{any_packed, got_range, Any}
-use Rattle.vx_steps.proofs.Shaping.{head_of, IsLeafPlan, IsOverPlan, IsPackPlan, IsSharePlan, IsTakePlan, IsZonedPlan}
+use Rattle.vx_steps.proofs.Shaping.{head_of, IsLeafPlan, IsPackPlan, IsSharePlan, IsTakePlan, IsZonedPlan}
 
 abbrev RowReads : Held → ℕ → List Bool → LeafRead → Plan → Type 0
 RowReads h start bits read p = SomeVisit (IsLeafRead read) (handed_in h) p start bits

@@ -4,7 +4,7 @@ use Rattle.std.specs.Prelude.{slice_range}
 use Rattle.std.specs.List.{slice_get}
 use Rattle.vx_base.specs.Columns.{ColumnData}
 use Rattle.vx_plan.specs.Nodes.{Node}
-use Rattle.vx_plan.specs.Plans.{Plan, plan_head, plan_at, plans_from, field_plans, last_validity, front_plans, last_plan, filter_plan, pack_plan, take_plan, share_plan, list_plan, row_idx_plan, scan_plan}
+use Rattle.vx_plan.specs.Plans.{Plan, plan_head, plan_at, plans_from, field_plans, last_validity, front_plans, last_plan, filter_plan, pack_plan, take_plan, share_plan, scan_plan}
 use Rattle.vx_plan.specs.Rules.{node_at}
 use Rattle.vx_plan.specs.Tables.{IsGoodTable}
 use Rattle.vx_steps.specs.declared.leaf_reads.LeafRead.{LeafRead}
@@ -12,13 +12,13 @@ use Rattle.vx_steps.specs.Given.{Handed, values_for, given_for, handed_by}
 use Rattle.vx_steps.specs.KeptData.{Kept}
 use Rattle.vx_steps.specs.Kept.{kept_at, whole_of, values_of}
 use Rattle.vx_steps.specs.Needs.{Among, Adds, NoneGiven, IsUnderWhole}
-use Rattle.vx_steps.specs.Rows.{SomeRow, SelectsSome, SelectsNone}
+use Rattle.vx_steps.specs.Rows.{SomeRow, SelectsSome}
 use Rattle.vx_steps.specs.Visits.{Visits, VisitsField, VisitsValidity, SomeVisit, IsLeafRead}
 use Rattle.std.proofs.lemmas.Bool.{cases_lt}
 use Rattle.vx_steps.specs.declared.chunks.Chunk.{Chunk}
 use Rattle.vx_steps.specs.Chunks.{IsChunk}
 use Rattle.vx_steps.proofs.ChunkRows.{chunk_down, chunk_up, IsConcatPlan}
-use Rattle.vx_steps.proofs.Shaping.{head_of, IsLeafPlan, IsZonedPlan, IsTakePlan, IsOverPlan, IsListPlan, IsSharePlan, IsPackPlan}
+use Rattle.vx_steps.proofs.Shaping.{head_of, IsLeafPlan, IsZonedPlan, IsTakePlan, IsOverPlan, IsSharePlan, IsPackPlan}
 use Rattle.vx_steps.proofs.Indexing.{take_all}
 
 -- ---- lists

@@ -21,7 +21,7 @@ use Rattle.vx_plan.specs.Nodes.{Node, absent}
 use Rattle.vx_plan.specs.Refs.{number_of}
 use Rattle.vx_rows.specs.Heads.{Head}
 use Rattle.vx_rows.specs.Zones.{zones_of}
-use Rattle.vx_plan.specs.Plans.{Plan, PlanValidity, plan_in, plan_head, head_at, plan_at, plans_from, field_plans, last_validity, eval_plan, filter_plan, pack_plan, take_plan, share_plan, list_plan, row_idx_plan, scan_plan, zoned_plan}
+use Rattle.vx_plan.specs.Plans.{Plan, PlanValidity, plan_head, head_at, plan_at, plans_from, field_plans, last_validity, eval_plan, filter_plan, pack_plan, take_plan, share_plan, list_plan, row_idx_plan, scan_plan, zoned_plan}
 use Rattle.vx_plan.specs.Rules.{field_count, node_at, nodes_at, PackFits, ValidityFits, IsMadeAs, TypesFit, IsBoundOver, HasUnsignedCodes, HasLeafType}
 use Rattle.vx_plan.specs.Shapes.{HasShape, IsOver, ShapeOf, zoned_kind}
 use Rattle.vx_plan.specs.Tables.{IsGoodNode, IsGoodTable}

@@ -1,5 +1,5 @@
 -- What a split comes to, from what its column comes to.
-use Rattle.std.proofs.Common.{◌⊎◌, inl, inr, ⊎_elim, ℕ, Bool, List}
+use Rattle.std.proofs.Common.{◌⊎◌, inl, inr, ⊎_elim, List}
 use Rattle.vx_plan.specs.Nodes.{Node}
 use Rattle.vx_rows.specs.SegmentLeaves.{Bytes}
 use Rattle.vx_steps.specs.declared.errors.StepError.{StepError}
@@ -8,11 +8,11 @@ use Rattle.vx_steps.specs.declared.jobs.Job.{Job}
 use Rattle.vx_steps.specs.declared.leaf_reads.LeafRead.{LeafRead}
 use Rattle.vx_steps.specs.declared.splits.Split.{Split}
 use Rattle.vx_steps.specs.Computed.{UnlessList}
-use Rattle.vx_steps.specs.Delivered.{IsOf, SomeTornCause}
+use Rattle.vx_steps.specs.Delivered.{IsOf}
 use Rattle.vx_steps.specs.KeptData.{Kept}
 use Rattle.vx_steps.specs.ReadTableData.{Wanted}
 use Rattle.vx_steps.specs.Turns.{AreLeavesKept, FailsInWholes, HasNeedCause, HasRowCause, IsRefusal, LeavesLeaves, LeavesWholes}
-use Rattle.vx_steps.specs.Wholes.{AddsAsked, AreThere, KeepsValues, UsesGiven}
+use Rattle.vx_steps.specs.Wholes.{AreThere}
 use Rattle.vx_steps.specs.declared.wholes.Wholes.{Wholes}
 use Rattle.vx_steps.proofs.Premises.{unless_by}
 

@@ -12,12 +12,12 @@ use Rattle.vx_steps.specs.Chunks.{IsChunk}
 use Rattle.vx_steps.specs.Given.{handed_by}
 use Rattle.vx_steps.specs.KeptData.{Kept}
 use Rattle.vx_steps.specs.Kept.{IsKept}
-use Rattle.vx_steps.specs.Rows.{SelectsNone, SelectsSome}
+use Rattle.vx_steps.specs.Rows.{SelectsSome}
 use Rattle.vx_steps.specs.Visits.{Visits, VisitsIn, VisitsField, VisitsValidity, SomeVisit, IsWholeRead}
 use Rattle.vx_steps.specs.Wholes.{AddsAsked, AddsOne, AddsOnly, Asks, AreThere, IsThere, KeepsValues, UsesGiven}
 use Rattle.vx_steps.proofs.ChunkRows.{IsConcatPlan}
 use Rattle.vx_steps.proofs.ComputedRows.{VisitsUp}
-use Rattle.vx_steps.proofs.Shaping.{head_of, IsListPlan, IsLeafPlan, IsOverPlan, IsPackPlan, IsSharePlan, IsTakePlan, IsZonedPlan}
+use Rattle.vx_steps.proofs.Shaping.{head_of, IsOverPlan, IsPackPlan, IsSharePlan, IsTakePlan, IsZonedPlan}
 use Rattle.vx_steps.proofs.Visiting.{down_chunk, down_fields, AnyVisits, RowVisits}
 use Rattle.vx_steps.proofs.Decoding.{adds_then}
 use Rattle.vx_steps.proofs.Standing.{match_none}

@@ -1,11 +1,9 @@
 -- The fields that an expression keeps of a tree may be kept.
-use Rattle.std.proofs.Common.{◌≡◌, Bool, true, false, List, ℕ, Option, Some, None, cond, sym, subst}
+use Rattle.std.proofs.Common.{◌≡◌, Option, Some, None, sym, subst}
 use Rattle.std.specs.Prelude.{IsSomeAnd}
-use Rattle.vx_base.specs.declared.dtypes.Nullability.TheVariants.{NonNullable, Nullable}
-use Rattle.vx_base.specs.Data.{DataType, bool_type, int_type, utf8_type, struct_type, list_type, Members}
-use Rattle.vx_expr.specs.Mentions.{uses_root, root_fields}
+use Rattle.vx_base.specs.Data.{DataType}
 use Rattle.vx_expr.specs.Terms.{Term}
-use Rattle.vx_layout.specs.Kept.{KeptFields, all, kept_among, kept_fields}
+use Rattle.vx_layout.specs.Kept.{KeptFields, all, kept_fields}
 use Rattle.vx_layout.specs.Nodes.{Node}
 use Rattle.vx_lower.specs.KeptRows.{MayKeep}
 

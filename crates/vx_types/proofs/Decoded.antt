@@ -1,26 +1,20 @@
 -- Reading a leaf row by row: what was read so far, and what a spelling of the bytes has there.
-use Rattle.std.proofs.Common.{◌≡◌, ℕ, zero, suc, ℤ, ◌+◌, ◌*◌, ◌/◌, ◌^◌, ◌<◌, ◌≤◌, Bool, true, false, List, [], ◌∷◌, ◌++◌, length, map, take, drop, replicate, get_or, Option, Some, None, refl, sym, ap, subst, ◌∙◌, arith, append_assoc}
+use Rattle.std.proofs.Common.{◌≡◌, ℕ, zero, suc, ◌+◌, ◌*◌, ◌<◌, ◌≤◌, Bool, true, List, [], ◌∷◌, ◌++◌, length, map, take, drop, replicate, get_or, Option, Some, None, refl, sym, ap, subst, ◌∙◌, arith}
 use Rattle.std.specs.List.{AllByRecursion, flat_map}
-use Rattle.std.specs.Int.{w32, to_le_bytes, from_le_bytes}
-use Rattle.std.proofs.lemmas.List.{append-nil, length-append, length-map, map-append, take_at, drop_at, take-append-drop, take_more, take-take, drop_more, drop_all, length-take, length-replicate, get_or-take, get_or-map, get_or_default, get_or_append_left, get_or-append-add, nil_from_length}
-use Rattle.std.proofs.lemmas.List.Concat.{flat_map-append}
-use Rattle.std.proofs.lemmas.Nat.{from_le_bytes-to_le_bytes_4}
+use Rattle.std.proofs.lemmas.List.{length-append, length-map, take_at, drop_at, length-take, length-replicate, get_or_append_left, get_or-append-add}
 use Rattle.vx_types.specs.declared.dtypes.IntKind.{IntKind}
 use Rattle.vx_types.specs.declared.dtypes.IntKind.TheVariants.{U8, U16, U32, U64, I8, I16, I32, I64}
 use Rattle.vx_types.specs.declared.dtypes.Nullability.{Nullability}
 use Rattle.vx_types.specs.declared.dtypes.Nullability.TheVariants.{NonNullable, Nullable}
-use Rattle.vx_types.specs.declared.values.Value.{Value}
 use Rattle.vx_types.specs.Data.{DataType, bool_type, int_type, utf8_type, Datum, null, truth, number}
-use Rattle.vx_types.specs.Fits.{Fits, IsInside, nullability_of}
+use Rattle.vx_types.specs.Fits.{Fits, nullability_of}
 use Rattle.vx_types.specs.Leaf.{IsLeaf, number_slot, length_slot, slot_bytes}
-use Rattle.vx_types.specs.Parts.{AreBits, IsPadded, IsValidity, valid_bits}
-use Rattle.vx_types.specs.Segment.{Spells, IsShort, is_value, truth_in, number_in, text_in, number_bytes, validity_bytes, packed}
-use Rattle.vx_types.specs.Reading.{decoded, bits_of, bits_read, packed_len, number_of}
-use Rattle.vx_types.specs.ValueViews.{datum}
-use Rattle.vx_types.proofs.AllFit.{all-append}
-use Rattle.vx_types.proofs.Bits.{packed_read, packed_padded, length-packed, read_packed, length-bits_of}
-use Rattle.vx_types.proofs.KindNumbers.{size_of, number_len, number_again}
-use Rattle.vx_types.proofs.Leaves.{none_null, validity_len, all_inside, two_parts, length_slots_len}
+use Rattle.vx_types.specs.Parts.{IsValidity, valid_bits}
+use Rattle.vx_types.specs.Segment.{Spells, IsShort, is_value, number_in, text_in, validity_bytes, packed}
+use Rattle.vx_types.specs.Reading.{decoded, bits_of, bits_read, packed_len}
+use Rattle.vx_types.proofs.Bits.{packed_read, length-bits_of}
+use Rattle.vx_types.proofs.KindNumbers.{size_of, number_len}
+use Rattle.vx_types.proofs.Leaves.{none_null, validity_len, two_parts, length_slots_len}
 
 abbrev pub AreBytes : List ℕ → Type 0
 AreBytes bytes = (i : ℕ) → get_or bytes i 0 < 256

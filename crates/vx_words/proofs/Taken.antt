@@ -10,7 +10,7 @@ use Rattle.vx_words.specs.Rows.{taken}
 use Rattle.vx_words.specs.Words.{low_bits, number_of, IsPushed}
 use Rattle.vx_words.proofs.LowBits.{length-low_bits, low_bits-add}
 use Rattle.vx_words.proofs.Built.{one_more}
-use Rattle.vx_words.proofs.Chosen.{WordRows, Filtered, filtered_none, filtered_more, filtered_all, chosen_wide, chosen_front}
+use Rattle.vx_words.proofs.Chosen.{WordRows, Filtered, filtered_none, filtered_more, chosen_wide, chosen_front}
 use Rattle.vx_words.proofs.Joined.{carried_more, joined_rows, joined_small}
 use Rattle.vx_words.proofs.Ranks.{low_bits-few, passed_more}
 

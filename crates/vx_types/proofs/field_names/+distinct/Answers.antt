@@ -1,4 +1,4 @@
-use Rattle.std.proofs.Common.{arith, refl, add-one}
+use Rattle.std.proofs.Common.{arith, add-one}
 use Rattle.vx_types.proofs.Members.{size_at}
 use Rattle.vx_types.proofs.FieldNames.{field_distinct, distinct_more}
 use Rattle.vx_types.proofs.field_names.+distinct.Goals as goal

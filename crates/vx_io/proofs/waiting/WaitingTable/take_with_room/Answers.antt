@@ -1,4 +1,3 @@
-use Rattle.std.proofs.Common.{rules}
 use Rattle.vx_io.specs.Session.{waits}
 use Rattle.vx_io.specs.Session.{asks}
 use Rattle.vx_io.proofs.TakenReads.{no_room}
