@@ -1,6 +1,7 @@
 //! The demo file of a number.
 
-ghost use Rattle.std.specs.Prelude.{◌≡◌, ◌≤◌, ◌-◌, ◌^◌, ℕ, ◌<◌, [], ◌∷◌, Some, length, IfOk, OnOk};
+ghost use Rattle.std.specs.Prelude.{◌≡◌, ◌≤◌, ℕ, ◌<◌, [], ◌∷◌, Some, length, IfOk, OnOk};
+ghost use Rattle.vx_base.specs.Limits.{most_segments};
 ghost use Rattle.vx_base.specs.Views.{data_type};
 ghost use Rattle.vx_layout.specs.Kept.{all};
 ghost use Rattle.vx_layout.specs.Rows.{AreTreeValues, file_leaves, value};
@@ -109,7 +110,7 @@ pub fn demo_file(alloc: Global, number: u64) -> Result<DemoFile, AllocError>
     ensures locations { IfOk result (λ demo. demo.file.locations.items ≡ demo_locations number) }
     ensures bytes { IfOk result (λ demo. demo.bytes.items ≡ demo_bytes number) }
     // Its segments are few enough to be numbered.
-    ensures few { IfOk result (λ demo. length demo.file.locations.items ≤ 2 ^ 32 - 1) }
+    ensures few { IfOk result (λ demo. length demo.file.locations.items ≤ most_segments) }
     // By the bytes of the file its rows have the values of the demo rows.
     ensures rows { IfOk result (λ demo. AreTreeValues (file_leaves demo.bytes.items demo.file.locations.items) (subtree demo.file.layout 0) all (demo_rows number)) }
     ensures each { IfOk result (λ demo. (row : ℕ) → row < number

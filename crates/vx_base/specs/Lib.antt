@@ -3,6 +3,7 @@ pub mod Faults
 pub mod FileSources
 pub mod GateSources
 pub mod InFlight
+pub mod Limits
 pub mod MemorySources
 pub mod MemoryStreams
 pub mod RunRows

@@ -1,7 +1,8 @@
 //! Which segment has a range of the file.
 
-ghost use Rattle.std.specs.Prelude.{◌≡◌, ◌≤◌, ◌-◌, ◌^◌, length, IfOk};
+ghost use Rattle.std.specs.Prelude.{◌≡◌, ◌≤◌, length, IfOk};
 ghost use Rattle.vx_io.specs.Ranges.{IsTableOf};
+ghost use Rattle.vx_base.specs.Limits.{most_segments};
 
 use std::alloc::{AllocError, Global};
 use std::collections::BTreeMap;
@@ -30,7 +31,7 @@ pub fn segment_ranges(
     alloc: Global,
     locations: &[SegmentLocation],
 ) -> Result<SegmentRanges, AllocError>
-    requires { length locations.now ≤ 2 ^ 32 - 1 }
+    requires { length locations.now ≤ most_segments }
     ensures { IfOk result (λ ranges. IsTableOf ranges locations.now) }
 {
     let mut segments = BTreeMap::new(alloc);

@@ -7,6 +7,7 @@ ghost use Rattle.vx_expr.specs.Mentions.{uses_root, uses_row_number};
 ghost use Rattle.vx_expr.specs.Types.{row_number_type};
 ghost use Rattle.vx_lower.specs.PlannedOver.{HoldsAll, IsPlannedOver, IsWorthOver, ReadsOver, RefusedOver};
 ghost use Rattle.vx_lower.specs.RowNumberPlans.{empty_node, numbered_members, numbered_node};
+ghost use Rattle.vx_plan.specs.Limits.{most_plans, most_before_four};
 ghost use Rattle.vx_plan.specs.declared.errors.PlanError.TheVariants.{Memory};
 ghost use Rattle.vx_plan.specs.Nodes.{node_data};
 ghost use Rattle.vx_plan.specs.Plans.{plan_at};
@@ -33,7 +34,7 @@ fn add_eval(
     expression: BoundExpression,
     child: PlanRef,
 ) -> Result<PlanRef, AllocError>
-    requires room { length table.old < 4294967295 }
+    requires room { length table.old < most_plans }
     requires known { number_of child < length table.old }
     requires bound { IsBoundTo expression (node_at table.old (number_of child)).dtype }
     requires unnumbered { uses_row_number expression.term ≡ false }
@@ -53,7 +54,7 @@ fn add_row_numbers(
     table: &mut PlanTable,
     row_count: u64,
 ) -> Result<PlanRef, AllocError>
-    requires room { length table.old < 4294967295 }
+    requires room { length table.old < most_plans }
     ensures added { IfOk result (λ plan. IsAdded table.old table.new (row_idx_node row_count) (number_of plan)) }
     ensures unchanged { OnErr result (table.new ≡ table.old) }
 {
@@ -70,7 +71,7 @@ fn add_empty_structs(
     table: &mut PlanTable,
     row_count: u64,
 ) -> Result<PlanRef, AllocError>
-    requires room { length table.old < 4294967295 }
+    requires room { length table.old < most_plans }
     ensures added { IfOk result (λ plan. IsAdded table.old table.new (empty_node row_count) (number_of plan)) }
     ensures unchanged { OnErr result (table.new ≡ table.old) }
 {
@@ -116,7 +117,7 @@ fn add_numbered_rows(
     numbers: PlanRef,
     child: PlanRef,
 ) -> Result<PlanRef, AllocError>
-    requires room { length table.old < 4294967295 }
+    requires room { length table.old < most_plans }
     requires known { number_of child < length table.old }
     requires numbers { number_of numbers < length table.old }
     requires numbered { node_at table.old (number_of numbers) ≡ row_idx_node (node_at table.old (number_of child)).rows }
@@ -148,7 +149,7 @@ fn over_child(
     expression: &BoundExpression,
     child: PlanRef,
 ) -> Result<PlanRef, AllocError>
-    requires room { length table.old < 4294967292 }
+    requires room { length table.old < most_before_four }
     requires good { IsGoodTable table.old }
     requires known { number_of child < length table.old }
     requires bound { IsBoundTo expression.now (node_at table.old (number_of child)).dtype }
@@ -168,7 +169,7 @@ fn over_row_numbers(
     expression: &BoundExpression,
     child: PlanRef,
 ) -> Result<PlanRef, AllocError>
-    requires room { length table.old < 4294967292 }
+    requires room { length table.old < most_before_four }
     requires good { IsGoodTable table.old }
     requires known { number_of child < length table.old }
     requires rootless { uses_root expression.now.term ≡ false }
@@ -189,7 +190,7 @@ fn over_empty_structs(
     expression: &BoundExpression,
     child: PlanRef,
 ) -> Result<PlanRef, AllocError>
-    requires room { length table.old < 4294967292 }
+    requires room { length table.old < most_before_four }
     requires good { IsGoodTable table.old }
     requires known { number_of child < length table.old }
     requires rootless { uses_root expression.now.term ≡ false }
@@ -210,7 +211,7 @@ fn over_numbered_rows(
     expression: &BoundExpression,
     child: PlanRef,
 ) -> Result<PlanRef, AllocError>
-    requires room { length table.old < 4294967292 }
+    requires room { length table.old < most_before_four }
     requires good { IsGoodTable table.old }
     requires known { number_of child < length table.old }
     requires bound { IsBoundTo expression.now (node_at table.old (number_of child)).dtype }
@@ -233,7 +234,7 @@ fn plan_bound(
     expression: &BoundExpression,
     child: PlanRef,
 ) -> Result<PlanRef, AllocError>
-    requires room { length table.old < 4294967292 }
+    requires room { length table.old < most_before_four }
     requires good { IsGoodTable table.old }
     requires known { number_of child < length table.old }
     requires bound { IsBoundTo expression.now (node_at table.old (number_of child)).dtype }
@@ -256,7 +257,7 @@ pub fn plan_row_idx_expression(
     expression: &BoundExpression,
     child: PlanRef,
 ) -> Result<PlanRef, PlanError>
-    requires room { length table.old < 4294967292 }
+    requires room { length table.old < most_before_four }
     requires known { number_of child < length table.old }
     // The plan, and what its rows are worth and read.
     ensures planned { IfOk result (λ plan. IsPlannedOver table.old table.new expression.now (number_of child) (number_of plan)) }

@@ -11,5 +11,6 @@ pub mod Shapes
 pub mod Reaches
 pub mod FittingRows
 pub mod Laws
+pub mod Limits
 pub mod WorkedPlans
 pub mod Alike

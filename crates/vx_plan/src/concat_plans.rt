@@ -4,6 +4,7 @@ ghost use Rattle.std.specs.Prelude.{◌≡◌, ◌<◌, ◌≤◌, ◌^◌, leng
 ghost use Rattle.std.specs.Arc.{arc_value};
 ghost use Rattle.vx_base.specs.Views.{data_type};
 ghost use Rattle.vx_plan.specs.Kinds.{HasKind, IsConcat};
+ghost use Rattle.vx_plan.specs.Limits.{most_plans};
 ghost use Rattle.vx_plan.specs.Nodes.{node_data};
 ghost use Rattle.vx_plan.specs.Refs.{number_of};
 ghost use Rattle.vx_plan.specs.Rules.{concat_node, node_at, nodes_at, offsets_from, rows_of, AreOffsets, RefusedBy};
@@ -70,7 +71,7 @@ impl ConcatPlan {
         dtype: DType,
         children: PlanChildren,
     ) -> Result<ConcatPlan, PlanError>
-        requires room { length table.old < 4294967295 }
+        requires room { length table.old < most_plans }
         requires known { AreIn table.old children }
         ensures added { IfOk result (λ plan. IsAdded table.old table.new (concat_node table.old (data_type dtype) children) (number_of plan.plan)) }
         ensures unchanged { OnErr result (table.new ≡ table.old) }
@@ -87,7 +88,7 @@ impl ConcatPlan {
         dtype: Arc<DType, Global>,
         children: PlanChildren,
     ) -> Result<ConcatPlan, PlanError>
-        requires room { length table.old < 4294967295 }
+        requires room { length table.old < most_plans }
         requires known { AreIn table.old children }
         ensures added { IfOk result (λ plan. IsAdded table.old table.new (concat_node table.old (data_type (arc_value dtype)) children) (number_of plan.plan)) }
         ensures unchanged { OnErr result (table.new ≡ table.old) }

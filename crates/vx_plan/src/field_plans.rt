@@ -4,6 +4,7 @@ ghost use Rattle.std.specs.Prelude.{◌≡◌, ◌<◌, ◌↔◌, ◌++◌, len
 ghost use Rattle.std.specs.Arc.{arc_value};
 ghost use Rattle.vx_base.specs.Views.{data_type, fields_in};
 ghost use Rattle.vx_plan.specs.Kinds.{has_validity_of, validity_of, HasKind, IsPack};
+ghost use Rattle.vx_plan.specs.Limits.{most_plans};
 ghost use Rattle.vx_plan.specs.Refs.{number_of};
 ghost use Rattle.vx_rows.specs.TypeForms.{IsStruct};
 ghost use Rattle.vx_plan.specs.Rules.{given_validity, members_at, node_at, nodes_at, pack_node, packed_node, RefusedBy};
@@ -30,7 +31,7 @@ impl PackPlan {
         field_plans: PlanChildren,
         validity: Option<PlanRef>,
     ) -> Result<PackPlan, PlanError>
-        requires room { length table.old < 4294967295 }
+        requires room { length table.old < most_plans }
         requires known { AreIn table.old field_plans }
         requires validity { IfSome validity (λ plan. number_of plan < length table.old) }
         ensures added { IfOk result (λ plan. IsAdded table.old table.new (pack_node fields nullability row_count field_plans (option_map number_of validity)) (number_of plan.plan)) }
@@ -50,7 +51,7 @@ impl PackPlan {
         field_plans: PlanChildren,
         validity: Option<PlanRef>,
     ) -> Result<PackPlan, PlanError>
-        requires room { length table.old < 4294967295 }
+        requires room { length table.old < most_plans }
         requires known { AreIn table.old field_plans }
         requires validity { IfSome validity (λ plan. number_of plan < length table.old) }
         requires structs { IsStruct (data_type (arc_value dtype)) }

@@ -2,6 +2,7 @@
 
 ghost use Rattle.std.specs.Prelude.{◌≡◌, ◌<◌, ◌↔◌, ◌∷◌, length, IfErr, IfOk, IfSome, IsSome, IsTrue, OnErr, option_map};
 ghost use Rattle.vx_plan.specs.Kinds.{has_validity_of, validity_of, HasKind, IsListPack};
+ghost use Rattle.vx_plan.specs.Limits.{most_plans};
 ghost use Rattle.vx_plan.specs.Refs.{number_of};
 ghost use Rattle.vx_plan.specs.Rules.{given_validity, list_node, node_at, nodes_at, RefusedBy};
 ghost use Rattle.vx_plan.specs.Tables.{IsAdded, IsChildAt};
@@ -26,7 +27,7 @@ impl ListPackPlan {
         offsets: PlanRef,
         validity: Option<PlanRef>,
     ) -> Result<ListPackPlan, PlanError>
-        requires room { length table.old < 4294967295 }
+        requires room { length table.old < most_plans }
         requires elements { number_of elements < length table.old }
         requires offsets { number_of offsets < length table.old }
         requires validity { IfSome validity (λ plan. number_of plan < length table.old) }

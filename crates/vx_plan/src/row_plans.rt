@@ -4,6 +4,7 @@ ghost use Rattle.std.specs.Prelude.{◌≡◌, ◌<◌, [], ◌∷◌, length, I
 ghost use Rattle.std.specs.Arc.{arc_value};
 ghost use Rattle.vx_base.specs.Views.{data_type};
 ghost use Rattle.vx_plan.specs.Kinds.{HasKind, IsEval, IsFilter, IsSegmentScan, IsShare};
+ghost use Rattle.vx_plan.specs.Limits.{most_plans};
 ghost use Rattle.vx_plan.specs.Nodes.{node_data};
 ghost use Rattle.vx_plan.specs.declared.errors.PlanError.TheVariants.{Memory};
 ghost use Rattle.vx_plan.specs.declared.nodes.PlanKind.TheVariants.{Eval, SegmentScan};
@@ -30,7 +31,7 @@ impl SegmentScanPlan {
         row_count: u64,
         segment: u32,
     ) -> Result<SegmentScanPlan, PlanError>
-        requires room { length table.old < 4294967295 }
+        requires room { length table.old < most_plans }
         ensures added { IfOk result (λ plan. IsAdded table.old table.new (scan_node (data_type dtype) row_count segment) (number_of plan.plan)) }
         ensures unchanged { OnErr result (table.new ≡ table.old) }
         ensures refused { IfErr result (RefusedBy (scan_node (data_type dtype) row_count segment) []) }
@@ -47,7 +48,7 @@ impl SegmentScanPlan {
         row_count: u64,
         segment: u32,
     ) -> Result<SegmentScanPlan, PlanError>
-        requires room { length table.old < 4294967295 }
+        requires room { length table.old < most_plans }
         ensures added { IfOk result (λ plan. IsAdded table.old table.new (scan_node (data_type (arc_value dtype)) row_count segment) (number_of plan.plan)) }
         ensures unchanged { OnErr result (table.new ≡ table.old) }
         ensures refused { IfErr result (RefusedBy (scan_node (data_type (arc_value dtype)) row_count segment) []) }
@@ -82,7 +83,7 @@ impl RowIdxPlan {
         table: &mut PlanTable,
         row_count: u64,
     ) -> Result<RowIdxPlan, PlanError>
-        requires room { length table.old < 4294967295 }
+        requires room { length table.old < most_plans }
         ensures added { IfOk result (λ plan. IsAdded table.old table.new (row_idx_node row_count) (number_of plan.plan)) }
         ensures unchanged { OnErr result (table.new ≡ table.old) }
         ensures refused { IfErr result (λ error. error ≡ Memory) }
@@ -128,7 +129,7 @@ impl FilterPlan {
         table: &mut PlanTable,
         child: PlanRef,
     ) -> Result<FilterPlan, PlanError>
-        requires room { length table.old < 4294967295 }
+        requires room { length table.old < most_plans }
         requires known { number_of child < length table.old }
         ensures added { IfOk result (λ plan. IsAdded table.old table.new (filter_node table.old (number_of child)) (number_of plan.plan)) }
         ensures unchanged { OnErr result (table.new ≡ table.old) }
@@ -151,7 +152,7 @@ impl FilterPlan {
 impl SharePlan {
     /// A plan of the child's rows, which is read whole. It is refused for want of memory alone.
     pub fn new(alloc: Global, table: &mut PlanTable, child: PlanRef) -> Result<SharePlan, PlanError>
-        requires room { length table.old < 4294967295 }
+        requires room { length table.old < most_plans }
         requires known { number_of child < length table.old }
         ensures added { IfOk result (λ plan. IsAdded table.old table.new (share_node table.old (number_of child)) (number_of plan.plan)) }
         ensures unchanged { OnErr result (table.new ≡ table.old) }
@@ -179,7 +180,7 @@ impl EvalPlan {
         expression: BoundExpression,
         child: PlanRef,
     ) -> Result<EvalPlan, PlanError>
-        requires room { length table.old < 4294967295 }
+        requires room { length table.old < most_plans }
         requires known { number_of child < length table.old }
         ensures added { IfOk result (λ plan. IsAdded table.old table.new (eval_node table.old expression (number_of child)) (number_of plan.plan)) }
         ensures unchanged { OnErr result (table.new ≡ table.old) }

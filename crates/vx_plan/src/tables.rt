@@ -4,6 +4,7 @@ ghost use Rattle.std.specs.Prelude.{◌≡◌, ◌<◌, ◌↔◌, [], length, m
 ghost use Rattle.std.specs.Arc.{arc_value};
 ghost use Rattle.vx_base.specs.Views.{data_type};
 ghost use Rattle.vx_plan.specs.Kinds.{has_validity_of, id_of, validity_of};
+ghost use Rattle.vx_plan.specs.Limits.{most_plans};
 ghost use Rattle.vx_plan.specs.Nodes.{node_data};
 ghost use Rattle.vx_plan.specs.Refs.{number_of};
 ghost use Rattle.vx_plan.specs.Rules.{node_at, nodes_at, IsMade, RefusedBy};
@@ -193,7 +194,7 @@ impl PlanTable {
 
     /// Adds a plan that is made as its kind asks, where it keeps the rules.
     pub(crate) fn add(&mut self, alloc: Global, node: PlanNode) -> Result<PlanRef, PlanError>
-        requires room { length self.old < 4294967295 }
+        requires room { length self.old < most_plans }
         requires known { AreIn self.old node.children }
         requires made { IsMade (node_data node) (nodes_at self.old node.children) }
         ensures added { IfOk result (λ plan. IsAdded self.old self.new (node_data node) (number_of plan)) }

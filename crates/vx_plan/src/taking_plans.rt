@@ -6,6 +6,7 @@ ghost use Rattle.vx_base.specs.ColumnCalls.{nullable_where};
 ghost use Rattle.vx_base.specs.Fits.{nullability_of};
 ghost use Rattle.vx_base.specs.Views.{data_type};
 ghost use Rattle.vx_plan.specs.Kinds.{HasKind, IsTake};
+ghost use Rattle.vx_plan.specs.Limits.{most_plans};
 ghost use Rattle.vx_plan.specs.Refs.{number_of};
 ghost use Rattle.vx_plan.specs.Rules.{node_at, nodes_at, take_node, RefusedBy};
 ghost use Rattle.vx_plan.specs.Tables.{IsAdded, IsChildAt};
@@ -48,7 +49,7 @@ impl TakePlan {
         codes: PlanRef,
         values: PlanRef,
     ) -> Result<TakePlan, PlanError>
-        requires room { length table.old < 4294967295 }
+        requires room { length table.old < most_plans }
         requires codes { number_of codes < length table.old }
         requires values { number_of values < length table.old }
         ensures added { IfOk result (λ plan. IsAdded table.old table.new (take_node table.old (number_of codes) (number_of values)) (number_of plan.plan)) }

@@ -2,6 +2,7 @@
 
 ghost use Rattle.std.specs.Prelude.{◌≡◌, ◌<◌, [], ◌∷◌, length, IfErr, IfOk, IsSomeAnd, OnErr};
 ghost use Rattle.vx_plan.specs.Kinds.{zone_len_of, stats_of, HasKind, IsLegacyStats, IsZoned};
+ghost use Rattle.vx_plan.specs.Limits.{most_plans};
 ghost use Rattle.vx_plan.specs.Refs.{number_of};
 ghost use Rattle.vx_plan.specs.Rules.{legacy_node, node_at, nodes_at, zoned_node, RefusedBy};
 ghost use Rattle.vx_plan.specs.Tables.{IsAdded, IsChildAt};
@@ -24,7 +25,7 @@ impl ZonedPlan {
         zone_len: u64,
         stats: Statistics,
     ) -> Result<ZonedPlan, PlanError>
-        requires room { length table.old < 4294967295 }
+        requires room { length table.old < most_plans }
         requires column { number_of column < length table.old }
         requires zones { number_of zones < length table.old }
         ensures added { IfOk result (λ plan. IsAdded table.old table.new (zoned_node table.old (number_of column) (number_of zones) zone_len stats) (number_of plan.plan)) }
@@ -93,7 +94,7 @@ impl LegacyStatsPlan {
         zone_len: u64,
         stats: Statistics,
     ) -> Result<LegacyStatsPlan, PlanError>
-        requires room { length table.old < 4294967295 }
+        requires room { length table.old < most_plans }
         requires column { number_of column < length table.old }
         requires zones { number_of zones < length table.old }
         ensures added { IfOk result (λ plan. IsAdded table.old table.new (legacy_node table.old (number_of column) (number_of zones) zone_len stats) (number_of plan.plan)) }

@@ -1,6 +1,7 @@
 //! Commands that add a plan.
 
 ghost use Rattle.std.specs.Prelude.{◌<◌, length};
+ghost use Rattle.vx_plan.specs.Limits.{most_before_four};
 ghost use Rattle.vx_plan.specs.Refs.{number_of};
 
 use crate::words::{UNREAD, number_at, plan_at, plans_from, times};
@@ -29,7 +30,7 @@ fn scan(
     numbers: &[u64],
     rest: &str,
 ) -> Result<PlanRef, PlanError>
-    requires { length table.old < 4294967292 }
+    requires { length table.old < most_before_four }
 {
     let rows = number_at(numbers, 0);
     let segment = u32::try_from(number_at(numbers, 1)).unwrap_or(0);
@@ -54,7 +55,7 @@ fn over(
     numbers: &[u64],
     rest: &str,
 ) -> Result<PlanRef, PlanError>
-    requires { length table.old < 4294967292 }
+    requires { length table.old < most_before_four }
 {
     let child = plan_at(table, numbers, 0)?;
     match command {
@@ -69,7 +70,7 @@ fn over(
 
 /// A plan of codes and values.
 fn taking(alloc: Global, table: &mut PlanTable, numbers: &[u64]) -> Result<PlanRef, PlanError>
-    requires { length table.old < 4294967292 }
+    requires { length table.old < most_before_four }
 {
     let codes = plan_at(table, numbers, 0)?;
     let values = plan_at(table, numbers, 1)?;
@@ -84,7 +85,7 @@ fn zones(
     numbers: &[u64],
     rest: &str,
 ) -> Result<PlanRef, PlanError>
-    requires { length table.old < 4294967292 }
+    requires { length table.old < most_before_four }
 {
     let column = plan_at(table, numbers, 0)?;
     let zones = plan_at(table, numbers, 1)?;
@@ -103,7 +104,7 @@ fn chunks(
     numbers: &[u64],
     rest: &str,
 ) -> Result<PlanRef, PlanError>
-    requires { length table.old < 4294967292 }
+    requires { length table.old < most_before_four }
 {
     let dtype = dtype_in(alloc, rest)?;
     let children = plans_from(alloc, table, numbers, 0)?;
@@ -117,7 +118,7 @@ fn repeated(
     numbers: &[u64],
     rest: &str,
 ) -> Result<PlanRef, PlanError>
-    requires { length table.old < 4294967292 }
+    requires { length table.old < most_before_four }
 {
     let count = number_at(numbers, 0);
     let child = plan_at(table, numbers, 1)?;
@@ -134,7 +135,7 @@ fn structs(
     numbers: &[u64],
     rest: &str,
 ) -> Result<PlanRef, PlanError>
-    requires { length table.old < 4294967292 }
+    requires { length table.old < most_before_four }
 {
     let rows = number_at(numbers, 0);
     let validity = if command == "pack" {
@@ -158,7 +159,7 @@ fn lists(
     numbers: &[u64],
     rest: &str,
 ) -> Result<PlanRef, PlanError>
-    requires { length table.old < 4294967292 }
+    requires { length table.old < most_before_four }
 {
     let nulls = if rest == "?" {
         Nullability::Nullable
@@ -184,7 +185,7 @@ pub(crate) fn made(
     numbers: &[u64],
     rest: &str,
 ) -> Result<PlanRef, PlanError>
-    requires { length table.old < 4294967292 }
+    requires { length table.old < most_before_four }
 {
     match command {
         "scan" => scan(alloc, table, numbers, rest),

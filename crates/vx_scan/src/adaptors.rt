@@ -1,9 +1,10 @@
 //! The adaptor between a polled scan and a session: each read of the scan becomes one fetch.
 
-ghost use Rattle.std.specs.Prelude.{◌≡◌, ◌≤◌, ◌-◌, ◌^◌, length};
+ghost use Rattle.std.specs.Prelude.{◌≡◌, ◌≤◌, length};
 ghost use Rattle.vx_scan.specs.AdaptorData.{IsReady};
 ghost use Rattle.vx_scan.specs.Computes.{after_result};
 ghost use Rattle.vx_scan.specs.Gathered.{IsNoRead, StepOf};
+ghost use Rattle.vx_base.specs.Limits.{most_segments};
 
 use crate::adaptor_errors::AdaptorError;
 use crate::gathering::gather;
@@ -95,7 +96,7 @@ pub struct ScanAdaptor<'a> {
     asked: u64,
     held: Option<(usize, Column)>,
     state: State,
-    ghost few: { length locations.now ≤ 2 ^ 32 - 1 },
+    ghost few: { length locations.now ≤ most_segments },
     ghost ready: { IsReady locations.now state asked scan.progress.reads },
 }
 
@@ -108,7 +109,7 @@ impl<'a> ScanAdaptor<'a> {
     /// An adaptor of a scan that handed out no read yet, and of where each segment lies, by the segment's number. It
     /// takes no memory.
     pub fn new(alloc: Global, scan: Scan<'a>, locations: &'a [SegmentLocation]) -> ScanAdaptor<'a>
-        requires few { length locations.now ≤ 2 ^ 32 - 1 }
+        requires few { length locations.now ≤ most_segments }
         requires fresh { scan.progress.reads.handed ≡ 0 }
         ensures locations { result.locations.now ≡ locations.now }
         ensures scan { (adaptor_data result).scan ≡ scan.entry }

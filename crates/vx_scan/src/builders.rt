@@ -1,6 +1,7 @@
 //! The builder of a scan.
 
-ghost use Rattle.std.specs.Prelude.{◌≡◌, ◌<◌, ◌≤◌, ◌-◌, ◌^◌, ◌⊎◌, [], Some, length, map, Err, IfOk, IfErr, IsOk};
+ghost use Rattle.std.specs.Prelude.{◌≡◌, ◌<◌, ◌≤◌, ◌⊎◌, [], Some, length, map, Err, IfOk, IfErr, IsOk};
+ghost use Rattle.vx_base.specs.Limits.{most_segments};
 ghost use Rattle.vx_base.specs.Views.{data_type};
 ghost use Rattle.vx_splits.specs.declared.selections.Selection.TheVariants.{IncludeByIndex};
 ghost use Rattle.vx_scan.specs.Answer.{row_count};
@@ -145,7 +146,7 @@ impl ScanBuilder {
     /// is asked. Refused is, in this order: a projection that isn't bound to the file's dtype; where the range isn't empty,
     /// numbers of rows that could overflow; and a selected row of the given range that isn't one of the file's.
     pub fn prepare(self, alloc: Global) -> Result<Prepared, ScanError>
-        requires { length self.locations ≤ 2 ^ 32 - 1 }
+        requires { length self.locations ≤ most_segments }
         ensures prepared { IfOk result (IsPreparedFor (scan_of self) self.idle_limit self.ordered) }
         ensures cause { IfErr result (λ error. (error ≡ lacking) ⊎ Refuses (scan_of self) error) }
         ensures refused { (error : Refusal) → Refuses (scan_of self) error → result ≡ Err error }
@@ -166,7 +167,7 @@ impl ScanBuilder {
     ) -> Result<Vec<Column>, ScanError>
         requires some { 0 < length sources.old }
         requires workers { length sources.old ≤ most_workers }
-        requires few { length self.locations ≤ 2 ^ 32 - 1 }
+        requires few { length self.locations ≤ most_segments }
         ensures answers { AnswersScan (scan_of self) self.idle_limit result (map S.state sources.old) (map S.state sources.new) }
         // An empty range has no batch, and a scan that is refused before it begins is refused: nothing is asked, and no
         // memory is taken.
@@ -180,7 +181,7 @@ impl ScanBuilder {
 
 /// The plans and the chunks of the scan of the file by the settings.
 fn prepare_file(alloc: Global, file: ScanFile, settings: Settings) -> Result<Prepared, ScanError>
-    requires { length file.locations.items ≤ 2 ^ 32 - 1 }
+    requires { length file.locations.items ≤ most_segments }
     ensures prepared { IfOk result (IsPreparedFor (scan_by file settings) settings.idle_limit settings.ordered) }
     ensures cause { IfErr result (λ error. (error ≡ lacking) ⊎ Refuses (scan_by file settings) error) }
     ensures refused { (error : Refusal) → Refuses (scan_by file settings) error → result ≡ Err error }
@@ -203,7 +204,7 @@ fn scan_file<R: Threads + Wait + Sync, S: SegmentSource + Send>(
 ) -> Result<Vec<Column>, ScanError>
     requires some { 0 < length sources.old }
     requires workers { length sources.old ≤ most_workers }
-    requires few { length file.locations.items ≤ 2 ^ 32 - 1 }
+    requires few { length file.locations.items ≤ most_segments }
     ensures answers { AnswersScan (scan_by file settings.now) settings.now.idle_limit result (map S.state sources.old) (map S.state sources.new) }
     ensures empty { IsBound (scan_by file settings.now) → (HasRows settings.now.range (row_count (scan_by file settings.now)) → ⊥) → IfOk result (λ batches. batches.items ≡ []) × IsOk result × (map S.state sources.new ≡ map S.state sources.old) }
     ensures refused { (error : Refusal) → Refuses (scan_by file settings.now) error → (result ≡ Err error) × (map S.state sources.new ≡ map S.state sources.old) }

@@ -1,9 +1,10 @@
 //! Reads that follow one another, as one batch of fetches.
 
-ghost use Rattle.std.specs.Prelude.{◌≡◌, ◌≤◌, ◌-◌, ◌^◌, [], length};
+ghost use Rattle.std.specs.Prelude.{◌≡◌, ◌≤◌, [], length};
 ghost use Rattle.vx_scan.specs.AdaptorData.{AreAsked};
 ghost use Rattle.vx_scan.specs.Fetched.{fetch_at};
 ghost use Rattle.vx_scan.specs.Gathered.{GatherGives, StepGives};
+ghost use Rattle.vx_base.specs.Limits.{most_segments};
 
 use crate::adaptor_errors::AdaptorError;
 use vx_base::SegmentLocation;
@@ -42,7 +43,7 @@ pub(crate) fn gather(
     locations: &[SegmentLocation],
     batch: &mut Vec<IoRequest>,
 ) -> Result<Turn, AdaptorError>
-    requires few { length locations.now ≤ 2 ^ 32 - 1 }
+    requires few { length locations.now ≤ most_segments }
     requires empty { batch.old.items ≡ [] }
     requires asked { AreAsked locations.now scan.old.progress.reads.handed scan.old.progress.reads }
     ensures { GatherGives locations.now result batch.new.items scan.old scan.new }

@@ -1,11 +1,12 @@
 //! A scan that is prepared to run: its plans and its chunks.
 
-ghost use Rattle.std.specs.Prelude.{◌≡◌, ◌≤◌, ◌-◌, ◌^◌, ◌⊎◌, length, IfOk, IfErr};
+ghost use Rattle.std.specs.Prelude.{◌≡◌, ◌≤◌, ◌⊎◌, length, IfOk, IfErr};
 ghost use Rattle.vx_scan.specs.Beginning.{BeginsOver, Refuses};
 ghost use Rattle.vx_scan.specs.Prepared.{IsPreparedFor};
 ghost use Rattle.vx_scan.specs.Settings.{scan_by};
 ghost use Rattle.vx_scan.specs.Valid.{HasRows, IsBound};
 ghost use Rattle.vx_scan.specs.Answer.{row_count};
+ghost use Rattle.vx_base.specs.Limits.{most_segments};
 
 use crate::beginning::begin;
 use crate::files::ScanFile;
@@ -31,7 +32,7 @@ pub(crate) fn prepare_rows(
     settings: &Settings,
     rows: Range<u64>,
 ) -> Result<Prepared, AllocError>
-    requires few { length file.locations.items ≤ 2 ^ 32 - 1 }
+    requires few { length file.locations.items ≤ most_segments }
     requires begins { BeginsOver (scan_by file settings.now) rows }
     ensures { IfOk result (IsPreparedFor (scan_by file settings.now) settings.now.idle_limit settings.now.ordered) }
 {
@@ -52,7 +53,7 @@ pub(crate) fn prepare_nothing(
     file: ScanFile,
     settings: Settings,
 ) -> Result<Prepared, AllocError>
-    requires few { length file.locations.items ≤ 2 ^ 32 - 1 }
+    requires few { length file.locations.items ≤ most_segments }
     requires bound { IsBound (scan_by file settings) }
     requires none { ¬ (HasRows settings.range (row_count (scan_by file settings))) }
     ensures { IfOk result (IsPreparedFor (scan_by file settings) settings.idle_limit settings.ordered) }

@@ -1,10 +1,11 @@
 //! From a file to what its scan runs: a table with the plan of the projection, and the chunks of the rows.
 
-ghost use Rattle.std.specs.Prelude.{◌≡◌, ◌+◌, ◌<◌, ◌≤◌, ◌-◌, ◌^◌, Some, length, map, IfOk};
+ghost use Rattle.std.specs.Prelude.{◌≡◌, ◌+◌, ◌<◌, ◌≤◌, Some, length, map, IfOk};
 ghost use Rattle.std.specs.List.{AllByRecursion};
 ghost use Rattle.vx_expr.specs.Bound.{IsBoundTo};
 ghost use Rattle.vx_expr.specs.Types.{type_of};
 ghost use Rattle.vx_layout.specs.Trees.{head_of, subtree};
+ghost use Rattle.vx_plan.specs.Limits.{most_before_four};
 ghost use Rattle.vx_plan.specs.Refs.{number_of};
 ghost use Rattle.vx_plan.specs.Rules.{node_at};
 ghost use Rattle.vx_plan.specs.Tables.{IsGoodTable};
@@ -18,6 +19,7 @@ ghost use Rattle.vx_scan.specs.Plans.{AreInOrder};
 ghost use Rattle.vx_scan.specs.Preparing.{AreChunksOf, ArePlansOf, IsPlannedFor, IsProjectedIn, LiesInside};
 ghost use Rattle.vx_scan.specs.Settings.{scan_by};
 ghost use Rattle.vx_scan.specs.Valid.{IsBound};
+ghost use Rattle.vx_base.specs.Limits.{most_segments};
 
 use crate::files::ScanFile;
 use crate::plans::ScanPlans;
@@ -63,7 +65,7 @@ fn cut_chunks(
 
 /// How many rows of the file a chunk has.
 fn chunk_rows(file: &ScanFile, settings: &Settings) -> u64
-    requires { length file.now.locations.items ≤ 2 ^ 32 - 1 }
+    requires { length file.now.locations.items ≤ most_segments }
     ensures size { result ≡ size_of (scan_by file.now settings.now) }
     ensures some { 0 < result }
 {
@@ -82,7 +84,7 @@ pub(crate) fn cut_file(
     settings: &Settings,
     rows: Range<u64>,
 ) -> Result<Vec<SelectedRows>, AllocError>
-    requires few { length file.now.locations.items ≤ 2 ^ 32 - 1 }
+    requires few { length file.now.locations.items ≤ most_segments }
     requires begins { BeginsOver (scan_by file.now settings.now) rows }
     ensures { IfOk result (λ chunks. AreChunksOf (scan_by file.now settings.now) chunks.items) }
 {
@@ -97,7 +99,7 @@ fn plan_projection(
     root: PlanRef,
     projection: &BoundExpression,
 ) -> Result<PlanRef, AllocError>
-    requires room { length table.old < 4294967292 }
+    requires room { length table.old < most_before_four }
     requires good { IsGoodTable table.old }
     requires last { number_of root + 1 ≡ length table.old }
     requires typed { type_of (node_at table.old (number_of root)).dtype projection.now.term ≡ Some projection.now.dtype }
@@ -150,7 +152,7 @@ pub(crate) fn plan_file(
     file: ScanFile,
     settings: &Settings,
 ) -> Result<ScanPlans, AllocError>
-    requires few { length file.locations.items ≤ 2 ^ 32 - 1 }
+    requires few { length file.locations.items ≤ most_segments }
     requires bound { IsBound (scan_by file settings.now) }
     ensures { IfOk result (ArePlansOf (scan_by file settings.now) settings.now.idle_limit) }
 {

@@ -1,7 +1,8 @@
 //! Stories of an adaptor: what it gives and takes, step by step.
 
-ghost use Rattle.std.specs.Prelude.{◌≡◌, ◌<◌, ◌≤◌, ◌-◌, ◌^◌, length};
+ghost use Rattle.std.specs.Prelude.{◌≡◌, ◌<◌, ◌≤◌, length};
 ghost use Rattle.vx_plan.specs.Refs.{number_of};
+ghost use Rattle.vx_base.specs.Limits.{most_segments};
 
 use crate::answers::{write_column, write_error};
 use crate::commands::Desk;
@@ -107,7 +108,7 @@ fn write_scanned(
     story: &str,
     out: &mut String,
 ) -> Result<(), AllocError>
-    requires few { length locations.now ≤ 2 ^ 32 - 1 }
+    requires few { length locations.now ≤ most_segments }
     requires fresh { scan.progress.reads.handed ≡ 0 }
 {
     let mut adaptor = ScanAdaptor::new(alloc, scan, locations);
@@ -123,7 +124,7 @@ fn write_planned(
     out: &mut String,
 ) -> Result<(), AllocError>
     requires root { number_of plans.now.root < length plans.now.table }
-    requires few { length locations.now ≤ 2 ^ 32 - 1 }
+    requires few { length locations.now ≤ most_segments }
 {
     let (words, story) = words.split_once(" | ").unwrap_or((words, ""));
     let (active, words) = words.split_once(" of ").unwrap_or(("1", words));

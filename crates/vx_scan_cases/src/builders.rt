@@ -1,6 +1,7 @@
 //! The builder of a scan of the file, and its settings as words.
 
-ghost use Rattle.std.specs.Prelude.{◌≤◌, ◌-◌, ◌^◌, length, IfOk, IfSome};
+ghost use Rattle.std.specs.Prelude.{◌≤◌, length, IfOk, IfSome};
+ghost use Rattle.vx_base.specs.Limits.{most_segments};
 
 use crate::commands::Desk;
 use crate::files::{numbers_of, places_of};
@@ -15,7 +16,7 @@ use vx_tree_notation::{dtype_in, tree_of};
 
 /// The builder of a scan of the tree, whose segments lie at these places.
 fn scan_of(alloc: Global, layout: LayoutTree, places: &str) -> Result<ScanBuilder, AllocError>
-    ensures { IfOk result (λ builder. length builder.locations ≤ 2 ^ 32 - 1) }
+    ensures { IfOk result (λ builder. length builder.locations ≤ most_segments) }
 {
     let locations = places_of(alloc, places)?;
     ScanBuilder::new(alloc, ScanFile { layout, locations })
@@ -23,7 +24,7 @@ fn scan_of(alloc: Global, layout: LayoutTree, places: &str) -> Result<ScanBuilde
 
 /// The builder of a scan of the whole file; none where its nodes are no tree.
 pub(crate) fn builder_of(alloc: Global, desk: Desk<'_>) -> Result<Option<ScanBuilder>, AllocError>
-    ensures { IfOk result (λ made. IfSome made (λ builder. length builder.locations ≤ 2 ^ 32 - 1)) }
+    ensures { IfOk result (λ made. IfSome made (λ builder. length builder.locations ≤ most_segments)) }
 {
     match tree_of(alloc, desk.nodes) {
         Some(layout) => Ok(Some(scan_of(alloc, layout, desk.places)?)),
@@ -50,7 +51,7 @@ fn projection_of(alloc: Global, dtype: &DType, word: &str) -> Result<BoundExpres
 
 /// The scan of the file with the projection of that word; none where there is no tree, or it can't be bound.
 fn projected(alloc: Global, desk: Desk<'_>, word: &str) -> Option<ScanBuilder>
-    ensures { IfSome result (λ builder. length builder.locations ≤ 2 ^ 32 - 1) }
+    ensures { IfSome result (λ builder. length builder.locations ≤ most_segments) }
 {
     let layout = tree_of(alloc, desk.nodes)?;
     let projection = projection_of(alloc, layout.dtype(), word).ok()?;
@@ -81,7 +82,7 @@ fn range_of(words: &str) -> Range<u64> {
 /// from 7, and projects their numbers; `1..4 all 7 row` is of all rows of the range. None where there is no tree, or they
 /// can't be set.
 pub(crate) fn set_of(alloc: Global, desk: Desk<'_>, words: &str) -> Option<ScanBuilder>
-    ensures { IfSome result (λ builder. length builder.locations ≤ 2 ^ 32 - 1) }
+    ensures { IfSome result (λ builder. length builder.locations ≤ most_segments) }
 {
     let (range, words) = words.split_once(' ').unwrap_or((words, ""));
     let (indices, words) = words.split_once(' ').unwrap_or((words, ""));

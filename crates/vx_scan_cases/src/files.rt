@@ -1,6 +1,7 @@
 //! The file as words: its bytes, where its segments lie, and the script that its source keeps to.
 
-ghost use Rattle.std.specs.Prelude.{◌≤◌, ◌-◌, ◌^◌, length, IfOk};
+ghost use Rattle.std.specs.Prelude.{◌≤◌, length, IfOk};
+ghost use Rattle.vx_base.specs.Limits.{most_segments};
 
 use std::alloc::{AllocError, Global};
 use vx_base::{Script, ScriptSource, SegmentLocation};
@@ -36,7 +37,7 @@ fn place_of(word: &str) -> SegmentLocation {
 
 /// The locations of these ranges, of a thousand at most.
 pub(crate) fn places_of(alloc: Global, words: &str) -> Result<Vec<SegmentLocation>, AllocError>
-    ensures { IfOk result (λ places. length places.items ≤ 2 ^ 32 - 1) }
+    ensures { IfOk result (λ places. length places.items ≤ most_segments) }
 {
     let mut places = Vec::new(alloc);
     for word in words.split_whitespace() {

@@ -1,6 +1,7 @@
 //! Scans of the file.
 
-ghost use Rattle.std.specs.Prelude.{◌≤◌, ◌-◌, ◌^◌, length};
+ghost use Rattle.std.specs.Prelude.{◌≤◌, length};
+ghost use Rattle.vx_base.specs.Limits.{most_segments};
 
 use crate::answers::{write_column, write_error, write_source};
 use crate::builders::{builder_of, set_of};
@@ -38,7 +39,7 @@ fn write_run<R: AllocGlobal + Threads + Wait + Sync>(
     source: ScriptSource,
     out: &mut String,
 ) -> Result<(), AllocError>
-    requires { length builder.locations ≤ 2 ^ 32 - 1 }
+    requires { length builder.locations ≤ most_segments }
 {
     let alloc = rt.alloc();
     let mut sources = [source];

@@ -1,9 +1,10 @@
 //! Chunks: a range of rows cut at the multiples of a size.
 
-ghost use Rattle.std.specs.Prelude.{◌≡◌, ◌*◌, ◌%◌, ◌-◌, ◌^◌, ◌<◌, ◌≤◌, true, length, IfOk};
+ghost use Rattle.std.specs.Prelude.{◌≡◌, ◌*◌, ◌%◌, ◌<◌, ◌≤◌, true, length, IfOk};
 ghost use Rattle.std.specs.List.{sum_by};
 ghost use Rattle.vx_splits.specs.Limits.{most_chunk_rows, block_rows};
 ghost use Rattle.vx_splits.specs.Chunks.{rows_per_chunk, chunk_size, clipped_chunk, row_chunks, Tile, CutsAtMultiples, ChunkSizes, ChunksJoin, ChunksTake, ChunksAreShared};
+ghost use Rattle.vx_base.specs.Limits.{most_segments};
 
 use std::alloc::{AllocError, Global};
 use std::ops::Range;
@@ -22,7 +23,7 @@ const CHUNK_BYTES: u64 = 8_388_608;
 /// of at most so many rows, else about eight MiB of rows, in blocks of 8192, one block to eight. It takes no
 /// memory.
 pub fn rows_per_chunk(row_count: u64, locations: &[SegmentLocation]) -> u64
-    requires { length locations.now ≤ 2 ^ 32 - 1 }
+    requires { length locations.now ≤ most_segments }
     ensures rows { result ≡ rows_per_chunk row_count locations.now }
     ensures root { result ≡ chunk_size true row_count locations.now }
     ensures multiple { result % block_rows ≡ 0 }
@@ -39,7 +40,7 @@ pub fn rows_per_chunk(row_count: u64, locations: &[SegmentLocation]) -> u64
 
 /// The bytes of all segments.
 fn total_length(locations: &[SegmentLocation]) -> u64
-    requires { length locations.now ≤ 2 ^ 32 - 1 }
+    requires { length locations.now ≤ most_segments }
     ensures { result ≡ sum_by (λ at. at.length) locations.now }
 {
     let mut total: u64 = 0;
