@@ -127,8 +127,9 @@ fn applied(
 }
 
 /// What the expression is worth at each row, where `root` has the root's values and `numbers` the numbers
-/// of the same rows. The bound is `u64::MAX`. Where the expression is a fault at a row, the first such row
-/// is told.
+/// of the same rows. The bound is `u64::MAX`, so that `at_most_bound` is true of each number. Where the expression is
+/// a fault at a row, the first such row is told; a fault in any part is one of the whole, also beside a part that would
+/// decide it.
 pub fn apply(
     alloc: Global,
     expression: &BoundExpression,

@@ -224,8 +224,8 @@ impl BoundExpression {
         bind(alloc, &self.expr, dtype)
     }
 
-    /// The same expression over another root dtype, over which it has the same dtype. It may nest deeper than
-    /// `bind` allows.
+    /// The same expression over another root dtype, over which it has the same dtype: its caller knows so, by the law of
+    /// kept fields, and a test would need memory for a dtype that is known. It may nest deeper than `bind` allows.
     pub fn with_root(&self, alloc: Global, dtype: &DType) -> Result<BoundExpression, AllocError>
         requires { type_of (data_type dtype.now) self.now.term ≡ Some self.now.dtype }
         ensures { IfOk result (λ bound. bound ≡ record self.now { root = data_type dtype.now }) }

@@ -141,7 +141,9 @@ impl<'a, S: SegmentSource> SegmentIoSource<'a, S> {
     }
 
     /// Takes a batch of requests of one owner, in order. A batch with a range that no segment has starts
-    /// nothing; after another refusal the first `taken` requests took effect, and no later one.
+    /// nothing; after another refusal the first `taken` requests took effect, and no later one. Nothing is asked of
+    /// owners and numbers: that no two fetches share both is only needed for the promise of `drive` that none is
+    /// completed twice, and is its condition.
     pub fn submit(&mut self, owner: IoOwnerId, batch: Vec<IoRequest>) -> Result<(), SubmitError>
         ensures loans { KeepsLoans self.old self.new }
         ensures gives { SubmitGives self.old.ranges.now owner batch.items result

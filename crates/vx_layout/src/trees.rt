@@ -108,7 +108,8 @@ impl LayoutTree {
     }
 
     /// The fields of the root that the expression gets: all, unless the root is a struct that takes no nulls
-    /// and occurs in the expression, but never bare.
+    /// and occurs in the expression, but never bare. Nothing is asked of the expression's root: one that is bound to
+    /// another dtype is answered by the names that it gets.
     pub fn kept(&self, alloc: Global, expression: &BoundExpression) -> Result<Kept, AllocError>
         ensures { IfOk result (λ kept. IsSomeAnd (slice_get self.now 0) (λ root. kept_data kept
             ≡ kept_fields root.dtype expression.now.term)) }

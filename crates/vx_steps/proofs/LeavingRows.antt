@@ -229,9 +229,9 @@ one_row nodes n row old new inside meets = meets_as (RowsRead nodes n row 1) (Is
         let same : row ≡ row + 0 = omega arith in
         (0, omega arith, subst (λ (k : ℕ). RowReads nodes n k leaf) same v)
 
--- ---- the rows behind those of splits
+    -- ---- the rows behind those of splits
 
--- ---- one leaf is met
+    -- ---- one leaf is met
 
     still : (b : Bool) → old.found ≡ true → cond b true old.found ≡ true
     still true was = refl

@@ -172,7 +172,8 @@ impl<'a> Scan<'a> {
         self.progress.reads.held_bytes()
     }
 
-    /// The values that were handed in and used, each once.
+    /// The values that were handed in and used, each once. They are copies: the call lends a list, and the values stay
+    /// where they are found.
     pub fn used(&self) -> &[KeptValue]
         ensures values { map kept_data result.now ≡ self.now.progress.wholes.used }
         ensures uses { UsesGiven self.now.job.given [] self.now.progress.wholes.used }

@@ -18,7 +18,7 @@ pub struct Split {
 }
 
 impl Split {
-    /// The split that selects all rows of a range.
+    /// The split that selects all rows of a range, which isn't reversed.
     pub fn all(alloc: Global, rows: Range<u64>) -> Result<Split, AllocError>
         requires { rows.start ≤ rows.end }
         ensures rows { IfOk result (λ split. split.rows ≡ rows) }
