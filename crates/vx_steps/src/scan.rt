@@ -139,7 +139,9 @@ impl<'a> Scan<'a> {
     /// and is called before the first step.
     ///
     /// A value that was handed in by `with_value_cache` may be anybody's, so that it is listed in `used` once it was
-    /// used, by a copy. These are the caller's own: `used` lists none of them, and no copy is taken.
+    /// used, by a copy. These are the caller's own: `used` lists none of them, and no copy is taken. No plan stands twice
+    /// among them, as in what `made` lists: to drop a second column without memory, the list would have to be searched for
+    /// each. A plan may stand twice in what the other calls are handed; the first counts.
     pub fn with_made(mut self, made: Vec<KeptValue>) -> Scan<'a>
         requires unstarted { IsUnstarted self.progress }
         requires apart { AreApart (map kept_data made.items) }
