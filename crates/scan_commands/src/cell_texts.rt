@@ -1,9 +1,9 @@
 //! The text of a row's value where it stands in its column, structs field by field out of their parts.
 
 ghost use Rattle.std.specs.Prelude.{◌≡◌, ◌<◌, ◌++◌, length, map, OnOk};
+ghost use Rattle.vx_packed.specs.Fields.{field_at};
 ghost use Rattle.vx_base.specs.Cells.{cell_datum, struct_at};
 ghost use Rattle.vx_base.specs.Views.{data_type};
-ghost use Rattle.vx_packed.specs.Fields.{field_at};
 ghost use Rattle.scan_commands.specs.FieldLeads.{lead_data, leads_from, leads_in};
 ghost use Rattle.scan_commands.specs.RowText.{fields_text, row_text};
 

@@ -1,9 +1,9 @@
 //! The lines of a column's rows: leaves that lie packed in one loop each, all other rows cell by cell.
 
 ghost use Rattle.std.specs.Prelude.{◌≡◌, ◌≤◌, ◌++◌, if◌then◌else◌, length, map, slice_range, OnOk};
+ghost use Rattle.vx_packed.specs.Numbers.{numbers_in};
 ghost use Rattle.vx_base.specs.Data.{DataType, null, number, text, truth};
 ghost use Rattle.vx_base.specs.Reading.{where_valid};
-ghost use Rattle.vx_packed.specs.Numbers.{numbers_in};
 ghost use Rattle.scan_commands.specs.RowText.{line, lines};
 
 use crate::cell_texts::append_cell;

@@ -1,9 +1,9 @@
 //! A run of the demo: its file is made and scanned, and the summary of its rows is written.
 
 ghost use Rattle.std.specs.Prelude.{◌≡◌, ◌≤◌, IfOk};
-ghost use Rattle.scan_commands.specs.DemoRuns.{AreSourcesOf, Demonstrates};
 ghost use Rattle.scan_demo.specs.DemoRows.{most_demo_rows};
 ghost use Rattle.scan_demo.specs.Summary.{summary};
+ghost use Rattle.scan_commands.specs.DemoRuns.{AreSourcesOf, Demonstrates};
 
 use crate::endings::Ending;
 use crate::writing::write_all;

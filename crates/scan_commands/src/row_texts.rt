@@ -2,10 +2,10 @@
 
 ghost use Rattle.std.specs.Prelude.{◌≡◌, ◌++◌, if◌then◌else◌, codes, OnOk, OnErr};
 ghost use Rattle.std.specs.Fmt.{signed_decimal};
+ghost use Rattle.vx_packed.specs.Fields.{field_at};
 ghost use Rattle.vx_base.specs.Data.{structure};
 ghost use Rattle.vx_base.specs.Views.{data_type};
 ghost use Rattle.vx_base.specs.ValueViews.{datum, items_of};
-ghost use Rattle.vx_packed.specs.Fields.{field_at};
 ghost use Rattle.scan_commands.specs.RowText.{fields_text, lead, row_text as text_of_row};
 
 use crate::json_strings::append_string;

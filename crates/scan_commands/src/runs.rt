@@ -1,10 +1,10 @@
 //! One run of the program: words, request, sources and output in, a status out.
 
 ghost use Rattle.std.specs.Prelude.{◌≡◌, ◌<◌, ◌≤◌, length, map, string_bytes, IsTrue};
-ghost use Rattle.scan_commands.specs.Commanded.{have_sources, workers_of, Obeys, Runs, ScansBy};
 ghost use Rattle.scan_words.specs.Bounds.{IsWithinBounds};
 ghost use Rattle.scan_words.specs.Limits.{most_workers};
 ghost use Rattle.scan_words.specs.Words.{command_of};
+ghost use Rattle.scan_commands.specs.Commanded.{have_sources, workers_of, Obeys, Runs, ScansBy};
 
 use crate::demo_runs::demonstrate;
 use crate::plan_runs::draw;

@@ -1,9 +1,9 @@
 //! A run that scans: a request is read, its rows are scanned, and their lines are written.
 
 ghost use Rattle.std.specs.Prelude.{◌<◌, ◌≤◌, length, map};
+ghost use Rattle.scan_words.specs.Limits.{most_workers};
 ghost use Rattle.scan_commands.specs.Reading.{ReadsPieces};
 ghost use Rattle.scan_commands.specs.Runs.{Ends};
-ghost use Rattle.scan_words.specs.Limits.{most_workers};
 
 use crate::endings::{Ending, of_request, of_scan};
 use crate::request_forms::request_of;

@@ -2,10 +2,10 @@
 
 ghost use Rattle.std.specs.Prelude.{◌≡◌, ◌<◌, ◌≤◌, IfOk, length, map};
 ghost use Rattle.vx_scan.specs.Builders.{scan_of as built_scan};
+ghost use Rattle.scan_words.specs.Limits.{most_workers};
 ghost use Rattle.scan_commands.specs.JsonForms.{most_items};
 ghost use Rattle.scan_commands.specs.RequestViews.{asked_of};
 ghost use Rattle.scan_commands.specs.Scans.{scan_of, ScanGives};
-ghost use Rattle.scan_words.specs.Limits.{most_workers};
 
 use crate::request_forms::Request;
 use std::alloc::{AllocError, Global};

@@ -2,6 +2,7 @@
 
 ghost use Rattle.std.specs.Prelude.{◌≡◌, ℕ, Some, map, length, IfOk, IsErrOf, IsTrue};
 ghost use Rattle.std.specs.List.{AllByRecursion};
+ghost use Rattle.vx_packed.specs.Slots.{bare};
 ghost use Rattle.vx_base.specs.Fits.{Fits};
 ghost use Rattle.vx_base.specs.Views.{data_type};
 ghost use Rattle.vx_expr.specs.declared.applying.ApplyError.TheVariants as errors;
@@ -10,7 +11,6 @@ ghost use Rattle.vx_expr.specs.Mentions.{uses_root};
 ghost use Rattle.vx_expr.specs.Rows.{worth, IsFirstFault};
 ghost use Rattle.vx_expr.specs.Steps.{evaluated_rows};
 ghost use Rattle.vx_expr.specs.Types.{row_number_type};
-ghost use Rattle.vx_packed.specs.Slots.{bare};
 
 use crate::bound_expressions::BoundExpression;
 use crate::evaluated::Evaluated;

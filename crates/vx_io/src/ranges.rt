@@ -1,8 +1,8 @@
 //! Which segment has a range of the file.
 
 ghost use Rattle.std.specs.Prelude.{◌≡◌, ◌≤◌, length, IfOk};
-ghost use Rattle.vx_io.specs.Ranges.{IsTableOf};
 ghost use Rattle.vx_base.specs.Limits.{most_segments};
+ghost use Rattle.vx_io.specs.Ranges.{IsTableOf};
 
 use std::alloc::{AllocError, Global};
 use std::collections::BTreeMap;

@@ -3,16 +3,13 @@ use Rattle.std.proofs.Common.{◌≡◌, ℕ, ◌+◌, ◌<◌, Some, sym, subst
 use Rattle.vx_layout.specs.Trees.{Tree, chunks, fields, dict, zoned, Forest, Validity, valid_by, head_of}
 use Rattle.vx_layout.specs.Kept.{KeptFields, all}
 use Rattle.vx_rows.specs.Derivations.{Derivation}
-use Rattle.vx_rows.specs.Reads.{directly, inside, Found, Read, reads_of, Finds}
+use Rattle.vx_rows.specs.Reads.{directly, inside, Found, reads_of, Finds}
 use Rattle.vx_rows.specs.Heads.{Head}
 use Rattle.vx_rows.specs.Zones.{Zones}
 use Rattle.vx_layout.specs.Rows.{struct_members, derivation, derivation_in, rows_in, SomeRowFinds}
 use Rattle.vx_layout.specs.Parts.{tree_at, rows_before, IsKeptField}
-use Rattle.vx_rows.proofs.ReadRows.{found_anywhere}
+use Rattle.vx_rows.proofs.ReadRows.{found_anywhere, Meets}
 use Rattle.vx_layout.proofs.TreeRows.{row_of_chunk, chunk_inside, read_by_field, read_by_validity, read_by_code, read_by_value}
-
-abbrev Meets : (Found → Type 0) → Read → Type 0
-Meets P read = P read.found
 
 -- a chunk's
 pub some_row_of_chunk : (P : Found → Type 0) (head : Head) (forest : Forest) (place : ℕ) (chunk : Tree) (kept : KeptFields) → rows_in forest ≡ head.rows → tree_at forest place ≡ Some chunk → SomeRowFinds P chunk kept → SomeRowFinds P (chunks head forest) kept

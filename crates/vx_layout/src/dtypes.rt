@@ -2,8 +2,8 @@
 
 ghost use Rattle.std.specs.Prelude.{◌≤◌, ◌↔◌, IsTrue};
 ghost use Rattle.vx_base.specs.Views.{data_type, members_of};
-ghost use Rattle.vx_layout.specs.Depths.{dtype_depth, members_depth};
 ghost use Rattle.vx_rows.specs.TypeForms.{IsOffsets};
+ghost use Rattle.vx_layout.specs.Depths.{dtype_depth, members_depth};
 
 use vx_base::{DType, Field, Nullability};
 

@@ -4,9 +4,9 @@ ghost use Rattle.std.specs.Prelude.{◌≡◌, ◌≤◌, ◌↔◌, map, IfOk, 
 ghost use Rattle.vx_base.specs.ColumnCalls.{nullable_where};
 ghost use Rattle.vx_base.specs.Fits.{nullability_of};
 ghost use Rattle.vx_base.specs.Views.{data_type, members_of};
+ghost use Rattle.vx_rows.specs.TypeForms.{IsOffsets};
 ghost use Rattle.vx_layout.specs.Children.{ChildAt};
 ghost use Rattle.vx_layout.specs.Nodes.{node_data};
-ghost use Rattle.vx_rows.specs.TypeForms.{IsOffsets};
 ghost use Rattle.vx_layout.specs.Shape.{CodesFit, FieldsFrom, IsLookedUp, TypesFit, ValidityAt};
 
 use crate::children::{are_all_of, child_at, has_child_of};

@@ -16,13 +16,14 @@ use Rattle.vx_lower.specs.declared.keeping.Keeping.{Keeping}
 use Rattle.vx_lower.specs.Keeping.{bound_pack, kept_of, IsKeeping}
 use Rattle.vx_lower.specs.KeptRows.{kept_pack}
 use Rattle.vx_lower.specs.Lowered.{lowered, kept_head}
-use Rattle.vx_lower.specs.NodeParts.{tree_head, most_plans, CanLower, IsLookUp}
+use Rattle.vx_lower.specs.NodeParts.{tree_head, CanLower, IsLookUp}
 use Rattle.vx_lower.specs.Numbered.{AddsPlan}
 use Rattle.vx_lower.specs.Sizes.{plan_size}
 use Rattle.vx_lower.proofs.Appending.{added_like, one_added, AreLike}
 use Rattle.vx_lower.proofs.Heads.{lowered_head, IsHeadOf}
 use Rattle.vx_lower.proofs.KeptTypes.{pack_numberless}
 use Rattle.vx_lower.proofs.Made.{eval_adds}
+use Rattle.vx_plan.specs.Limits.{most_plans}
 
 -- the dictionary's plan, by its plan with all fields
 eval_is : (nodes : List Node) (n codes values : ℕ) (keeping : Keeping) → IsLookUp nodes n codes values → lowered (subtree nodes n) (kept_of keeping) ≡ eval_plan (kept_head (kept_of keeping) (tree_head nodes n)) (kept_pack (kept_of keeping) (tree_head nodes n).dtype) (lowered (subtree nodes n) all)

@@ -16,10 +16,11 @@ use Rattle.vx_layout.proofs.Unfolding.{HaveLaterChildren, good_later, head_of_su
 use Rattle.vx_plan.specs.Nodes.{Node as PlanNode}
 use Rattle.vx_plan.specs.Plans.{Plan}
 use Rattle.vx_lower.specs.Lowered.{lowered}
-use Rattle.vx_lower.specs.NodeParts.{tree_head, lowered_each, most_plans, AreLater, CanLower, CanLowerEach, IsOver}
+use Rattle.vx_lower.specs.NodeParts.{tree_head, lowered_each, AreLater, CanLower, CanLowerEach, IsOver}
 use Rattle.vx_lower.specs.Numbered.{list_size, AddsPlan, AddsPlans}
 use Rattle.vx_lower.specs.Sizes.{plan_size}
 use Rattle.vx_lower.proofs.Appending.{next_added, size_append}
+use Rattle.vx_plan.specs.Limits.{most_plans}
 
 pub if_ok : {X E : Type 0} (P Q : X → Type 0) → ((x : X) → P x → Q x) → (r : Result X E) → IfOk r P → IfOk r Q
 if_ok P Q f (Ok x) h = f x h

@@ -22,7 +22,7 @@ use Rattle.vx_rows.specs.Zones.{zones_type, StandOver, Zones}
 use Rattle.vx_rows.specs.TypeForms.{IsListOf}
 use Rattle.vx_lower.specs.KeptRows.{kept_type}
 use Rattle.vx_lower.specs.Lowered.{lowered, lowered_validity, kept_head, tell, with_zones}
-use Rattle.vx_lower.specs.NodeParts.{tree_head, validity_of, lowered_each, most_plans, zones_node, CanLower, CanLowerEach, IsListNode, IsLookUp, IsPlainNode, IsTypeAt, IsZonedNode}
+use Rattle.vx_lower.specs.NodeParts.{tree_head, validity_of, lowered_each, zones_node, CanLower, CanLowerEach, IsListNode, IsLookUp, IsPlainNode, IsTypeAt, IsZonedNode}
 use Rattle.vx_lower.specs.Numbered.{AddsPlan, AddsPlans}
 use Rattle.vx_lower.specs.Sizes.{plan_size}
 use Rattle.vx_lower.proofs.Appending.{added_like, joined_added, two_added, AreLike}
@@ -32,6 +32,7 @@ use Rattle.vx_lower.proofs.Nodes.{each_can, sound_as}
 use Rattle.vx_lower.proofs.Packs.{validity_fits, validity_plans, validity_size, validity_there}
 use Rattle.vx_lower.proofs.Rules.{list_can, take_can, zoned_can}
 use Rattle.vx_lower.proofs.ZoneTypes.{tells_of_kept, TellsOf}
+use Rattle.vx_plan.specs.Limits.{most_plans}
 
 -- ---- dictionaries
 

@@ -22,6 +22,7 @@ use Rattle.vx_lower.specs.declared.node_parts.ZonedParts.{ZonedParts}
 use Rattle.vx_lower.specs.Lowered.{lowered, lowered_validity, tell}
 use Rattle.vx_lower.specs.Numbered.{list_size}
 use Rattle.vx_lower.specs.Sizes.{plan_size}
+use Rattle.vx_plan.specs.Limits.{most_plans}
 
 -- the head of a node's tree
 abbrev pub tree_head : List Node → ℕ → Head
@@ -86,10 +87,6 @@ PartsOf nodes n (parts.Plain content) = IsPlainNode nodes n content
 PartsOf nodes n (parts.Zoned told) = IsZonedNode nodes n true (zones_at told) told.content told.table
 
 -- ---- what is asked before nodes are lowered into a table
-
--- a table has at most so many plans
-abbrev pub most_plans : ℕ
-most_plans = 4294967295
 
 -- There is such a node in a good tree, and room for its plan in a good table.
 pub record CanLower (nodes : List Node) (n : ℕ) (kept : KeptFields) (table : List PlanNode) : Type 0 where

@@ -1,7 +1,7 @@
 -- Trees that were written by hand and the plans that they are lowered to, on which the definitions of lowering and
 -- of the row index are checked.
 use Rattle.std.specs.Prelude.{codes, ℕ, pos, false, ◌+◌, List, [], ◌∷◌, ◌++◌, map, Option, Some}
-use Rattle.vx_base.specs.declared.dtypes.IntKind.TheVariants.{U8, I64, U64}
+use Rattle.vx_base.specs.declared.dtypes.IntKind.TheVariants.{U8, I64}
 use Rattle.vx_base.specs.declared.dtypes.Nullability.TheVariants.{NonNullable, Nullable}
 use Rattle.vx_base.specs.Data.{DataType, bool_type, int_type, struct_type, list_type, no_members, member, Datum, number}
 use Rattle.vx_expr.specs.declared.operators.ArithOp.TheVariants.{Add, Div}
@@ -18,12 +18,9 @@ use Rattle.vx_rows.specs.Heads.{Head}
 use Rattle.vx_rows.specs.Zones.{zones_of}
 use Rattle.vx_lower.specs.Planned.{planned}
 use Rattle.vx_lower.specs.Projected.{Projection, projected_at}
-
-abbrev pub i64 : DataType
-i64 = int_type I64 NonNullable
-
-abbrev pub u64 : DataType
-u64 = int_type U64 NonNullable
+use Rattle.vx_base.specs.ColumnCalls.{natural}
+use Rattle.vx_layout.specs.WorkedRows.{three_rows}
+use Rattle.vx_plan.specs.WorkedPlans.{i64, u64}
 
 abbrev codes_type : DataType
 codes_type = int_type U8 Nullable
@@ -155,9 +152,6 @@ projection e t offset = record { root = pairs 0 0; expression = record { term = 
 abbrev pub all_have : List Datum → Leaves
 all_have values t rows segment = Some values
 
-abbrev pub three_rows : List ℕ
-three_rows = 0 ∷ 1 ∷ 2 ∷ []
-
 -- what the rows are worth, by the plan and by the tree
 abbrev pub worth : List Datum → Projection → List (Option Datum)
 worth values p = map (plan_value (all_have values) p.offset (planned p)) three_rows
@@ -177,9 +171,6 @@ segments_in (read ∷ reads) = segment_in read.found ++ segments_in reads
 -- the segments whose cells the first row reads
 abbrev pub segments_read : Projection → List ℕ
 segments_read p = segments_in (plan_reads p.offset (planned p) 0)
-
-abbrev pub natural : ℕ → Datum
-natural n = number (pos n)
 
 abbrev pub naturals : List ℕ → List Datum
 naturals ns = map natural ns

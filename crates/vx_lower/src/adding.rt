@@ -4,14 +4,15 @@ ghost use Rattle.std.specs.Prelude.{◌≡◌, ◌+◌, ◌<◌, ◌≤◌, [], 
 ghost use Rattle.std.specs.Arc.{arc_value};
 ghost use Rattle.vx_base.specs.Leaf.{IsLeaf};
 ghost use Rattle.vx_base.specs.Views.{data_type};
+ghost use Rattle.vx_rows.specs.TypeForms.{IsStruct};
+ghost use Rattle.vx_rows.specs.Heads.{Head};
 ghost use Rattle.vx_plan.specs.declared.errors.PlanError.TheVariants.{Memory};
 ghost use Rattle.vx_plan.specs.Plans.{filter_plan, scan_plan};
 ghost use Rattle.vx_plan.specs.Refs.{number_of};
-ghost use Rattle.vx_rows.specs.TypeForms.{IsStruct};
-ghost use Rattle.vx_rows.specs.Heads.{Head};
 ghost use Rattle.vx_plan.specs.Rules.{concat_node, eval_node, given_validity, list_node, nodes_at, packed_node, scan_node, take_node, KeepsRules};
 ghost use Rattle.vx_plan.specs.Tables.{AreIn, IsAdded, IsGoodTable};
-ghost use Rattle.vx_lower.specs.NodeParts.{most_plans, zones_node};
+ghost use Rattle.vx_plan.specs.Limits.{most_plans};
+ghost use Rattle.vx_lower.specs.NodeParts.{zones_node};
 ghost use Rattle.vx_lower.specs.Numbered.{AddsPlan};
 
 use crate::node_parts::ZonedParts;

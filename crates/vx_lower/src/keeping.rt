@@ -5,9 +5,9 @@ ghost use Rattle.vx_base.specs.Names.{names_in, HasDistinctNames};
 ghost use Rattle.vx_base.specs.Views.{data_type, members_of};
 ghost use Rattle.vx_expr.specs.declared.binding.BindError.TheVariants.{Memory};
 ghost use Rattle.vx_expr.specs.TermViews.{term, terms_of};
+ghost use Rattle.vx_rows.specs.TypeForms.{IsStruct};
 ghost use Rattle.vx_layout.specs.Kept.{is_kept, only, KeptFields};
 ghost use Rattle.vx_layout.specs.Rows.{struct_members};
-ghost use Rattle.vx_rows.specs.TypeForms.{IsStruct};
 ghost use Rattle.vx_lower.specs.KeptRows.{kept_pack, kept_terms, MayKeep};
 ghost use Rattle.vx_lower.specs.Keeping.{bound_pack, chosen, kept_of, IsKeeping};
 

@@ -1,8 +1,8 @@
 //! What a node of a layout is over, as its plan has its children.
 
 ghost use Rattle.std.specs.Prelude.{◌≡◌, ◌<◌, ℕ, List, [], ◌∷◌, length, slice_get};
-ghost use Rattle.vx_layout.specs.Nodes.{Node};
 ghost use Rattle.vx_rows.specs.Zones.{zones_of};
+ghost use Rattle.vx_layout.specs.Nodes.{Node};
 ghost use Rattle.vx_layout.specs.Trees.{subtree, zoned};
 ghost use Rattle.vx_lower.specs.Lowered.{tell};
 ghost use Rattle.vx_lower.specs.NodeParts.{tree_head, IsOver, PartsOf};

@@ -5,8 +5,6 @@ ghost use Rattle.vx_base.specs.Views.{data_type};
 ghost use Rattle.vx_expr.specs.Bound.{IsBoundTo};
 ghost use Rattle.vx_expr.specs.Mentions.{uses_root, uses_row_number};
 ghost use Rattle.vx_expr.specs.Types.{row_number_type};
-ghost use Rattle.vx_lower.specs.PlannedOver.{HoldsAll, IsPlannedOver, IsWorthOver, ReadsOver, RefusedOver};
-ghost use Rattle.vx_lower.specs.RowNumberPlans.{empty_node, numbered_members, numbered_node};
 ghost use Rattle.vx_plan.specs.Limits.{most_plans, most_before_four};
 ghost use Rattle.vx_plan.specs.declared.errors.PlanError.TheVariants.{Memory};
 ghost use Rattle.vx_plan.specs.Nodes.{node_data};
@@ -14,6 +12,8 @@ ghost use Rattle.vx_plan.specs.Plans.{plan_at};
 ghost use Rattle.vx_plan.specs.Refs.{number_of};
 ghost use Rattle.vx_plan.specs.Rules.{eval_node, node_at, row_idx_node};
 ghost use Rattle.vx_plan.specs.Tables.{IsAdded, IsGoodTable};
+ghost use Rattle.vx_lower.specs.PlannedOver.{HoldsAll, IsPlannedOver, IsWorthOver, ReadsOver, RefusedOver};
+ghost use Rattle.vx_lower.specs.RowNumberPlans.{empty_node, numbered_members, numbered_node};
 
 use std::alloc::{AllocError, Global};
 use vx_base::{DType, Field, Fields, IntKind, Nullability, Text};

@@ -2,8 +2,8 @@
 
 ghost use Rattle.std.specs.Prelude.{◌≡◌, ◌<◌, ◌≤◌, ◌↔◌, length, map, IsTrue, All};
 ghost use Rattle.vx_base.specs.Views.{data_type};
-ghost use Rattle.vx_plan.specs.Nodes.{node_data};
 ghost use Rattle.vx_rows.specs.TypeForms.{IsOffsets};
+ghost use Rattle.vx_plan.specs.Nodes.{node_data};
 ghost use Rattle.vx_plan.specs.Rules.{field_count, nodes_at, CountFits, FieldsFit, IsValidityType, ListFits, ListRowsFit, PackFits, RowsFit, TypesFit, ValidityFits, ValidityRowsFit};
 ghost use Rattle.vx_plan.specs.Tables.{AreIn};
 

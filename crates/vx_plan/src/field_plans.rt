@@ -3,10 +3,10 @@
 ghost use Rattle.std.specs.Prelude.{◌≡◌, ◌<◌, ◌↔◌, ◌++◌, length, IfErr, IfOk, IfSome, IsSome, IsTrue, OnErr, option_map};
 ghost use Rattle.std.specs.Arc.{arc_value};
 ghost use Rattle.vx_base.specs.Views.{data_type, fields_in};
+ghost use Rattle.vx_rows.specs.TypeForms.{IsStruct};
 ghost use Rattle.vx_plan.specs.Kinds.{has_validity_of, validity_of, HasKind, IsPack};
 ghost use Rattle.vx_plan.specs.Limits.{most_plans};
 ghost use Rattle.vx_plan.specs.Refs.{number_of};
-ghost use Rattle.vx_rows.specs.TypeForms.{IsStruct};
 ghost use Rattle.vx_plan.specs.Rules.{given_validity, members_at, node_at, nodes_at, pack_node, packed_node, RefusedBy};
 ghost use Rattle.vx_plan.specs.Tables.{AreIn, IsAdded};
 

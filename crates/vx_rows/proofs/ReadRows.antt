@@ -13,7 +13,7 @@ use Rattle.vx_rows.specs.Whole.{IsWhole, AreWhole, IsStrict, AreStrict, GiveEach
 
 -- ---- reads one after another
 
-abbrev Meets : (Found → Type 0) → Read → Type 0
+abbrev pub Meets : (Found → Type 0) → Read → Type 0
 Meets P read = P read.found
 
 pub only_left : (P : Found → Type 0) (xs ys : List Read) → FindsOnly P (xs ++ ys) → FindsOnly P xs

@@ -1,10 +1,10 @@
 //! The adaptor between a polled scan and a session: each read of the scan becomes one fetch.
 
 ghost use Rattle.std.specs.Prelude.{◌≡◌, ◌≤◌, length};
+ghost use Rattle.vx_base.specs.Limits.{most_segments};
 ghost use Rattle.vx_scan.specs.AdaptorData.{IsReady};
 ghost use Rattle.vx_scan.specs.Computes.{after_result};
 ghost use Rattle.vx_scan.specs.Gathered.{IsNoRead, StepOf};
-ghost use Rattle.vx_base.specs.Limits.{most_segments};
 
 use crate::adaptor_errors::AdaptorError;
 use crate::gathering::gather;

@@ -3,10 +3,12 @@
 ghost use Rattle.std.specs.Prelude.{◌≡◌, ◌∷◌, []};
 ghost use Rattle.std.specs.Prelude.{Some, None};
 ghost use Rattle.vx_base.specs.Data.{null};
+ghost use Rattle.vx_base.specs.ColumnCalls.{natural};
 ghost use Rattle.vx_layout.specs.Rows.{file_leaves, segment_bytes};
 ghost use Rattle.vx_layout.specs.WorkedRows.{at, no_values, no_values_at, null_codes, code_zero, torn_value, torn_file, torn_at, list_field};
-ghost use Rattle.vx_lower.specs.WorkedPlans.{all_have, natural, naturals, projection, ten_through_a, two_behind, u64};
 ghost use Rattle.vx_layout.specs.WorkedRows.{i64};
+ghost use Rattle.vx_plan.specs.WorkedPlans.{u64};
+ghost use Rattle.vx_lower.specs.WorkedPlans.{all_have, naturals, projection, ten_through_a, two_behind};
 ghost use Rattle.vx_scan.specs.Answer.{IsAnswer, pieces_of};
 ghost use Rattle.vx_scan.specs.Causes.{FaultsAt, LacksLocation, ReadsBadCode, ReadsList, ReadsTorn, ScanReaches};
 ghost use Rattle.vx_scan.specs.WorkedScans.{nine_numbers, nine_numbers_at, nine_numbers_file, three_numbers, three_numbers_file, whole_of};

@@ -1,10 +1,10 @@
 //! Reads that follow one another, as one batch of fetches.
 
 ghost use Rattle.std.specs.Prelude.{◌≡◌, ◌≤◌, [], length};
+ghost use Rattle.vx_base.specs.Limits.{most_segments};
 ghost use Rattle.vx_scan.specs.AdaptorData.{AreAsked};
 ghost use Rattle.vx_scan.specs.Fetched.{fetch_at};
 ghost use Rattle.vx_scan.specs.Gathered.{GatherGives, StepGives};
-ghost use Rattle.vx_base.specs.Limits.{most_segments};
 
 use crate::adaptor_errors::AdaptorError;
 use vx_base::SegmentLocation;

@@ -1,12 +1,12 @@
 //! A scan that is prepared to run: its plans and its chunks.
 
 ghost use Rattle.std.specs.Prelude.{◌≡◌, ◌≤◌, ◌⊎◌, length, IfOk, IfErr};
+ghost use Rattle.vx_base.specs.Limits.{most_segments};
 ghost use Rattle.vx_scan.specs.Beginning.{BeginsOver, Refuses};
 ghost use Rattle.vx_scan.specs.Prepared.{IsPreparedFor};
 ghost use Rattle.vx_scan.specs.Settings.{scan_by};
 ghost use Rattle.vx_scan.specs.Valid.{HasRows, IsBound};
 ghost use Rattle.vx_scan.specs.Answer.{row_count};
-ghost use Rattle.vx_base.specs.Limits.{most_segments};
 
 use crate::beginning::begin;
 use crate::files::ScanFile;

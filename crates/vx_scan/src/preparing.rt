@@ -2,6 +2,7 @@
 
 ghost use Rattle.std.specs.Prelude.{◌≡◌, ◌+◌, ◌<◌, ◌≤◌, Some, length, map, IfOk};
 ghost use Rattle.std.specs.List.{AllByRecursion};
+ghost use Rattle.vx_base.specs.Limits.{most_segments};
 ghost use Rattle.vx_expr.specs.Bound.{IsBoundTo};
 ghost use Rattle.vx_expr.specs.Types.{type_of};
 ghost use Rattle.vx_layout.specs.Trees.{head_of, subtree};
@@ -19,7 +20,6 @@ ghost use Rattle.vx_scan.specs.Plans.{AreInOrder};
 ghost use Rattle.vx_scan.specs.Preparing.{AreChunksOf, ArePlansOf, IsPlannedFor, IsProjectedIn, LiesInside};
 ghost use Rattle.vx_scan.specs.Settings.{scan_by};
 ghost use Rattle.vx_scan.specs.Valid.{IsBound};
-ghost use Rattle.vx_base.specs.Limits.{most_segments};
 
 use crate::files::ScanFile;
 use crate::plans::ScanPlans;

@@ -1,8 +1,8 @@
 //! Stories of an adaptor: what it gives and takes, step by step.
 
 ghost use Rattle.std.specs.Prelude.{◌≡◌, ◌<◌, ◌≤◌, length};
-ghost use Rattle.vx_plan.specs.Refs.{number_of};
 ghost use Rattle.vx_base.specs.Limits.{most_segments};
+ghost use Rattle.vx_plan.specs.Refs.{number_of};
 
 use crate::answers::{write_column, write_error};
 use crate::commands::Desk;

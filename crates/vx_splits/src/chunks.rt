@@ -2,9 +2,9 @@
 
 ghost use Rattle.std.specs.Prelude.{◌≡◌, ◌*◌, ◌%◌, ◌<◌, ◌≤◌, true, length, IfOk};
 ghost use Rattle.std.specs.List.{sum_by};
+ghost use Rattle.vx_base.specs.Limits.{most_segments};
 ghost use Rattle.vx_splits.specs.Limits.{most_chunk_rows, block_rows};
 ghost use Rattle.vx_splits.specs.Chunks.{rows_per_chunk, chunk_size, clipped_chunk, row_chunks, Tile, CutsAtMultiples, ChunkSizes, ChunksJoin, ChunksTake, ChunksAreShared};
-ghost use Rattle.vx_base.specs.Limits.{most_segments};
 
 use std::alloc::{AllocError, Global};
 use std::ops::Range;

@@ -23,7 +23,8 @@ use Rattle.vx_steps.specs.declared.leaf_reads.LeafRead.{LeafRead}
 use Rattle.vx_steps.specs.Given.{Handed, given_as, given_at, given_for, values_for, whole_at}
 use Rattle.vx_steps.specs.Laws.{HandsNone, VisitsSegment, IsRowOf, SomeRead}
 use Rattle.vx_steps.specs.Visits.{Test, Visits, VisitsIn, VisitsField, VisitsValidity, SomeVisit, IsLeafRead, IsListRead}
-use Rattle.vx_steps.proofs.VisitedReads.{Meets, RowReads, alone_same, leaf_found, none_served}
+use Rattle.vx_rows.proofs.ReadRows.{Meets}
+use Rattle.vx_steps.proofs.VisitedReads.{RowReads, alone_same, leaf_found, none_served}
 
 -- ---- cells of a segment
 

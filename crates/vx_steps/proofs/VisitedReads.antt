@@ -4,9 +4,9 @@ use Rattle.std.specs.Prelude.{if◌then◌else◌, nat_lt, ◌-◌}
 use Rattle.std.specs.Bool.{MatchBool}
 use Rattle.vx_base.specs.Data.{Datum}
 use Rattle.vx_rows.specs.Derivations.{Derivation, nothing, cell, list_row, given, packed, valid_where, looked_up, worked_out, read_whole, Derivations, no_more, also, each_row}
-use Rattle.vx_rows.specs.Reads.{Way, inside, Found, Read, reads_of, reads_of_each, Finds, IsIn}
+use Rattle.vx_rows.specs.Reads.{Way, inside, Found, reads_of, reads_of_each, Finds, IsIn}
 use Rattle.vx_rows.specs.Given.{GivenValues, values_with, share_with, with_given, each_with_given}
-use Rattle.vx_rows.proofs.ReadRows.{any_left, any_right}
+use Rattle.vx_rows.proofs.ReadRows.{any_left, any_right, Meets}
 use Rattle.vx_plan.specs.Plans.{Plan, no_plan, concat_plan, eval_plan, filter_plan, pack_plan, take_plan, share_plan, list_plan, row_idx_plan, scan_plan, zoned_plan, Plans, no_plans, plan, PlanValidity, all_valid, valid_as, plan_head}
 use Rattle.vx_plan.specs.PlanRows.{plan_derivation, plan_derivation_in, plan_derivations, plan_where_valid}
 use Rattle.vx_steps.specs.declared.leaf_reads.LeafRead.{LeafRead}
@@ -46,9 +46,6 @@ pub alone_same : (d : Derivation) → with_given (values_for None) d ≡ d
 alone_same d = none_served (values_for None) (λ n. refl) d
 
 -- ---- what a visit finds
-
-abbrev pub Meets : (Found → Type 0) → Read → Type 0
-Meets Q read = Q read.found
 
 abbrev pub RowReads : (Found → Type 0) → Way → Handed → Derivation → Type 0
 RowReads Q way handed d = Finds Q (reads_of way (with_given (values_for handed) d))

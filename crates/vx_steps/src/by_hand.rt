@@ -3,9 +3,9 @@
 ghost use Rattle.std.specs.Prelude.{◌≡◌, ◌∷◌, [], false, map, None, Some, true};
 ghost use Rattle.vx_base.specs.ColumnCalls.{natural};
 ghost use Rattle.vx_base.specs.Data.{item, no_items, null, structure, truth};
+ghost use Rattle.vx_rows.specs.ByHand.{handed_for, leaves_in};
 ghost use Rattle.vx_plan.specs.declared.nodes.PlanKind.TheVariants.{Filter, Share, Take};
 ghost use Rattle.vx_plan.specs.WorkedPlans.{looked_up_in, natural_rows, three_flats};
-ghost use Rattle.vx_rows.specs.ByHand.{handed_for, leaves_in};
 ghost use Rattle.vx_steps.specs.ByHand.{held_of, kept_of, numbers_in, split_of, stored_of, truths_in, wanted_of};
 ghost use Rattle.vx_steps.specs.Computed.{whole_in};
 ghost use Rattle.vx_steps.specs.Given.{given_as, row_value, whole_value};
