@@ -1,8 +1,8 @@
 pub mod LiftedRows
-mod LogicRows
+pub mod LogicRows
 mod NumberRows
 pub mod SideRows
 mod SingleRows
 pub mod Somes
-mod Steps
+pub mod Steps
 mod TestedRows

@@ -9,7 +9,7 @@ abbrev or_else : {X : Type 0} → Option X → X → X
 or_else None d = d
 or_else (Some x) d = x
 
-there : {X : Type 0} (xs : List X) (i : ℕ) (x : X) → slice_get xs i ≡ Some x → i < length xs
+pub there : {X : Type 0} (xs : List X) (i : ℕ) (x : X) → slice_get xs i ≡ Some x → i < length xs
 there [] i x e = absurd cc
 there (y ∷ xs) zero x e = omega arith
 there (y ∷ xs) (suc i) x e = omega (arith, there xs i x e)
@@ -19,7 +19,7 @@ there_is [] i x e = refl
 there_is (y ∷ xs) zero x e = ap (λ r. or_else r x) e
 there_is (y ∷ xs) (suc i) x e = there_is xs i x e
 
-got : {X : Type 0} (xs : List X) (i : ℕ) (x : X) → slice_get xs i ≡ Some x → drop i xs ≡ x ∷ drop (i + 1) xs
+pub got : {X : Type 0} (xs : List X) (i : ℕ) (x : X) → slice_get xs i ≡ Some x → drop i xs ≡ x ∷ drop (i + 1) xs
 got {X} xs i x e = drop_more xs i x (there xs i x e) ∙ ap (λ (y : X). y ∷ drop (i + 1) xs) (there_is xs i x e)
 
 -- ---- row by row
