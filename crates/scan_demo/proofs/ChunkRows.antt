@@ -3,9 +3,9 @@ use Rattle.std.proofs.Common.{◌≡◌, ℕ, zero, suc, ◌+◌, ◌-◌, ◌*�
 use Rattle.std.specs.List.{flat_map, range_with_len}
 use Rattle.std.proofs.lemmas.List.{append-nil, map-append}
 use Rattle.vx_base.specs.Data.{Datum}
+use Rattle.vx_layout.proofs.Joined.{range_split}
 use Rattle.scan_demo.specs.declared.stored_columns.StoredColumn.{StoredColumn}
 use Rattle.scan_demo.specs.Flats.{chunk_count, chunk_rows, stored_value}
-use Rattle.scan_demo.proofs.Places.{range_parts}
 
 map-flat_map : (f : ℕ → Datum) (rows_of : ℕ → List ℕ) (places : List ℕ) → flat_map (λ place. map f (rows_of place)) places ≡ map f (flat_map rows_of places)
 map-flat_map f rows_of [] = refl
@@ -18,7 +18,7 @@ rows_left number from end = min number (end * 8192) - from * 8192
 
 joined : (a b p q k : ℕ) → k ≡ p + q → (0 < q → b ≡ a + p) → range_with_len a p ++ range_with_len b q ≡ range_with_len a k
 joined a b p zero k e next = append-nil (range_with_len a p) ∙ ap (range_with_len a) (let same : p ≡ k = omega arith in same)
-joined a b p (suc q) k e next = sym (range_parts a b p (suc q) k e (next (omega arith)))
+joined a b p (suc q) k e next = sym (range_split a b p (suc q) k e (next (omega arith)))
 
 rows_joined : (number from count end : ℕ) → end ≡ from + count → flat_map (chunk_rows number) (range_with_len from count) ≡ range_with_len (from * 8192) (rows_left number from end)
 rows_joined number from zero end e = ap (range_with_len (from * 8192)) (let none : 0 ≡ rows_left number from end = omega arith in none)

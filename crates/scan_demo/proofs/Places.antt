@@ -16,9 +16,3 @@ pub get_of_range : {X : Type 0} (f : ℕ → X) (from count i j : ℕ) → i < c
 get_of_range f from zero i j lt e = absurd (omega arith)
 get_of_range f from (suc count) zero j lt e = ap (λ (at : ℕ). Some (f at)) (let same : from ≡ j = omega arith in same)
 get_of_range f from (suc count) (suc i) j lt e = get_of_range f (from + 1) count i j (omega arith) (omega arith)
-
--- a range in two parts
-pub range_parts : (a b m n k : ℕ) → k ≡ m + n → b ≡ a + m → range_with_len a k ≡ range_with_len a m ++ range_with_len b n
-range_parts a b zero n k e f = let p : k ≡ n = omega arith in let q : b ≡ a = omega arith in cc
-range_parts a b (suc m) n zero e f = absurd (omega arith)
-range_parts a b (suc m) n (suc k) e f = ap (λ (ns : List ℕ). a ∷ ns) (range_parts (a + 1) b m n k (omega arith) (omega arith))

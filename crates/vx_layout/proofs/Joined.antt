@@ -63,7 +63,7 @@ values_at leaves t kept values row are lt = row_value (value leaves t kept) 0 (h
 
 -- ---- chunks
 
-range_split : (a b m n k : ℕ) → k ≡ m + n → b ≡ a + m → range_with_len a k ≡ range_with_len a m ++ range_with_len b n
+pub range_split : (a b m n k : ℕ) → k ≡ m + n → b ≡ a + m → range_with_len a k ≡ range_with_len a m ++ range_with_len b n
 range_split a b zero n k e f = let p : k ≡ n = omega arith in let q : b ≡ a = omega arith in cc
 range_split a b (suc m) n zero e f = absurd (omega arith)
 range_split a b (suc m) n (suc k) e f = ap (λ (ns : List ℕ). a ∷ ns) (range_split (a + 1) b m n k (omega arith) (omega arith))

@@ -39,7 +39,7 @@ pub record IsBelow (nodes : List Node) (n child : ℕ) : Type 0 where
   pub lower : child < n
   pub known : child < length nodes
 
-shape_there : (nodes : List Node) (n : ℕ) (shape : Shape) → n < length nodes → HasShape nodes n shape → ShapeOf nodes n (node_at nodes n) shape
+pub shape_there : (nodes : List Node) (n : ℕ) (shape : Shape) → n < length nodes → HasShape nodes n shape → ShapeOf nodes n (node_at nodes n) shape
 shape_there nodes n shape known has = subst (λ (o : Option Node). IsSomeAnd o (λ node. ShapeOf nodes n node shape)) (slice_get-get_or nodes n absent known) has
 
 made_of : (nodes : List Node) (n : ℕ) (node : Node) (p : Plan) (kind : PlanKind) (children : List ℕ) → IsOver nodes n node p kind children → IsMadeAs kind node (nodes_at nodes children)
@@ -115,7 +115,7 @@ child_there nodes [] place child at = absurd cc
 child_there nodes (c ∷ children) zero child at = let e : c ≡ child = cc in ap (λ (n : ℕ). Some (node_at nodes n)) e
 child_there nodes (c ∷ children) (suc place) child at = child_there nodes children place child at
 
-plan_there : (nodes : List Node) (children : List ℕ) (place child : ℕ) → slice_get children place ≡ Some child → slice_get (map (plan_at nodes) children) place ≡ Some (plan_at nodes child)
+pub plan_there : (nodes : List Node) (children : List ℕ) (place child : ℕ) → slice_get children place ≡ Some child → slice_get (map (plan_at nodes) children) place ≡ Some (plan_at nodes child)
 plan_there nodes [] place child at = absurd cc
 plan_there nodes (c ∷ children) zero child at = let e : c ≡ child = cc in ap (λ (n : ℕ). Some (plan_at nodes n)) e
 plan_there nodes (c ∷ children) (suc place) child at = plan_there nodes children place child at
@@ -192,7 +192,7 @@ skipped_to (p ∷ ps) before (suc place) at start bits le =
     ∙ skipped_to ps (before + (plan_head p).rows) place at start bits (omega arith)
     ∙ ap (λ (b : ℕ). chunks_from (drop place ps) b at start bits) e
 
-head_rows : (nodes : List Node) → IsGoodTable nodes → (n : ℕ) → n < length nodes → (plan_head (plan_at nodes n)).rows ≡ (node_at nodes n).rows
+pub head_rows : (nodes : List Node) → IsGoodTable nodes → (n : ℕ) → n < length nodes → (plan_head (plan_at nodes n)).rows ≡ (node_at nodes n).rows
 head_rows nodes good n known = ap (λ head. head.rows) (head_in_table nodes good n known)
 
 -- the offset of a chunk is the rows in front of it

@@ -37,15 +37,15 @@ mutual
 
 -- ---- what is handed in are the values
 
-derived_given : (leaves : Leaves) (vs : List Datum) → derived_each leaves (all_given vs) ≡ Some vs
+pub derived_given : (leaves : Leaves) (vs : List Datum) → derived_each leaves (all_given vs) ≡ Some vs
 derived_given leaves [] = refl
 derived_given leaves (v ∷ vs) = rw (derived_given leaves vs) refl
 
-values_same : (leaves : Leaves) (values : Derivations) (handed : Option (List Datum)) → IfSome handed (λ vs. derived_each leaves values ≡ Some vs) → derived_each leaves (values_with handed values) ≡ derived_each leaves values
+pub values_same : (leaves : Leaves) (values : Derivations) (handed : Option (List Datum)) → IfSome handed (λ vs. derived_each leaves values ≡ Some vs) → derived_each leaves (values_with handed values) ≡ derived_each leaves values
 values_same leaves values None is = refl
 values_same leaves values (Some vs) is = derived_given leaves vs ∙ sym is
 
-row_same : (leaves : Leaves) (v : Option Datum) → derived leaves (given_row v) ≡ v
+pub row_same : (leaves : Leaves) (v : Option Datum) → derived leaves (given_row v) ≡ v
 row_same leaves None = refl
 row_same leaves (Some v) = refl
 

@@ -8,11 +8,11 @@ use Rattle.vx_expr.specs.Meaning.{meaning}
 use Rattle.vx_expr.specs.Rows.{no_bound}
 use Rattle.vx_expr.specs.Packs.{struct_row}
 use Rattle.vx_rows.specs.Derivations.{Derivation, nothing, cell, list_row, given, packed, valid_where, looked_up, worked_out, read_whole, Derivations, no_more, also, Leaves, count_of, derived, derived_each}
-use Rattle.vx_rows.specs.Given.{GivenValues, all_given, values_with, given_row, share_with, with_given, each_with_given, AreCertified, EachCertified}
+use Rattle.vx_rows.specs.Given.{GivenValues, all_given, values_with, share_with, with_given, each_with_given, AreCertified, EachCertified}
 use Rattle.vx_rows.specs.Reads.{Way, inside, code_row, Found, a_code, reads_of, reads_of_each, Finds, IsPlaceAmong}
 use Rattle.vx_rows.proofs.ReadRows.{derived_count}
+use Rattle.vx_rows.proofs.Givens.{derived_given, row_same, values_same}
 use Rattle.vx_steps.specs.Laws.{IsBadCodeAt}
-use Rattle.vx_steps.proofs.WholeRows.{derived_given}
 use Rattle.vx_scan.proofs.FewerReads.{NoCode, no_more_in, share_read, values_read}
 
 -- ---- further values behind the given ones
@@ -26,22 +26,14 @@ AllStand own more all = (n : ℕ) → Stands (own n) (more n) (all n)
 
 -- ---- what a row is worth
 
-values_as : (leaves : Leaves) (values : Derivations) (more : Option (List Datum)) → IfSome more (λ vs. derived_each leaves values ≡ Some vs) → derived_each leaves (values_with more values) ≡ derived_each leaves values
-values_as leaves values None is = refl
-values_as leaves values (Some vs) is = derived_given leaves vs ∙ sym is
-
 values_added : (leaves : Leaves) (values : Derivations) (own more all : Option (List Datum)) → Stands own more all → IfSome more (λ vs. derived_each leaves values ≡ Some vs) → derived_each leaves (values_with all values) ≡ derived_each leaves (values_with own values)
 values_added leaves values own more all (inl same) is = ap (λ (o : Option (List Datum)). derived_each leaves (values_with o values)) same
 values_added leaves values own more all (inr (none, same)) is =
-    ap (λ (o : Option (List Datum)). derived_each leaves (values_with o values)) same ∙ (values_as leaves values more is ∙ ap (λ (o : Option (List Datum)). derived_each leaves (values_with o values)) (sym none))
-
-row_as : (leaves : Leaves) (v : Option Datum) → derived leaves (given_row v) ≡ v
-row_as leaves None = refl
-row_as leaves (Some v) = refl
+    ap (λ (o : Option (List Datum)). derived_each leaves (values_with o values)) same ∙ (values_same leaves values more is ∙ ap (λ (o : Option (List Datum)). derived_each leaves (values_with o values)) (sym none))
 
 share_as : (leaves : Leaves) (row : ℕ) (d whole : Derivation) (more : Option (List Datum)) → derived leaves whole ≡ derived leaves d → IfSome more (λ vs. derived leaves d ≡ slice_get vs row) → derived leaves (share_with more row whole) ≡ derived leaves whole
 share_as leaves row d whole None own is = refl
-share_as leaves row d whole (Some vs) own is = row_as leaves (slice_get vs row) ∙ (sym is ∙ sym own)
+share_as leaves row d whole (Some vs) own is = row_same leaves (slice_get vs row) ∙ (sym is ∙ sym own)
 
 share_added : (leaves : Leaves) (row : ℕ) (d whole : Derivation) (own more all : Option (List Datum)) → derived leaves whole ≡ derived leaves d → Stands own more all → IfSome more (λ vs. derived leaves d ≡ slice_get vs row) → derived leaves (share_with all row whole) ≡ derived leaves (share_with own row whole)
 share_added leaves row d whole own more all child (inl same) is = ap (λ (o : Option (List Datum)). derived leaves (share_with o row whole)) same

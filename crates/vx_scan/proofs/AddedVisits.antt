@@ -2,7 +2,6 @@
 -- find and visit what they do with the given ones alone.
 use Rattle.std.proofs.Common.{◌≡◌, ℕ, ◌+◌, ◌-◌, ◌⊎◌, inl, inr, ⊎_elim, Bool, true, false, List, [], ◌∷◌, ◌++◌, Option, Some, None, refl, sym, ap, ◌∙◌, subst, arith}
 use Rattle.std.specs.Prelude.{if◌then◌else◌, ◌==◌, nat_lt}
-use Rattle.std.specs.Bool.{MatchBool}
 use Rattle.std.specs.List.{slice_get}
 use Rattle.std.proofs.lemmas.Option.{slice_get_within}
 use Rattle.vx_base.specs.Columns.{ColumnData}
@@ -30,6 +29,7 @@ use Rattle.vx_steps.specs.Visits.{Test, Visits, VisitsIn, VisitsField, VisitsVal
 use Rattle.vx_steps.proofs.CertifiedValues.{row_certified}
 use Rattle.vx_steps.proofs.FreeVisits.{IsFaultAt}
 use Rattle.vx_steps.proofs.UsedValues.{selected_same}
+use Rattle.vx_steps.proofs.CertifiedCauses.{match_certified, valid_first}
 use Rattle.vx_scan.specs.declared.errors.ScanError.{ScanError}
 use Rattle.vx_scan.specs.declared.errors.ScanError.TheVariants.{BadProjection, OffsetOverflow, OutOfRange, Unsupported, NoLocation, ReadFault, Stalled, BadSegment, BadCode, EvalFault, Memory}
 use Rattle.vx_scan.specs.declared.plans.ScanPlans.{ScanPlans}
@@ -144,14 +144,6 @@ LacksToo f g = (n : ℕ) → g n ≡ None → f n ≡ None
 lacks_as : (given more all : Option (List Datum)) → Stands given more all → all ≡ None → given ≡ None
 lacks_as given more all (inl same) none = sym same ∙ none
 lacks_as given more all (inr (lacks, same)) none = lacks
-
-match_certified : (b : Bool) (F : Derivation → Type 0) (d e : Derivation) (A B C D : Type 0) → (F d → A → C) → (F e → B → D) → F (if b then d else e) → MatchBool b A B → MatchBool b C D
-match_certified true F d e A B C D to more are v = to are v
-match_certified false F d e A B C D to more are v = more are v
-
-valid_first : (leaves : Leaves) (f : GivenValues) (offset : ℕ) (validity : PlanValidity) (row : ℕ) (d : Derivation) → AreCertified leaves f (plan_where_valid offset validity row d) → AreCertified leaves f d
-valid_first leaves f offset all_valid row d are = are
-valid_first leaves f offset (valid_as validity) row d are = are.0
 
 module _ (leaves : Leaves) (f h g : GivenValues) (offset : ℕ) (P : Test) (lacks : LacksToo f g) (own : StaysSeen leaves f h g offset P) where
   mutual

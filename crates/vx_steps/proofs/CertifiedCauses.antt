@@ -31,11 +31,11 @@ IsCertified leaves f offset p row = AreCertified leaves f (plan_derivation offse
 abbrev Stays : Leaves → GivenValues → ℕ → Test → Handed → Type 0
 Stays leaves f offset P free = (p : Plan) (row : ℕ) → IsCertified leaves f offset p row → P (Some f) p row → P free p row
 
-match_certified : (b : Bool) (F : Derivation → Type 0) (d e : Derivation) (A B C D : Type 0) → (F d → A → C) → (F e → B → D) → F (if b then d else e) → MatchBool b A B → MatchBool b C D
+pub match_certified : (b : Bool) (F : Derivation → Type 0) (d e : Derivation) (A B C D : Type 0) → (F d → A → C) → (F e → B → D) → F (if b then d else e) → MatchBool b A B → MatchBool b C D
 match_certified true F d e A B C D to more are v = to are v
 match_certified false F d e A B C D to more are v = more are v
 
-valid_first : (leaves : Leaves) (f : GivenValues) (offset : ℕ) (validity : PlanValidity) (row : ℕ) (d : Derivation) → AreCertified leaves f (plan_where_valid offset validity row d) → AreCertified leaves f d
+pub valid_first : (leaves : Leaves) (f : GivenValues) (offset : ℕ) (validity : PlanValidity) (row : ℕ) (d : Derivation) → AreCertified leaves f (plan_where_valid offset validity row d) → AreCertified leaves f d
 valid_first leaves f offset all_valid row d are = are
 valid_first leaves f offset (valid_as validity) row d are = are.0
 

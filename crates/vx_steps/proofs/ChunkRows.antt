@@ -14,13 +14,13 @@ use Rattle.vx_plan.specs.Rules.{node_at, nodes_at, rows_of, TypesFit}
 use Rattle.vx_plan.specs.Tables.{AreIn, IsGoodTable}
 use Rattle.vx_plan.specs.declared.shapes.Shape.TheVariants as shapes
 use Rattle.vx_plan.specs.Shapes.{HasShape}
-use Rattle.vx_plan.proofs.Adding.{head_in_table}
 use Rattle.vx_plan.proofs.Growing.{below_known}
+use Rattle.vx_plan.proofs.Collecting.{head_rows, shape_there}
 use Rattle.vx_steps.specs.declared.chunks.Chunk.{Chunk}
 use Rattle.vx_steps.specs.Chunks.{IsChunk}
 use Rattle.vx_steps.specs.Given.{Handed}
 use Rattle.vx_steps.specs.Visits.{Test, Visits, VisitsIn}
-use Rattle.vx_steps.proofs.Shaping.{head_of, shape_there}
+use Rattle.vx_steps.proofs.Shaping.{head_of}
 
 lt_true : (a b : ℕ) → a < b → ltb a b ≡ true
 lt_true a b h = grind arith
@@ -34,9 +34,6 @@ before_rows nodes before = sum_by rows_of (nodes_at nodes before)
 
 abbrev plans_at : List Node → List ℕ → Plans
 plans_at nodes ns = plans_from (map (plan_at nodes) ns)
-
-head_rows : (nodes : List Node) → IsGoodTable nodes → (n : ℕ) → n < length nodes → (plan_head (plan_at nodes n)).rows ≡ (node_at nodes n).rows
-head_rows nodes good n known = ap (λ h. h.rows) (head_in_table nodes good n known)
 
 -- the rows in front of a child behind one more
 one_before : (nodes : List Node) (m : ℕ) (before : List ℕ) → before_rows nodes (m ∷ before) ≡ (node_at nodes m).rows + before_rows nodes before

@@ -15,8 +15,8 @@ use Rattle.vx_plan.specs.Rules.{node_at, nodes_at, offsets_from, rows_of, IsMade
 use Rattle.vx_plan.specs.Shapes.{HasShape}
 use Rattle.vx_plan.specs.Tables.{IsChildAt}
 use Rattle.vx_plan.proofs.Offsets.{drop_at}
+use Rattle.vx_plan.proofs.Collecting.{shape_there}
 use Rattle.vx_steps.specs.Chunks.{IsChunk, HoldsPlace}
-use Rattle.vx_steps.proofs.Shaping.{shape_there}
 
 -- ---- the offsets of nodes one after another
 

@@ -13,9 +13,10 @@ use Rattle.vx_expr.specs.Terms.{Term}
 use Rattle.vx_expr.specs.Types.{on_both}
 use Rattle.vx_expr.specs.Rows.{no_bound}
 use Rattle.vx_rows.specs.Derivations.{Leaves, look_up, one_more, each_row, derived, derived_each}
-use Rattle.vx_rows.specs.Given.{given_row, share_with, values_with}
+use Rattle.vx_rows.specs.Given.{share_with, values_with}
 use Rattle.vx_rows.specs.Reads.{IsPlaceAmong}
 use Rattle.vx_rows.specs.Zones.{zones_of}
+use Rattle.vx_rows.proofs.Givens.{derived_given, row_same}
 use Rattle.vx_plan.specs.declared.children.PlanRef.{PlanRef}
 use Rattle.vx_plan.specs.declared.shapes.Shape.TheVariants as shapes
 use Rattle.vx_plan.specs.Nodes.{Node}
@@ -37,7 +38,7 @@ use Rattle.vx_steps.specs.Visits.{Test, Visits, SomeVisit, HasBadCode, HasEvalFa
 use Rattle.vx_steps.proofs.Premises.{is_by_for}
 use Rattle.vx_steps.proofs.SelectedRows.{map_same, picked_rows, row_bit, rows_all, rows_none, then_rows, value_row}
 use Rattle.vx_steps.proofs.Shaping.{head_of, IsEvalPlan, IsLeafPlan, IsSharePlan, IsTakePlan, IsZonedPlan}
-use Rattle.vx_steps.proofs.WholeRows.{derived_given, each_at, each_same, length_all, row_below, same_below}
+use Rattle.vx_steps.proofs.WholeRows.{each_at, each_same, length_all, row_below, same_below}
 use Rattle.vx_steps.proofs.FreeVisits.{IsNoPlace}
 
 -- ---- causes
@@ -262,10 +263,6 @@ share_row : (h : Held) (leaves : Leaves) (n child : ℕ) (vs : List Datum) → (
 share_row h leaves n child vs head (inl e) long row less =
     let F : Option (List Datum) → Type 0 = λ o. derived leaves (share_with o row (plan_derivation h.offset (share_plan (head_of h.nodes n) (plan_at h.nodes child)) row)) ≡ slice_get vs row in
     subst F (sym e) (row_same leaves (slice_get vs row))
-  where
-    row_same : (leaves : Leaves) (v : Option Datum) → derived leaves (given_row v) ≡ v
-    row_same leaves None = refl
-    row_same leaves (Some v) = refl
 share_row h leaves n child vs head (inr e) long row less =
     let F : Option (List Datum) → Type 0 = λ o. derived leaves (share_with o row (plan_derivation h.offset (share_plan (head_of h.nodes n) (plan_at h.nodes child)) row)) ≡ slice_get vs row in
     let zero_more : 0 + row ≡ row = omega arith in

@@ -14,6 +14,7 @@ use Rattle.vx_plan.specs.declared.shapes.Shape.TheVariants as shapes
 use Rattle.vx_plan.specs.Nodes.{Node}
 use Rattle.vx_plan.specs.Rules.{node_at}
 use Rattle.vx_plan.specs.Shapes.{HasShape, ShapeOf, zoned_kind}
+use Rattle.vx_plan.proofs.Collecting.{shape_there}
 use Rattle.vx_steps.specs.declared.open_segments.OpenSegments.{OpenSegments}
 use Rattle.vx_steps.specs.Jobs.{KeepsColumns}
 use Rattle.vx_steps.specs.Kept.{kept_at, IsKept}
@@ -24,7 +25,6 @@ use Rattle.vx_steps.specs.Releasing.{IsSpent}
 use Rattle.vx_steps.proofs.Decoding.{one_segment}
 use Rattle.vx_steps.proofs.Keeping.{got_inside}
 use Rattle.vx_steps.proofs.Releasing.{none_before, not_kept}
-use Rattle.vx_steps.proofs.Shaping.{shape_there}
 
 -- ---- what is no leaf
 

@@ -12,6 +12,7 @@ use Rattle.vx_plan.specs.declared.shapes.Shape.TheVariants as shapes
 use Rattle.vx_plan.specs.Nodes.{Node}
 use Rattle.vx_plan.specs.Rules.{node_at}
 use Rattle.vx_plan.specs.Shapes.{HasShape}
+use Rattle.vx_plan.proofs.Collecting.{shape_there}
 use Rattle.vx_rows.specs.SegmentLeaves.{Bytes, leaves_of}
 use Rattle.vx_steps.specs.KeptData.{Kept}
 use Rattle.vx_steps.specs.Kept.{kept_at, IsKept}
@@ -26,7 +27,6 @@ use Rattle.std.specs.Option.{option_copied, is_some}
 use Rattle.vx_steps.proofs.Keeping.{kept_new, kept_old}
 use Rattle.vx_steps.proofs.Agreeing.{bytes_found}
 use Rattle.vx_steps.proofs.Needing.{among_pushed}
-use Rattle.vx_steps.proofs.Shaping.{shape_there}
 
 pub keeps_none : (nodes : List Node) (wanted : List Wanted) (old : List Kept) → KeepsLeaves nodes wanted old old
 keeps_none nodes wanted old = record { grows = λ n column at. at; typed = λ typed. typed; right = λ outside agrees have. have }

@@ -20,9 +20,9 @@ use Rattle.vx_steps.specs.Rows.{rows_of, AreOf}
 use Rattle.vx_steps.specs.Structs.{field_parts, front_parts, last_part, structs_at, truths_of, validity_part}
 use Rattle.vx_steps.proofs.SelectedRows.{count_of, rows_count}
 use Rattle.vx_base.specs.Columns.{ColumnData}
-use Rattle.vx_plan.specs.Nodes.{Node}
 use Rattle.vx_plan.specs.Plans.{Plan, plan_at, plans_from, field_plans, front_plans, last_plan, last_validity, pack_plan}
 use Rattle.vx_plan.specs.Rules.{field_count, node_at, nodes_at, IsValidityType, ValidityFits}
+use Rattle.vx_plan.proofs.Collecting.{plan_there}
 use Rattle.vx_rows.specs.Derivations.{Leaves, derived_each, valid_value, where_valid}
 use Rattle.vx_rows.specs.Heads.{Head}
 use Rattle.vx_steps.specs.declared.errors.StepError.{StepError}
@@ -63,11 +63,6 @@ field_up P handed true ps place p row at v = by (front_or_last ps place p at)
     by (inr e) =
         let F : Plan → Type 0 = λ r. Visits P handed r row in
         inr (subst F e v)
-
-plan_there : (nodes : List Node) (ns : List ℕ) (place n : ℕ) → slice_get ns place ≡ Some n → slice_get (map (plan_at nodes) ns) place ≡ Some (plan_at nodes n)
-plan_there nodes [] place n at = absurd cc
-plan_there nodes (m ∷ ns) zero n at = let e : m ≡ n = cc in ap (λ (k : ℕ). Some (plan_at nodes k)) e
-plan_there nodes (m ∷ ns) (suc place) n at = plan_there nodes ns place n at
 
 pub field_failed : (h : Held) (n start : ℕ) (bits : List Bool) (place child : ℕ) (fault : StepError) → IsPackPlan h.nodes n → slice_get (node_at h.nodes n).children place ≡ Some child → Computes h child start bits (Err fault) → Computes h n start bits (Err fault)
 field_failed h n start bits place child fault over at computed leaves are =

@@ -23,18 +23,15 @@ use Rattle.vx_rows.specs.Heads.{Head}
 use Rattle.vx_rows.specs.Zones.{zones_of}
 use Rattle.vx_plan.specs.Plans.{Plan, PlanValidity, plan_head, head_at, plan_at, plans_from, field_plans, last_validity, eval_plan, filter_plan, pack_plan, take_plan, share_plan, list_plan, row_idx_plan, scan_plan, zoned_plan}
 use Rattle.vx_plan.specs.Rules.{field_count, node_at, nodes_at, PackFits, ValidityFits, IsMadeAs, TypesFit, IsBoundOver, HasUnsignedCodes, HasLeafType}
-use Rattle.vx_plan.specs.Shapes.{HasShape, IsOver, ShapeOf, zoned_kind}
+use Rattle.vx_plan.specs.Shapes.{HasShape, IsOver, zoned_kind}
 use Rattle.vx_plan.specs.Tables.{IsGoodNode, IsGoodTable}
 use Rattle.vx_plan.specs.Kinds.{HasKind, IsPack}
 use Rattle.vx_plan.proofs.Adding.{head_in_table}
-use Rattle.vx_plan.proofs.Collecting.{kind_known}
+use Rattle.vx_plan.proofs.Collecting.{kind_known, shape_there}
 use Rattle.vx_plan.proofs.Unfolding.{known as known_at}
 use Rattle.vx_steps.specs.Given.{given_as, given_at, given_for}
 use Rattle.vx_steps.specs.KeptData.{Kept}
 use Rattle.vx_steps.specs.Kept.{whole_of}
-
-pub shape_there : (nodes : List Node) (n : ℕ) (shape : Shape) → n < length nodes → HasShape nodes n shape → ShapeOf nodes n (node_at nodes n) shape
-shape_there nodes n shape known has = subst (λ (o : Option Node). IsSomeAnd o (λ node. ShapeOf nodes n node shape)) (slice_get-get_or nodes n absent known) has
 
 made_of : (nodes : List Node) (n : ℕ) (node : Node) (p : Plan) (kind : PlanKind) (children : List ℕ) → IsOver nodes n node p kind children → IsMadeAs kind node (nodes_at nodes children)
 made_of nodes n node p kind children over =

@@ -14,9 +14,9 @@ use Rattle.vx_plan.specs.Plans.{Plan, no_plan, concat_plan, eval_plan, filter_pl
 use Rattle.vx_plan.specs.Refs.{number_of}
 use Rattle.vx_plan.specs.Rules.{node_at, nodes_at, IsMadeAs}
 use Rattle.vx_plan.specs.Tables.{IsGoodTable}
-use Rattle.vx_plan.proofs.Adding.{head_in_table}
 use Rattle.vx_plan.proofs.Growing.{below_known}
 use Rattle.vx_plan.proofs.Unfolding.{Known, known}
+use Rattle.vx_plan.proofs.Collecting.{head_rows}
 use Rattle.vx_steps.specs.declared.errors.StepError.{StepError}
 use Rattle.vx_steps.specs.declared.errors.StepError.TheVariants.{Unsupported, BadSegment, BadCode, EvalFault, Memory}
 use Rattle.vx_steps.specs.declared.leaf_reads.LeafRead.{LeafRead}
@@ -33,10 +33,6 @@ use Rattle.vx_steps.proofs.Shaping.{share_plan_at}
 use Rattle.vx_steps.proofs.WholeMaking.{shape_known}
 
 -- ---- the plans of a table
-
--- the rows of a plan of the table, as its tree has them
-head_rows : (nodes : List Node) → IsGoodTable nodes → (n : ℕ) → n < length nodes → (plan_head (plan_at nodes n)).rows ≡ (node_at nodes n).rows
-head_rows nodes good n there = ap (λ (head : Head). head.rows) (head_in_table nodes good n there)
 
 -- the plan is that of a number of the table
 pub record IsPlanOf (nodes : List Node) (p : Plan) : Type 0 where

@@ -4,7 +4,6 @@ use Rattle.std.specs.List.{slice_get, range_with_len}
 use Rattle.vx_base.specs.Data.{Datum}
 use Rattle.vx_expr.specs.Types.{on_both}
 use Rattle.vx_rows.specs.Derivations.{Derivation, Leaves, one_more, each_row, derived, derived_each}
-use Rattle.vx_rows.specs.Given.{all_given}
 use Rattle.vx_rows.proofs.Givens.{none_given as none_given_is}
 use Rattle.vx_plan.specs.Plans.{Plan}
 use Rattle.vx_plan.specs.PlanRows.{plan_derivation}
@@ -26,10 +25,6 @@ pub same_below : (f g : ℕ → Option Datum) (rows start : ℕ) (bits : List Bo
 same_below f g rows start bits inside same = rows_same f g start start bits (λ k h. same (start + k) (omega arith))
 
 -- ---- values
-
-pub derived_given : (leaves : Leaves) (vs : List Datum) → derived_each leaves (all_given vs) ≡ Some vs
-derived_given leaves [] = refl
-derived_given leaves (v ∷ vs) = rw (derived_given leaves vs) refl
 
 pub each_at : (leaves : Leaves) (f : ℕ → Derivation) (from count : ℕ) (vs : List Datum) → derived_each leaves (each_row f from count) ≡ Some vs → (k : ℕ) → k < count → slice_get vs k ≡ derived leaves (f (from + k))
 each_at leaves f from zero vs e k h = absurd (omega arith)
