@@ -1,8 +1,8 @@
 -- The lines of a range of rows, one row at a time.
-use Rattle.std.proofs.Common.{◌≡◌, ℕ, zero, suc, ◌+◌, ◌<◌, ◌≤◌, Bool, if◌then◌else◌, List, [], ◌∷◌, ◌++◌, length, map, get_or, Some, option_map, refl, sym, ap, ◌∙◌, append_assoc, arith, codes}
+use Rattle.std.proofs.Common.{◌≡◌, ℕ, zero, suc, ◌+◌, ◌<◌, ◌≤◌, Bool, if◌then◌else◌, List, [], ◌∷◌, ◌++◌, length, map, get_or, Some, refl, sym, ap, ◌∙◌, append_assoc, arith, codes}
 use Rattle.std.specs.List.{slice_get, slice_range}
 use Rattle.std.proofs.lemmas.List.{append-nil, length-map}
-use Rattle.std.proofs.lemmas.Option.{slice_get_within, get_or_from_slice_get, slice_get-map, slice_get-get_or}
+use Rattle.std.proofs.lemmas.Option.{slice_get_within, get_or_from_slice_get, slice_get-get_or}
 use Rattle.vx_base.specs.Data.{DataType, Datum, null}
 use Rattle.vx_base.specs.Reading.{where_valid}
 use Rattle.scan_commands.specs.RowText.{line, lines, row_text}
@@ -36,9 +36,6 @@ pub slot_more : (t : DataType) (mask : List Bool) (slots : List Datum) (from row
     → after ≡ before ++ line t (if bit then v else null) → before ≡ start ++ lines t (slice_range (where_valid mask slots) from row) → after ≡ start ++ lines t (slice_range (where_valid mask slots) from (row + 1))
 slot_more t mask slots from row bit v before after start low valid at pushed so_far =
     line_more t (where_valid mask slots) from row (if bit then v else null) before after start low (valid_at mask slots row bit v valid at) pushed so_far
-
-pub mapped_at : {X Y : Type 0} (f : X → Y) (xs : List X) (row : ℕ) (x : X) → slice_get xs row ≡ Some x → slice_get (map f xs) row ≡ Some (f x)
-mapped_at f xs row x at = slice_get-map f xs row ∙ ap (option_map f) at
 
 pub read_at : {X : Type 0} (xs : List X) (row : ℕ) (x : X) → row < length xs → x ≡ get_or xs row x → slice_get xs row ≡ Some x
 read_at {X} xs row x lt here = slice_get-get_or xs row x lt ∙ ap (λ (y : X). Some y) (sym here)

@@ -10,6 +10,7 @@ use Rattle.std.proofs.lemmas.List.Sums.{sum_by-cons}
 use Rattle.vx_base.specs.Columns.{ColumnData}
 use Rattle.vx_base.specs.Sources.{SourceState}
 use Rattle.vx_base.specs.declared.locations.SegmentLocation.{SegmentLocation}
+use Rattle.vx_base.proofs.AllFit.{all-append}
 use Rattle.vx_claims.specs.Apart.{times}
 use Rattle.vx_claims.proofs.Numbers.{times_append, times_itself, times_other}
 use Rattle.vx_io.specs.Fetches.{asked_for}
@@ -29,7 +30,7 @@ use Rattle.vx_scan.specs.Reasons.{Reason, segment_of, take_and_segment, IsReason
 use Rattle.vx_scan.specs.Settled.{whole_number, AsksForOne, IsReasonOf, IsThroughKept, IsThroughLacking}
 use Rattle.vx_scan.specs.Settling.{direct_by, direct_and_segment, rerun_chunks, AsksAgain, IsDirectAmong}
 use Rattle.vx_scan.specs.Workers.{numbers_of}
-use Rattle.vx_scan.proofs.Certifying.{each_then, each_weaker}
+use Rattle.vx_scan.proofs.Certifying.{each_weaker}
 use Rattle.vx_scan.proofs.Distinct.{distinct_then}
 use Rattle.vx_scan.proofs.Sessions.{asked_then}
 use Rattle.vx_scan.proofs.Taken.{taken_apart}
@@ -136,8 +137,8 @@ again_more plans chunks chosen number old new numbers more result before now aft
     record {
       again = record {
         reasons = again.reasons ++ asks.reasons;
-        are = each_then (IsReasonAmong plans chunks) again.reasons asks.reasons again.are (each_weaker (IsReasonOf plans chosen number) (IsReasonAmong plans chunks) (reason_among plans chunks chosen number here) asks.reasons asks.are);
-        direct = each_then (IsDirectAmong more) again.reasons asks.reasons (each_weaker (IsDirectAmong numbers) (IsDirectAmong more) (λ reason among is. stays reason.chunk (among is)) again.reasons again.direct) asks.direct;
+        are = all-append (IsReasonAmong plans chunks) again.reasons asks.reasons again.are (each_weaker (IsReasonOf plans chosen number) (IsReasonAmong plans chunks) (reason_among plans chunks chosen number here) asks.reasons asks.are);
+        direct = all-append (IsDirectAmong more) again.reasons asks.reasons (each_weaker (IsDirectAmong numbers) (IsDirectAmong more) (λ reason among is. stays reason.chunk (among is)) again.reasons again.direct) asks.direct;
         located = subst (All (λ segment. segment < length plans.locations.items)) (sym segments)
             (All-append (λ segment. segment < length plans.locations.items) (map segment_of again.reasons) (map segment_of asks.reasons) again.located asks.located);
         asked = asks.asked

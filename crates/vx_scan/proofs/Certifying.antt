@@ -8,6 +8,7 @@ use Rattle.std.proofs.lemmas.List.Elements.{All-nil, All-append, All-head, All-t
 use Rattle.vx_base.specs.Columns.{ColumnData}
 use Rattle.vx_base.specs.Sources.{SourceState}
 use Rattle.vx_base.specs.declared.locations.SegmentLocation.{SegmentLocation}
+use Rattle.vx_base.proofs.AllFit.{all-append}
 use Rattle.vx_io.specs.Fetches.{asked_for}
 use Rattle.vx_plan.specs.declared.children.PlanRef.{PlanRef}
 use Rattle.vx_plan.specs.Nodes.{Node}
@@ -67,10 +68,6 @@ kept_last [] last = (last.column, ap (λ (b : Bool). if b then Some last.column 
 kept_last (one ∷ old) last = kept_test (one.node == last.node) one.column (kept_at (old ++ last ∷ []) last.node) (kept_last old last)
 
 -- ---- lists of facts
-
-pub each_then : {X : Type 0} (P : X → Type 0) (ones twos : List X) → AllByRecursion P ones → AllByRecursion P twos → AllByRecursion P (ones ++ twos)
-each_then P [] twos first second = second
-each_then P (one ∷ ones) twos first second = (first.0, each_then P ones twos first.1 second)
 
 pub each_weaker : {X : Type 0} (P Q : X → Type 0) → ((x : X) → P x → Q x) → (xs : List X) → AllByRecursion P xs → AllByRecursion Q xs
 each_weaker P Q f [] each = tt
@@ -200,8 +197,8 @@ certifies_then plans Wants old mid new failure before now after first second =
       right = λ file told made. second.right file (first.lasts.file ∙ told) (first.right file told made);
       cause = fails_before plans Wants failure before now after first.lasts second.cause;
       reads = first.reads ++ second.reads;
-      are = each_then (IsValueRead plans Wants old) first.reads second.reads first.are (each_weaker (IsValueRead plans Wants mid) (IsValueRead plans Wants old) (read_before plans Wants old mid first.grows) second.reads second.are);
-      kept = λ none. each_then (λ (read : ValueRead). IsKept new read.node) first.reads second.reads
+      are = all-append (IsValueRead plans Wants old) first.reads second.reads first.are (each_weaker (IsValueRead plans Wants mid) (IsValueRead plans Wants old) (read_before plans Wants old mid first.grows) second.reads second.are);
+      kept = λ none. all-append (λ (read : ValueRead). IsKept new read.node) first.reads second.reads
           (each_weaker (λ (read : ValueRead). IsKept mid read.node) (λ (read : ValueRead). IsKept new read.node) (λ read kept. (kept.0, second.grows read.node kept.0 kept.1)) first.reads (first.kept refl))
           (second.kept none);
       apart = subst AreDistinct (sym (map-append node_and_segment first.reads second.reads))

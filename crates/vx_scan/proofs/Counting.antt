@@ -7,6 +7,7 @@ use Rattle.std.proofs.lemmas.List.Elements.{All-nil, All-cons, All-append, All-h
 use Rattle.std.proofs.lemmas.List.Kept.{AllPairs-cons}
 use Rattle.vx_base.specs.declared.locations.AskedRange.{AskedRange}
 use Rattle.vx_base.specs.Sources.{SourceState}
+use Rattle.vx_base.proofs.AllFit.{all-append}
 use Rattle.vx_rows.specs.Reads.{Way, directly, through, IsAmong}
 use Rattle.vx_rows.specs.Renumbered.{way_renumbered}
 use Rattle.vx_scan.specs.Answer.{FileScan}
@@ -103,13 +104,9 @@ cross_taken [] ys pairs some apart = All-nil (λ x. All (λ y. x ≢ y) pairs)
 cross_taken (x ∷ xs) ys pairs some apart =
     All-cons (λ z. All (λ y. z ≢ y) pairs) x xs (some (λ y. x ≢ y) (all_back (λ y. x ≢ y) xs ys (differs x (xs ++ ys) apart))) (cross_taken xs ys pairs some (distinct_behind x (xs ++ ys) apart))
 
-each_then : (P : ℕ × ℕ → Type 0) (xs ys : List (ℕ × ℕ)) → AllByRecursion P xs → AllByRecursion P ys → AllByRecursion P (xs ++ ys)
-each_then P [] ys each others = others
-each_then P (x ∷ xs) ys each others = (each.0, each_then P xs ys each.1 others)
-
 pub pairs_then : (P : ℕ × ℕ → Type 0) (ones more twos others : List (ℕ × ℕ)) → ArePairs P ones more → ArePairs P twos others → ArePairs P (ones ++ twos) (more ++ others)
 pairs_then P ones more twos others first second = record {
-  each = each_then P more others first.each second.each;
+  each = all-append P more others first.each second.each;
   distinct = λ apart.
       distinct_then more others (first.distinct (distinct_front ones twos apart)) (second.distinct (distinct_back ones twos apart))
       (first.some (λ x. All (λ y. x ≢ y) others) (cross_taken ones twos others second.some apart));

@@ -36,6 +36,7 @@ use Rattle.vx_scan.specs.Workers.{IsPieceOf, numbers_of, IsLast, FailsLast, Runs
 use Rattle.vx_scan.proofs.Ascending.{in_order_once}
 use Rattle.vx_scan.proofs.LentSources.{each_by, each_first}
 use Rattle.vx_scan.proofs.Certifying.{each_weaker}
+use Rattle.vx_scan.proofs.JoinedLanes.{not_lacking}
 
 -- ---- lists
 
@@ -58,10 +59,6 @@ numbers_in_order (piece ∷ pieces) sorted i j d le lt =
     omega (arith, lower, one, two)
 
 -- ---- errors
-
--- no number is below want of memory
-not_lacking : (x : ℕ) (error : Option ChunkError) → IsBelow error x → error ≢ Some no_memory
-not_lacking x error below lacks = let none : x < 0 = subst (λ (one : Option ChunkError). IsBelow one x) lacks below in omega (arith, none)
 
 -- where there is no error, there was none before
 none_before : (error old : Option ChunkError) → error ≡ None → IsAtMost error old → old ≡ None

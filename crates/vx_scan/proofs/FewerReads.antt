@@ -72,7 +72,7 @@ mutual
 
 -- ---- of a chunk
 
-finds_free : (P : Found → Type 0) → NoCode P → (plans : ScanPlans) (borrowed : List Kept) (chunk : SelectedRows) → ChunkFinds P plans borrowed chunk → ChunkFinds P plans [] chunk
+pub finds_free : (P : Found → Type 0) → NoCode P → (plans : ScanPlans) (borrowed : List Kept) (chunk : SelectedRows) → ChunkFinds P plans borrowed chunk → ChunkFinds P plans [] chunk
 finds_free P out plans borrowed chunk (place, at, any) =
     let d : Derivation = plan_derivation plans.row_offset (projection_plan plans) (chunk.scope.rows.start + place) in
     (place, at, subst (λ (one : Derivation). Finds P (reads_of directly one)) (sym (none_served (values_for (given_to plans [])) (no_columns plans.table) d)) (fewer P out (given_for plans.table borrowed) d directly any))

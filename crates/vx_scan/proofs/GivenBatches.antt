@@ -1,5 +1,5 @@
 -- The columns of the pieces that all workers gave are the batches of the chunks.
-use Rattle.std.proofs.Common.{◌≡◌, ◌≢◌, ℕ, zero, suc, ◌+◌, ◌<◌, ◌≤◌, ◌⊎◌, inl, inr, Bool, true, List, [], ◌∷◌, ◌++◌, Some, None, Result, Ok, Err, Vec, Global, length, map, take, refl, sym, ap, ◌∙◌, subst, arith}
+use Rattle.std.proofs.Common.{◌≡◌, ◌≢◌, ℕ, zero, suc, ◌+◌, ◌<◌, ◌≤◌, ◌⊎◌, inl, inr, Bool, true, List, [], ◌∷◌, Some, None, Result, Ok, Err, Vec, Global, length, map, take, refl, sym, ap, ◌∙◌, subst, arith}
 use native.Mathlib.Decide.{ℕ_discrete}
 use mathlib.Core.Logic.{dite}
 use Rattle.std.specs.Prelude.{Option, IfSome, IsSomeAnd, nat_lt}
@@ -11,6 +11,7 @@ use Rattle.std.proofs.lemmas.List.Sums.{sum_by-cons}
 use Rattle.vx_base.specs.Columns.{ColumnData}
 use Rattle.vx_base.specs.Masks.{true_count}
 use Rattle.vx_base.specs.Sources.{SourceState}
+use Rattle.vx_base.proofs.AllFit.{all-append}
 use Rattle.vx_claims.specs.Apart.{times, times_over}
 use Rattle.vx_claims.proofs.Numbers.{times_other}
 use Rattle.vx_rows.specs.Derivations.{Leaves}
@@ -145,10 +146,6 @@ is_memory Memory = inl refl
 
 -- ---- what all sources were asked for
 
-each_then : {X : Type 0} (P : X → Type 0) (xs ys : List X) → AllByRecursion P xs → AllByRecursion P ys → AllByRecursion P (xs ++ ys)
-each_then P [] ys each others = others
-each_then P (x ∷ xs) ys each others = (each.0, each_then P xs ys each.1 others)
-
 module _ (plans : ScanPlans) (chunks : List SelectedRows) where
   abbrev Ran : List (List ℕ) → List SourceState → List SourceState → Type 0
   Ran lists befores afters = EachSourceBy (RunsSource plans chunks) lists befores afters
@@ -198,7 +195,7 @@ module _ (plans : ScanPlans) (chunks : List SelectedRows) where
       record {
         shares = record { numbers = list; reasons = mine } ∷ rest.shares;
         each = (ran.0.asks, rest.each);
-        claimed = each_then (IsClaimed (list ∷ lists)) mine others
+        claimed = all-append (IsClaimed (list ∷ lists)) mine others
             (each_weaker (λ (reason : Reason). IsAmong reason.chunk list) (IsClaimed (list ∷ lists)) (claimed_here list lists) mine ran.0.asks.own)
             (each_weaker (IsClaimed lists) (IsClaimed (list ∷ lists)) (claimed_behind list lists) others rest.claimed);
         distinct = subst (λ (pairs : List (ℕ × ℕ)). AreDistinct pairs) (sym (map-append chunk_and_segment mine others))

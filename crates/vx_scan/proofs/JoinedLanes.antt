@@ -35,7 +35,7 @@ use Rattle.vx_scan.proofs.LaneEnds.{all_quiet, each_ascend, each_faults, each_st
 use Rattle.vx_scan.proofs.LaneFacts.{ran_times, ran_sum, Each, all_below, all_by, over_lanes, ran_less, told_end}
 
 -- no number is below want of memory
-not_lacking : (x : ℕ) (error : Option ChunkError) → IsBelow error x → error ≢ Some no_memory
+pub not_lacking : (x : ℕ) (error : Option ChunkError) → IsBelow error x → error ≢ Some no_memory
 not_lacking x error below lacks = let none : x < 0 = subst (λ (one : Option ChunkError). IsBelow one x) lacks below in omega (arith, none)
 
 -- ---- what is of one of the lanes

@@ -30,7 +30,7 @@ mod FilePreparing
 mod Finishing
 mod Fitting
 mod GivenBatches
-mod Got
+pub mod Got
 mod Growing
 mod HandedRuns
 mod HandingOut

@@ -91,11 +91,11 @@ lists_none plans chunks pieces loans source no_pieces no_loans = rw (no_pieces, 
   lent_by = λ file told. All-nil (IsLoanBy (bytes_of plans file) plans chunks);
 })
 
-of_chunk : (P : SelectedRows → Type 0) (got : Option SelectedRows) (chunk : SelectedRows) → got ≡ Some chunk → P chunk → IsSomeAnd got P
+pub of_chunk : (P : SelectedRows → Type 0) (got : Option SelectedRows) (chunk : SelectedRows) → got ≡ Some chunk → P chunk → IsSomeAnd got P
 of_chunk P None chunk here is = absurd cc
 of_chunk P (Some one) chunk here is = let same : one ≡ chunk = cc in subst P (sym same) is
 
-piece_of : (P : ColumnData → Type 0) (piece : Result ColumnData ScanError) (column : ColumnData) → piece ≡ Ok column → IfOk piece P → P column
+pub piece_of : (P : ColumnData → Type 0) (piece : Result ColumnData ScanError) (column : ColumnData) → piece ≡ Ok column → IfOk piece P → P column
 piece_of P (Ok one) column is holds = subst (IfOk_of P) is holds
   where
     IfOk_of : (ColumnData → Type 0) → Result ColumnData ScanError → Type 0

@@ -25,7 +25,8 @@ use Rattle.vx_scan.specs.Scanned.{FailsPiece, FailsPieceAgain, HasAnswer, HaveAn
 use Rattle.vx_scan.specs.Workers.{IsLast, FailsLast, RunsSource}
 use Rattle.vx_scan.proofs.LentSources.{each_by, first_by, some_by}
 use Rattle.vx_scan.proofs.ScanAsks.{gains_again, gains_of}
-use Rattle.vx_scan.proofs.ScanCauses.{cause_of, cause_of_all, have_answers, inside_at, piece_answers, rows_at, same_bytes}
+use Rattle.vx_scan.proofs.ScanCauses.{cause_of, cause_of_all, have_answers, inside_at, piece_answers, same_bytes}
+use Rattle.vx_scan.proofs.Got.{got_mapped}
 
 module _ (scan : FileScan) (limit : ℕ) (plans : ScanPlans) (are : ArePlansOf scan limit plans) (chunks : List SelectedRows) (of_scan : AreChunksOf scan chunks) where
   runs_pieces : (numbers : List ℕ) (before after : SourceState) → RunsSource plans chunks numbers before after → RunsPieces scan numbers before after
@@ -100,7 +101,7 @@ module _ (scan : FileScan) (limit : ℕ) (plans : ScanPlans) (are : ArePlansOf s
   lowest_of error other befores afters lowest = record {
     place = lowest.place;
     rows = chosen_rows lowest.chunk;
-    here = ap (λ (pieces : List (List ℕ)). slice_get pieces lowest.place) (sym of_scan.pieces) ∙ rows_at chunks lowest.place lowest.chunk lowest.here;
+    here = ap (λ (pieces : List (List ℕ)). slice_get pieces lowest.place) (sym of_scan.pieces) ∙ got_mapped chosen_rows chunks lowest.place lowest.chunk lowest.here;
     claims = lowest.claims;
     apart = subst (λ (count : ℕ). AreApart count lowest.claims) (sym (length-map chunks chosen_rows) ∙ ap length of_scan.pieces) lowest.apart;
     ascend = lowest.ascend;

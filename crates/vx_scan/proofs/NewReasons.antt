@@ -9,6 +9,7 @@ use Rattle.std.proofs.lemmas.List.Elements.{All-append, All-head, All-tail}
 use Rattle.vx_base.specs.Columns.{ColumnData}
 use Rattle.vx_base.specs.Sources.{SourceState}
 use Rattle.vx_base.specs.declared.locations.SegmentLocation.{SegmentLocation}
+use Rattle.vx_base.proofs.AllFit.{all-append}
 use Rattle.vx_claims.specs.Views.{above}
 use Rattle.vx_io.specs.Fetches.{asked_for}
 use Rattle.vx_plan.specs.Nodes.{Node}
@@ -39,6 +40,8 @@ use Rattle.vx_scan.proofs.Taken.{distinct_taken, taken_apart}
 use Rattle.vx_scan.proofs.TakenWholes.{IsWholeFor, TakesWhole, takes_whole}
 use Rattle.vx_scan.proofs.Ways.{IsFree, way_of}
 use Rattle.vx_scan.proofs.WeakerVisits.{leaf_read, same_read, weaker_visit}
+use Rattle.vx_scan.proofs.Certifying.{each_weaker}
+use Rattle.vx_scan.proofs.AskingAgain.{among_front}
 
 -- ---- chunks in order
 
@@ -93,20 +96,7 @@ bit_inside [] i at = absurd cc
 bit_inside (bit ∷ bits) zero at = omega arith
 bit_inside (bit ∷ bits) (suc i) at = let less = bit_inside bits i at in omega (arith, less)
 
-each_then : {X : Type 0} (P : X → Type 0) (ones twos : List X) → AllByRecursion P ones → AllByRecursion P twos → AllByRecursion P (ones ++ twos)
-each_then P [] twos first second = second
-each_then P (one ∷ ones) twos first second = (first.0, each_then P ones twos first.1 second)
-
-each_weaker : {X : Type 0} (P Q : X → Type 0) → ((x : X) → P x → Q x) → (xs : List X) → AllByRecursion P xs → AllByRecursion Q xs
-each_weaker P Q f [] each = tt
-each_weaker P Q f (x ∷ xs) each = (f x each.0, each_weaker P Q f xs each.1)
-
 -- ---- numbers of chunks
-
-among_front : (x : ℕ) (numbers more : List ℕ) → IsAmong x numbers → IsAmong x (numbers ++ more)
-among_front x [] more among = absurd among
-among_front x (n ∷ numbers) more (inl here) = inl here
-among_front x (n ∷ numbers) more (inr later) = inr (among_front x numbers more later)
 
 among_last : (x : ℕ) (numbers : List ℕ) (number : ℕ) → x ≡ number → IsAmong x (numbers ++ number ∷ [])
 among_last x [] number same = inl (sym same)
@@ -271,7 +261,7 @@ new_taken plans place given handed more chunk good known there reason fresh take
 pub taken_more : (plans : ScanPlans) (place : ℕ) (made given handed more : List Kept) (chunk : SelectedRows) (segments : List ℕ) (reasons : List Reason) → IsGoodTable plans.table → number_of plans.projection < length plans.table → HasMade plans made more → AreAllThere plans given more chunk
     → (fresh : NewReasons plans place given handed chunk segments) → AreTaken plans made reasons → AreTaken plans more (reasons ++ fresh.reasons)
 taken_more plans place made given handed more chunk segments reasons good known stays there fresh taken =
-    each_then (IsTaken plans more) reasons fresh.reasons
+    all-append (IsTaken plans more) reasons fresh.reasons
     (each_weaker (IsTaken plans made) (IsTaken plans more) (old_taken plans made more stays) reasons taken)
     (each_weaker (IsNewReason plans place given handed chunk) (IsTaken plans more) (new_taken plans place given handed more chunk good known there) fresh.reasons fresh.each)
 
@@ -298,9 +288,9 @@ asks_more plans chunks numbers row number chunk made given handed reasons before
     let segments : map segment_of (reasons ++ fresh.reasons) ≡ map segment_of reasons ++ more.segments =
     map-append segment_of reasons fresh.reasons ∙ ap (λ (ss : List ℕ). map segment_of reasons ++ ss) fresh.segments_are in
     record {
-      are = each_then (IsReasonAmong plans chunks) reasons fresh.reasons asks.are
+      are = all-append (IsReasonAmong plans chunks) reasons fresh.reasons asks.are
           (each_weaker (IsNewReason plans number given handed chunk) (IsReasonAmong plans chunks) (new_among plans chunks number given handed chunk next.here) fresh.reasons fresh.each);
-      own = each_then (λ (reason : Reason). IsAmong reason.chunk (numbers ++ number ∷ [])) reasons fresh.reasons
+      own = all-append (λ (reason : Reason). IsAmong reason.chunk (numbers ++ number ∷ [])) reasons fresh.reasons
           (each_weaker (λ (reason : Reason). IsAmong reason.chunk numbers) (λ (reason : Reason). IsAmong reason.chunk (numbers ++ number ∷ [])) (λ reason among. among_front reason.chunk numbers (number ∷ []) among) reasons asks.own)
           (each_weaker (IsNewReason plans number given handed chunk) (λ (reason : Reason). IsAmong reason.chunk (numbers ++ number ∷ [])) (λ reason is. among_last reason.chunk numbers number is.at) fresh.reasons fresh.each);
       located = subst (All (λ segment. segment < length plans.locations.items)) (sym segments)
@@ -362,6 +352,6 @@ pub past_more : (plans : ScanPlans) (chunks : List SelectedRows) (numbers : List
     → HandsLeaves plans chunk given handed more → (fresh : NewReasons plans number given handed chunk segments) → AreInOrder chunks → LeavesLieTogether (projection_plan plans) → ArePast plans row handed reasons → ArePast plans chunk.scope.rows.end more (reasons ++ fresh.reasons)
 past_more plans chunks numbers row number chunk given handed more segments reasons next hands fresh order together past =
     let some = has_rows 0 chunks number chunk order next.here in
-    each_then (IsPastReason plans chunk.scope.rows.end more) reasons fresh.reasons
+    all-append (IsPastReason plans chunk.scope.rows.end more) reasons fresh.reasons
     (each_weaker (IsPastReason plans row handed) (IsPastReason plans chunk.scope.rows.end more) (λ reason old. old_leaf plans row given handed more chunk next.is (next.behind order) some together hands reason.leaf old) reasons past)
     (each_weaker (IsNewReason plans number given handed chunk) (IsPastReason plans chunk.scope.rows.end more) (λ reason new. new_leaf plans given handed more chunk next.is some hands (read_for reason) new.reads) fresh.reasons fresh.each)

@@ -40,6 +40,7 @@ use Rattle.vx_scan.proofs.ScanReads.{in_moved, some_chosen}
 use Rattle.vx_scan.proofs.TakenReads.{read_below}
 use Rattle.vx_scan.proofs.UnsharedPlans.{none_shared}
 use Rattle.vx_scan.proofs.Ways.{found_by}
+use Rattle.vx_scan.proofs.Got.{got_mapped}
 
 any_left : (P : ℕ → Type 0) (ones twos : List ℕ) → AnyOf P ones → AnyOf P (ones ++ twos)
 any_left P [] twos any = absurd any
@@ -62,11 +63,6 @@ place_there (at ∷ locations) zero below = refl
 place_there (at ∷ locations) (suc segment) below = place_there locations segment (omega (arith, below))
 
 -- ---- reasons
-
-piece_at : (chunks : List SelectedRows) (place : ℕ) (chunk : SelectedRows) → slice_get chunks place ≡ Some chunk → slice_get (map chosen_rows chunks) place ≡ Some (chosen_rows chunk)
-piece_at [] place chunk at = absurd cc
-piece_at (one ∷ chunks) zero chunk at = let same : one ≡ chunk = cc in ap (λ (c : SelectedRows). Some (chosen_rows c)) same
-piece_at (one ∷ chunks) (suc place) chunk at = piece_at chunks place chunk at
 
 -- what is come to by a way, by other numbers
 moved_by : (f : ℕ → ℕ) (way : Way) (segment : ℕ) (reads : List Read) → FindsBy way (IsIn segment) reads → FindsBy (way_renumbered f way) (IsIn segment) (map (read_renumbered f) reads)
@@ -111,7 +107,7 @@ reason_for scan limit plans are chunks of_scan reason there is =
     let inside : LiesInside (row_count scan) is.chunk = inside_at (row_count scan) chunks reason.chunk is.chunk of_scan.inside is.here in
     record {
       rows = chosen_rows is.chunk;
-      here = ap (λ (pieces : List (List ℕ)). slice_get pieces reason.chunk) (sym of_scan.pieces) ∙ piece_at chunks reason.chunk is.chunk is.here;
+      here = ap (λ (pieces : List (List ℕ)). slice_get pieces reason.chunk) (sym of_scan.pieces) ∙ got_mapped chosen_rows chunks reason.chunk is.chunk is.here;
       reads = chunk_reads scan limit plans are is.chunk inside reason.way (read_for reason) is.reads;
       reaches = chunk_reaches scan limit plans are is.chunk inside reason.way (read_for reason) is.reads;
       location = ap (λ (locations : List SegmentLocation). option_map range_of (slice_get locations reason.segment)) (sym are.locations) ∙ ap (option_map range_of) (place_there plans.locations.items reason.segment there);

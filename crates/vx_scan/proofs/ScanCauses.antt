@@ -120,11 +120,6 @@ inside_at count [] k chunk inside at = absurd cc
 inside_at count (one ∷ chunks) zero chunk inside at = let e : one ≡ chunk = cc in subst (LiesInside count) e inside.0
 inside_at count (one ∷ chunks) (suc k) chunk inside at = inside_at count chunks k chunk inside.1 at
 
-pub rows_at : (chunks : List SelectedRows) (k : ℕ) (chunk : SelectedRows) → slice_get chunks k ≡ Some chunk → slice_get (map chosen_rows chunks) k ≡ Some (chosen_rows chunk)
-rows_at [] k chunk at = absurd cc
-rows_at (one ∷ chunks) zero chunk at = let e : one ≡ chunk = cc in ap (λ (c : SelectedRows). Some (chosen_rows c)) e
-rows_at (one ∷ chunks) (suc k) chunk at = rows_at chunks k chunk at
-
 fault_row : (scan : FileScan) (limit : ℕ) (plans : ScanPlans) → ArePlansOf scan limit plans → (leaves : Leaves) → GiveFitting leaves → (at row : ℕ) → Visits (HasEvalFault leaves plans.row_offset at) (given_to plans []) (projection_plan plans) row → (row ≡ at) × IsFaultAt leaves scan.projection row
 fault_row scan limit plans are leaves fitting at row visit =
     are.plan.faults leaves fitting (given_to plans []) row at (none_given plans)

@@ -10,6 +10,7 @@ use Rattle.std.proofs.lemmas.List.Kept.{AllPairs-cons}
 use Rattle.vx_base.specs.Columns.{ColumnData}
 use Rattle.vx_base.specs.Sources.{SourceState}
 use Rattle.vx_base.specs.declared.locations.SegmentLocation.{SegmentLocation}
+use Rattle.vx_base.proofs.AllFit.{all-append}
 use Rattle.vx_io.specs.Fetches.{asked_for}
 use Rattle.vx_plan.specs.Nodes.{Node}
 use Rattle.vx_plan.specs.Plans.{plan_at, plan_head}
@@ -40,7 +41,7 @@ use Rattle.vx_scan.specs.Settled.{whole_number, AsksForOne, IsReasonOf, IsThroug
 use Rattle.vx_scan.specs.Settling.{direct_by, direct_and_segment, IsDirectAmong}
 use Rattle.vx_scan.specs.Ways.{ReadsBy}
 use Rattle.vx_scan.proofs.ChunkScanning.{IsGoodChunk}
-use Rattle.vx_scan.proofs.Certifying.{each_then, each_weaker, still_lacking}
+use Rattle.vx_scan.proofs.Certifying.{each_weaker, still_lacking}
 use Rattle.vx_scan.proofs.Distinct.{differs, distinct_behind, distinct_by, distinct_none, distinct_then}
 use Rattle.vx_scan.proofs.OutsideReads.{read_directly}
 use Rattle.vx_scan.proofs.Sessions.{asked_nothing, asked_then}
@@ -284,13 +285,13 @@ asks_then plans chosen number old mid new reruns result before now after is step
     let segments : map segment_of (of.reasons ++ asks.reasons) ≡ map segment_in step.reads ++ map segment_of asks.reasons = map-append segment_of of.reasons asks.reasons ∙ ap (λ (ss : List ℕ). ss ++ map segment_of asks.reasons) of.segments in
     record {
       reasons = of.reasons ++ asks.reasons;
-      are = each_then (IsReasonOf plans chosen number) of.reasons asks.reasons of.are asks.are;
-      lacking = each_then (IsThroughLacking plans old) of.reasons asks.reasons of.lacking
+      are = all-append (IsReasonOf plans chosen number) of.reasons asks.reasons of.are asks.are;
+      lacking = all-append (IsThroughLacking plans old) of.reasons asks.reasons of.lacking
           (each_weaker (IsThroughLacking plans mid) (IsThroughLacking plans old) (λ reason lacks take same. still_lacking old mid (whole_number (plan_at plans.table take)) step.grows (lacks take same) (kept_at old (whole_number (plan_at plans.table take))) refl) asks.reasons asks.lacking);
       kept = there_with result (AllByRecursion (IsThroughKept plans new) asks.reasons) (AllByRecursion (IsThroughKept plans new) (of.reasons ++ asks.reasons))
-          (λ later. each_then (IsThroughKept plans new) of.reasons asks.reasons
+          (λ later. all-append (IsThroughKept plans new) of.reasons asks.reasons
           (each_weaker (IsThroughKept plans mid) (IsThroughKept plans new) (λ reason there take same. ((there take same).0, grows (whole_number (plan_at plans.table take)) (there take same).0 (there take same).1)) of.reasons kept) later) asks.kept;
-      direct = each_then (IsDirectAmong reruns) of.reasons asks.reasons (each_weaker IsThrough (IsDirectAmong reruns) (through_direct reruns) of.reasons of.by_takes) asks.direct;
+      direct = all-append (IsDirectAmong reruns) of.reasons asks.reasons (each_weaker IsThrough (IsDirectAmong reruns) (through_direct reruns) of.reasons of.by_takes) asks.direct;
       located = subst (All (λ segment. segment < length plans.locations.items)) (sym segments)
           (All-append (λ segment. segment < length plans.locations.items) (map segment_in step.reads) (map segment_of asks.reasons) step.located asks.located);
       asked = asks.asked

@@ -1,18 +1,16 @@
 -- What comes of given values that are whole comes where none are given; and why whole values can't be read is why the chunk
 -- has no piece that asks for them.
-use Rattle.std.proofs.Common.{◌≡◌, ℕ, ◌+◌, ◌<◌, ◌≤◌, inl, inr, ⊎_elim, true, List, [], ◌∷◌, ◌++◌, Option, Some, None, Ok, Err, length, replicate, refl, sym, ap, ◌∙◌, subst, arith}
+use Rattle.std.proofs.Common.{◌≡◌, ℕ, ◌+◌, ◌<◌, ◌≤◌, inl, true, List, [], ◌∷◌, Option, Some, Ok, Err, length, replicate, refl, sym, ap, ◌∙◌, subst, arith}
 use Rattle.std.specs.Prelude.{Result}
 use Rattle.std.specs.List.{slice_get, AllByRecursion}
 use Rattle.std.proofs.lemmas.Option.{slice_get_within}
 use Rattle.vx_base.specs.Columns.{ColumnData}
 use Rattle.vx_base.specs.Data.{Datum}
 use Rattle.vx_base.specs.Sources.{SourceState}
-use Rattle.vx_rows.specs.Derivations.{Derivation, nothing, cell, list_row, given, packed, valid_where, looked_up, worked_out, read_whole, Derivations, no_more, also, Leaves}
-use Rattle.vx_rows.specs.Given.{GivenValues, all_given, given_row, values_with, share_with, with_given, each_with_given}
-use Rattle.vx_rows.specs.Reads.{Way, directly, inside, CodeRow, Found, a_code, code_row, Read, reads_of, reads_of_each, Finds, IsIn}
+use Rattle.vx_rows.specs.Derivations.{Derivation, Leaves}
+use Rattle.vx_rows.specs.Reads.{directly, Found, reads_of, Finds, IsIn}
 use Rattle.vx_rows.specs.SegmentLeaves.{Bytes, leaves_of}
 use Rattle.vx_rows.specs.Heads.{Head}
-use Rattle.vx_rows.proofs.ReadRows.{any_either, any_left, any_right}
 use Rattle.vx_plan.specs.declared.children.PlanRef.{PlanRef}
 use Rattle.vx_plan.specs.Nodes.{Node}
 use Rattle.vx_plan.specs.Plans.{Plan, plan_at, plan_head}
@@ -24,7 +22,7 @@ use Rattle.vx_plan.proofs.Adding.{head_in_table}
 use Rattle.vx_plan.proofs.FittingPlans.{rows_fit}
 use Rattle.vx_splits.specs.declared.selected_rows.SelectedRows.{SelectedRows}
 use Rattle.vx_steps.specs.declared.errors.StepError.TheVariants as step_errors
-use Rattle.vx_steps.specs.Given.{given_for, row_value, values_for}
+use Rattle.vx_steps.specs.Given.{row_value, values_for}
 use Rattle.vx_steps.specs.Held.{AreMade, AreTyped}
 use Rattle.vx_steps.specs.KeptData.{Kept}
 use Rattle.vx_steps.specs.Laws.{IsRowOf, IsBadCodeAt, row_reads}
@@ -53,54 +51,9 @@ use Rattle.vx_scan.proofs.ChunkScanning.{IsGoodChunk}
 use Rattle.vx_scan.proofs.Fitting.{fitting_typed, none_made, none_typed}
 use Rattle.vx_scan.proofs.WholeReads.{whole_found}
 use Rattle.vx_scan.proofs.Lasting.{rose_from}
+use Rattle.vx_scan.proofs.FewerReads.{finds_free, NoCode}
 
--- ---- no more is found with given values
-
-nothing_in : (Q : Found → Type 0) (way : Way) (vs : List Datum) → Finds Q (reads_of_each way (all_given vs)) → ⊥
-nothing_in Q way [] any = any
-nothing_in Q way (v ∷ vs) any = nothing_in Q way vs any
-
-values_found : (Q : Found → Type 0) (way : Way) (values : Derivations) (handed : Option (List Datum)) → Finds Q (reads_of_each way (values_with handed values)) → Finds Q (reads_of_each way values)
-values_found Q way values None any = any
-values_found Q way values (Some vs) any = absurd (nothing_in Q way vs any)
-
-nothing_at : (Q : Found → Type 0) (way : Way) (v : Option Datum) → Finds Q (reads_of way (given_row v)) → ⊥
-nothing_at Q way None any = any
-nothing_at Q way (Some v) any = any
-
-share_found : (Q : Found → Type 0) (way : Way) (row : ℕ) (d : Derivation) (handed : Option (List Datum)) → Finds Q (reads_of way (share_with handed row d)) → Finds Q (reads_of way d)
-share_found Q way row d None any = any
-share_found Q way row d (Some vs) any = absurd (nothing_at Q way (slice_get vs row) any)
-
--- in two lists, each of which finds no more
-found_in_both : (Q : Found → Type 0) (xs ys us vs : List Read) → (Finds Q xs → Finds Q us) → (Finds Q ys → Finds Q vs) → Finds Q (xs ++ ys) → Finds Q (us ++ vs)
-found_in_both Q xs ys us vs f g any =
-    ⊎_elim (λ (left : Finds Q xs). any_left (λ (read : Read). Q read.found) us vs (f left)) (λ (right : Finds Q ys). any_right (λ (read : Read). Q read.found) us vs (g right)) (any_either (λ (read : Read). Q read.found) xs ys any)
-
--- it is no code that is found
-abbrev SeesNoCode : (Found → Type 0) → Type 0
-SeesNoCode Q = (code : CodeRow) → Q (a_code code) → ⊥
-
-mutual
-  no_more_found : (Q : Found → Type 0) → SeesNoCode Q → (f : GivenValues) (d : Derivation) (way : Way) → Finds Q (reads_of way (with_given f d)) → Finds Q (reads_of way d)
-  no_more_found Q codes f nothing way any = any
-  no_more_found Q codes f (cell at) way any = any
-  no_more_found Q codes f (list_row list row) way any = any
-  no_more_found Q codes f (given v) way any = any
-  no_more_found Q codes f (packed ds) way any = each_no_more Q codes f ds way any
-  no_more_found Q codes f (valid_where d validity) way any =
-      found_in_both Q (reads_of way (with_given f d)) (reads_of way (with_given f validity)) (reads_of way d) (reads_of way validity) (no_more_found Q codes f d way) (no_more_found Q codes f validity way) any
-  no_more_found Q codes f (looked_up dictionary row code values) way (inl here) = absurd (codes (code_row dictionary row (with_given f code) (values_with (f dictionary) values)) here)
-  no_more_found Q codes f (looked_up dictionary row code values) way (inr rest) =
-      inr (found_in_both Q (reads_of way (with_given f code)) (reads_of_each (inside dictionary way) (values_with (f dictionary) values)) (reads_of way code) (reads_of_each (inside dictionary way) values)
-      (no_more_found Q codes f code way) (values_found Q (inside dictionary way) values (f dictionary)) rest)
-  no_more_found Q codes f (worked_out t e d) way any = no_more_found Q codes f d way any
-  no_more_found Q codes f (read_whole share row d ds) way any = share_found Q way row (read_whole share row d ds) (f share) any
-
-  each_no_more : (Q : Found → Type 0) → SeesNoCode Q → (f : GivenValues) (ds : Derivations) (way : Way) → Finds Q (reads_of_each way (each_with_given f ds)) → Finds Q (reads_of_each way ds)
-  each_no_more Q codes f no_more way any = any
-  each_no_more Q codes f (also d ds) way any =
-      found_in_both Q (reads_of way (with_given f d)) (reads_of_each way (each_with_given f ds)) (reads_of way d) (reads_of_each way ds) (no_more_found Q codes f d way) (each_no_more Q codes f ds way) any
+-- ---- what is read with none given
 
 -- a row reads the same where none are given as by the plan alone
 free_reads : (Q : Found → Type 0) (plans : ScanPlans) (p : Plan) (row : ℕ) → Finds Q (reads_of directly (plan_derivation plans.row_offset p row)) → Finds Q (row_reads (given_to plans []) plans.row_offset p row)
@@ -109,15 +62,10 @@ free_reads Q plans p row any = subst (λ (d : Derivation). Finds Q (reads_of dir
 plain_reads : (Q : Found → Type 0) (plans : ScanPlans) (p : Plan) (row : ℕ) → Finds Q (row_reads (given_to plans []) plans.row_offset p row) → Finds Q (reads_of directly (plan_derivation plans.row_offset p row))
 plain_reads Q plans p row any = subst (λ (d : Derivation). Finds Q (reads_of directly d)) (none_served (values_for (given_to plans [])) (no_columns plans.table) (plan_derivation plans.row_offset p row)) any
 
-pub finds_free : (Q : Found → Type 0) → SeesNoCode Q → (plans : ScanPlans) (columns : List Kept) (chosen : SelectedRows) → ChunkFinds Q plans columns chosen → ChunkFinds Q plans [] chosen
-finds_free Q codes plans columns chosen (place, at, any) =
-    let row : ℕ = chosen.scope.rows.start + place in
-    (place, at, free_reads Q plans (projection_plan plans) row (no_more_found Q codes (given_for plans.table columns) (plan_derivation plans.row_offset (projection_plan plans) row) directly any))
-
-no_code_torn : (bytes : Bytes) (segment : ℕ) → SeesNoCode (IsTornIn bytes segment)
+no_code_torn : (bytes : Bytes) (segment : ℕ) → NoCode (IsTornIn bytes segment)
 no_code_torn bytes segment code is = is
 
-no_code_list : (list : ℕ) → SeesNoCode (IsRowOf list)
+no_code_list : (list : ℕ) → NoCode (IsRowOf list)
 no_code_list list code is = is
 
 -- ---- given values that are whole

@@ -1,12 +1,13 @@
 -- The chunks that ran with borrowed values, one after another.
 use Rattle.std.proofs.Common.{◌≡◌, ℕ, ◌+◌, ◌<◌, ◌≤◌, ◌⊎◌, inl, inr, List, [], ◌∷◌, ◌++◌, Option, Some, None, Result, Ok, Err, length, refl, sym, ap, ◌∙◌, subst, arith}
-use Rattle.std.specs.Prelude.{IfOk, IsSomeAnd}
+use Rattle.std.specs.Prelude.{IsSomeAnd}
 use Rattle.std.specs.List.{slice_get, All, AllByRecursion}
 use Rattle.std.proofs.lemmas.List.{map-append}
 use Rattle.std.proofs.lemmas.List.Elements.{All-nil, All-push}
 use Rattle.vx_base.specs.Columns.{ColumnData}
 use Rattle.vx_base.specs.Masks.{true_count}
 use Rattle.vx_base.specs.Sources.{SourceState}
+use Rattle.vx_base.proofs.AllFit.{all-append}
 use Rattle.vx_claims.specs.Apart.{times}
 use Rattle.vx_claims.proofs.Numbers.{times_itself}
 use Rattle.vx_plan.specs.Plans.{plan_at}
@@ -33,10 +34,11 @@ use Rattle.vx_scan.specs.Settled.{told_loan, told_sound, whole_number, IsLoanOf,
 use Rattle.vx_scan.specs.Settling.{rerun_chunks, AsksAgain, IsRerun}
 use Rattle.vx_scan.specs.Workers.{HasDtype, HasItsRows, IsPieceOf, numbers_of}
 use Rattle.vx_scan.proofs.AskingAgain.{again_more, AsksFor, all_middle, among_front, loaned_more, loaned_push, numbers_push, reruns_push, times_none}
-use Rattle.vx_scan.proofs.Certifying.{clear_then, each_then, each_weaker}
+use Rattle.vx_scan.proofs.Certifying.{clear_then, each_weaker}
 use Rattle.vx_scan.proofs.Distinct.{distinct_none}
 use Rattle.vx_scan.proofs.Lasting.{lasts_same, lasts_then}
 use Rattle.vx_scan.proofs.Sessions.{asked_nothing}
+use Rattle.vx_scan.proofs.Loaning.{of_chunk, piece_of}
 
 -- ---- between two chunks
 
@@ -112,13 +114,9 @@ loan_of_chunk plans chunks loan chosen is here =
     let same : is.chunk ≡ chosen = cc in
     subst (λ (s : SelectedRows). IsLoanOf plans s loan) same (record { borrowed_are = is.borrowed; dtype = is.dtype; rows = is.rows; rests = is.rests })
 
-of_chunk : (P : SelectedRows → Type 0) (got : Option SelectedRows) (chosen : SelectedRows) → got ≡ Some chosen → IsSomeAnd got P → P chosen
-of_chunk P None chosen here is = absurd cc
-of_chunk P (Some one) chosen here is = let same : one ≡ chosen = cc in subst P same is
-
-to_chunk : (P : SelectedRows → Type 0) (got : Option SelectedRows) (chosen : SelectedRows) → got ≡ Some chosen → P chosen → IsSomeAnd got P
-to_chunk P None chosen here is = absurd cc
-to_chunk P (Some one) chosen here is = let same : one ≡ chosen = cc in subst P (sym same) is
+at_chunk : (P : SelectedRows → Type 0) (got : Option SelectedRows) (chosen : SelectedRows) → got ≡ Some chosen → IsSomeAnd got P → P chosen
+at_chunk P None chosen here is = absurd cc
+at_chunk P (Some one) chosen here is = let same : one ≡ chosen = cc in subst P same is
 
 -- what is claimed of the loan is claimed where all that was joined is right
 pub loan_told : (plans : ScanPlans) (chunks : List SelectedRows) (loans done : List Loan) (old now : Settled) (loan : Loan) (chosen : SelectedRows) (before source : SourceState) → IsNext plans chunks loans done loan chosen → Settling plans chunks loans done old now before source →
@@ -126,7 +124,7 @@ pub loan_told : (plans : ScanPlans) (chunks : List SelectedRows) (loans done : L
 loan_told plans chunks loans done old now loan chosen before source next so_far P holds file told sound =
     let each : All (IsLoanBy (bytes_of plans file) plans chunks) (done ++ loan ∷ next.rest) = subst (All (IsLoanBy (bytes_of plans file) plans chunks)) (sym next.all) sound.loans_are in
     holds file (so_far.lasts.file ∙ told) (so_far.right_is file told sound)
-    (of_chunk (λ (chunk : SelectedRows). IsResultBy (bytes_of plans file) plans (data_of loan.borrowed.items) chunk loan.result) (slice_get chunks loan.chunk) chosen next.here
+    (at_chunk (λ (chunk : SelectedRows). IsResultBy (bytes_of plans file) plans (data_of loan.borrowed.items) chunk loan.result) (slice_get chunks loan.chunk) chosen next.here
     (all_middle (IsLoanBy (bytes_of plans file) plans chunks) done loan next.rest each))
 
 -- the chunk is none of those before
@@ -165,7 +163,7 @@ reruns_more plans chunks chosen number Told Other carries here old new are (inl 
   stays = λ x among. subst (λ (reruns : List Rerun). IsAmong x (rerun_chunks reruns)) (sym same) among;
 }
 reruns_more plans chunks chosen number Told Other carries here old new are (inr (rerun, is, same)) = record {
-  are = subst (AllByRecursion (IsRerun plans chunks Other)) (sym same) (each_then (IsRerun plans chunks Other) old (rerun ∷ []) are (rerun_here plans chunks chosen number Told Other carries here rerun is, tt));
+  are = subst (AllByRecursion (IsRerun plans chunks Other)) (sym same) (all-append (IsRerun plans chunks Other) old (rerun ∷ []) are (rerun_here plans chunks chosen number Told Other carries here rerun is, tt));
   most = λ x.
       (let e = ap (λ (reruns : List Rerun). times x (rerun_chunks reruns)) same in
       let push = reruns_push x old rerun in
@@ -178,10 +176,6 @@ quiet_for : (result : Result ColumnData ScanError) (column : ColumnData) (before
 quiet_for result column before after is (inl same) = same
 quiet_for result column before after is (inr fault) = let both : ◌≡◌ {A = Result ColumnData ScanError} (Ok column) (Err ReadFault) = sym is ∙ fault in absurd cc
 
-ok_of : (P : ColumnData → Type 0) (result : Result ColumnData ScanError) (column : ColumnData) → result ≡ Ok column → IfOk result P → P column
-ok_of P (Ok one) column is holds = let same : one ≡ column = cc in subst P same holds
-ok_of P (Err error) column is holds = absurd cc
-
 -- what became of the chunk, with its piece
 pub settling_more : (plans : ScanPlans) (chunks : List SelectedRows) (loans done : List Loan) (old now new : Settled) (loan : Loan) (chosen : SelectedRows) (result : Result ColumnData ScanError) (column : ColumnData) (before source after : SourceState) → IsNext plans chunks loans done loan chosen → Settling plans chunks loans done old now before source
     → SettlesOne plans chosen loan (data_of now.right.items) (data_of new.right.items) now.reruns.items new.reruns.items result source after → result ≡ Ok column → new.error ≡ now.error → new.pieces.items ≡ now.pieces.items ++ record { chunk = loan.chunk; column = column } ∷ [] →
@@ -191,7 +185,7 @@ settling_more plans chunks loans done old now new loan chosen result column befo
     let Other : Claims = told_sound plans chunks loans old before in
     let carries : (P : Bytes → Type 0) → Told P → Other P = loan_told plans chunks loans done old now loan chosen before source next so_far in
     let piece : Piece = record { chunk = loan.chunk; column = column } in
-    let gives : GivesPiece Told plans [] chosen column = ok_of (GivesPiece Told plans [] chosen) result column is one.content in
+    let gives : GivesPiece Told plans [] chosen column = piece_of (GivesPiece Told plans [] chosen) result column is one.content in
     let more : RerunsMore plans chunks Other loan.chunk now.reruns.items new.reruns.items = reruns_more plans chunks chosen loan.chunk Told Other carries next.here now.reruns.items new.reruns.items so_far.reruns_are one.reran in
     let asks : AsksFor plans chunks (rerun_chunks new.reruns.items) (so_far.again.reasons ++ one.asks.reasons) before after =
     again_more plans chunks chosen loan.chunk (data_of now.right.items) (data_of new.right.items) (rerun_chunks now.reruns.items) (rerun_chunks new.reruns.items) result before source after next.here
@@ -207,13 +201,13 @@ settling_more plans chunks loans done old now new loan chosen result column befo
       content = λ file told sound.
           subst (All (IsPieceOf (leaves_of (bytes_of plans file)) plans chunks)) (sym pieces)
           (All-push (IsPieceOf (leaves_of (bytes_of plans file)) plans chunks) now.pieces.items piece (so_far.content file told sound)
-          (to_chunk (λ (chunk : SelectedRows). IsPiece (leaves_of (bytes_of plans file)) plans [] chunk column) (slice_get chunks loan.chunk) chosen next.here
+          (of_chunk (λ (chunk : SelectedRows). IsPiece (leaves_of (bytes_of plans file)) plans [] chunk column) (slice_get chunks loan.chunk) chosen next.here
           (carries (λ bytes. IsPiece (leaves_of bytes) plans [] chosen column) gives.values file told sound)));
       right_is = carries (λ bytes. AreMade plans.table plans.row_offset (data_of new.right.items) (leaves_of bytes)) one.right;
       typed = one.typed;
       dtype = λ all. subst (All (HasDtype plans)) (sym pieces) (All-push (HasDtype plans) now.pieces.items piece (so_far.dtype all) gives.dtype);
       rows = λ all. subst (All (HasItsRows chunks)) (sym pieces)
-          (All-push (HasItsRows chunks) now.pieces.items piece (so_far.rows all) (to_chunk (λ (chunk : SelectedRows). length column.values ≡ true_count chunk.mask) (slice_get chunks loan.chunk) chosen next.here gives.count));
+          (All-push (HasItsRows chunks) now.pieces.items piece (so_far.rows all) (of_chunk (λ (chunk : SelectedRows). length column.values ≡ true_count chunk.mask) (slice_get chunks loan.chunk) chosen next.here gives.count));
       faults = quiet_for result column source after is one.faults ∙ so_far.faults;
       reruns_are = more.are;
       reruns_once = λ x.
@@ -223,9 +217,9 @@ settling_more plans chunks loans done old now new loan chosen result column befo
           omega (arith, most, before_most, loaned));
       again = asks.again;
       kept = subst (AllByRecursion (IsThroughKept plans (data_of new.right.items))) (sym asks.same)
-          (each_then (IsThroughKept plans (data_of new.right.items)) so_far.again.reasons one.asks.reasons
+          (all-append (IsThroughKept plans (data_of new.right.items)) so_far.again.reasons one.asks.reasons
           (each_weaker (IsThroughKept plans (data_of now.right.items)) (IsThroughKept plans (data_of new.right.items)) (λ reason there take same. ((there take same).0, one.grows (whole_number (plan_at plans.table take)) (there take same).0 (there take same).1)) so_far.again.reasons so_far.kept)
-          (ok_of (λ column. AllByRecursion (IsThroughKept plans (data_of new.right.items)) one.asks.reasons) result column is one.asks.kept));
+          (piece_of (λ column. AllByRecursion (IsThroughKept plans (data_of new.right.items)) one.asks.reasons) result column is one.asks.kept));
       none = λ empty. absurd (no_end done loan empty);
       lasts = lasts_then before source after so_far.lasts one.lasts;
       in_flight = clear_then before source after so_far.in_flight one.in_flight;

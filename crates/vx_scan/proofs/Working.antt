@@ -5,8 +5,9 @@ use Rattle.std.specs.List.{slice_get}
 use Rattle.std.proofs.lemmas.List.Elements.{All-nil}
 use Rattle.vx_base.specs.Columns.{ColumnData}
 use Rattle.vx_base.specs.Masks.{Ascend}
-use Rattle.vx_base.specs.Sources.{SourceState, RoseBy}
+use Rattle.vx_base.specs.Sources.{SourceState}
 use Rattle.vx_claims.specs.Views.{above}
+use Rattle.vx_claims.proofs.Numbers.{above_push}
 use Rattle.vx_plan.specs.Refs.{number_of}
 use Rattle.vx_plan.specs.Tables.{IsGoodTable}
 use Rattle.vx_rows.specs.SegmentLeaves.{Bytes, leaves_of}
@@ -31,7 +32,7 @@ use Rattle.vx_scan.proofs.ChunkOutcomes.{error_of}
 use Rattle.vx_scan.proofs.Distinct.{distinct_none}
 use Rattle.vx_scan.proofs.FewerReads.{list_free, torn_free}
 use Rattle.vx_scan.proofs.Higher.{ascend_none, ascend_push}
-use Rattle.vx_scan.proofs.Lasting.{lasts_same, lasts_then}
+use Rattle.vx_scan.proofs.Lasting.{lasts_same, lasts_then, rose_from}
 use Rattle.vx_scan.proofs.NewReasons.{ArePast, AreTaken, HandsLeaves, HasAsked, HasMade, NewReasons, RunsNext, asks_more, lies_behind, new_reasons, past_more, taken_more}
 use Rattle.vx_scan.proofs.Sessions.{asked_nothing}
 
@@ -147,10 +148,6 @@ next_chunk plans chunks numbers number chunk handed before now is here later ran
   behind = λ order. ran.behind order number chunk later here;
 }
 
-above_last : (numbers : List ℕ) (number : ℕ) → above numbers ≤ number → above (numbers ++ number ∷ []) ≡ number + 1
-above_last [] number later = omega arith
-above_last (n ∷ numbers) number later = let rest = above_last numbers number (omega (arith, later)) in omega (arith, later, rest)
-
 -- all that it asks for is given or made
 all_there : (P : Type 0) (piece : Result ColumnData ScanError) → IfOk piece (λ column. P) → IfErr piece (λ error. P) → P
 all_there P (Ok column) there had = there
@@ -177,15 +174,12 @@ ran_more plans chunks numbers number chunk handed given all ran before now after
       past = λ order together. past_more plans chunks numbers so_far.row number chunk all (data_of handed.leaves.items) (data_of ran.handed.leaves.items) runs.asks.segments so_far.reasons next (hands_leaves plans chunk handed given all ran now after runs rests) fresh order together (so_far.past order together);
       taken = taken_more plans number (data_of handed.made.items) all (data_of handed.leaves.items) (data_of ran.handed.made.items) chunk runs.asks.segments so_far.reasons good.good good.known (still_made plans chunk handed all ran now runs.more)
           (all_there (AreAllThere plans all (data_of ran.handed.made.items) chunk) ran.piece runs.more.there had) fresh so_far.taken;
-      behind = λ order n other least there. lies_behind 0 chunks number n chunk other order here there (let last = above_last numbers number later in omega (arith, last, least));
+      behind = λ order n other least there. lies_behind 0 chunks number n chunk other order here there (let last = above_push numbers number later in omega (arith, last, least));
       lasts = lasts_then before now after so_far.lasts runs.lasts;
       in_flight = inl runs.in_flight;
     }
 
 -- ---- a chunk that failed
-
-rose_by : (much before now after : ℕ) → before ≤ now → RoseBy much now after → RoseBy much before after
-rose_by much before now after le rose = let p = rose.kept in let q = rose.raised in record { kept = omega (arith, le, p); raised = omega (arith, le, q) }
 
 -- nothing was given, or the error comes of no value
 abbrev pub IsSure : List Kept → ScanError → Type 0
@@ -199,8 +193,8 @@ cause_before plans handed given chunk OffsetOverflow before now after lasts is s
 cause_before plans handed given chunk OutOfRange before now after lasts is sure cause = absurd cause
 cause_before plans handed given chunk (Unsupported list) before now after lasts is sure cause = list_free plans given chunk (number_of list) cause
 cause_before plans handed given chunk (NoLocation segment) before now after lasts is sure cause = cause
-cause_before plans handed given chunk ReadFault before now after lasts is sure cause = rose_by 1 before.faults now.faults after.faults lasts.faults cause
-cause_before plans handed given chunk Stalled before now after lasts is sure cause = rose_by plans.idle_limit before.idle now.idle after.idle lasts.idle cause
+cause_before plans handed given chunk ReadFault before now after lasts is sure cause = rose_from 1 before.faults now.faults after.faults lasts.faults cause
+cause_before plans handed given chunk Stalled before now after lasts is sure cause = rose_from plans.idle_limit before.idle now.idle after.idle lasts.idle cause
 cause_before plans handed given chunk (BadSegment segment) before now after lasts is sure cause = λ file told. torn_free (bytes_of plans file) plans given chunk segment (cause file (lasts.file ∙ told) (is file told))
 cause_before plans handed given chunk (BadCode take row) before now after lasts is (inl none) cause =
     λ file told. subst (λ (ks : List Kept). ChunkReadsBadCode (leaves_of (bytes_of plans file)) plans ks chunk (number_of take) row) none (cause file (lasts.file ∙ told) (is file told))

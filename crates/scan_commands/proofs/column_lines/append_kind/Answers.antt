@@ -1,7 +1,8 @@
 use Rattle.std.proofs.Common.{map, arith}
 use Rattle.vx_base.specs.Data.{number}
 use Rattle.vx_base.specs.Reading.{where_valid}
-use Rattle.scan_commands.proofs.ColumnLines.{slot_more, mapped_at, none_yet, all_done, read_at}
+use Rattle.vx_scan.proofs.Got.{got_mapped}
+use Rattle.scan_commands.proofs.ColumnLines.{slot_more, none_yet, all_done, read_at}
 use Rattle.scan_commands.proofs.column_lines.append_kind.Goals as goal
 
 pub loop-row-init : goal.loop-row-init
@@ -14,7 +15,7 @@ loop-row-preserved g c = λ t.
     let value = c.index-numbers-row.result in
     slot_more t c.args.valid.now (map number (map whole c.args.numbers.now)) c.args.rows.start row c.value.result (number (whole value)) c.loop-row.out.items c.append_number_line.new.out.items c.args.out.now.items
     c.loop-row.auto.row c.value.ensures
-    (mapped_at number (map whole c.args.numbers.now) row (whole value) (mapped_at whole c.args.numbers.now row value (read_at c.args.numbers.now row value (omega (arith, c.requires.inside, c.loop-row-test.true)) c.index-numbers-row.is)))
+    (got_mapped number (map whole c.args.numbers.now) row (whole value) (got_mapped whole c.args.numbers.now row value (read_at c.args.numbers.now row value (omega (arith, c.requires.inside, c.loop-row-test.true)) c.index-numbers-row.is)))
     (c.in_ok-append_number_line.ensures t) (c.loop-row.invariant t)
 
 pub returns : goal.returns

@@ -1,7 +1,8 @@
 use Rattle.std.proofs.Common.{map}
 use Rattle.vx_base.specs.Data.{truth}
 use Rattle.vx_base.specs.Reading.{where_valid}
-use Rattle.scan_commands.proofs.ColumnLines.{slot_more, mapped_at, none_yet, all_done}
+use Rattle.vx_scan.proofs.Got.{got_mapped}
+use Rattle.scan_commands.proofs.ColumnLines.{slot_more, none_yet, all_done}
 use Rattle.scan_commands.proofs.column_lines.append_truths.Goals as goal
 
 pub loop-row-init : goal.loop-row-init
@@ -11,7 +12,7 @@ pub loop-row-preserved : goal.loop-row-preserved
 loop-row-preserved c = λ t.
     let row = c.loop-row.row in
     slot_more t c.args.valid.now (map truth c.args.truths.now) c.args.rows.start row c.value.result (truth c.value-in-loop-row.result) c.loop-row.out.items c.append_truth_line.new.out.items c.args.out.now.items
-    c.loop-row.auto.row c.value.ensures (mapped_at truth c.args.truths.now row c.value-in-loop-row.result c.value-in-loop-row.ensures) (c.in_ok-append_truth_line.ensures t) (c.loop-row.invariant t)
+    c.loop-row.auto.row c.value.ensures (got_mapped truth c.args.truths.now row c.value-in-loop-row.result c.value-in-loop-row.ensures) (c.in_ok-append_truth_line.ensures t) (c.loop-row.invariant t)
 
 pub returns : goal.returns
 returns c = λ t. all_done t (where_valid c.args.valid.now (map truth c.args.truths.now)) c.args.rows.start c.loop-row.row c.args.rows.end c.loop-row.out.items c.args.out.now.items c.loop-row-test.false (c.loop-row.auto.row-end c.requires.forwards) (c.loop-row.invariant t)
