@@ -1,5 +1,6 @@
 -- The plan of a projection is the projection.
 use Rattle.std.proofs.Common.{◌≡◌, ℕ, ◌+◌, Bool, true, false, cond, List, [], Option, Some, None, refl, sym, ap, ◌∙◌, subst, arith}
+use Rattle.std.proofs.lemmas.Option.{same_Some}
 use Rattle.std.specs.Prelude.{option_and_then, option_map, IsSome}
 use Rattle.vx_base.specs.declared.dtypes.Nullability.TheVariants.{NonNullable, Nullable}
 use Rattle.vx_base.specs.Data.{DataType, bool_type, int_type, utf8_type, struct_type, list_type, Members, Datum, null}
@@ -110,14 +111,11 @@ root_reads : (offset : ℕ) (t : Tree) (e : Term) (kept : KeptFields) (row : ℕ
 root_reads offset t e kept row is sound =
     subst (λ (f : Term). plan_reads offset (lowered t kept) row ≡ cond (uses_root f) (reads t directly kept row) []) (sym is) (lowered_reads offset t kept directly row sound)
 
-some_same : (s t : DataType) → Some s ≡ Some t → s ≡ t
-some_same s t e = cc
-
 root_type : (t : Tree) (e : Term) (s : DataType) → e ≡ root → IsSound t → type_of (head_of t).dtype e ≡ Some s → (plan_head (lowered t (kept_fields (head_of t).dtype e))).dtype ≡ s
 root_type t e s is sound bound =
     let kept : kept_fields (head_of t).dtype e ≡ all = ap (kept_fields (head_of t).dtype) is ∙ root_keeps (head_of t).dtype in
     let whole : Some (head_of t).dtype ≡ Some s = subst (λ (f : Term). type_of (head_of t).dtype f ≡ Some s) is bound in
-    (lowered_head t (kept_fields (head_of t).dtype e) sound).dtype ∙ ap (λ (k : KeptFields). kept_type k (head_of t).dtype) kept ∙ some_same (head_of t).dtype s whole
+    (lowered_head t (kept_fields (head_of t).dtype e) sound).dtype ∙ ap (λ (k : KeptFields). kept_type k (head_of t).dtype) kept ∙ same_Some (head_of t).dtype s whole
 
 -- ---- projections
 

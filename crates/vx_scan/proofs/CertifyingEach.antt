@@ -4,6 +4,7 @@ use Rattle.std.specs.Prelude.{is_some, option_copied, slice_index_or, IsSomeAnd,
 use Rattle.std.specs.List.{slice_get, All}
 use Rattle.std.proofs.lemmas.Bool.{cases_eq}
 use Rattle.std.proofs.lemmas.List.Elements.{All-head, All-tail}
+use Rattle.std.proofs.lemmas.Option.{slice_get_within}
 use Rattle.vx_base.specs.Columns.{ColumnData}
 use Rattle.vx_base.specs.Sources.{SourceState}
 use Rattle.vx_plan.specs.declared.children.PlanRef.{PlanRef}
@@ -17,7 +18,7 @@ use Rattle.vx_steps.specs.Asked.{AreAsked}
 use Rattle.vx_steps.specs.Kept.{kept_at, kept_data, IsKept}
 use Rattle.vx_steps.specs.KeptData.{Kept}
 use Rattle.vx_steps.specs.declared.kept.KeptValue.{KeptValue}
-use Rattle.vx_steps.proofs.Keeping.{got_inside, kept_old}
+use Rattle.vx_steps.proofs.Keeping.{kept_old}
 use Rattle.vx_scan.specs.declared.errors.ScanError.{ScanError}
 use Rattle.vx_scan.specs.declared.plans.ScanPlans.{ScanPlans}
 use Rattle.vx_scan.specs.Certified.{nodes_in, AreGiven, AreRight, Certifies, Gives, IsTested, IsWrong, Tests}
@@ -81,7 +82,7 @@ testing_next plans borrowed old mid new count one before now after at so_far ste
 
 -- all of them are
 pub tested_all : (borrowed right : List Kept) (count : ℕ) → length borrowed ≡ count → AreRightBelow borrowed right count → AreRight borrowed right
-tested_all borrowed right count all below place one at = below place one at (let less = got_inside borrowed place one at in omega (arith, less, all))
+tested_all borrowed right count all below place one at = below place one at (let less = slice_get_within borrowed place one at in omega (arith, less, all))
 
 -- or this one is not
 pub tested_wrong : (borrowed right : List Kept) (place : ℕ) (one : Kept) → slice_get borrowed place ≡ Some one → IsKept right one.node → (kept_at right one.node ≡ Some one.column → ⊥) → IsTested borrowed right (Some place)
@@ -168,7 +169,7 @@ given_all plans chosen asked same old now given count before source are known is
       (let there : IsAmong n (map number_of same) = (are n).1 asks in
       let among : IsAmong n (map number_of asked) = subst (λ (nodes : List PlanRef). IsAmong n (map number_of nodes)) (sym is) there in
       let one : (place : ℕ) × ((node : PlanRef) × (slice_get asked place ≡ Some node) × (number_of node ≡ n)) = asked_place asked n among in
-      let less = got_inside asked one.0 one.1.0 one.1.1 in
+      let less = slice_get_within asked one.0 one.1.0 one.1.1 in
       (below_all (length plans.table) (map number_of same) n known there, subst (IsKept given) one.1.2 (so_far.there one.0 one.1.0 one.1.1 (omega (arith, less, all)))));
 }
 

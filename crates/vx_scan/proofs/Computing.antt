@@ -4,6 +4,7 @@ use Rattle.std.specs.List.{All, slice_get, remove}
 use Rattle.std.specs.Global.{Vec}
 use Rattle.std.specs.Prelude.{IsSomeAnd}
 use Rattle.std.proofs.lemmas.List.Elements.{All-weaker}
+use Rattle.std.proofs.lemmas.Option.{slice_get_within}
 use Rattle.vx_base.specs.Columns.{ColumnData}
 use Rattle.vx_base.specs.declared.locations.SegmentLocation.{SegmentLocation}
 use Rattle.vx_io.specs.declared.requests.IoRequest.{IoRequest}
@@ -17,7 +18,6 @@ use Rattle.vx_steps.specs.ScanData.{ScanData}
 use Rattle.vx_steps.specs.Steps.{GivesOutput, IsHeldUp, IsWaiting, TakesTurn}
 use Rattle.vx_steps.specs.Turns.{AreLeavesKept}
 use Rattle.vx_steps.specs.Wants.{IsAsked}
-use Rattle.vx_steps.proofs.Keeping.{got_inside}
 use Rattle.vx_scan.specs.declared.adaptor_errors.AdaptorError.{AdaptorError}
 use Rattle.vx_scan.specs.declared.adaptors.State.{State}
 use Rattle.vx_scan.specs.declared.adaptors.State.TheVariants.{NeedsCompute, Waiting, Done}
@@ -238,7 +238,7 @@ some_outstanding locations asked held state middle new are_asked waits =
     let up = (some_of (IsHeldUp middle.progress.leaves new.progress.reads.wanted) new.progress.active.items waits.some waits.held).1 in
     let place = up.3.0 in
     let here = up.3.1 in
-    let within = got_inside new.progress.reads.wanted place (unread up.0.segment) here in
+    let within = slice_get_within new.progress.reads.wanted place (unread up.0.segment) here in
     let every = waits.all_handed in
     let all = are_asked.all in
     (place, (omega (arith, within, every, all), (omega (arith, within, every), subst (λ (w : Option Wanted). IsSomeAnd w (λ v. v.bytes ≡ None)) (sym here) refl)))

@@ -4,6 +4,7 @@ use Rattle.std.specs.List.{All, slice_get}
 use Rattle.std.proofs.lemmas.List.{map-append, length-map, length-append}
 use Rattle.std.proofs.lemmas.List.Elements.{All-push, All-nil, All-cons, All-weaker}
 use Rattle.std.proofs.lemmas.List.Quantifiers.{all_pairs_push}
+use Rattle.std.proofs.lemmas.Option.{slice_get_within}
 use Rattle.vx_base.specs.declared.locations.SegmentLocation.{SegmentLocation}
 use Rattle.vx_io.specs.declared.requests.IoRequest.{IoRequest}
 use Rattle.vx_steps.specs.declared.reads.ReadRequest.{ReadRequest}
@@ -14,7 +15,6 @@ use Rattle.vx_steps.specs.ReadTableData.{Wanted}
 use Rattle.vx_steps.specs.ScanData.{ScanData}
 use Rattle.vx_steps.specs.Steps.{HandsRead}
 use Rattle.vx_steps.specs.Wants.{Grows, IsAsked}
-use Rattle.vx_steps.proofs.Keeping.{got_inside}
 use Rattle.vx_steps.proofs.SelectedRows.{length_taken}
 use Rattle.vx_steps.proofs.Needing.{asked_grows}
 use Rattle.vx_scan.specs.AdaptorData.{AreAsked}
@@ -61,7 +61,7 @@ fresh_read : (request : ReadRequest) (old new : ScanData) → Grows old.progress
     All (λ one. one ≢ request.segment_id) (segments_in (handed_reads old.progress.reads))
 fresh_read request old new grows inside hands = fresh_in (handed_reads old.progress.reads) request.segment_id (λ i read at same.
     let size = length_taken old.progress.reads.wanted old.progress.reads.handed inside in
-    let within = got_inside (handed_reads old.progress.reads) i read at in
+    let within = slice_get_within (handed_reads old.progress.reads) i read at in
     let below : i < old.progress.reads.handed = omega (arith, size, within) in
     let here = grows i read (sym (got_front old.progress.reads.wanted old.progress.reads.handed i below) ∙ at) in
     let stands = subst (λ (segment : ℕ). StandsAt new.progress.reads.wanted segment i) same (stands_by new.progress.reads.wanted i read here) in
@@ -95,7 +95,7 @@ asked_push locations request old new grows asked hands within =
     let fresh = fresh_read request old new grows asked.wanted hands in
     record {
       all = refl;
-      wanted = let here = got_inside new.progress.reads.wanted old.progress.reads.handed (unread segment) (read_here request old new hands) in let next = hands.handed in omega (arith, here, next);
+      wanted = let here = slice_get_within new.progress.reads.wanted old.progress.reads.handed (unread segment) (read_here request old new hands) in let next = hands.handed in omega (arith, here, next);
       apart = subst AreApart (sym segments) (all_pairs_push (λ (one two : ℕ). one ≢ two) (segments_in (handed_reads old.progress.reads)) segment asked.apart fresh);
       located = subst (AllLocated locations) (sym segments) (All-push (λ one. one < length locations) (segments_in (handed_reads old.progress.reads)) segment asked.located within);
     }

@@ -6,6 +6,7 @@ use Rattle.std.proofs.lemmas.Bool.{lt-ltb}
 use Rattle.std.proofs.lemmas.Grind.{flat_map-append}
 use Rattle.std.proofs.lemmas.List.{map-append}
 use Rattle.std.proofs.lemmas.List.Elements.{All-append, All-head, All-tail}
+use Rattle.std.proofs.lemmas.Option.{slice_get_within}
 use Rattle.vx_base.specs.Columns.{ColumnData}
 use Rattle.vx_base.specs.Sources.{SourceState}
 use Rattle.vx_base.specs.declared.locations.SegmentLocation.{SegmentLocation}
@@ -91,11 +92,6 @@ behind_it : (chunk : SelectedRows) → chunk.scope.rows.start < chunk.scope.rows
 behind_it chunk some =
     ap (λ (b : Bool). max (if b then chunk.scope.rows.end else 0) 0) (lt-ltb chunk.scope.rows.start chunk.scope.rows.end some) ∙ omega arith
 
-bit_inside : (bits : List Bool) (i : ℕ) → slice_get bits i ≡ Some true → i < length bits
-bit_inside [] i at = absurd cc
-bit_inside (bit ∷ bits) zero at = omega arith
-bit_inside (bit ∷ bits) (suc i) at = let less = bit_inside bits i at in omega (arith, less)
-
 -- ---- numbers of chunks
 
 among_last : (x : ℕ) (numbers : List ℕ) (number : ℕ) → x ≡ number → IsAmong x (numbers ++ number ∷ [])
@@ -174,7 +170,7 @@ record ReadsInside (plans : ScanPlans) (chunk : SelectedRows) (leaf : ℕ) : Typ
 
 reads_inside : (plans : ScanPlans) (given : List Kept) (chunk : SelectedRows) (read : LeafRead) → IsChunkOf plans chunk → ChunkVisits (IsLeafRead read) plans given chunk → ReadsInside plans chunk read.leaf
 reads_inside plans given chunk read is visits =
-    let less : visits.0 < length chunk.mask = bit_inside chunk.mask visits.0 visits.1 in
+    let less : visits.0 < length chunk.mask = slice_get_within chunk.mask visits.0 true visits.1 in
     let size = is.mask in
     record {
       row = chunk.scope.rows.start + visits.0;

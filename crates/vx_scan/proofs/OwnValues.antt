@@ -3,6 +3,7 @@ use Rattle.std.proofs.Common.{◌≡◌, ◌≢◌, ℕ, ◌+◌, ◌<◌, ⊎_e
 use Rattle.std.specs.Prelude.{MatchOption}
 use Rattle.std.specs.List.{slice_get}
 use Rattle.std.proofs.lemmas.Bool.{cases_eq}
+use Rattle.std.proofs.lemmas.Option.{slice_get_within}
 use Rattle.vx_base.specs.Columns.{ColumnData}
 use Rattle.vx_plan.specs.declared.children.PlanRef.{PlanRef}
 use Rattle.vx_plan.specs.Refs.{number_of}
@@ -11,7 +12,7 @@ use Rattle.vx_splits.specs.declared.selected_rows.SelectedRows.{SelectedRows}
 use Rattle.vx_steps.specs.Asked.{AreAsked}
 use Rattle.vx_steps.specs.Kept.{kept_at, IsKept}
 use Rattle.vx_steps.specs.KeptData.{Kept}
-use Rattle.vx_steps.proofs.Keeping.{got_inside, kept_old}
+use Rattle.vx_steps.proofs.Keeping.{kept_old}
 use Rattle.vx_scan.specs.declared.plans.ScanPlans.{ScanPlans}
 use Rattle.vx_scan.specs.Certified.{Gives}
 use Rattle.vx_scan.specs.Outcomes.{AreOwn}
@@ -62,6 +63,6 @@ own_all plans chosen asked same made own count are is all so_far = record {
       (let there : IsAmong n (map number_of same) = (are n).1 asks in
       let among : IsAmong n (map number_of asked) = subst (λ (nodes : List PlanRef). IsAmong n (map number_of nodes)) (sym is) there in
       let one : (place : ℕ) × ((node : PlanRef) × (slice_get asked place ≡ Some node) × (number_of node ≡ n)) = asked_place asked n among in
-      let less = got_inside asked one.0 one.1.0 one.1.1 in
+      let less = slice_get_within asked one.0 one.1.0 one.1.1 in
       subst (IsKept own) one.1.2 (so_far.there one.0 one.1.0 one.1.1 (omega (arith, less, all)) (subst (IsKept made) (sym one.1.2) kept)));
 }

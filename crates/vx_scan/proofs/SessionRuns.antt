@@ -4,6 +4,7 @@ use Rattle.std.specs.Prelude.{slice_get, slice_set, remove, Result}
 use Rattle.std.specs.List.{All}
 use Rattle.std.proofs.lemmas.List.{map-append, length-map, length-append}
 use Rattle.std.proofs.lemmas.List.Edits.{length-remove}
+use Rattle.std.proofs.lemmas.Option.{slice_get_within}
 use Rattle.vx_base.specs.Columns.{ColumnData}
 use Rattle.vx_base.specs.Sources.{SourceState}
 use Rattle.vx_base.specs.declared.locations.SegmentLocation.{SegmentLocation}
@@ -18,7 +19,6 @@ use Rattle.vx_io.specs.Fetches.{fetch_in_flight, fetches_of, NothingWaits, AllFe
 use Rattle.vx_layout.specs.Rows.{segment_bytes}
 use Rattle.vx_steps.specs.ReadTableData.{Wanted}
 use Rattle.vx_steps.specs.ScanData.{ScanData}
-use Rattle.vx_steps.proofs.Keeping.{got_inside}
 use Rattle.vx_steps.proofs.SelectedRows.{length_taken}
 use Rattle.vx_scan.specs.declared.adaptor_errors.AdaptorError.{AdaptorError}
 use Rattle.vx_scan.specs.declared.adaptor_errors.AdaptorError.TheVariants as errors
@@ -291,7 +291,7 @@ less_piece locations column adaptor next hands =
 pub less_result : (locations : List SegmentLocation) (completion : Completion) (adaptor waiting next : AdaptorData) (old new : SessionState) → fetches_of old.table ≡ outstanding locations 0 (reads_of waiting) → Yields adaptor waiting → FetchEnded completion old new →
     TakesResult completion.request.0 completion.bytes.items waiting next → fetches_of new.table ≡ outstanding locations 0 (reads_of next) → work locations next < work locations adaptor
 less_result locations completion adaptor waiting next old new fetches yields ended takes fetches_after =
-    let within = got_inside (fetches_of old.table) ended.place (record { owner = completion.owner; request = completion.request; at = ended.at }) ended.here in
+    let within = slice_get_within (fetches_of old.table) ended.place (record { owner = completion.owner; request = completion.request; at = ended.at }) ended.here in
     let gone = length-remove (fetches_of old.table) ended.place within in
     let left_after = ap length (sym fetches_after ∙ ended.gone) in
     let left_before = ap length fetches in

@@ -4,6 +4,7 @@ use Rattle.std.specs.Prelude.{IsSomeAnd}
 use Rattle.std.specs.List.{slice_get, All, AllByRecursion}
 use Rattle.std.proofs.lemmas.List.{map-append}
 use Rattle.std.proofs.lemmas.List.Elements.{All-nil, All-push}
+use Rattle.std.proofs.lemmas.Option.{slice_get_within}
 use Rattle.vx_base.specs.Columns.{ColumnData}
 use Rattle.vx_base.specs.Masks.{true_count}
 use Rattle.vx_base.specs.Sources.{SourceState}
@@ -17,7 +18,6 @@ use Rattle.vx_rows.specs.SegmentLeaves.{Bytes, leaves_of}
 use Rattle.vx_splits.specs.declared.selected_rows.SelectedRows.{SelectedRows}
 use Rattle.vx_steps.specs.Given.{whole_value}
 use Rattle.vx_steps.specs.Held.{AreMade, AreTyped}
-use Rattle.vx_steps.proofs.Keeping.{got_inside}
 use Rattle.vx_scan.specs.declared.errors.ScanError.{ScanError}
 use Rattle.vx_scan.specs.declared.errors.ScanError.TheVariants.{ReadFault}
 use Rattle.vx_scan.specs.declared.lanes.Loan.{Loan}
@@ -106,7 +106,7 @@ pub next_loan : (plans : ScanPlans) (chunks : List SelectedRows) (loans done : L
 next_loan plans chunks loans done loan rest all each = all_middle (IsLoan plans chunks) done loan rest (subst (All (IsLoan plans chunks)) (sym all) each)
 
 pub loan_inside : (plans : ScanPlans) (chunks : List SelectedRows) (loan : Loan) → IsLoan plans chunks loan → loan.chunk < length chunks
-loan_inside plans chunks loan is = got_inside chunks loan.chunk is.chunk is.here
+loan_inside plans chunks loan is = slice_get_within chunks loan.chunk is.chunk is.here
 
 pub loan_of_chunk : (plans : ScanPlans) (chunks : List SelectedRows) (loan : Loan) (chosen : SelectedRows) → IsLoan plans chunks loan → slice_get chunks loan.chunk ≡ Some chosen → IsLoanOf plans chosen loan
 loan_of_chunk plans chunks loan chosen is here =

@@ -4,6 +4,7 @@ use Rattle.std.specs.Prelude.{if◌then◌else◌, ◌==◌, slice_index_or, IfE
 use Rattle.std.specs.List.{slice_get, AllByRecursion}
 use Rattle.std.proofs.lemmas.Bool.{eqb-true}
 use Rattle.std.proofs.lemmas.List.{length-map, map_push}
+use Rattle.std.proofs.lemmas.Option.{slice_get_within}
 use Rattle.vx_base.specs.Columns.{ColumnData}
 use Rattle.vx_base.specs.Masks.{true_count}
 use Rattle.vx_base.specs.Sources.{SourceState}
@@ -19,7 +20,6 @@ use Rattle.vx_steps.specs.Kept.{kept_at, kept_data}
 use Rattle.vx_steps.specs.KeptData.{Kept}
 use Rattle.vx_steps.specs.declared.kept.KeptValue.{KeptValue}
 use Rattle.vx_steps.specs.Offers.{IsForPlan, Keeps}
-use Rattle.vx_steps.proofs.Keeping.{got_inside}
 use Rattle.vx_scan.specs.declared.errors.ScanError.{ScanError}
 use Rattle.vx_scan.specs.declared.errors.ScanError.TheVariants.{ReadFault, Memory}
 use Rattle.vx_scan.specs.declared.lanes.Loan.{Loan}
@@ -227,7 +227,7 @@ wrong_at borrowed right place one wrong is = found (slice_get (data_of borrowed)
     found : (got : Option Kept) → slice_get (data_of borrowed) place ≡ got → IsSomeAnd got (IsWrong right) → (slice_get (data_of borrowed) place ≡ Some (kept_data one)) × IsWrong right (kept_data one)
     found None none wrong = absurd wrong
     found (Some other) here wrong =
-        let less = got_inside (data_of borrowed) place other here in
+        let less = slice_get_within (data_of borrowed) place other here in
         let long = length-map borrowed kept_data in
         let own : slice_get (data_of borrowed) place ≡ Some (kept_data one) = data_got borrowed place one (omega (arith, less, long)) is in
         let both : Some other ≡ Some (kept_data one) = sym here ∙ own in

@@ -6,6 +6,7 @@ use Rattle.std.specs.Option.{option_copied, is_some, unwrap_or}
 use Rattle.std.specs.BTreeMap.{BTreeMap, get}
 use Rattle.std.specs.Ordering.{nat_cmp}
 use Rattle.std.proofs.lemmas.Bool.{cases_eq}
+use Rattle.std.proofs.lemmas.Option.{slice_get_within}
 use Rattle.vx_base.specs.Columns.{ColumnData}
 use Rattle.vx_expr.specs.declared.statistics.Statistic.{Statistic}
 use Rattle.vx_plan.specs.declared.nodes.PlanKind.TheVariants as kinds
@@ -23,7 +24,6 @@ use Rattle.vx_steps.specs.Needs.{Among}
 use Rattle.vx_steps.specs.OpenSegments.{count_of, AddsOne, AreCounted, AreCountedTo, AtMost, HasOneAtMost, IsLeafOver, IsOpenLeaf, TakesOne}
 use Rattle.vx_steps.specs.Releasing.{IsSpent}
 use Rattle.vx_steps.proofs.Decoding.{one_segment}
-use Rattle.vx_steps.proofs.Keeping.{got_inside}
 use Rattle.vx_steps.proofs.Releasing.{none_before, not_kept}
 
 -- ---- what is no leaf
@@ -79,7 +79,7 @@ leaf_known nodes n segment leaf = by (slice_get nodes n) refl leaf
   where
     by : (o : Option Node) → slice_get nodes n ≡ o → IsSomeAnd o (λ node. ShapeOf nodes n node (shapes.Leaf segment)) → n < length nodes
     by None e h = absurd h
-    by (Some node) e h = got_inside nodes n node e
+    by (Some node) e h = slice_get_within nodes n node e
 
 -- ---- one more plan
 

@@ -4,6 +4,7 @@ use Rattle.std.specs.Prelude.{cond, option_map, IsSomeAnd}
 use Rattle.std.specs.List.{slice_get, slice_index_or, range_with_len, AllByRecursion}
 use Rattle.std.proofs.lemmas.List.{length-map}
 use Rattle.std.proofs.lemmas.List.FromFn.{length-map-range_with_len}
+use Rattle.std.proofs.lemmas.Option.{slice_get_within}
 use Rattle.vx_base.specs.declared.dtypes.Nullability.TheVariants.{NonNullable}
 use Rattle.vx_base.specs.ColumnCalls.{items_at, packed_at, IsFitting}
 use Rattle.vx_base.specs.Data.{DataType, bool_type, Datum, null, truth, number, text, structure}
@@ -32,7 +33,6 @@ use Rattle.vx_steps.specs.Held.{Held, IsBy, handed_in}
 use Rattle.vx_steps.specs.Structs.{HaveTypes}
 use Rattle.vx_steps.specs.Visits.{Test, Visits, VisitsField, VisitsValidity}
 use Rattle.vx_steps.proofs.ComputedRows.{cause_up}
-use Rattle.vx_steps.proofs.Keeping.{got_inside}
 use Rattle.vx_steps.proofs.Shaping.{head_of, validity_fits, IsPackPlan}
 use Rattle.vx_steps.proofs.Selecting.{taken_one}
 
@@ -192,7 +192,7 @@ struct_here h leaves start bits true (n ∷ ns) (part ∷ parts) head all fit va
     let t = has_truths h leaves start bits n ns part parts all fit are (field_count true (length (nodes_at h.nodes (n ∷ ns)))) place valid in
     let s : Datum = structure (items_at (front_parts (part ∷ parts)) k) in
     let v : Datum = slice_index_or t.last.values k null in
-    let less : k < length (rows_of start bits) = got_inside (rows_of start bits) k r at in
+    let less : k < length (rows_of start bits) = slice_get_within (rows_of start bits) k r at in
     let long : length t.last.values ≡ length (rows_of start bits) = count_of (row_value leaves (handed_in h) h.offset (last_plan (map (plan_at h.nodes) (n ∷ ns)))) (rows_of start bits) t.last.values t.values in
     let B : DataType → Type 0 = λ t. Fits t v in
     let is_truth : Fits (bool_type NonNullable) v = subst B t.dtype (fits_there t.last.dtype t.last.values k t.fit (omega arith)) in

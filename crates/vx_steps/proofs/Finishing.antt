@@ -34,9 +34,9 @@ use Rattle.vx_steps.specs.Jobs.{numbers_from, number_of_active, left_of, IsActiv
 use Rattle.vx_steps.specs.Steps.{GivesOutput, GoesOn, HandsRead, HasCauseIn, HasSplitCause, HoldsAll, TakesTurn, work_left, IsActiveOutput, IsHeldAt, IsHeldUp, IsMissing, IsStepRefusal}
 use Rattle.std.proofs.lemmas.List.{set-get_or}
 use Rattle.std.proofs.lemmas.List.Edits.{length-remove, remove-append_left}
-use Rattle.std.proofs.lemmas.Option.{slice_get-map}
+use Rattle.std.proofs.lemmas.Option.{slice_get-map, slice_get_within}
 use Rattle.vx_steps.proofs.Decoding.{adds_then, not_kept_before}
-use Rattle.vx_steps.proofs.Keeping.{got_inside, same_got}
+use Rattle.vx_steps.proofs.Keeping.{same_got}
 use Rattle.vx_steps.proofs.Premises.{unless_by}
 use Rattle.vx_steps.proofs.Releasing.{among_at, got_among, none_before, serves_tried}
 use Rattle.vx_steps.proofs.Starting.{got_at}
@@ -69,7 +69,7 @@ pub active_at : (nodes : List Node) (job : Job) (progress : Progress) (place : �
 active_at nodes job progress place active good inside is = good.actives active (got_among progress.active.items place active (got_at progress.active.items place active inside is))
 
 pub split_inside : (nodes : List Node) (job : Job) (progress : Progress) (place : ℕ) (active : ActiveSplit) → IsGood nodes job progress → place < length progress.active.items → active ≡ get_or progress.active.items place active → active.split < length job.splits.items
-split_inside nodes job progress place active good inside is = got_inside job.splits.items active.split (active_at nodes job progress place active good inside is).split (active_at nodes job progress place active good inside is).at
+split_inside nodes job progress place active good inside is = slice_get_within job.splits.items active.split (active_at nodes job progress place active good inside is).split (active_at nodes job progress place active good inside is).at
 
 pub parts_of : (nodes : List Node) (job : Job) (progress : Progress) (place : ℕ) (active : ActiveSplit) (split : Split) → IsGood nodes job progress → place < length progress.active.items → active ≡ get_or progress.active.items place active → split ≡ get_or job.splits.items active.split split →
     HasParts nodes job progress place active split
@@ -461,7 +461,7 @@ turn_lowers nodes job old new (Read request) takes goes =
     omega arith
 turn_lowers nodes job old new (Output number column) takes goes =
     let less = ap length takes.left in
-    let inside = got_inside (left_of job old) takes.place number takes.at in
+    let inside = slice_get_within (left_of job old) takes.place number takes.at in
     let removed = length-remove (left_of job old) takes.place inside in
     let handed = takes.handed in
     omega arith

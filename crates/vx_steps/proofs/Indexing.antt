@@ -4,13 +4,14 @@ use Rattle.std.specs.Prelude.{IsSomeAnd, OnErr, if◌then◌else◌}
 use Rattle.std.specs.List.{slice_get}
 use Rattle.std.proofs.Math.ListN.{length-drop}
 use Rattle.std.proofs.lemmas.Bool.{cases_eq}
+use Rattle.std.proofs.lemmas.Option.{slice_get_within}
 use Rattle.vx_plan.specs.Refs.{number_of}
 use Rattle.vx_steps.specs.declared.kept.KeptValue.{KeptValue}
 use Rattle.vx_steps.specs.declared.places.PlaceTable.{PlaceTable}
 use Rattle.vx_steps.specs.KeptData.{Kept}
 use Rattle.vx_steps.specs.Kept.{kept_at, kept_data, IsPlace}
 use Rattle.vx_steps.specs.Places.{place_in, KeepsPlaces}
-use Rattle.vx_steps.proofs.Keeping.{step_new, kept_new, kept_old, got_old, place_old, is_place_other, places_more, got_inside, same_got}
+use Rattle.vx_steps.proofs.Keeping.{step_new, kept_new, kept_old, got_old, place_old, is_place_other, places_more, same_got}
 
 take_none : {X : Type 0} (xs : List X) → take zero xs ≡ []
 take_none [] = refl
@@ -70,7 +71,7 @@ found_place xs indexed place n x is placed = by (slice_get (take indexed (map ke
         let K : List Kept → Type 0 = λ ks. kept_at ks n ≡ Some k.column in
         let got = subst G whole (got_old (take indexed (map kept_data xs)) rest place k e) in
         let count = length_data xs in
-        let less = got_inside (map kept_data xs) place k got in
+        let less = slice_get_within (map kept_data xs) place k got in
         let inside : place < length xs = omega arith in
         let same = same_got (slice_get (map kept_data xs) place) k (kept_data x) got (got_data xs place x inside is) in
         sym (subst K whole (kept_old (take indexed (map kept_data xs)) rest n k.column h) ∙ ap (λ (v : Kept). Some v.column) same)

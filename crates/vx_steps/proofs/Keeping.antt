@@ -1,5 +1,5 @@
 -- Kept columns, and one more.
-use Rattle.std.proofs.Common.{◌≡◌, Bor, ℕ, zero, suc, ◌<◌, ◌==◌, Bool, true, false, cond, List, [], ◌∷◌, ◌++◌, Option, Some, None, length, refl, sym, ap, ◌∙◌, subst, arith}
+use Rattle.std.proofs.Common.{◌≡◌, Bor, ℕ, zero, suc, ◌==◌, Bool, true, false, cond, List, [], ◌∷◌, ◌++◌, Option, Some, None, length, refl, sym, ap, ◌∙◌, subst, arith}
 use Rattle.std.specs.Prelude.{IsSomeAnd, if◌then◌else◌}
 use Rattle.std.specs.List.{slice_get}
 use Rattle.vx_base.specs.Columns.{ColumnData}
@@ -70,11 +70,6 @@ none_given None kept n e none = ap values_of (sym e)
 none_given (Some column) kept n e none = absurd cc
 
 -- ---- places of a list
-
-pub got_inside : {X : Type 0} (xs : List X) (i : ℕ) (x : X) → slice_get xs i ≡ Some x → i < length xs
-got_inside [] i x h = cc
-got_inside (y ∷ xs) zero x h = omega arith
-got_inside (y ∷ xs) (suc i) x h = let less = got_inside xs i x h in omega arith
 
 pub same_got : {X : Type 0} (o : Option X) (x y : X) → o ≡ Some x → o ≡ Some y → x ≡ y
 same_got o x y h k = cc

@@ -1,7 +1,7 @@
 -- Bytes are let go only where no need is left that they serve.
 use Rattle.std.proofs.Common.{◌≡◌, ℕ, zero, suc, ◌+◌, ◌<◌, ⊎_elim, inl, inr, below_more, Global, Vec, Bool, true, false, List, [], ◌∷◌, ◌++◌, Option, Some, None, length, get_or, refl, sym, ap, ◌∙◌, subst, arith}
 use Rattle.std.specs.List.{slice_get}
-use Rattle.std.proofs.lemmas.Option.{slice_get-get_or}
+use Rattle.std.proofs.lemmas.Option.{slice_get-get_or, same_Some}
 use Rattle.vx_base.specs.Columns.{ColumnData}
 use Rattle.vx_steps.specs.declared.jobs.ActiveSplit.{ActiveSplit}
 use Rattle.vx_steps.specs.declared.jobs.Job.{Job}
@@ -19,7 +19,6 @@ use Rattle.vx_steps.specs.ReadTable.{IsGone, IsNamed, KeepsStored, LetsGo, Passe
 use Rattle.vx_steps.specs.ReadTableData.{ReadsData, Stored, Wanted}
 use Rattle.vx_steps.specs.Releasing.{AreHeld, AreNamed, IsServed, IsSpent, LetsSpentGo, ServesAll}
 use Rattle.vx_steps.proofs.Needing.{among_pushed}
-use Rattle.vx_steps.proofs.WantedReads.{some_same}
 
 pub none_before : (old new : List Kept) (n : ℕ) → KeepsColumns old new → kept_at new n ≡ None → kept_at old n ≡ None
 none_before old new n keeps e = by (kept_at old n) refl
@@ -61,7 +60,7 @@ named_more handed needs i need inside is old new keeps before here =
     own : (n : LeafRead) → slice_get needs i ≡ Some n → kept_at handed n.leaf ≡ None → IsNamed new.stored n.segment i
     own n at =
         let P : LeafRead → Type 0 = λ x. kept_at handed x.leaf ≡ None → IsNamed new.stored x.segment i in
-        subst P (some_same need n (sym (slice_get-get_or needs i need inside ∙ ap Some (sym is)) ∙ at)) here
+        subst P (same_Some need n (sym (slice_get-get_or needs i need inside ∙ ap Some (sym is)) ∙ at)) here
 
 -- what is kept is not wanting
 pub not_kept : (leaves : List Kept) (n : ℕ) → kept_at leaves n ≡ None → IsKept leaves n → ⊥
@@ -163,7 +162,7 @@ served_passed leaves old new needs place need here count kept passes is = record
     own : (n : LeafRead) → slice_get needs place ≡ Some n → IsKept leaves n.leaf
     own n at =
         let K : LeafRead → Type 0 = λ x. IsKept leaves x.leaf in
-        subst K (some_same need n (sym here ∙ at)) kept
+        subst K (same_Some need n (sym here ∙ at)) kept
 
     all : (i : ℕ) → i < place + 1 → (n : LeafRead) → slice_get needs i ≡ Some n → IsKept leaves n.leaf
     all = below_more (λ (i : ℕ). (n : LeafRead) → slice_get needs i ≡ Some n → IsKept leaves n.leaf) place (λ i less n at. is.passed i n (subst (λ (k : ℕ). i < k) (sym count) less) at) own
@@ -188,7 +187,7 @@ all_passed leaves reads needs is past need among =
 
 only_one : {X : Type 0} (xs : List X) (i : ℕ) (x y : X) → length xs ≡ 1 → slice_get xs i ≡ Some x → Among y xs → x ≡ y
 only_one [] i x y one at among = absurd among
-only_one (z ∷ []) zero x y one at (inl e) = sym (some_same z x at) ∙ e
+only_one (z ∷ []) zero x y one at (inl e) = sym (same_Some z x at) ∙ e
 only_one (z ∷ []) zero x y one at (inr h) = absurd h
 only_one (z ∷ []) (suc i) x y one at among = absurd cc
 only_one (z ∷ w ∷ zs) i x y one at among = absurd (omega arith)

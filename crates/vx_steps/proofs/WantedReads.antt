@@ -7,13 +7,13 @@ use Rattle.std.specs.Ordering.{nat_cmp}
 use Rattle.std.specs.BTreeMap.{BTreeMap, get}
 use Rattle.std.proofs.lemmas.Bool.{cases_eq}
 use Rattle.std.proofs.lemmas.List.{length-map}
-use Rattle.std.proofs.lemmas.Option.{slice_get-map, slice_get-get_or}
+use Rattle.std.proofs.lemmas.Option.{slice_get-map, slice_get-get_or, slice_get_within, same_Some}
 use Rattle.vx_steps.specs.declared.reads.SegmentBytes.{SegmentBytes}
 use Rattle.vx_steps.specs.declared.reads.SegmentBytes.TheVariants.{NotYet, Came, LetGo}
 use Rattle.vx_steps.specs.declared.reads.WantedSegment.{WantedSegment}
 use Rattle.vx_steps.specs.ReadTableData.{Wanted, Stored, bytes_in, is_gone, stored_data, wanted_data}
 use Rattle.vx_steps.specs.ReadTable.{StandsAt, AreReads, IsGone, IsNamed, bytes_of}
-use Rattle.vx_steps.proofs.Keeping.{got_inside, got_new}
+use Rattle.vx_steps.proofs.Keeping.{got_new}
 
 pub wanted_at : (ws : List WantedSegment) (i : ℕ) (w : WantedSegment) → i < length ws → w ≡ get_or ws i w → slice_get (map wanted_data ws) i ≡ Some (wanted_data w)
 wanted_at ws i w inside is =
@@ -32,7 +32,7 @@ is_standing wanted place w at segment is =
 
 standing_inside : (wanted : List Wanted) (segment place : ℕ) → (o : Option Wanted) → slice_get wanted place ≡ o → IsSomeAnd o (λ w. w.segment ≡ segment) → place < length wanted
 standing_inside wanted segment place None e h = absurd h
-standing_inside wanted segment place (Some w) e h = got_inside wanted place w e
+standing_inside wanted segment place (Some w) e h = slice_get_within wanted place w e
 
 pub place_inside : (places : BTreeMap ℕ ℕ) (ws : List WantedSegment) (handed : ℕ) → AreReads places (map wanted_data ws) handed → (segment place : ℕ) → get nat_cmp places segment ≡ Some place → place < length ws
 place_inside places ws handed reads segment place e =
@@ -227,14 +227,11 @@ is_still wanted place segment at =
 
 -- ---- what is stored
 
-pub some_same : {X : Type 0} (a b : X) → Some a ≡ Some b → a ≡ b
-some_same a b h = cc
-
 pub item_at : (ws : List WantedSegment) (i : ℕ) (w : WantedSegment) → i < length ws → w ≡ get_or ws i w → slice_get ws i ≡ Some w
 item_at ws i w inside is = slice_get-get_or ws i w inside ∙ ap Some (sym is)
 
 pub same_item : (ws : List WantedSegment) (i : ℕ) (v w : WantedSegment) → slice_get ws i ≡ Some v → slice_get ws i ≡ Some w → v ≡ w
-same_item ws i v w at_v at_w = some_same v w (sym at_v ∙ at_w)
+same_item ws i v w at_v at_w = same_Some v w (sym at_v ∙ at_w)
 
 -- bytes that did not come are not gone
 pub none_gone : (bytes : SegmentBytes) → bytes_in bytes ≡ None → is_gone bytes ≡ false
@@ -253,14 +250,14 @@ stored_at ws i w inside is = item_mapped stored_data ws i w (item_at ws i w insi
 
 stored_from : (ws : List WantedSegment) (i : ℕ) (s : Stored) → slice_get (map stored_data ws) i ≡ Some s → (w : WantedSegment) × (slice_get ws i ≡ Some w) × (stored_data w ≡ s)
 stored_from [] i s at = absurd cc
-stored_from (w ∷ ws) zero s at = (w, refl, some_same (stored_data w) s at)
+stored_from (w ∷ ws) zero s at = (w, refl, same_Some (stored_data w) s at)
 stored_from (w ∷ ws) (suc i) s at = stored_from ws i s at
 
 -- one wanted segment in place of another that is seen as the same
 pub same_set : {Y : Type 0} (f : WantedSegment → Y) (ws : List WantedSegment) (i : ℕ) (v w : WantedSegment) → slice_get ws i ≡ Some w → f v ≡ f w → map f (set ws i v) ≡ map f ws
 same_set f [] i v w at e = refl
 same_set f (z ∷ ws) zero v w at e =
-    let is : z ≡ w = some_same z w at in
+    let is : z ≡ w = same_Some z w at in
     ap (λ (y : _). y ∷ map f ws) (e ∙ ap f (sym is))
 same_set f (z ∷ ws) (suc i) v w at e = ap (λ (ys : List _). f z ∷ ys) (same_set f ws i v w at e)
 
@@ -271,7 +268,7 @@ named_set stored place old new at same last segment n (i, s, at_i, is, less) = �
     here e =
         let G : ℕ → Type 0 = λ k. slice_get stored k ≡ Some old in
         let S : ℕ → Type 0 = λ k. slice_get (set stored place new) k ≡ Some new in
-        let one : old ≡ s = some_same old s (sym (subst G e at) ∙ at_i) in
+        let one : old ≡ s = same_Some old s (sym (subst G e at) ∙ at_i) in
         let named : old.segment ≡ s.segment = ap (λ (x : Stored). x.segment) one in
         let as_last : old.last ≡ s.last = ap (λ (x : Stored). x.last) one in
         let more : n ≤ new.last = omega arith in
@@ -283,7 +280,7 @@ gone_set stored place old new at segment (i, s, at_i, is, gone) = ⊎_elim (λ (
     here : place ≡ i → (new.segment ≡ segment) × (new.gone ≡ true)
     here e =
         let S : ℕ → Type 0 = λ k. slice_get (set stored place new) k ≡ Some new in
-        let one : new ≡ s = some_same new s (sym (subst S e (set_here stored place new old at)) ∙ at_i) in
+        let one : new ≡ s = same_Some new s (sym (subst S e (set_here stored place new old at)) ∙ at_i) in
         (ap (λ (x : Stored). x.segment) one ∙ is, ap (λ (x : Stored). x.gone) one ∙ gone)
 
 pub stored_set : (ws : List WantedSegment) (place : ℕ) (v w : WantedSegment) → slice_get ws place ≡ Some w → slice_get (map stored_data (set ws place v)) place ≡ Some (stored_data v)
@@ -312,7 +309,7 @@ one_stored places ws handed reads place w at i s at_i same =
     let x = stored_from ws i s at_i in
     let one : i ≡ place = one_place places (map wanted_data ws) handed reads i place (wanted_data x.0) (wanted_data w) (item_mapped wanted_data ws i x.0 x.1) (item_mapped wanted_data ws place w at) (ap (λ (y : Stored). y.segment) x.2 ∙ same) in
     let G : ℕ → Type 0 = λ k. slice_get ws k ≡ Some x.0 in
-    let is : w ≡ x.0 = some_same w x.0 (sym at ∙ subst G one x.1) in
+    let is : w ≡ x.0 = same_Some w x.0 (sym at ∙ subst G one x.1) in
     ap (λ (y : WantedSegment). y.last) is ∙ ap (λ (y : Stored). y.last) x.2
 
 -- no need past the last place names a segment

@@ -1,5 +1,6 @@
 -- Faults inside whole values that selected rows ask for.
 use Rattle.std.proofs.Common.{◌≡◌, ℕ, ◌+◌, ◌-◌, inl, inr, Bool, true, List, Option, Some, None, length, sym, subst, arith}
+use Rattle.std.proofs.lemmas.Option.{slice_get_within}
 use Rattle.std.specs.Prelude.{nat_lt}
 use Rattle.vx_rows.specs.Derivations.{Leaves}
 use Rattle.vx_plan.specs.Nodes.{Node}
@@ -18,7 +19,6 @@ use Rattle.vx_steps.specs.Rows.{SelectsSome}
 use Rattle.vx_steps.specs.Visits.{Test, Visits, VisitsIn, VisitsField, VisitsValidity, SomeVisit, SomeWholeVisit, HasBadCode, HasEvalFault, IsListRead}
 use Rattle.vx_steps.specs.Wholes.{FailsInside, HasInsideCause, Inside, KeepsValues, WholeFails}
 use Rattle.vx_steps.proofs.ComputedRows.{VisitsUp, none_kept}
-use Rattle.vx_steps.proofs.Keeping.{got_inside}
 use Rattle.vx_steps.proofs.Premises.{unless_by}
 use Rattle.vx_steps.proofs.Shaping.{IsSharePlan, IsTakePlan}
 use Rattle.vx_steps.proofs.Visiting.{up_shared, up_values}
@@ -106,7 +106,7 @@ none_for (Some kept) n e = e
 
 -- a place of all rows is a row
 whole_row : (P : Test) (p : Plan) (bits : List Bool) (rows : ℕ) → length bits ≡ rows → SomeVisit P None p 0 bits → SomeWholeVisit P p rows
-whole_row P p bits rows long r = (0 + r.0, omega (arith, got_inside bits r.0 true r.1), r.2)
+whole_row P p bits rows long r = (0 + r.0, omega (arith, slice_get_within bits r.0 true r.1), r.2)
 
 pub values_inside : (h : Held) (n codes values start : ℕ) (bits : List Bool) (error : StepError) → IsTakePlan h.nodes n codes values → SelectsSome bits → WholeFails h values values error → FailsInside h n start bits error
 values_inside h n codes values start bits error over some (inl memory) by are = memory_inside h n start bits error memory by are

@@ -1,5 +1,6 @@
 -- All rows of a plan, one after another.
 use Rattle.std.proofs.Common.{◌≡◌, ℕ, zero, suc, ◌+◌, ◌<◌, ◌≤◌, Bool, true, List, [], ◌∷◌, Option, Some, None, length, map, replicate, refl, sym, ap, ◌∙◌, arith}
+use Rattle.std.proofs.lemmas.Option.{slice_get_within}
 use Rattle.std.specs.List.{slice_get, range_with_len}
 use Rattle.vx_base.specs.Data.{Datum}
 use Rattle.vx_expr.specs.Types.{on_both}
@@ -9,7 +10,6 @@ use Rattle.vx_plan.specs.Plans.{Plan}
 use Rattle.vx_plan.specs.PlanRows.{plan_derivation}
 use Rattle.vx_steps.specs.Given.{row_value}
 use Rattle.vx_steps.specs.Rows.{rows_of}
-use Rattle.vx_steps.proofs.Keeping.{got_inside}
 use Rattle.vx_steps.proofs.SelectedRows.{rows_same}
 
 -- ---- masks
@@ -19,7 +19,7 @@ length_all zero = refl
 length_all (suc count) = omega (arith, length_all count)
 
 pub row_below : (bs : List Bool) (rows : ℕ) → length bs ≡ rows → (place : ℕ) → slice_get bs place ≡ Some true → 0 + place < rows
-row_below bs rows long place at = omega (arith, got_inside bs place true at)
+row_below bs rows long place at = omega (arith, slice_get_within bs place true at)
 
 pub same_below : (f g : ℕ → Option Datum) (rows start : ℕ) (bits : List Bool) → start + length bits ≤ rows → ((row : ℕ) → row < rows → f row ≡ g row) → map f (rows_of start bits) ≡ map g (rows_of start bits)
 same_below f g rows start bits inside same = rows_same f g start start bits (λ k h. same (start + k) (omega arith))

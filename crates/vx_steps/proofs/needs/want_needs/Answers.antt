@@ -1,6 +1,6 @@
 use Rattle.std.proofs.Common.{rules, ◌∙◌, ◌<◌, length}
+use Rattle.std.proofs.lemmas.Option.{slice_get_within}
 use Rattle.vx_steps.proofs.Needing.{asked_more, only_more, grows_then, need_at, need_is}
-use Rattle.vx_steps.proofs.Keeping.{got_inside}
 use Rattle.vx_steps.proofs.Releasing.{named_more, stored_then}
 use Rattle.vx_steps.proofs.needs.want_needs.Goals as goal
 
@@ -35,6 +35,6 @@ returns-in_err-want_need-clause-stored c = stored_then c.args.reads.now c.loop-p
 
 pub returns-clause-named : goal.returns-clause-named
 returns-clause-named c = λ place need at none.
-    let inside : place < length c.args.needs.now = got_inside c.args.needs.now place need at in
+    let inside : place < length c.args.needs.now = slice_get_within c.args.needs.now place need at in
     let passed : place < c.loop-place.place = search rules in
     c.loop-place.invariant.named place passed need at none
