@@ -4,6 +4,7 @@ use Rattle.std.specs.Prelude.{IfSome}
 use Rattle.std.specs.Global.{Vec}
 use Rattle.std.proofs.Math.Seq.{drop-append_seam, take-append_seam}
 use Rattle.std.proofs.lemmas.List.{drop-map, take-map}
+use Rattle.std.proofs.lemmas.Option.{same_Some}
 use Rattle.vx_base.specs.Columns.{ColumnData}
 use Rattle.vx_base.specs.Sources.{SourceState, Rose}
 use Rattle.vx_base.specs.Streams.{ReadState, WriteState}
@@ -152,10 +153,7 @@ told_bytes P bytes old new told reads = by old.rest told reads.reads.whole
   where
     by : (rest : Option (List ℕ)) → rest ≡ Some bytes → IfSome rest (λ all. (all ≡ reads.bytes) × (new.rest ≡ Some [])) → P bytes
     by None e whole = absurd cc
-    by (Some all) e whole = let same : reads.bytes ≡ bytes = sym whole.0 ∙ the_same all bytes e in subst P same reads.are
-      where
-        the_same : (x y : List ℕ) → Some x ≡ Some y → x ≡ y
-        the_same x y is = cc
+    by (Some all) e whole = let same : reads.bytes ≡ bytes = sym whole.0 ∙ same_Some all bytes e in subst P same reads.are
 
 pub not_both : (bytes : List ℕ) (asked : Asked) → IsRequest bytes asked → requested bytes ≡ None → ⊥
 not_both bytes asked is none = let form = is.form in cc

@@ -3,6 +3,7 @@ use Rattle.std.proofs.Common.{◌≡◌, ℕ, zero, suc, ◌+◌, ◌-◌, ◌<�
 use Rattle.std.specs.Prelude.{if◌then◌else◌}
 use Rattle.std.specs.List.{slice_get}
 use Rattle.std.proofs.lemmas.Bool.{lt-ltb, le-ltb, cases_lt}
+use Rattle.std.proofs.lemmas.Option.{slice_get_within}
 use Rattle.vx_base.specs.Data.{DataType}
 use Rattle.vx_rows.specs.Derivations.{Derivation, nothing, cell, packed, looked_up, read_whole, Derivations, each_row}
 use Rattle.vx_rows.specs.Reads.{Way, directly, inside, Read, reads_of, reads_of_each, AnyOf, IsIn}
@@ -87,11 +88,6 @@ dropped : (n : ℕ) (bits : List Bool) (row : ℕ) → slice_get (drop n bits) r
 dropped zero bits row = let e : row ≡ 0 + row = omega arith in ap (slice_get bits) e
 dropped (suc n) [] row = refl
 dropped (suc n) (bit ∷ bits) row = dropped n bits row ∙ (let e : suc (n + row) ≡ suc n + row = omega arith in ap (slice_get (bit ∷ bits)) e)
-
-within : (bits : List Bool) (row : ℕ) → slice_get bits row ≡ Some true → row < length bits
-within [] row chosen = absurd cc
-within (bit ∷ bits) zero chosen = omega arith
-within (bit ∷ bits) (suc row) chosen = let lt : row < length bits = within bits row chosen in omega arith
 
 -- ---- tests
 
@@ -380,5 +376,5 @@ mutual
 pub read_is_reached : (p : Plan) (at : Reach) (offset start : ℕ) (bits : List Bool) (segment : ℕ) → HasFittingRows p → start + length bits ≤ (plan_head p).rows → IsReadBy offset segment p start bits → IsReached segment (selected_of p at start bits)
 read_is_reached p at offset start bits segment fit le by =
     read_reached segment offset p directly at start bits by.row fit
-    (λ row chosen. let lt : row < length bits = within bits row chosen in omega arith)
+    (λ row chosen. let lt : row < length bits = slice_get_within bits row true chosen in omega arith)
     by.chosen by.read

@@ -1,10 +1,11 @@
 -- What all workers gave together, and what came of the chunks that ran with borrowed values, is what the whole run gives.
-use Rattle.std.proofs.Common.{◌≡◌, ◌≢◌, ℕ, zero, suc, ◌<◌, ◌≤◌, ◌⊎◌, inl, inr, true, List, [], ◌∷◌, Some, None, length, map, refl, sym, ap, ◌∙◌, subst, arith}
+use Rattle.std.proofs.Common.{◌≡◌, ◌≢◌, ℕ, ◌<◌, ◌≤◌, ◌⊎◌, inl, inr, true, List, [], ◌∷◌, Some, None, length, map, refl, sym, ap, ◌∙◌, subst, arith}
 use Rattle.std.specs.Prelude.{Option, IfSome, IsSomeAnd, nat_lt, slice_index_or, slice_set}
-use Rattle.std.specs.List.{All, AllByRecursion, slice_get}
+use Rattle.std.specs.List.{All, AllByRecursion}
 use Rattle.std.specs.List.Sorted.{IsNonDecreasingBy}
 use Rattle.std.proofs.lemmas.Bool.{cases_lt, lt-ltb}
 use Rattle.std.proofs.lemmas.List.{length-map, get_or-map}
+use Rattle.std.proofs.lemmas.Option.{slice_get_within}
 use Rattle.vx_base.specs.Masks.{Ascend}
 use Rattle.vx_base.specs.Sources.{SourceState}
 use Rattle.vx_claims.specs.Apart.{times, times_over, AreApart, AreWhole}
@@ -43,11 +44,6 @@ use Rattle.vx_scan.proofs.JoinedLanes.{not_lacking}
 all_so : {X : Type 0} (Q : X → Type 0) → ((x : X) → Q x) → (xs : List X) → AllByRecursion Q xs
 all_so Q so [] = tt
 all_so Q so (x ∷ xs) = (so x, all_so Q so xs)
-
-got_within : (chunks : List SelectedRows) (i : ℕ) (chunk : SelectedRows) → slice_get chunks i ≡ Some chunk → i < length chunks
-got_within [] i chunk here = absurd cc
-got_within (one ∷ chunks) zero chunk here = omega arith
-got_within (one ∷ chunks) (suc i) chunk here = let rest = got_within chunks i chunk here in omega (arith, rest)
 
 numbers_in_order : (pieces : List Piece) → IsNonDecreasingBy (λ piece. piece.chunk) pieces → (i j : ℕ) (d : ℕ) → i ≤ j → j < length (numbers_of pieces) → slice_index_or (numbers_of pieces) i d ≤ slice_index_or (numbers_of pieces) j d
 numbers_in_order [] sorted i j d le lt = absurd (omega (arith, lt))
@@ -137,7 +133,7 @@ module _ (plans : ScanPlans) (chunks : List SelectedRows) (joined : Joined) (out
   settled_below : (error : ChunkError) → outcome.error ≡ Some error → FailsSettled plans chunks joined error first after → (x : ℕ) → x < error.chunk → times x (numbers_of outcome.pieces.items) ≡ 1
   settled_below error is fails x less =
       piece_below x (below_error error is x less)
-      ∙ ran_below error (got_within chunks error.chunk fails.chunk fails.here) joined.error refl (subst (λ (one : Option ChunkError). IsAtMost one joined.error) is settles.lowest) x less
+      ∙ ran_below error (slice_get_within chunks error.chunk fails.chunk fails.here) joined.error refl (subst (λ (one : Option ChunkError). IsAtMost one joined.error) is settles.lowest) x less
 
   -- a chunk that had borrowed failed: so its worker isn't alone
   settled_more : (error : ChunkError) → FailsSettled plans chunks joined error first after → 1 < length befores

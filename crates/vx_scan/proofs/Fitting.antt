@@ -1,7 +1,8 @@
 -- Columns that are handed in: those that fit their plans, and those that the row behind a scan reads.
-use Rattle.std.proofs.Common.{◌≡◌, ℕ, ◌<◌, inl, inr, Bool, true, false, List, [], ◌∷◌, Some, None, length, refl, sym, ap, ◌∙◌, subst}
+use Rattle.std.proofs.Common.{◌≡◌, ℕ, ◌<◌, inl, inr, Bool, true, false, List, [], ◌∷◌, Some, length, refl, sym, ap, ◌∙◌, subst}
 use Rattle.std.specs.Prelude.{if◌then◌else◌, ◌==◌}
 use Rattle.std.proofs.lemmas.Bool.{eqb-true}
+use Rattle.std.proofs.lemmas.Option.{none-some}
 use Rattle.vx_base.specs.Columns.{ColumnData}
 use Rattle.vx_plan.specs.Nodes.{Node}
 use Rattle.vx_rows.specs.Derivations.{Leaves}
@@ -9,9 +10,6 @@ use Rattle.vx_steps.specs.Held.{AreMade, AreTyped, HaveLeaves}
 use Rattle.vx_steps.specs.Kept.{kept_at}
 use Rattle.vx_steps.specs.KeptData.{Kept}
 use Rattle.vx_steps.specs.Offers.{IsForLeaf, IsForPlan, Keeps}
-
-none_is_some : {X : Type 0} (x : X) → None ≡ Some x → ⊥
-none_is_some x both = cc
 
 -- ---- what is kept of columns
 
@@ -25,7 +23,7 @@ held_by_test P x rest n column true same holds behind found =
 held_by_test P x rest n column false same holds behind found = behind found
 
 pub kept_holds : (P : Kept → Type 0) (all kept : List Kept) (n : ℕ) (column : ColumnData) → Keeps P all kept → kept_at kept n ≡ Some column → P (record { node = n; column = column })
-kept_holds P [] kept n column keeps at = absurd (none_is_some column (sym (ap (λ (ks : List Kept). kept_at ks n) keeps) ∙ at))
+kept_holds P [] kept n column keeps at = absurd (none-some column (sym (ap (λ (ks : List Kept). kept_at ks n) keeps) ∙ at))
 kept_holds P (x ∷ all) kept n column (inl (holds, (rest, is, keeps))) at =
     held_by_test P x rest n column (x.node == n) refl holds (λ behind. kept_holds P all rest n column keeps behind) (sym (ap (λ (ks : List Kept). kept_at ks n) is) ∙ at)
 kept_holds P (x ∷ all) kept n column (inr (not, keeps)) at = kept_holds P all kept n column keeps at
@@ -44,7 +42,7 @@ not_first P x all kept n column true same not holds behind found =
 not_first P x all kept n column false same not holds behind found = behind found
 
 pub kept_first : (P : Kept → Type 0) (all kept : List Kept) (n : ℕ) (column : ColumnData) → Keeps P all kept → P (record { node = n; column = column }) → kept_at all n ≡ Some column → kept_at kept n ≡ Some column
-kept_first P [] kept n column keeps holds at = absurd (none_is_some column at)
+kept_first P [] kept n column keeps holds at = absurd (none-some column at)
 kept_first P (x ∷ all) kept n column (inl (is_so, (rest, is, keeps))) holds at =
     ap (λ (ks : List Kept). kept_at ks n) is ∙ either_first x all rest n column (x.node == n) (λ behind. kept_first P all rest n column keeps holds behind) at
 kept_first P (x ∷ all) kept n column (inr (not, keeps)) holds at = not_first P x all kept n column (x.node == n) refl not holds (λ behind. kept_first P all kept n column keeps holds behind) at
@@ -60,7 +58,7 @@ first_or x all n true behind = (x.column, refl)
 first_or x all n false behind = behind
 
 pub kept_among : (P : Kept → Type 0) (all kept : List Kept) (n : ℕ) (column : ColumnData) → Keeps P all kept → kept_at kept n ≡ Some column → (first : ColumnData) × (kept_at all n ≡ Some first)
-kept_among P [] kept n column keeps at = absurd (none_is_some column (sym (ap (λ (ks : List Kept). kept_at ks n) keeps) ∙ at))
+kept_among P [] kept n column keeps at = absurd (none-some column (sym (ap (λ (ks : List Kept). kept_at ks n) keeps) ∙ at))
 kept_among P (x ∷ all) kept n column (inl (holds, (rest, is, keeps))) at =
     some_first x all rest n column (x.node == n) (λ behind. kept_among P all rest n column keeps behind) (sym (ap (λ (ks : List Kept). kept_at ks n) is) ∙ at)
 kept_among P (x ∷ all) kept n column (inr (not, keeps)) at =
@@ -106,13 +104,13 @@ made_fitting nodes offset all kept leaves typed keeps made n column at = made n 
 
 -- no columns are so by any
 pub no_leaves : (nodes : List Node) (leaves : Leaves) → HaveLeaves nodes [] leaves
-no_leaves nodes leaves n segment column leaf at = absurd (none_is_some column at)
+no_leaves nodes leaves n segment column leaf at = absurd (none-some column at)
 
 pub none_made : (nodes : List Node) (offset : ℕ) (leaves : Leaves) → AreMade nodes offset [] leaves
-none_made nodes offset leaves n column at = absurd (none_is_some column at)
+none_made nodes offset leaves n column at = absurd (none-some column at)
 
 pub none_typed : (nodes : List Node) → AreTyped nodes []
-none_typed nodes n column at = absurd (none_is_some column at)
+none_typed nodes n column at = absurd (none-some column at)
 
 -- ---- columns of some plans
 

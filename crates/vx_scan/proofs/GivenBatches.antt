@@ -8,6 +8,7 @@ use Rattle.std.proofs.lemmas.Bool.{cases_lt}
 use Rattle.std.proofs.lemmas.List.{length-map, map-append}
 use Rattle.std.proofs.lemmas.List.Elements.{All-nil, All-head, All-tail}
 use Rattle.std.proofs.lemmas.List.Sums.{sum_by-cons}
+use Rattle.std.proofs.lemmas.Option.{same_Some}
 use Rattle.vx_base.specs.Columns.{ColumnData}
 use Rattle.vx_base.specs.Masks.{true_count}
 use Rattle.vx_base.specs.Sources.{SourceState}
@@ -127,9 +128,6 @@ length_stretch first (suc count) = let rest = length_stretch (suc first) count i
 all_dtypes : (plans : ScanPlans) (pieces : List Piece) → All (HasDtype plans) pieces → AllByRecursion (λ (batch : ColumnData). batch.dtype ≡ (projection_node plans).dtype) (map (λ (piece : Piece). piece.column) pieces)
 all_dtypes plans [] are = tt
 all_dtypes plans (piece ∷ pieces) are = (All-head (HasDtype plans) piece pieces are, all_dtypes plans pieces (All-tail (HasDtype plans) piece pieces are))
-
-some_same : {one two : ChunkError} → Some one ≡ Some two → one ≡ two
-some_same is = cc
 
 pub is_memory : (error : ScanError) → (error ≡ Memory) ⊎ (error ≢ Memory)
 is_memory BadProjection = inr (λ same. cc)
@@ -285,7 +283,7 @@ module _ (plans : ScanPlans) (chunks : List SelectedRows) where
       where
         -- want of memory outside of a run is want of memory
         enough : error ≢ Memory → outcome.error ≢ Some no_memory
-        enough other lacks = let same : told.failed ≡ no_memory = some_same (sym told.is ∙ lacks) in other (sym told.why ∙ ap (λ (failed : ChunkError). failed.error) same)
+        enough other lacks = let same : told.failed ≡ no_memory = same_Some told.failed no_memory (sym told.is ∙ lacks) in other (sym told.why ∙ ap (λ (failed : ChunkError). failed.error) same)
 
         by_memory : (error ≡ Memory) ⊎ (error ≢ Memory) → (error ≡ Memory) ⊎ LowestFailure plans chunks error befores afters
         by_memory (inl memory) = inl memory
@@ -391,7 +389,7 @@ module _ (plans : ScanPlans) (chunks : List SelectedRows) where
   idle_cause : (outcome : Outcome) (error : ScanError) → outcome.error ≡ Some no_memory → TakesBatches outcome (Err error) → error ≡ Memory
   idle_cause outcome error none (inl memory) = memory
   idle_cause outcome error none (inr told) =
-      let same : told.failed ≡ no_memory = some_same (sym told.is ∙ none) in
+      let same : told.failed ≡ no_memory = same_Some told.failed no_memory (sym told.is ∙ none) in
       sym told.why ∙ ap (λ (failed : ChunkError). failed.error) same
 
   from_nothing : (outcome : Outcome) (sources : List SourceState) (result : Result (Vec ColumnData Global) ScanError) → outcome.error ≡ Some no_memory → TakesBatches outcome result → GivesBatches plans chunks result sources sources

@@ -3,6 +3,7 @@ use Rattle.std.proofs.Common.{◌≡◌, ◌≢◌, ℕ, zero, suc, ◌<◌, ◌
 use Rattle.std.specs.Prelude.{IsSomeAnd, nat_lt}
 use Rattle.std.specs.List.{slice_get, AllByRecursion}
 use Rattle.std.proofs.lemmas.List.{length-map}
+use Rattle.std.proofs.lemmas.Option.{same_Some}
 use Rattle.vx_base.specs.Sources.{SourceState}
 use Rattle.vx_claims.specs.Apart.{times_over, AreApart}
 use Rattle.vx_rows.specs.SegmentLeaves.{Bytes, leaves_of}
@@ -37,15 +38,12 @@ module _ (scan : FileScan) (limit : ℕ) (plans : ScanPlans) (are : ArePlansOf s
     lasts = runs.lasts;
   }
 
-  same_chunk : (one two : SelectedRows) → Some one ≡ Some two → one ≡ two
-  same_chunk one two same = cc
-
   -- ---- the piece that failed
 
   module _ (place : ℕ) (chunk : SelectedRows) (here : slice_get chunks place ≡ Some chunk) (error : ScanError) where
     fails_piece : (numbers : List ℕ) (before after : SourceState) → FailsLast plans chunks (record { chunk = place; error = error }) numbers before after → FailsPiece scan limit place (chosen_rows chunk) error numbers before after
     fails_piece numbers before after fails =
-        let same = same_chunk fails.fails.chunk chunk (sym fails.fails.here ∙ here) in
+        let same = same_Some fails.fails.chunk chunk (sym fails.fails.here ∙ here) in
         record {
           last = fails.last;
           cause = cause_of scan limit plans are chunk (inside_at (row_count scan) chunks place chunk of_scan.inside here) error before after
@@ -65,7 +63,7 @@ module _ (scan : FileScan) (limit : ℕ) (plans : ScanPlans) (are : ArePlansOf s
     fails_again other reruns sources [] (after ∷ afters) fails again = absurd fails
     fails_again other reruns sources (before ∷ middles) [] fails again = absurd fails
     fails_again other reruns sources (before ∷ middles) (after ∷ afters) fails again =
-        let same = same_chunk fails.0.chunk chunk (sym fails.0.here ∙ here) in (
+        let same = same_Some fails.0.chunk chunk (sym fails.0.here ∙ here) in (
           record {
             cause = cause_of_all scan limit plans are chunk (inside_at (row_count scan) chunks place chunk of_scan.inside here) error sources before after
                 (subst (λ (one : SelectedRows). Causes (told_by_all plans sources) plans [] one error before after) same fails.0.cause);

@@ -4,6 +4,7 @@ use Rattle.std.specs.Prelude.{IsSomeAnd, OnOk, OnErr}
 use Rattle.std.specs.List.{slice_get}
 use Rattle.std.specs.declared.alloc.AllocError.{AllocError}
 use Rattle.std.proofs.lemmas.List.{take_more}
+use Rattle.std.proofs.lemmas.Option.{none-some}
 use Rattle.vx_steps.specs.declared.leaf_reads.LeafRead.{LeafRead}
 use Rattle.vx_steps.specs.KeptData.{Kept}
 use Rattle.vx_steps.specs.Kept.{kept_at}
@@ -128,16 +129,13 @@ any_default (x ∷ xs) (suc i) d e h = any_default xs i d e (omega arith)
 pub need_is : (needs : List LeafRead) (i : ℕ) → i < length needs → need_at needs i ≡ get_or needs i (need_at needs i)
 need_is needs i h = any_default needs i (record { leaf = 0; segment = 0 }) (need_at needs i) h
 
-no_bytes : (bytes : List ℕ) → None ≡ Some bytes → ⊥
-no_bytes bytes h = cc
-
 wanted_agrees : (segment : ℕ) (old new : List Wanted) → IsWanted segment old new → (outside : ℕ → Option (List ℕ)) → Agrees old outside → Agrees new outside
 wanted_agrees segment old new (inl (there, same)) outside agrees =
     let P : List Wanted → Type 0 = λ ws. Agrees ws outside in
     subst P (sym same) agrees
 wanted_agrees segment old new (inr (nowhere, more)) outside agrees =
     let P : List Wanted → Type 0 = λ ws. Agrees ws outside in
-    subst P (sym more) (λ place w bytes at is. ⊎_elim (λ (e : slice_get old place ≡ Some w). agrees place w bytes e is) (λ (e : (place ≡ length old) × (unread segment ≡ w)). absurd (no_bytes bytes (ap (λ (x : Wanted). x.bytes) e.1 ∙ is))) (got_pushed old (unread segment) place w at))
+    subst P (sym more) (λ place w bytes at is. ⊎_elim (λ (e : slice_get old place ≡ Some w). agrees place w bytes e is) (λ (e : (place ≡ length old) × (unread segment ≡ w)). absurd (none-some bytes (ap (λ (x : Wanted). x.bytes) e.1 ∙ is))) (got_pushed old (unread segment) place w at))
 
 pub want_agrees : (result : Result (Unit {0}) AllocError) (segment : ℕ) (old new : ReadsData) → OnOk result (IsWanted segment old.wanted new.wanted) → OnErr result (new ≡ old) → (outside : ℕ → Option (List ℕ)) → Agrees old.wanted outside → Agrees new.wanted outside
 want_agrees (Ok x) segment old new wanted same outside agrees = wanted_agrees segment old.wanted new.wanted wanted outside agrees
