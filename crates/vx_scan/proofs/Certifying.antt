@@ -3,7 +3,7 @@ use Rattle.std.proofs.Common.{◌≡◌, ◌≢◌, ℕ, ◌<◌, ◌⊎◌, inl
 use Rattle.std.specs.Prelude.{if◌then◌else◌, ◌==◌, IfSome, Result}
 use Rattle.std.specs.List.{All, AllByRecursion}
 use Rattle.std.proofs.lemmas.Bool.{eqb-true, eq-eqb}
-use Rattle.std.proofs.lemmas.List.{map-append}
+use Rattle.std.proofs.lemmas.List.{map-append, length-replicate}
 use Rattle.std.proofs.lemmas.List.Elements.{All-nil, All-append, All-head, All-tail}
 use Rattle.vx_base.specs.Columns.{ColumnData}
 use Rattle.vx_base.specs.Sources.{SourceState}
@@ -25,7 +25,6 @@ use Rattle.vx_steps.specs.Kept.{kept_at, IsKept}
 use Rattle.vx_steps.specs.KeptData.{Kept}
 use Rattle.vx_steps.specs.Offers.{IsForPlan}
 use Rattle.vx_steps.specs.Visits.{IsLeafRead}
-use Rattle.vx_steps.proofs.WholeRows.{length_all}
 use Rattle.vx_steps.proofs.Keeping.{kept_old}
 use Rattle.vx_scan.specs.declared.errors.ScanError.{ScanError}
 use Rattle.vx_scan.specs.declared.errors.ScanError.TheVariants.{ReadFault, Memory}
@@ -235,7 +234,7 @@ one_read plans node right segment known lacked wanted =
     let read : LeafRead = record { leaf = wanted.leaf; segment = segment } in
     let place : ℕ = wanted.visited.0 in
     let within = slice_get_within (replicate rows true) place true wanted.visited.1 in
-    let size = length_all rows in
+    let size = length-replicate rows true in
     record {
       wanted = refl;
       known = known;

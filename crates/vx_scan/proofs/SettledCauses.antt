@@ -3,6 +3,7 @@
 use Rattle.std.proofs.Common.{◌≡◌, ℕ, ◌+◌, ◌<◌, ◌≤◌, inl, true, List, [], ◌∷◌, Option, Some, Ok, Err, length, replicate, refl, sym, ap, ◌∙◌, subst, arith}
 use Rattle.std.specs.Prelude.{Result}
 use Rattle.std.specs.List.{slice_get, AllByRecursion}
+use Rattle.std.proofs.lemmas.List.{length-replicate}
 use Rattle.std.proofs.lemmas.Option.{slice_get_within}
 use Rattle.vx_base.specs.Columns.{ColumnData}
 use Rattle.vx_base.specs.Data.{Datum}
@@ -37,7 +38,6 @@ use Rattle.vx_steps.proofs.ReadVisits.{no_columns}
 use Rattle.vx_steps.proofs.UsedValues.{selected_same}
 use Rattle.vx_steps.proofs.VisitedReads.{none_served}
 use Rattle.vx_steps.proofs.WholeCauses.{whole_cause}
-use Rattle.vx_steps.proofs.WholeRows.{length_all}
 use Rattle.vx_scan.specs.declared.errors.ScanError.{ScanError}
 use Rattle.vx_scan.specs.declared.errors.ScanError.TheVariants.{BadProjection, OffsetOverflow, OutOfRange, Unsupported, NoLocation, ReadFault, Stalled, BadSegment, BadCode, EvalFault, Memory}
 use Rattle.vx_scan.specs.declared.plans.ScanPlans.{ScanPlans}
@@ -186,7 +186,7 @@ row_inside plans node good there place at =
     let rows : ℕ = (node_at plans.table (number_of node)).rows in
     let same : (plan_head (plan_at plans.table (number_of node))).rows ≡ rows = ap (λ (head : Head). head.rows) (head_in_table plans.table good (number_of node) there) in
     let within = slice_get_within (replicate rows true) place true at in
-    let size = length_all rows in
+    let size = length-replicate rows true in
     omega (arith, same, within, size)
 
 -- what some row of all rows of a plan finds, a row finds that asks for its whole values
@@ -227,7 +227,7 @@ cause_asked Told Other Sound plans node chosen (BadCode take row) before now aft
     (λ bytes sound any. chunk_finds_asked (IsBadCodeAt (leaves_of bytes) (number_of take) row) plans node chosen is there asks any) cause
 cause_asked Told Other Sound plans node chosen (EvalFault row) before now after carries is there asks lasts cause =
     let rows : ℕ = (node_at plans.table (number_of node)).rows in
-    let size = length_all rows in
+    let size = length-replicate rows true in
     let inside : 0 + length (replicate rows true) ≤ (node_at plans.table (number_of node)).rows = omega (arith, size) in
     carries (λ bytes. ChunkFaultsAt (leaves_of bytes) (with_projection plans node) [] (all_rows plans node) row) (λ bytes. ChunkFaultsAt (leaves_of bytes) plans [] chosen row)
     (λ bytes sound v. whole_cause plans.table is.good (leaves_of bytes) plans.row_offset (number_of plans.projection) chosen.scope.rows.start chosen.mask (number_of node) (number_of node) 0 (replicate rows true) (step_errors.EvalFault row) is.known asks (inl refl) inside v) cause

@@ -1,6 +1,7 @@
 -- The run of all rows of a plan, as that of a chunk which selects them all.
 use Rattle.std.proofs.Common.{◌≡◌, ℕ, zero, suc, ◌<◌, inl, Bool, true, List, [], ◌∷◌, Option, Some, None, Err, length, map, replicate, refl, sym, ap, ◌∙◌, subst, arith}
 use Rattle.std.specs.Prelude.{IfOk, Result}
+use Rattle.std.proofs.lemmas.List.{length-replicate}
 use Rattle.std.specs.List.{range_with_len}
 use Rattle.vx_words.proofs.Places.{true_count-cons}
 use Rattle.vx_base.specs.Columns.{ColumnData}
@@ -26,7 +27,7 @@ use Rattle.vx_steps.specs.Rows.{rows_of, AreOf}
 use Rattle.vx_steps.specs.ScanData.{ScanData}
 use Rattle.vx_steps.proofs.ReadVisits.{no_columns}
 use Rattle.vx_steps.proofs.SelectedRows.{rows_all}
-use Rattle.vx_steps.proofs.WholeRows.{each_same, length_all}
+use Rattle.vx_steps.proofs.WholeRows.{each_same}
 use Rattle.vx_scan.specs.declared.errors.ScanError.{ScanError}
 use Rattle.vx_scan.specs.declared.errors.ScanError.TheVariants.{Memory}
 use Rattle.vx_scan.specs.declared.plans.ScanPlans.{ScanPlans}
@@ -48,7 +49,7 @@ plans_with plans node are known = record { known = known; few = are.few; ranges 
 pub all_inside : (plans : ScanPlans) (node : PlanRef) → IsChunkOf (with_projection plans node) (all_rows plans node)
 all_inside plans node =
     let rows : ℕ = (node_at plans.table (number_of node)).rows in
-    let size = length_all rows in
+    let size = length-replicate rows true in
     record { forwards = omega arith; inside = omega arith; mask = omega (arith, size) }
 
 abbrev pub rows_with : ℕ → List Bool → SelectedRows

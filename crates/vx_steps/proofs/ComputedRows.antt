@@ -3,6 +3,7 @@ use Rattle.std.proofs.Common.{◌≡◌, ℕ, zero, suc, ◌+◌, ◌<◌, ◌�
 use Rattle.std.specs.Prelude.{slice_range, IsSomeAnd, IfOk, IfErr, IfSome, MatchResult, option_and_then}
 use Rattle.std.specs.List.{slice_get, range_with_len}
 use Rattle.std.proofs.lemmas.Int.{ints}
+use Rattle.std.proofs.lemmas.List.{length-replicate}
 use Rattle.vx_base.specs.ColumnCalls.{natural}
 use Rattle.vx_base.specs.Columns.{ColumnData}
 use Rattle.vx_base.specs.Data.{DataType, Datum, null, truth, number, text, structure}
@@ -38,7 +39,7 @@ use Rattle.vx_steps.specs.Visits.{Test, Visits, SomeVisit, HasBadCode, HasEvalFa
 use Rattle.vx_steps.proofs.Premises.{is_by_for}
 use Rattle.vx_steps.proofs.SelectedRows.{map_same, picked_rows, row_bit, rows_all, rows_none, then_rows, value_row}
 use Rattle.vx_steps.proofs.Shaping.{head_of, IsEvalPlan, IsLeafPlan, IsSharePlan, IsTakePlan, IsZonedPlan}
-use Rattle.vx_steps.proofs.WholeRows.{each_at, each_same, length_all, row_below, same_below}
+use Rattle.vx_steps.proofs.WholeRows.{each_at, each_same, row_below, same_below}
 use Rattle.vx_steps.proofs.FreeVisits.{IsNoPlace}
 
 -- ---- causes
@@ -320,10 +321,10 @@ whole_computed h n result head computed leaves are = by_result result (computed 
         let F : ℕ → Type 0 = λ rows. derived_each leaves (each_row (plan_derivation h.offset (plan_at h.nodes n)) 0 rows) ≡ Some column.values in
         let all : map (row_value leaves None h.offset (plan_at h.nodes n)) (range_with_len 0 (node_at h.nodes n).rows) ≡ map Some column.values = ap (map (row_value leaves None h.offset (plan_at h.nodes n))) (sym (rows_all 0 (node_at h.nodes n).rows)) ∙ o in
         subst F (sym head) (each_same leaves h.offset (plan_at h.nodes n) 0 (node_at h.nodes n).rows column.values all)
-    by_result (Err fault) o = (replicate (node_at h.nodes n).rows true, length_all (node_at h.nodes n).rows, o)
+    by_result (Err fault) o = (replicate (node_at h.nodes n).rows true, length-replicate (node_at h.nodes n).rows true, o)
 
 pub whole_memory : (h : Held) (n : ℕ) → ComputesWhole h n (Err Memory)
-whole_memory h n leaves are = (replicate (node_at h.nodes n).rows true, length_all (node_at h.nodes n).rows, tt)
+whole_memory h n leaves are = (replicate (node_at h.nodes n).rows true, length-replicate (node_at h.nodes n).rows true, tt)
 
 -- what is there for a plan has its dtype and its rows
 given_typed : (nodes : List Node) (given : Option (List Kept)) (n : ℕ) (column : ColumnData) → IfSome given (AreTyped nodes) → kept_in given n ≡ Some column → (column.dtype ≡ (node_at nodes n).dtype) × (length column.values ≡ (node_at nodes n).rows)

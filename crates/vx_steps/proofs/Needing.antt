@@ -3,7 +3,7 @@ use Rattle.std.proofs.Common.{◌≡◌, ℕ, zero, suc, ◌+◌, ◌<◌, ◌�
 use Rattle.std.specs.Prelude.{IsSomeAnd, OnOk, OnErr}
 use Rattle.std.specs.List.{slice_get}
 use Rattle.std.specs.declared.alloc.AllocError.{AllocError}
-use Rattle.std.proofs.lemmas.List.{take_more}
+use Rattle.std.proofs.lemmas.List.{take_more, get_or_default}
 use Rattle.std.proofs.lemmas.Option.{none-some}
 use Rattle.vx_steps.specs.declared.leaf_reads.LeafRead.{LeafRead}
 use Rattle.vx_steps.specs.KeptData.{Kept}
@@ -121,13 +121,8 @@ only_more handed first old new needs i need inside is before here s asked =
 abbrev pub need_at : List LeafRead → ℕ → LeafRead
 need_at needs i = get_or needs i (record { leaf = 0; segment = 0 })
 
-any_default : {X : Type 0} (xs : List X) (i : ℕ) (d e : X) → i < length xs → get_or xs i d ≡ get_or xs i e
-any_default [] i d e h = absurd (omega arith)
-any_default (x ∷ xs) zero d e h = refl
-any_default (x ∷ xs) (suc i) d e h = any_default xs i d e (omega arith)
-
 pub need_is : (needs : List LeafRead) (i : ℕ) → i < length needs → need_at needs i ≡ get_or needs i (need_at needs i)
-need_is needs i h = any_default needs i (record { leaf = 0; segment = 0 }) (need_at needs i) h
+need_is needs i h = get_or_default needs i (record { leaf = 0; segment = 0 }) (need_at needs i) h
 
 wanted_agrees : (segment : ℕ) (old new : List Wanted) → IsWanted segment old new → (outside : ℕ → Option (List ℕ)) → Agrees old outside → Agrees new outside
 wanted_agrees segment old new (inl (there, same)) outside agrees =

@@ -1,5 +1,5 @@
 -- All rows of a plan, one after another.
-use Rattle.std.proofs.Common.{◌≡◌, ℕ, zero, suc, ◌+◌, ◌<◌, ◌≤◌, Bool, true, List, [], ◌∷◌, Option, Some, None, length, map, replicate, refl, sym, ap, ◌∙◌, arith}
+use Rattle.std.proofs.Common.{◌≡◌, ℕ, zero, suc, ◌+◌, ◌<◌, ◌≤◌, Bool, true, List, [], ◌∷◌, Option, Some, None, length, map, refl, sym, ap, ◌∙◌, arith}
 use Rattle.std.proofs.lemmas.Option.{slice_get_within}
 use Rattle.std.specs.List.{slice_get, range_with_len}
 use Rattle.vx_base.specs.Data.{Datum}
@@ -13,10 +13,6 @@ use Rattle.vx_steps.specs.Rows.{rows_of}
 use Rattle.vx_steps.proofs.SelectedRows.{rows_same}
 
 -- ---- masks
-
-pub length_all : (count : ℕ) → length (replicate count true) ≡ count
-length_all zero = refl
-length_all (suc count) = omega (arith, length_all count)
 
 pub row_below : (bs : List Bool) (rows : ℕ) → length bs ≡ rows → (place : ℕ) → slice_get bs place ≡ Some true → 0 + place < rows
 row_below bs rows long place at = omega (arith, slice_get_within bs place true at)

@@ -2,7 +2,7 @@ use Rattle.std.proofs.Common.{arith, ◌≡◌, ◌+◌, ◌<◌, ◌≤◌, ℕ
 use Rattle.std.proofs.lemmas.Result.{IfOk-weaker, err_from_is_err_and}
 use Rattle.vx_base.specs.Columns.{ColumnData}
 use Rattle.vx_base.specs.Masks.{true_count}
-use Rattle.std.proofs.lemmas.List.{length-map, take_all}
+use Rattle.std.proofs.lemmas.List.{length-map, take_all, length-replicate}
 use Rattle.std.proofs.lemmas.List.Concat.{length-flat_map}
 use Rattle.std.proofs.lemmas.List.Sums.{sum_by_push}
 use Rattle.std.specs.Prelude.{slice_range, IfOk}
@@ -32,7 +32,6 @@ use Rattle.vx_steps.proofs.MaskRanges.{all_pushed, count_more, length_between}
 use Rattle.vx_steps.proofs.Readying.{nothing_given, ready_chunk, ready_field, ready_leaf, ready_same, ready_shared, ready_values, ready_whole, ready_zoned}
 use Rattle.vx_steps.proofs.SelectedRows.{count_none, picked_count, rows_count}
 use Rattle.vx_steps.proofs.Shaping.{eval_at, leaf_plan, over_plan, pack_plan_at, numbers_law, numbers_type, same_law, same_plan, share_plan_at, take_plan_at, zoned_law, zoned_like_plan}
-use Rattle.vx_steps.proofs.WholeRows.{length_all}
 use Rattle.vx_steps.proofs.computing.+computing.Goals as goal
 
 looked_dtype : (codes values out c v : DataType) → out ≡ nullable_where (nullability_of c) v → c ≡ codes → v ≡ values → out ≡ nullable_where (nullability_of codes) values
@@ -233,7 +232,7 @@ whole_of_plan-returns-in_err-all-clause-computed g c =
 pub whole_of_plan-column_of-requires : goal.whole_of_plan-column_of-requires
 whole_of_plan-column_of-requires g c =
     let all : c.in_ok-all.all ≡ replicate (node_at c.args.from.table.now c.args.plan).rows true = c.in_ok-all.ensures ∙ ap (λ (rows : ℕ). replicate rows true) c.row_count.ensures in
-    let count : length c.in_ok-all.all ≡ (node_at c.args.from.table.now c.args.plan).rows = ap length all ∙ length_all (node_at c.args.from.table.now c.args.plan).rows in
+    let count : length c.in_ok-all.all ≡ (node_at c.args.from.table.now c.args.plan).rows = ap length all ∙ length-replicate (node_at c.args.from.table.now c.args.plan).rows true in
     let F : List Bool → Type 0 = λ bits. AreReady (alone (held c.args.from)) c.args.plan 0 bits in
     (omega arith, (c.requires.known, (omega arith, (record { leaves = c.requires.held.leaves; given = tt; made = c.requires.held.made; offset = c.requires.held.offset }, subst F (sym all) (ready_whole (held c.args.from) c.args.plan (node_at c.args.from.table.now c.args.plan).rows (replicate (node_at c.args.from.table.now c.args.plan).rows true) (λ place at. past_true (node_at c.args.from.table.now c.args.plan).rows place at) refl c.requires.ready)))))
 
