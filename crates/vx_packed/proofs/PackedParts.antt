@@ -1,5 +1,5 @@
 -- Structs of columns, row by row.
-use Rattle.std.proofs.Common.{◌≡◌, ℕ, zero, suc, ◌+◌, Bool, true, false, cond, List, [], ◌∷◌, length, map, drop, replicate, Option, Some, None, refl, sym, ap, subst, ◌∙◌, arith}
+use Rattle.std.proofs.Common.{◌≡◌, ℕ, zero, suc, ◌+◌, Bool, true, false, cond, List, [], ◌∷◌, length, map, get_or, drop, replicate, Option, Some, None, refl, sym, ap, subst, ◌∙◌, arith}
 use Rattle.std.specs.List.{AllByRecursion, range_with_len}
 use Rattle.std.proofs.lemmas.List.{drop_more, drop_all}
 use Rattle.vx_types.specs.declared.dtypes.Nullability.TheVariants.{NonNullable}
@@ -15,9 +15,16 @@ use Rattle.vx_packed.proofs.PartRows.{struct_len}
 use Rattle.vx_packed.specs.Slots.{bare, bare_members}
 
 -- ---- which rows are valid
+valid_from : (mask : List Bool) (k n : ℕ) → length mask ≡ k + n → drop k mask ≡ map (is_valid (Some mask)) (range_with_len k n)
+valid_from mask k zero e = drop_all k mask (omega arith)
+valid_from mask k (suc n) e = drop_more mask k false (omega arith) ∙ ap (λ (bits : List Bool). get_or mask k false ∷ bits) (valid_from mask (k + 1) n (omega arith))
 
 pub mask_valid : (mask : List Bool) (rows : ℕ) → length mask ≡ rows → mask ≡ map (is_valid (Some mask)) (range_with_len 0 rows)
 mask_valid mask rows e = valid_from mask 0 rows (omega arith)
+
+all_valid_from : (k n : ℕ) → replicate n true ≡ map (is_valid None) (range_with_len k n)
+all_valid_from k zero = refl
+all_valid_from k (suc n) = ap (λ (bits : List Bool). true ∷ bits) (all_valid_from (k + 1) n)
 
 pub all_rows_valid : (rows : ℕ) → replicate rows true ≡ map (is_valid None) (range_with_len 0 rows)
 all_rows_valid rows = all_valid_from 0 rows
