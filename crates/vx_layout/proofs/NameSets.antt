@@ -92,11 +92,16 @@ found_left : (p test : List ℕ → Bool) → ((x : List ℕ) → p x ≡ true �
 found_left p test passes [] = refl
 found_left p test passes (x ∷ xs) = found_step p x (filter test xs) xs (test x) (p x) refl (passes x) (found_left p test passes xs)
 
+-- of two names that differ each differs from the other
+pub differs : (one other : List ℕ) → bytes_eq other one ≡ false → (b : Bool) → bytes_eq one other ≡ b → b ≡ false
+differs one other e true f = let same = (bytes_eq-Decides other one).1 (sym ((bytes_eq-Decides one other).0 f)) in absurd cc
+differs one other e false f = refl
+
 -- a text that equals one name differs from another
 other_name : (n name x : List ℕ) → bytes_eq n name ≡ false → bytes_eq x name ≡ true → not (bytes_eq x n) ≡ true
-other_name n name x differs e =
+other_name n name x apart e =
     let same : x ≡ name = (bytes_eq-Decides x name).0 e in
-    ap (λ (y : List ℕ). not (bytes_eq y n)) same ∙ ap not (swapped name n ∙ differs)
+    ap (λ (y : List ℕ). not (bytes_eq y n)) same ∙ ap not (differs name n apart (bytes_eq name n) refl)
 
 first_step : (n name : List ℕ) (ns : List (List ℕ)) (b : Bool) → bytes_eq n name ≡ b → stands_in (first_ones ns) name ≡ stands_in ns name → (b || stands_in (filter (λ other. not (bytes_eq other n)) (first_ones ns)) name) ≡ (b || stands_in ns name)
 first_step n name ns true e later = refl

@@ -1,5 +1,5 @@
 -- The expression that packs the kept fields of a struct is bound, to the dtype of the kept fields.
-use Rattle.std.proofs.Common.{◌≡◌, ℕ, ◌≤◌, Bool, true, false, cond, not, ◌&&◌, ◌||◌, List, Some, None, refl, sym, ap, ◌∙◌, arith}
+use Rattle.std.proofs.Common.{◌≡◌, ℕ, ◌≤◌, Bool, true, false, cond, not, ◌&&◌, ◌||◌, List, Some, None, refl, ap, ◌∙◌, arith}
 use Rattle.std.specs.Prelude.{option_and_then, option_map, Ok, Err}
 use Rattle.std.specs.List.{list_any}
 use Rattle.std.specs.Str.{bytes_eq}
@@ -20,6 +20,7 @@ use Rattle.vx_layout.specs.Kept.{KeptFields, only, is_kept}
 use Rattle.vx_lower.specs.Keeping.{bound_pack}
 use Rattle.vx_lower.specs.KeptRows.{kept_members, kept_pack, kept_terms, kept_type, MayKeep}
 use Rattle.vx_expr.proofs.RewrittenTypes.{or_left, or_right}
+use Rattle.vx_layout.proofs.NameSets.{differs}
 
 -- ---- the fields by name
 
@@ -42,10 +43,6 @@ and_second false b e = absurd cc
 not_true : (a : Bool) → not a ≡ true → a ≡ false
 not_true true e = absurd cc
 not_true false e = refl
-
-differs : (one other : List ℕ) → bytes_eq other one ≡ false → (b : Bool) → bytes_eq one other ≡ b → b ≡ false
-differs one other e true f = let same = (bytes_eq-Decides other one).1 (sym ((bytes_eq-Decides one other).0 f)) in absurd cc
-differs one other e false f = refl
 
 -- another member in front hides none of other names
 found_behind : (name : List ℕ) (t : DataType) (whole ms : Members) → is_among name ms ≡ false → AreFound whole ms → AreFound (member name t whole) ms
