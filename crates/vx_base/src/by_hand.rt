@@ -4,18 +4,16 @@ ghost use Rattle.std.specs.Prelude.{◌≡◌, ◌∷◌, [], Some, None, true, 
 ghost use Rattle.vx_base.specs.Data.{null, truth};
 ghost use Rattle.vx_base.specs.Faults.{one_more};
 ghost use Rattle.vx_base.specs.RunRows.{start_of, repeated, range_counts, mask_counts, kept_places, kept_ends};
-ghost use Rattle.vx_base.specs.Runs.{spread, end_before, run_places};
+ghost use Rattle.vx_base.specs.Runs.{spread, run_places};
 ghost use Rattle.vx_base.specs.ScriptSources.{waits_left, polled_once, tickets_before, held_up};
 ghost use Rattle.vx_base.specs.Sources.{asks_also, bytes_at, location_of, without};
 
-/// Runs that end at 2, 5 and 9: the rows of the first two, the end before a place, where the last run begins, and the
-/// run of each row. Of three rows behind the first, one is of the first run and two of the second; behind three rows
-/// nothing of the first run is left. Of chosen rows, how many each run has; which runs have any, and where those end.
-/// A value that is repeated no times is left out.
+/// Runs that end at 2, 5 and 9: the rows of the first two, where the last run begins, and the run of each row. Of
+/// three rows behind the first, one is of the first run and two of the second; behind three rows nothing of the first
+/// run is left. Of chosen rows, how many each run has; which runs have any, and where those end. A value that is
+/// repeated no times is left out.
 pub fn runs_by_hand()
     ensures rows { spread 0 (truth true ∷ null ∷ []) (2 ∷ 5 ∷ []) ≡ truth true ∷ truth true ∷ null ∷ null ∷ null ∷ [] }
-    ensures before_first { end_before (2 ∷ 5 ∷ 9 ∷ []) 0 ≡ 0 }
-    ensures before_last { end_before (2 ∷ 5 ∷ 9 ∷ []) 2 ≡ 5 }
     ensures begin { start_of 0 (2 ∷ 5 ∷ 9 ∷ []) 2 ≡ 5 }
     ensures places { run_places 0 0 (2 ∷ 5 ∷ []) ≡ 0 ∷ 0 ∷ 1 ∷ 1 ∷ 1 ∷ [] }
     ensures ranged { range_counts 1 3 0 (2 ∷ 5 ∷ 9 ∷ []) ≡ 1 ∷ 2 ∷ 0 ∷ [] }
