@@ -1,9 +1,9 @@
 -- Command lines that were worked out by hand, with what their words ask. A bar stands between two words.
-use Rattle.std.specs.Prelude.{◌≡◌, ◌==◌, ℕ, false, if◌then◌else◌, codes, List, [], ◌∷◌, map, Some, None}
+use Rattle.std.specs.Prelude.{◌≡◌, ◌==◌, ℕ, false, true, if◌then◌else◌, codes, List, [], ◌∷◌, map, Some, None}
 use Rattle.clap.specs.Words.{Text}
 use Rattle.scan_words.specs.declared.commands.Command.{Command}
 use Rattle.scan_words.specs.declared.commands.Command.TheVariants.{Scan, Read, Tree, Demo}
-use Rattle.vx_readers.specs.declared.split_rules.SplitBy.TheVariants.{LayoutSubSplitting}
+use Rattle.vx_readers.specs.declared.split_rules.SplitBy.TheVariants.{Layout, LayoutSubSplitting, RowCount}
 use Rattle.scan_words.specs.Words.{command_of}
 
 abbrev pub with_first : ℕ → List Text → List Text
