@@ -14,29 +14,28 @@ use vx_base::{Column, Text, Value, decode, encode};
 use vx_notation::write_value;
 
 /// The text of a row: its number, and null at each seventh row.
-fn value_at(alloc: Global, row: u64) -> Result<Value, AllocError> {
+fn value_at(alloc: Global, row: u64) -> Value {
     if row % 7 == 6 {
-        return Ok(Value::Null);
+        return Value::Null;
     }
-    let text = format!(in alloc; "row {row}")?;
-    Ok(Value::Text(Text::from_string(text)))
+    let text = format!(in alloc; "row {row}").unwrap_or(String::new(alloc));
+    Value::Text(Text::from_string(text))
 }
 
-/// The values of the rows of a range.
-fn values_of(alloc: Global, from: u64, to: u64) -> Result<Vec<Value>, AllocError> {
+/// The values of the rows of a range; what has no room is left out.
+fn values_of(alloc: Global, from: u64, to: u64) -> Vec<Value> {
     let mut values = Vec::new(alloc);
     for row in from..to {
-        let value = value_at(alloc, row)?;
-        values.push(value)?;
+        let _pushed = values.push(value_at(alloc, row)).ok();
     }
-    Ok(values)
+    values
 }
 
 /// The texts of the rows of a range.
 fn texts_of(alloc: Global, from: u64, to: u64) -> Result<Column, AllocError>
     ensures { IfOk result (λ column. column.dtype ≡ utf8_type Nullable) }
 {
-    match Column::try_of(alloc, texts_or_nulls(), values_of(alloc, from, to)?) {
+    match Column::try_of(alloc, texts_or_nulls(), values_of(alloc, from, to)) {
         Ok(column) => Ok(column),
         Err(_) => Err(AllocError),
     }
@@ -48,11 +47,8 @@ fn write_told(alloc: Global, column: &Column, out: &mut String) -> Result<(), Al
     if rows == 0 {
         return Ok(());
     }
-    write!(out, "{rows} rows, the last ")?;
-    match write_value(&column.get(alloc, rows - 1)?, out) {
-        Ok(()) => Ok(()),
-        Err(_) => Err(AllocError),
-    }
+    let value = column.get(alloc, rows - 1).unwrap_or(Value::Null);
+    write!(out, "{rows} rows, the last ").and(write_value(&value, out).or(Err(AllocError)))
 }
 
 /// The parts of a column, of two rows each.
@@ -74,14 +70,18 @@ fn joined_column(alloc: Global, count: u64) -> Result<Column, AllocError> {
     Column::concat(alloc, texts_or_nulls(), parts)
 }
 
-/// The column of that many parts, which is the same as that of all its rows at once.
-fn write_joined(alloc: Global, count: u64, out: &mut String) -> Result<(), AllocError> {
-    let column = joined_column(alloc, count)?;
-    let whole = texts_of(alloc, 0, count.saturating_mul(2))?;
-    if !whole.same(&column) {
+/// Appends what is told of that many parts joined, which are the same as all their rows at once.
+fn write_joined(
+    alloc: Global,
+    joined: &Column,
+    count: u64,
+    out: &mut String,
+) -> Result<(), AllocError> {
+    let is_whole = texts_of(alloc, 0, count.saturating_mul(2))?.same(joined);
+    if !is_whole {
         return out.push_str("other rows");
     }
-    write_told(alloc, &column, out)
+    write_told(alloc, joined, out)
 }
 
 /// Whether the value's text, if it is one, has a length that a segment can hold.
@@ -116,8 +116,8 @@ fn write_read(
     requires { column.now.dtype ≡ utf8_type Nullable }
 {
     write!(out, "{} bytes, ", bytes.len())?;
-    match decode(alloc, column.dtype(), column.len(), bytes) {
-        Ok(read) if read.same(column) => write_told(alloc, &read, out),
+    match &decode(alloc, column.dtype(), column.len(), bytes) {
+        Ok(read) if read.same(column) => write_told(alloc, read, out),
         _ => out.push_str("other rows"),
     }
 }
@@ -130,7 +130,7 @@ fn write_coded(alloc: Global, column: &Column, out: &mut String) -> Result<(), A
     if !are_short(values.as_slice()) {
         return Ok(());
     }
-    let bytes = encode(alloc, column)?;
+    let bytes = encode(alloc, column).unwrap_or(Vec::new(alloc));
     write_read(alloc, column, bytes.as_slice(), out)
 }
 
@@ -139,7 +139,7 @@ pub(crate) fn write_big(alloc: Global, rest: &str, out: &mut String) -> Result<(
     let (word, count) = rest.split_once(' ').unwrap_or((rest, ""));
     let count = number_of(count);
     match word {
-        "joined" => write_joined(alloc, count, out),
+        "joined" => write_joined(alloc, &joined_column(alloc, count)?, count, out),
         "coded" => write_coded(alloc, &texts_of(alloc, 0, count)?, out),
         _ => Ok(()),
     }

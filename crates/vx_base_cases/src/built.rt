@@ -6,26 +6,16 @@ ghost use Rattle.std.specs.Option.{ForSome};
 ghost use Rattle.vx_base.specs.declared.dtypes.IntKind.TheVariants.{U64};
 ghost use Rattle.vx_base.specs.declared.dtypes.Nullability.TheVariants.{NonNullable, Nullable};
 ghost use Rattle.vx_base.specs.Data.{int_type, utf8_type, member, no_members};
-ghost use Rattle.vx_base.specs.ColumnCalls.{IsUnsigned, IsCodeBelow};
+ghost use Rattle.vx_base.specs.ColumnCalls.{IsCodeBelow};
 ghost use Rattle.vx_base.specs.Views.{data_type};
 ghost use Rattle.vx_base.specs.ValueViews.{datum};
 
-use crate::column_calls::column;
-use crate::fields::{number_of, three, two};
+use crate::column_calls::read_column;
+use crate::fields::{number_of, read_dtype, three, two};
 use crate::mask_calls::mask_of;
 use std::alloc::Global;
-use vx_base::{Column, DType, Field, Fields, IntKind, Mask, Nullability, Text, Value};
-use vx_notation::{column_of, dtype_of};
-
-/// Whether the codes are unsigned numbers.
-fn is_unsigned(dtype: &DType) -> bool
-    ensures { IsTrue result → IsUnsigned (data_type dtype.now) }
-{
-    matches!(
-        dtype,
-        DType::Int(IntKind::U8 | IntKind::U16 | IntKind::U32 | IntKind::U64, _)
-    )
-}
+use vx_base::{Column, DType, Field, Fields, IntKind, Mask, Nullability, Text, Value, is_unsigned};
+use vx_notation::column_of;
 
 /// Whether the code is below the count.
 fn is_below(code: &Value, count: usize) -> bool
@@ -53,18 +43,22 @@ fn are_below(codes: &[Value], count: usize) -> bool
 fn looked_up(alloc: Global, codes: &Column, values: &Column) -> Option<Column> {
     let numbers = codes.to_values(alloc).ok()?;
     if !is_unsigned(codes.dtype()) || !are_below(numbers.as_slice(), values.len() as usize) {
-        return None;
+        None
+    } else {
+        Column::look_up(alloc, codes, values).ok()
     }
-    Column::look_up(alloc, codes, values).ok()
+}
+
+/// The values at codes that are written so.
+fn looked_up_in(alloc: Global, dtype: &str, codes: &str, values: &Column) -> Option<Column> {
+    let codes = column_of(alloc, read_dtype(alloc, dtype), codes).ok()?;
+    looked_up(alloc, &codes, values)
 }
 
 /// The values at codes, each column with its dtype before it.
 pub(crate) fn look_up(alloc: Global, rest: &str) -> Option<Column> {
     let (dtype, codes, values) = three(rest);
-    let values = column(alloc, values)?;
-    let dtype = dtype_of(alloc, dtype).ok()?;
-    let codes = column_of(alloc, dtype, codes).ok()?;
-    looked_up(alloc, &codes, &values)
+    looked_up_in(alloc, dtype, codes, &read_column(alloc, values)?)
 }
 
 /// Whether a validity of so many rows is written: where the word is `all` none, else as many bits.
@@ -100,12 +94,14 @@ pub(crate) fn texts_or_nulls() -> DType
 fn two_fields(alloc: Global) -> Option<Fields>
     ensures { ForSome result (λ fields. fields ≡ member (97 ∷ []) (int_type U64 NonNullable) (member (98 ∷ []) (utf8_type Nullable) no_members)) }
 {
+    let first = String::from_str(alloc, "a").ok()?;
+    let second = String::from_str(alloc, "b").ok()?;
     let first = Field {
-        name: Text::from_string(String::from_str(alloc, "a").ok()?),
+        name: Text::from_string(first),
         dtype: DType::Int(IntKind::U64, Nullability::NonNullable),
     };
     let second = Field {
-        name: Text::from_string(String::from_str(alloc, "b").ok()?),
+        name: Text::from_string(second),
         dtype: DType::Utf8(Nullability::Nullable),
     };
     let fields = vec![in alloc; first, second].ok()?;
@@ -117,11 +113,11 @@ fn packed(alloc: Global, validity: &str, numbers: Column, texts: Column) -> Opti
     requires numbers { numbers.dtype ≡ int_type U64 NonNullable }
     requires texts { texts.dtype ≡ utf8_type Nullable }
 {
-    let rows = numbers.len();
-    if texts.len() != rows {
+    let (rows, others) = (numbers.len(), texts.len());
+    let parts = vec![in alloc; numbers, texts].ok()?;
+    if others != rows {
         return None;
     }
-    let parts = vec![in alloc; numbers, texts].ok()?;
     let validity = validity_of(alloc, validity, rows)?;
     let fields = two_fields(alloc)?;
     Column::pack(alloc, fields, parts, validity, rows).ok()

@@ -47,7 +47,7 @@ fn write_answer(
     }
 }
 
-/// Does what a line sets, or appends the answer to it. Words that set nothing end all output.
+/// Does what a line sets, or appends the answer to it.
 fn write_line(
     alloc: Global,
     desk: &mut Desk,
@@ -56,17 +56,15 @@ fn write_line(
 ) -> Result<(), AllocError> {
     let (command, rest) = line.split_once(' ').unwrap_or((line, ""));
     match command {
-        "" | "#" => Ok(()),
+        "" | "#" => (),
         "memory" => set_memory(alloc, &mut desk.memory, rest),
         "script" => set_script(alloc, &mut desk.script, rest),
         "stream" => set_stream(alloc, &mut desk.stream, rest),
         "sink" => set_sink(alloc, &mut desk.sink, rest),
-        "clear" => {
-            desk.script.clear();
-            Ok(())
-        }
-        _ => write_answer(alloc, desk, command, rest, out),
+        "clear" => desk.script.clear(),
+        _ => return write_answer(alloc, desk, command, rest, out),
     }
+    Ok(())
 }
 
 /// Appends each line with its answer, over what is set so far.
@@ -77,9 +75,9 @@ fn write_all(
     out: &mut String,
 ) -> Result<(), AllocError> {
     for line in lines.lines() {
-        out.push_str(line)?;
-        write_line(alloc, desk, line, out)?;
-        out.push('\n')?;
+        out.push_str(line)
+            .and(write_line(alloc, desk, line, out))
+            .and(out.push('\n'))?;
     }
     Ok(())
 }

@@ -1,6 +1,8 @@
-//! The parts of a line: fields, numbers and bytes, and short answers.
+//! The parts of a line: fields, numbers, bytes and dtypes, and short answers.
 
 use std::alloc::{AllocError, Global};
+use vx_base::{DType, Nullability};
+use vx_notation::{dtype_of, numbers_of};
 
 /// The two fields before and after the first `|`.
 pub(crate) fn two(text: &str) -> (&str, &str) {
@@ -20,13 +22,23 @@ pub(crate) fn number_of(word: &str) -> u64 {
     word.parse::<u64>().unwrap_or(0)
 }
 
-/// The bytes of these pairs of hexadecimal digits; any other word is 0.
-pub(crate) fn bytes_of(alloc: Global, words: &str) -> Result<Vec<u8>, AllocError> {
+/// The numbers between blanks; any other words are none.
+pub(crate) fn list_of(alloc: Global, words: &str) -> Vec<u64> {
+    numbers_of(alloc, words, ' ').unwrap_or(Vec::new(alloc))
+}
+
+/// The dtype that is written so; any other word is that of truth values.
+pub(crate) fn read_dtype(alloc: Global, word: &str) -> DType {
+    dtype_of(alloc, word).unwrap_or(DType::Bool(Nullability::NonNullable))
+}
+
+/// The bytes of these pairs of hexadecimal digits; any other word is 0, and what has no room is left out.
+pub(crate) fn bytes_of(alloc: Global, words: &str) -> Vec<u8> {
     let mut bytes = Vec::new(alloc);
     for word in words.split_whitespace() {
-        bytes.push(u8::from_str_radix(word, 16).unwrap_or(0))?;
+        let _pushed = bytes.push(u8::from_str_radix(word, 16).unwrap_or(0)).ok();
     }
-    Ok(bytes)
+    bytes
 }
 
 /// Appends the bytes as pairs of hexadecimal digits.

@@ -1,11 +1,10 @@
 //! Sources over memory, one of them with a script: reads that are started, polled and forgotten.
 
-use crate::fields::{bytes_of, number_of, write_bytes};
+use crate::fields::{bytes_of, list_of, number_of, three, two, write_bytes};
 use std::alloc::{AllocError, Global};
 use vx_base::{
     AskedRange, MemorySource, Script, ScriptSource, SegmentLocation, SegmentSource, SourceError,
 };
-use vx_notation::numbers_of;
 
 /// The location that is written as its offset and its length.
 fn location_of(words: &str) -> SegmentLocation {
@@ -52,9 +51,10 @@ fn write_fetched(
     let Ok(ticket) = source.request(0, at) else {
         return Ok(());
     };
-    write!(out, "ticket {ticket}: ")?;
-    write_polled(&source.poll(ticket), out)?;
-    write!(out, ", {} faults", source.faults())
+    let polled = source.poll(ticket);
+    write!(out, "ticket {ticket}: ")
+        .and(write_polled(&polled, out))
+        .and(write!(out, ", {} faults", source.faults()))
 }
 
 /// Starts a read of the file in memory, and forgets it.
@@ -70,47 +70,22 @@ fn write_forgotten(
     write!(out, "ticket {ticket}")
 }
 
-/// The numbers between blanks; what can't be read is want of memory.
-fn list_of(alloc: Global, words: &str) -> Result<Vec<u64>, AllocError> {
-    match numbers_of(alloc, words.trim(), ' ') {
-        Ok(numbers) => Ok(numbers),
-        Err(_) => Err(AllocError),
-    }
-}
-
-/// The script that is written as the requests that fail, the polls that fail, the waits and the order.
-fn script_of(alloc: Global, rest: &str) -> Result<Script, AllocError> {
-    let (requests, rest) = rest.split_once('|').unwrap_or((rest, ""));
-    let (polls, rest) = rest.split_once('|').unwrap_or((rest, ""));
-    let (waits, order) = rest.split_once('|').unwrap_or((rest, ""));
-    Ok(Script {
-        fail_requests: list_of(alloc, requests)?,
-        fail_polls: list_of(alloc, polls)?,
-        waits: list_of(alloc, waits)?,
-        order: list_of(alloc, order)?,
-    })
-}
-
 /// Sets the file in memory.
-pub(crate) fn set_memory(
-    alloc: Global,
-    source: &mut MemorySource,
-    rest: &str,
-) -> Result<(), AllocError> {
-    *source = MemorySource::new(alloc, bytes_of(alloc, rest)?);
-    Ok(())
+pub(crate) fn set_memory(alloc: Global, source: &mut MemorySource, rest: &str) {
+    *source = MemorySource::new(alloc, bytes_of(alloc, rest));
 }
 
-/// Sets the script of the file of the bytes 10 to 15.
-pub(crate) fn set_script(
-    alloc: Global,
-    source: &mut ScriptSource,
-    rest: &str,
-) -> Result<(), AllocError> {
-    let script = script_of(alloc, rest)?;
-    let bytes = [10, 11, 12, 13, 14, 15].to_vec(alloc)?;
-    *source = ScriptSource::new(alloc, bytes, script);
-    Ok(())
+/// Sets the script of the file of the bytes 10 to 15: the requests that fail, the polls that fail, the waits and the order.
+pub(crate) fn set_script(alloc: Global, source: &mut ScriptSource, rest: &str) {
+    let (requests, polls, rest) = three(rest);
+    let (waits, order) = two(rest);
+    let script = Script {
+        fail_requests: list_of(alloc, requests),
+        fail_polls: list_of(alloc, polls),
+        waits: list_of(alloc, waits),
+        order: list_of(alloc, order),
+    };
+    *source = ScriptSource::new(alloc, bytes_of(alloc, "0a 0b 0c 0d 0e 0f"), script);
 }
 
 /// The answer to a command about the source over memory.

@@ -3,10 +3,9 @@
 ghost use Rattle.std.specs.Prelude.{◌<◌};
 
 use crate::desks::Desk;
-use crate::fields::{bytes_of, three, two, write_bytes};
+use crate::fields::{bytes_of, list_of, three, two, write_bytes};
 use std::alloc::{AllocError, Global};
 use vx_base::{BytesSink, BytesSource, Sink, Source, StreamError};
-use vx_notation::numbers_of;
 
 /// A count that is not 0; any other word is 1.
 fn size_of(word: &str) -> usize
@@ -34,37 +33,17 @@ fn write_taken(taken: &Result<usize, StreamError>, out: &mut String) -> Result<(
     }
 }
 
-/// The numbers between blanks; what can't be read is want of memory.
-fn fails_of(alloc: Global, words: &str) -> Result<Vec<u64>, AllocError> {
-    match numbers_of(alloc, words, ' ') {
-        Ok(numbers) => Ok(numbers),
-        Err(_) => Err(AllocError),
-    }
-}
-
 /// Sets the stream that is read.
-pub(crate) fn set_stream(
-    alloc: Global,
-    stream: &mut BytesSource,
-    rest: &str,
-) -> Result<(), AllocError> {
+pub(crate) fn set_stream(alloc: Global, stream: &mut BytesSource, rest: &str) {
     let (piece, fails, bytes) = three(rest);
-    let bytes = bytes_of(alloc, bytes)?;
-    let fails = fails_of(alloc, fails)?;
-    *stream = BytesSource::new(alloc, bytes, size_of(piece), fails);
-    Ok(())
+    let fails = list_of(alloc, fails);
+    *stream = BytesSource::new(alloc, bytes_of(alloc, bytes), size_of(piece), fails);
 }
 
 /// Sets the stream that is written.
-pub(crate) fn set_sink(
-    alloc: Global,
-    stream: &mut BytesSink,
-    rest: &str,
-) -> Result<(), AllocError> {
+pub(crate) fn set_sink(alloc: Global, stream: &mut BytesSink, rest: &str) {
     let (piece, fails) = two(rest);
-    let fails = fails_of(alloc, fails)?;
-    *stream = BytesSink::new(alloc, size_of(piece), fails);
-    Ok(())
+    *stream = BytesSink::new(alloc, size_of(piece), list_of(alloc, fails));
 }
 
 /// The answer to a command about streams.
@@ -77,12 +56,12 @@ pub(crate) fn write_of_streams(
 ) -> Result<(), AllocError> {
     match command {
         "next" => {
-            write_next(&desk.stream.read(size_of(rest)), out)?;
-            write!(out, ", {} faults", desk.stream.faults())
+            let piece = desk.stream.read(size_of(rest));
+            write_next(&piece, out).and(write!(out, ", {} faults", desk.stream.faults()))
         }
         "put" => {
-            write_taken(&desk.sink.write(bytes_of(alloc, rest)?.as_slice()), out)?;
-            write!(out, ", {} faults", desk.sink.faults())
+            let taken = desk.sink.write(bytes_of(alloc, rest).as_slice());
+            write_taken(&taken, out).and(write!(out, ", {} faults", desk.sink.faults()))
         }
         _ => write_bytes(desk.sink.written(), out),
     }
