@@ -5,10 +5,13 @@ use crate::column_calls::write_of_columns;
 use crate::desks::{Desk, new_desk};
 use crate::dtype_calls::write_of_dtypes;
 use crate::errors::write_error;
-use crate::mask_calls::write_of_masks;
+use crate::fields::write_bytes;
 use crate::segments::write_segment;
-use crate::sources::{set_memory, set_script, write_of_memory, write_of_scripts};
-use crate::streams::{set_sink, set_stream, write_of_streams};
+use crate::sources::{
+    set_memory, set_script, write_counts, write_fetched, write_forgotten, write_poll,
+    write_requested,
+};
+use crate::streams::{set_sink, set_stream, write_next, write_taken};
 use std::alloc::{AllocError, Global};
 use vx_base::SegmentSource;
 
@@ -26,21 +29,21 @@ fn write_answer(
         "dtype" | "same_dtype" | "kind" | "find" | "field" | "field_count" => {
             write_of_dtypes(alloc, command, rest, out)
         }
-        "mask"
-        | "all_true"
-        | "all_false"
-        | "at_rows"
-        | "slice_mask"
-        | "both"
-        | "either"
-        | "without"
-        | "chosen"
-        | "behind"
-        | "ranked"
-        | "words" => write_of_masks(alloc, command, rest, out),
-        "fetch" | "forget" | "asked" => write_of_memory(&mut desk.memory, command, rest, out),
-        "request" | "poll" | "counts" => write_of_scripts(&mut desk.script, command, rest, out),
-        "next" | "put" | "written" => write_of_streams(alloc, desk, command, rest, out),
+        "fetch" => write_fetched(&mut desk.memory, rest, out),
+        "forget" => write_forgotten(&mut desk.memory, rest, out),
+        "asked" => {
+            let memory = &desk.memory;
+            write_counts(memory.faults(), memory.idle(), memory.asked(), out)
+        }
+        "request" => write_requested(&mut desk.script, rest, out),
+        "poll" => write_poll(&mut desk.script, rest, out),
+        "counts" => {
+            let script = &desk.script;
+            write_counts(script.faults(), script.idle(), script.asked(), out)
+        }
+        "next" => write_next(&mut desk.stream, rest, out),
+        "put" => write_taken(alloc, &mut desk.sink, rest, out),
+        "written" => write_bytes(desk.sink.written(), out),
         "error" => write_error(rest, out),
         "big" => write_big(alloc, rest, out),
         _ => write_of_columns(alloc, &mut desk.column, command, rest, out),

@@ -3,20 +3,46 @@
 use std::alloc::AllocError;
 use vx_base::{ColumnError, DecodeError, RunsError, SourceError, StreamError};
 
-/// The text of the error of that name.
-pub(crate) fn write_error(name: &str, out: &mut String) -> Result<(), AllocError> {
-    match name {
-        "ColumnError::Unfit(7)" => write!(out, "{}", ColumnError::Unfit(7)),
-        "ColumnError::Memory" => write!(out, "{}", ColumnError::Memory),
-        "RunsError::BadEnds(7)" => write!(out, "{}", RunsError::BadEnds(7)),
-        "RunsError::Unfit(7)" => write!(out, "{}", RunsError::Unfit(7)),
-        "RunsError::Memory" => write!(out, "{}", RunsError::Memory),
-        "DecodeError::BadSegment" => write!(out, "{}", DecodeError::BadSegment),
-        "DecodeError::Memory" => write!(out, "{}", DecodeError::Memory),
-        "SourceError::Failed" => write!(out, "{}", SourceError::Failed),
-        "SourceError::Memory" => write!(out, "{}", SourceError::Memory),
-        "StreamError::Failed" => write!(out, "{}", StreamError::Failed),
-        "StreamError::Memory" => write!(out, "{}", StreamError::Memory),
+/// The text of the error of that kind and name.
+pub(crate) fn write_error(rest: &str, out: &mut String) -> Result<(), AllocError> {
+    let (kind, name) = rest.split_once("::").unwrap_or((rest, ""));
+    match kind {
+        "ColumnError" => {
+            let error = match name {
+                "Unfit(7)" => ColumnError::Unfit(7),
+                _ => ColumnError::Memory,
+            };
+            write!(out, "{error}")
+        }
+        "RunsError" => {
+            let error = match name {
+                "BadEnds(7)" => RunsError::BadEnds(7),
+                "Unfit(7)" => RunsError::Unfit(7),
+                _ => RunsError::Memory,
+            };
+            write!(out, "{error}")
+        }
+        "DecodeError" => {
+            let error = match name {
+                "BadSegment" => DecodeError::BadSegment,
+                _ => DecodeError::Memory,
+            };
+            write!(out, "{error}")
+        }
+        "SourceError" => {
+            let error = match name {
+                "Failed" => SourceError::Failed,
+                _ => SourceError::Memory,
+            };
+            write!(out, "{error}")
+        }
+        "StreamError" => {
+            let error = match name {
+                "Failed" => StreamError::Failed,
+                _ => StreamError::Memory,
+            };
+            write!(out, "{error}")
+        }
         _ => Ok(()),
     }
 }

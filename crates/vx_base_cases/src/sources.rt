@@ -29,7 +29,7 @@ fn write_polled(
 }
 
 /// Appends how often a source failed and found nothing, and what it was asked for.
-fn write_counts(
+pub(crate) fn write_counts(
     faults: u64,
     idle: u64,
     asked: &[AskedRange],
@@ -43,12 +43,12 @@ fn write_counts(
 }
 
 /// Starts a read of the file in memory, and polls it once.
-fn write_fetched(
+pub(crate) fn write_fetched(
     source: &mut MemorySource,
-    at: SegmentLocation,
+    words: &str,
     out: &mut String,
 ) -> Result<(), AllocError> {
-    let Ok(ticket) = source.request(0, at) else {
+    let Ok(ticket) = source.request(0, location_of(words)) else {
         return Ok(());
     };
     let polled = source.poll(ticket);
@@ -58,12 +58,12 @@ fn write_fetched(
 }
 
 /// Starts a read of the file in memory, and forgets it.
-fn write_forgotten(
+pub(crate) fn write_forgotten(
     source: &mut MemorySource,
-    at: SegmentLocation,
+    words: &str,
     out: &mut String,
 ) -> Result<(), AllocError> {
-    let Ok(ticket) = source.request(0, at) else {
+    let Ok(ticket) = source.request(0, location_of(words)) else {
         return Ok(());
     };
     source.clear();
@@ -88,41 +88,27 @@ pub(crate) fn set_script(alloc: Global, source: &mut ScriptSource, rest: &str) {
     *source = ScriptSource::new(alloc, bytes_of(alloc, "0a 0b 0c 0d 0e 0f"), script);
 }
 
-/// The answer to a command about the source over memory.
-pub(crate) fn write_of_memory(
-    source: &mut MemorySource,
-    command: &str,
-    rest: &str,
+/// Starts a read of the file with a script.
+pub(crate) fn write_requested(
+    source: &mut ScriptSource,
+    words: &str,
     out: &mut String,
 ) -> Result<(), AllocError> {
-    match command {
-        "fetch" => write_fetched(source, location_of(rest), out),
-        "forget" => write_forgotten(source, location_of(rest), out),
-        _ => write_counts(source.faults(), source.idle(), source.asked(), out),
+    match source.request(0, location_of(words)) {
+        Ok(ticket) => write!(out, "ticket {ticket}"),
+        Err(error) => write!(out, "{error}"),
     }
 }
 
 /// Polls a read of the file with a script.
-fn write_poll(source: &mut ScriptSource, ticket: u64, out: &mut String) -> Result<(), AllocError> {
+pub(crate) fn write_poll(
+    source: &mut ScriptSource,
+    word: &str,
+    out: &mut String,
+) -> Result<(), AllocError> {
+    let ticket = number_of(word);
     if !source.is_in_flight(ticket) {
         return out.push_str("not in flight");
     }
     write_polled(&source.poll(ticket), out)
-}
-
-/// The answer to a command about the source with a script, whose file has the bytes 10 to 15.
-pub(crate) fn write_of_scripts(
-    source: &mut ScriptSource,
-    command: &str,
-    rest: &str,
-    out: &mut String,
-) -> Result<(), AllocError> {
-    match command {
-        "request" => match source.request(0, location_of(rest)) {
-            Ok(ticket) => write!(out, "ticket {ticket}"),
-            Err(error) => write!(out, "{error}"),
-        },
-        "poll" => write_poll(source, number_of(rest), out),
-        _ => write_counts(source.faults(), source.idle(), source.asked(), out),
-    }
 }

@@ -2,7 +2,6 @@
 
 ghost use Rattle.std.specs.Prelude.{◌<◌};
 
-use crate::desks::Desk;
 use crate::fields::{bytes_of, list_of, three, two, write_bytes};
 use std::alloc::{AllocError, Global};
 use vx_base::{BytesSink, BytesSource, Sink, Source, StreamError};
@@ -14,22 +13,6 @@ fn size_of(word: &str) -> usize
     match word.parse::<usize>() {
         Ok(size) if 0 < size => size,
         _ => 1,
-    }
-}
-
-/// Appends what a read gave.
-fn write_next(piece: &Result<Vec<u8>, StreamError>, out: &mut String) -> Result<(), AllocError> {
-    match piece {
-        Ok(piece) => write_bytes(piece.as_slice(), out),
-        Err(error) => write!(out, "{error}"),
-    }
-}
-
-/// Appends what a write took.
-fn write_taken(taken: &Result<usize, StreamError>, out: &mut String) -> Result<(), AllocError> {
-    match taken {
-        Ok(count) => write!(out, "took {count}"),
-        Err(error) => write!(out, "{error}"),
     }
 }
 
@@ -46,23 +29,31 @@ pub(crate) fn set_sink(alloc: Global, stream: &mut BytesSink, rest: &str) {
     *stream = BytesSink::new(alloc, size_of(piece), list_of(alloc, fails));
 }
 
-/// The answer to a command about streams.
-pub(crate) fn write_of_streams(
-    alloc: Global,
-    desk: &mut Desk,
-    command: &str,
-    rest: &str,
+/// The next piece of the stream that is read.
+pub(crate) fn write_next(
+    stream: &mut BytesSource,
+    word: &str,
     out: &mut String,
 ) -> Result<(), AllocError> {
-    match command {
-        "next" => {
-            let piece = desk.stream.read(size_of(rest));
-            write_next(&piece, out).and(write!(out, ", {} faults", desk.stream.faults()))
-        }
-        "put" => {
-            let taken = desk.sink.write(bytes_of(alloc, rest).as_slice());
-            write_taken(&taken, out).and(write!(out, ", {} faults", desk.sink.faults()))
-        }
-        _ => write_bytes(desk.sink.written(), out),
-    }
+    let piece = stream.read(size_of(word));
+    let written = match &piece {
+        Ok(piece) => write_bytes(piece.as_slice(), out),
+        Err(error) => write!(out, "{error}"),
+    };
+    written.and(write!(out, ", {} faults", stream.faults()))
+}
+
+/// How much of these bytes the stream that is written takes.
+pub(crate) fn write_taken(
+    alloc: Global,
+    stream: &mut BytesSink,
+    words: &str,
+    out: &mut String,
+) -> Result<(), AllocError> {
+    let taken = stream.write(bytes_of(alloc, words).as_slice());
+    let written = match taken {
+        Ok(count) => write!(out, "took {count}"),
+        Err(error) => write!(out, "{error}"),
+    };
+    written.and(write!(out, ", {} faults", stream.faults()))
 }
