@@ -77,7 +77,9 @@ fn write_joined(
     count: u64,
     out: &mut String,
 ) -> Result<(), AllocError> {
-    let is_whole = texts_of(alloc, 0, count.saturating_mul(2))?.same(joined);
+    let whole = texts_of(alloc, 0, count.saturating_mul(2))?;
+    let is_whole = whole.same(joined);
+    drop(whole);
     if !is_whole {
         return out.push_str("other rows");
     }
@@ -116,10 +118,16 @@ fn write_read(
     requires { column.now.dtype ≡ utf8_type Nullable }
 {
     write!(out, "{} bytes, ", bytes.len())?;
-    match &decode(alloc, column.dtype(), column.len(), bytes) {
-        Ok(read) if read.same(column) => write_told(alloc, read, out),
-        _ => out.push_str("other rows"),
-    }
+    let Ok(read) = decode(alloc, column.dtype(), column.len(), bytes) else {
+        return out.push_str("other rows");
+    };
+    let written = if read.same(column) {
+        write_told(alloc, &read, out)
+    } else {
+        out.push_str("other rows")
+    };
+    drop(read);
+    written
 }
 
 /// How many bytes the column is written as, and what is read of them.
@@ -139,8 +147,18 @@ pub(crate) fn write_big(alloc: Global, rest: &str, out: &mut String) -> Result<(
     let (word, count) = rest.split_once(' ').unwrap_or((rest, ""));
     let count = number_of(count);
     match word {
-        "joined" => write_joined(alloc, &joined_column(alloc, count)?, count, out),
-        "coded" => write_coded(alloc, &texts_of(alloc, 0, count)?, out),
+        "joined" => {
+            let joined = joined_column(alloc, count)?;
+            let written = write_joined(alloc, &joined, count, out);
+            drop(joined);
+            written
+        }
+        "coded" => {
+            let texts = texts_of(alloc, 0, count)?;
+            let written = write_coded(alloc, &texts, out);
+            drop(texts);
+            written
+        }
         _ => Ok(()),
     }
 }

@@ -52,13 +52,18 @@ fn looked_up(alloc: Global, codes: &Column, values: &Column) -> Option<Column> {
 /// The values at codes that are written so.
 fn looked_up_in(alloc: Global, dtype: &str, codes: &str, values: &Column) -> Option<Column> {
     let codes = column_of(alloc, read_dtype(alloc, dtype), codes).ok()?;
-    looked_up(alloc, &codes, values)
+    let found = looked_up(alloc, &codes, values);
+    drop(codes);
+    found
 }
 
 /// The values at codes, each column with its dtype before it.
 pub(crate) fn look_up(alloc: Global, rest: &str) -> Option<Column> {
     let (dtype, codes, values) = three(rest);
-    looked_up_in(alloc, dtype, codes, &read_column(alloc, values)?)
+    let values = read_column(alloc, values)?;
+    let found = looked_up_in(alloc, dtype, codes, &values);
+    drop(values);
+    found
 }
 
 /// Whether a validity of so many rows is written: where the word is `all` none, else as many bits.
@@ -127,7 +132,10 @@ fn packed(alloc: Global, validity: &str, numbers: Column, texts: Column) -> Opti
 pub(crate) fn pack(alloc: Global, rest: &str) -> Option<Column> {
     let (validity, numbers, texts) = three(rest);
     let numbers = column_of(alloc, plain_numbers(), numbers).ok()?;
-    let texts = column_of(alloc, texts_or_nulls(), texts).ok()?;
+    let Ok(texts) = column_of(alloc, texts_or_nulls(), texts) else {
+        drop(numbers);
+        return None;
+    };
     packed(alloc, validity, numbers, texts)
 }
 

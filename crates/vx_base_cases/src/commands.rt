@@ -92,5 +92,7 @@ pub(crate) fn write_answers(
     out: &mut String,
 ) -> Result<(), AllocError> {
     let mut desk = new_desk(alloc)?;
-    write_all(alloc, &mut desk, lines, out)
+    let written = write_all(alloc, &mut desk, lines, out);
+    drop(desk);
+    written
 }
