@@ -1,5 +1,5 @@
 -- The leaves that so many rows of a plan read, kind by kind.
-use Rattle.std.proofs.Common.{◌≡◌, ℕ, suc, ◌+◌, ◌-◌, ◌<◌, ◌≤◌, ◌==◌, ◌⊎◌, inl, inr, ⊎_elim, Bool, true, false, List, [], ◌∷◌, Some, None, length, map, cond, refl, sym, ap, ◌∙◌, subst, arith}
+use Rattle.std.proofs.Common.{◌≡◌, ℕ, suc, ◌+◌, ◌-◌, ◌<◌, ◌≤◌, ◌⊎◌, inl, inr, ⊎_elim, Bool, true, false, List, [], ◌∷◌, Some, None, length, map, refl, sym, ap, ◌∙◌, subst, arith}
 use Rattle.std.specs.Prelude.{◌↔◌, IsTrue}
 use Rattle.std.specs.List.{slice_get}
 use Rattle.std.proofs.lemmas.Bool.{cases_lt}
@@ -228,35 +228,6 @@ one_row nodes n row old new inside meets = meets_as (RowsRead nodes n row 1) (Is
     from leaf (there, v) =
         let same : row ≡ row + 0 = omega arith in
         (0, omega arith, subst (λ (k : ℕ). RowReads nodes n k leaf) same v)
-
-    -- ---- the rows behind those of splits
-
-    -- ---- one leaf is met
-
-    still : (b : Bool) → old.found ≡ true → cond b true old.found ≡ true
-    still true was = refl
-    still false was = was
-
-    there : (b : Bool) → (old.wanted == leaf) ≡ b → old.wanted ≡ leaf → cond b true old.found ≡ true
-    there true e is = refl
-    there false e is = absurd (grind arith)
-
-    here : IsMet new leaf
-    here =
-        let itself : (leaf == leaf) ≡ true = grind arith in
-        (put leaf ∙ ap (λ (b : Bool). cond b None (place_in old.places leaf)) itself, λ is. found ∙ there (old.wanted == leaf) refl (sym same ∙ is))
-
-    kept : (b : Bool) (n : ℕ) → (leaf == n) ≡ b → IsMet old n → IsMet new n
-    kept true n e met = let is : leaf ≡ n = grind arith in subst (IsMet new) is here
-    kept false n e met = (put n ∙ ap (λ (b : Bool). cond b None (place_in old.places n)) e ∙ met.0, λ is. found ∙ still (old.wanted == leaf) (met.1 (sym same ∙ is)))
-
-    passed : (b : Bool) (n : ℕ) → (leaf == n) ≡ false → (old.wanted == leaf) ≡ b → old.wanted ≡ n → cond b true old.found ≡ old.found
-    passed true n e f is = absurd (grind arith)
-    passed false n e f is = refl
-
-    only : (b : Bool) (n : ℕ) → (leaf == n) ≡ b → IsMet new n → IsMet old n ⊎ (leaf ≡ n)
-    only true n e met = inr (grind arith)
-    only false n e met = inl (sym (put n ∙ ap (λ (b : Bool). cond b None (place_in old.places n)) e) ∙ met.0, λ is. sym (found ∙ passed (old.wanted == leaf) n e refl is) ∙ met.1 (same ∙ is))
 
 -- ---- what was met in the end
 
