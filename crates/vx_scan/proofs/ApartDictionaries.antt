@@ -20,15 +20,11 @@ use Rattle.vx_layout.specs.Trees.{Tree, missing, leaf, chunks, fields, dict, lis
 use Rattle.vx_layout.proofs.Unfolding.{HaveLaterChildren, good_later, unfolds}
 use Rattle.vx_lower.specs.Lowered.{lowered, lowered_in, lowered_fields, lowered_validity, packing, kept_head, tell, with_zones}
 use Rattle.vx_lower.specs.Projected.{Projection, kept_of}
-use Rattle.vx_lower.proofs.NumberSums.{total, times, times_in, sum_is_total, total_but_first, zero_nowhere}
+use Rattle.vx_lower.proofs.NumberSums.{total, times, times_in, sum_is_total, total_but_first, zero_nowhere, total_both}
 use Rattle.vx_plan.specs.Plans.{Plan, no_plan, take_plan, Plans, plan}
 use Rattle.vx_rows.specs.Heads.{Head}
 use Rattle.vx_rows.specs.Zones.{Zones}
-use Rattle.vx_layout.specs.Shape.{IsGoodTree}
-use Rattle.vx_layout.specs.Trees.{Tree, missing, leaf, chunks, fields, dict, lists, zoned, Forest, no_trees, tree, Validity, always, valid_by, head_at, forest_from, child_in, validity_in, field_trees, grown_as, grown, subtree}
-use Rattle.vx_lower.proofs.NumberSums.{total, times, times_in, sum_is_total, total_but_first, zero_nowhere, total_both}
 use Rattle.vx_lower.proofs.TreeSizes.{children_at, all_children, IsBelow, children_below, above_zero, below_count, once_of, zero_more, children_sizes}
-use Rattle.vx_plan.specs.Plans.{Plan, no_plan, take_plan, Plans, plan}
 use Rattle.vx_scan.specs.Preparing.{TakesAreApart}
 use Rattle.vx_scan.proofs.ApartTakes.{one_at, takes_at, takes_among, takes_valid, takes_apart}
 

@@ -14,7 +14,6 @@ use Rattle.vx_plan.specs.ChildNames.{child_name}
 use Rattle.vx_plan.specs.Nodes.{Node, absent}
 use Rattle.vx_rows.specs.Heads.{Head}
 use Rattle.vx_plan.specs.Plans.{Plan, no_plan, concat_plan, eval_plan, filter_plan, pack_plan, take_plan, share_plan, list_plan, row_idx_plan, scan_plan, zoned_plan, Plans, no_plans, plan, head_at, plan_at, plan_grown_as, plan_in, plans_from, front_plans, last_plan, field_plans, last_validity}
-use Rattle.vx_plan.specs.Plans.{Plan, no_plan, concat_plan, eval_plan, filter_plan, pack_plan, take_plan, share_plan, list_plan, row_idx_plan, scan_plan, zoned_plan, Plans, no_plans, plan, head_at, plan_at, plan_grown_as, plan_in, plans_from, front_plans, last_plan, field_plans, last_validity}
 use Rattle.vx_plan.specs.Rules.{node_at, nodes_at, Asks, IsMadeAs}
 use Rattle.vx_plan.specs.Shapes.{zoned_kind}
 use Rattle.vx_plan.specs.Tables.{IsGoodTable}

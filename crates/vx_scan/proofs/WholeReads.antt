@@ -9,10 +9,8 @@ use Rattle.vx_rows.specs.Given.{GivenValues, values_with, share_with, with_given
 use Rattle.vx_rows.specs.Reads.{Way, directly, through, inside, Found, Read, reads_of, reads_of_each, Finds}
 use Rattle.vx_rows.specs.Heads.{Head}
 use Rattle.vx_rows.proofs.ReadRows.{any_either, any_right, found_anywhere}
-use Rattle.vx_rows.proofs.ReadRows.{any_either, any_right, found_anywhere}
 use Rattle.vx_plan.specs.FittingRows.{HasFittingRows}
 use Rattle.vx_plan.specs.Nodes.{Node, absent}
-use Rattle.vx_plan.specs.Plans.{Plan, no_plan, concat_plan, eval_plan, filter_plan, pack_plan, take_plan, share_plan, list_plan, row_idx_plan, scan_plan, zoned_plan, Plans, no_plans, plan, PlanValidity, all_valid, valid_as, plan_head, head_at, plan_at, plan_gap}
 use Rattle.vx_plan.specs.Plans.{Plan, no_plan, concat_plan, eval_plan, filter_plan, pack_plan, take_plan, share_plan, list_plan, row_idx_plan, scan_plan, zoned_plan, Plans, no_plans, plan, PlanValidity, all_valid, valid_as, plan_head, head_at, plan_at, plan_gap}
 use Rattle.vx_plan.specs.PlanRows.{plan_derivation}
 use Rattle.vx_plan.specs.Rules.{node_at}
