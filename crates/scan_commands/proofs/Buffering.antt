@@ -71,10 +71,6 @@ pub error_then : (error : StreamError) (text part rest more last : List ℕ) (ol
 error_then Failed text part rest more last old mid new first same (some, rose) = (some_more text part more old mid new first some, subst (λ (n : ℕ). Rose n new.faults) same rose)
 error_then Memory text part rest more last old mid new first same (some, is) = (some_more text part more old mid new first some, is ∙ same)
 
--- want of memory before more is written
-pub lacks_then : (text rest last : List ℕ) (old mid : WriteState) → WritesBut rest text old mid → mid.faults ≡ old.faults → BufferGives (Err Memory) text last old mid
-lacks_then text rest last old mid first same = ((rest, first), same)
-
 -- ---- rows of a batch
 
 -- the lines of the next rows went into the buffer
@@ -84,11 +80,6 @@ rows_in t values row end before after text old mid le pushed first =
     let same : before ++ lines t (drop row values) ≡ after ++ lines t (drop end values) =
     ap (λ (x : List ℕ). before ++ x) split ∙ sym (append_assoc before (lines t (slice_range values row end)) (lines t (drop end values))) ∙ ap (λ (x : List ℕ). x ++ lines t (drop end values)) (sym pushed) in
     subst (λ (x : List ℕ). WritesBut x text old mid) same first
-
--- no row is left
-pub rows_done : (t : DataType) (values : List Datum) (row : ℕ) (buffer text : List ℕ) (old mid : WriteState) → length values ≤ row → WritesBut (buffer ++ lines t (drop row values)) text old mid → WritesBut buffer text old mid
-rows_done t values row buffer text old mid le first =
-    subst (λ (x : List ℕ). WritesBut x text old mid) (ap (λ (vs : List Datum). buffer ++ lines t vs) (drop_all row values le) ∙ append-nil buffer) first
 
 -- ---- batches
 

@@ -1,5 +1,5 @@
 -- Ranges have two items, and indices ascend or not.
-use Rattle.std.proofs.Common.{◌≡◌, ℕ, zero, suc, ◌+◌, ◌-◌, ◌<◌, ◌≤◌, Bool, true, false, ltb, List, [], ◌∷◌, length, get_or, Option, Some, None, refl, sym, ap, ◌∙◌, arith}
+use Rattle.std.proofs.Common.{◌≡◌, ℕ, zero, suc, ◌-◌, ◌<◌, ◌≤◌, Bool, true, false, ltb, List, [], ◌∷◌, length, get_or, Option, Some, None, refl, sym, ap, ◌∙◌, arith}
 use Rattle.std.specs.Prelude.{if◌then◌else◌}
 use Rattle.std.proofs.lemmas.Bool.{and_from, and_parts, lt-ltb, ltb-true}
 use Rattle.serde_json.specs.Data.{Data, Items}
@@ -12,6 +12,7 @@ use Rattle.vx_splits.specs.declared.sorted_indices.SortError.{SortError}
 use Rattle.vx_splits.specs.declared.sorted_indices.SortError.TheVariants.{NotSorted}
 use Rattle.scan_commands.specs.JsonForms.{each_form, whole_form}
 use Rattle.scan_commands.specs.RowForms.{range_items, ascends, indices_form}
+use Rattle.vx_splits.proofs.Rising.{Ascend-tail}
 
 pub none_below_two : (items : List Value) → length items < 2 → None ≡ range_items (items_view items)
 none_below_two [] below = refl
@@ -26,18 +27,12 @@ none_past_two (a ∷ b ∷ c ∷ rest) past = refl
 
 -- ---- ascending numbers
 
-tail_up : (n : ℕ) (ns : List ℕ) → Ascend (n ∷ ns) → Ascend ns
-tail_up n ns up k d within =
-    let e : suc k + 1 ≡ suc (k + 1) = omega arith in
-    let next = up (suc k) d (omega arith) in
-    rw e at next
-
 pub ascends_true : (ns : List ℕ) → Ascend ns → ascends ns ≡ true
 ascends_true [] up = refl
 ascends_true (n ∷ []) up = refl
 ascends_true (n ∷ m ∷ ns) up =
     let lt : n < m = up 0 0 (omega arith) in
-    and_from (ltb n m) (ascends (m ∷ ns)) (lt-ltb n m lt) (ascends_true (m ∷ ns) (tail_up n (m ∷ ns) up))
+    and_from (ltb n m) (ascends (m ∷ ns)) (lt-ltb n m lt) (ascends_true (m ∷ ns) (Ascend-tail n (m ∷ ns) up))
 
 next_above : (ns : List ℕ) (k : ℕ) → ascends ns ≡ true → suc k < length ns → get_or ns k 0 < get_or ns (suc k) 0
 next_above [] k test lt = absurd (omega arith)

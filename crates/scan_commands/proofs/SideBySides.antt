@@ -1,5 +1,5 @@
 -- Texts that were made side by side are those of their parts.
-use Rattle.std.proofs.Common.{◌≡◌, ℕ, zero, suc, ◌+◌, ◌*◌, ◌<◌, ◌≤◌, List, [], ◌∷◌, ◌++◌, Vec, Global, Ok, Err, length, take, drop, refl, sym, ap, ◌∙◌, subst, arith}
+use Rattle.std.proofs.Common.{◌≡◌, ℕ, zero, suc, ◌+◌, ◌<◌, ◌≤◌, List, [], ◌∷◌, ◌++◌, Vec, Global, Ok, Err, length, take, drop, refl, sym, ap, ◌∙◌, subst, arith}
 use Rattle.std.specs.Prelude.{option_map, slice_index_or, slice_range}
 use Rattle.std.proofs.lemmas.Grind.{flat_map-append}
 use Rattle.std.proofs.lemmas.List.{append-nil}
@@ -26,18 +26,6 @@ pub length_take : {X : Type 0} (n : ℕ) (xs : List X) → length (take n xs) �
 length_take zero xs = omega arith
 length_take (suc n) [] = omega arith
 length_take (suc n) (x ∷ xs) = omega (arith, length_take n xs)
-
--- ---- making them
-
--- there is no text, and so no batch
-pub none_made : (part : ℕ) (group : List ColumnData) → length group ≤ 0 * part → [] ≡ batch_lines group
-none_made part [] le = refl
-none_made part (batch ∷ group) le = absurd (omega (arith, le))
-
--- the first text has the lines of the first part, and the others have those behind it
-pub all_made : (first : Vec ℕ Global) (others : List (Vec ℕ Global)) (here behind group : List ColumnData) → group ≡ here ++ behind → first.items ≡ batch_lines here → texts_joined others ≡ batch_lines behind → texts_joined (first ∷ others) ≡ batch_lines group
-all_made first others here behind group is one rest =
-    ap (λ (text : List ℕ). text ++ texts_joined others) one ∙ ap (λ (text : List ℕ). batch_lines here ++ text) rest ∙ sym (lines_append here behind) ∙ ap batch_lines (sym is)
 
 -- ---- writing them
 
@@ -100,9 +88,6 @@ pub group_failed : (error : StreamError) (batches : List ColumnData) (first end 
     → WritingGives (Err error) (batch_lines batches) old new
 group_failed error batches first end old mid new group is before same gives =
     failed_more error (batch_lines group) (batch_lines (drop first batches)) (batch_lines (drop end batches)) (batch_lines batches) old mid new (ap batch_lines (sym is) ∙ lines_append group (drop end batches)) before same gives
-
-pub all_written : (batches : List ColumnData) (first : ℕ) (old now : WriteState) → length batches ≤ first → WritesBut (batch_lines (drop first batches)) (batch_lines batches) old now → now.faults ≡ old.faults → WritingGives (Ok tt) (batch_lines batches) old now
-all_written batches first old now past before same = done_all (batch_lines batches) (batch_lines (drop first batches)) old now (ap batch_lines (drop_past first batches past)) before same
 
 -- a stretch of a list, and what is left behind it
 pub range_then : (first end : ℕ) (batches : List ColumnData) → first ≤ end → slice_range batches first end ++ drop end batches ≡ drop first batches

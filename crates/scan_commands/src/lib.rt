@@ -5,7 +5,8 @@
 //!   column or of a range of its rows.
 //! - The statuses from [`DONE`] to [`OUT_OF_MEMORY`], and the text of each, [`status_text`].
 //! - [`request_of`] reads the bytes of a [`Request`], or tells by a [`RequestError`] why they are none.
-//! - [`numbers_are_promised`] holds the constants of the code to the numbers of the promises; [`commands_by_hand`],
+//! - [`numbers_are_promised`] holds the constants of the code to the numbers of the promises, [`numbers_agree`] the numbers
+//!   of the promises to one another; [`commands_by_hand`],
 //!   [`strings_by_hand`], [`rows_by_hand`], [`dtype_forms_by_hand`], [`node_forms_by_hand`], [`expression_forms_by_hand`],
 //!   [`row_forms_by_hand`] and [`request_forms_by_hand`] check the definitions on literals.
 #![tactic(auto)]
@@ -46,7 +47,7 @@ pub use forms_by_hand::{
     dtype_forms_by_hand, expression_forms_by_hand, node_forms_by_hand, request_forms_by_hand,
     row_forms_by_hand,
 };
-pub use numbers::numbers_are_promised;
+pub use numbers::{numbers_agree, numbers_are_promised};
 pub use request_errors::RequestError;
 pub use request_forms::{Request, request_of};
 pub use row_texts::row_text;

@@ -16,8 +16,9 @@ use Rattle.vx_scan.specs.Settling.{direct_and_segment, AsksAgain, IsDirectAmong}
 use Rattle.vx_scan.specs.SourceCounts.{ChunkReads, IsDirectRead, IsReadOf, IsSharedRead}
 use Rattle.vx_scan.specs.Workers.{RunsSource}
 use Rattle.vx_scan.proofs.Counting.{ArePairs, AreBacked, counted_most, direct_once, gained_times, is_same, no_pairs, one_more, one_passed, pairs_most, taken_as}
-use Rattle.vx_scan.proofs.ScanAsks.{place_there, ranges_for}
+use Rattle.vx_scan.proofs.ScanAsks.{ranges_for}
 use Rattle.vx_scan.proofs.Certifying.{each_weaker}
+use Rattle.vx_scan.proofs.Sessions.{located_at}
 
 -- takes keep their numbers
 same_way : (way : Way) → way_renumbered (λ n. n) way ≡ way
@@ -39,7 +40,7 @@ module _ (plans : ScanPlans) (chunks : List SelectedRows) (range : AskedRange) (
   backed : (reasons : List Reason) → AllByRecursion (IsDirectAmong numbers) reasons → AllByRecursion (IsReasonAmong plans chunks) reasons → AllLocated plans.locations.items (map segment_of reasons) → AreBacked IsBehind reasons (ranges_for plans reasons)
   backed [] direct are located = tt
   backed (reason ∷ reasons) direct are located = (
-    (direct.0, are.0, ap (option_map range_of) (place_there plans.locations.items reason.segment (All-head (λ segment. segment < length plans.locations.items) reason.segment (map segment_of reasons) located))),
+    (direct.0, are.0, ap (option_map range_of) (located_at plans.locations.items reason.segment (All-head (λ segment. segment < length plans.locations.items) reason.segment (map segment_of reasons) located))),
     backed reasons direct.1 are.1 (All-tail (λ segment. segment < length plans.locations.items) reason.segment (map segment_of reasons) located),
   )
 
@@ -105,7 +106,7 @@ module _ (plans : ScanPlans) (chunks : List SelectedRows) (range : AskedRange) (
   counted_by_chunks (reason ∷ reasons) own are located =
       let other : AskedRange = range_of (location_of plans.locations.items reason.segment) in
       chunk_by_bit reason other (times_asked range (ranges_for plans reasons)) (map chunk_and_segment reasons) (is_range range other) refl own.0 are.0
-      (ap (option_map range_of) (place_there plans.locations.items reason.segment (All-head (λ segment. segment < length plans.locations.items) reason.segment (map segment_of reasons) located)))
+      (ap (option_map range_of) (located_at plans.locations.items reason.segment (All-head (λ segment. segment < length plans.locations.items) reason.segment (map segment_of reasons) located)))
       (counted_by_chunks reasons own.1 are.1 (All-tail (λ segment. segment < length plans.locations.items) reason.segment (map segment_of reasons) located))
 
 pub source_counted_by_chunks : (plans : ScanPlans) (chunks : List SelectedRows) (numbers : List ℕ) (before after : SourceState) → RunsSource plans chunks numbers before after

@@ -1,5 +1,5 @@
 -- What is prepared of a file can be run.
-use Rattle.std.proofs.Common.{◌≡◌, ℕ, ◌+◌, ◌-◌, ◌^◌, ◌<◌, ◌≤◌, Bool, true, false, inl, inr, List, [], ◌∷◌, Vec, Global, length, map, refl, sym, ap, ◌∙◌, subst, arith}
+use Rattle.std.proofs.Common.{◌≡◌, ℕ, ◌+◌, ◌^◌, ◌<◌, ◌≤◌, Bool, true, false, inl, inr, List, [], ◌∷◌, Vec, Global, length, map, refl, sym, ap, ◌∙◌, subst, arith}
 use Rattle.std.specs.Prelude.{if◌then◌else◌}
 use Rattle.std.specs.declared.ops.Range.{Range}
 use Rattle.std.specs.List.{AllByRecursion}
@@ -32,6 +32,7 @@ use Rattle.vx_scan.specs.Valid.{HasRows}
 use Rattle.vx_scan.proofs.BeginningRows.{no_pieces, no_rows}
 use Rattle.vx_scan.proofs.FilePreparing.{root_head}
 use Rattle.vx_scan.proofs.ScanAsks.{lie_together}
+use Rattle.vx_base.specs.Limits.{most_segments}
 
 -- ---- the plans
 
@@ -44,7 +45,7 @@ fits_by true scan offset rows uses none same fits count below =
     ]
 fits_by false scan offset rows uses none same fits count below = let zero_is = none refl in omega (arith, zero_is, below)
 
-plans_with : (file : ScanFile) (settings : Settings) (plans : ScanPlans) (offset : ℕ) → length file.locations.items ≤ 2 ^ 32 - 1 → ArePlansOf (scan_by file settings) settings.idle_limit plans → FitsOffset plans.table offset → ArePlans (record plans { row_offset = offset })
+plans_with : (file : ScanFile) (settings : Settings) (plans : ScanPlans) (offset : ℕ) → length file.locations.items ≤ most_segments → ArePlansOf (scan_by file settings) settings.idle_limit plans → FitsOffset plans.table offset → ArePlans (record plans { row_offset = offset })
 plans_with file settings plans offset few are fits = record {
   known = are.known;
   few = let same : length plans.locations.items ≡ length file.locations.items = ap length are.locations in omega (arith, few, same);
@@ -52,7 +53,7 @@ plans_with file settings plans offset few are fits = record {
   numbers = fits;
 }
 
-pub are_plans : (file : ScanFile) (settings : Settings) (plans : ScanPlans) → length file.locations.items ≤ 2 ^ 32 - 1 → (Overflows (scan_by file settings) → ⊥) → ArePlansOf (scan_by file settings) settings.idle_limit plans → ArePlans plans
+pub are_plans : (file : ScanFile) (settings : Settings) (plans : ScanPlans) → length file.locations.items ≤ most_segments → (Overflows (scan_by file settings) → ⊥) → ArePlansOf (scan_by file settings) settings.idle_limit plans → ArePlans plans
 are_plans file settings plans few fits are =
     let scan : FileScan = scan_by file settings in
     plans_with file settings plans plans.row_offset few are
@@ -89,7 +90,7 @@ can_run scan limit plans are chunks of_scan rows = record {
 
 -- ---- what is prepared
 
-pub rows_prepared : (file : ScanFile) (settings : Settings) (rows : Range ℕ) (plans : ScanPlans) (chunks : Vec SelectedRows Global) → length file.locations.items ≤ 2 ^ 32 - 1 → IsGoodTree file.layout → BeginsOver (scan_by file settings) rows
+pub rows_prepared : (file : ScanFile) (settings : Settings) (rows : Range ℕ) (plans : ScanPlans) (chunks : Vec SelectedRows Global) → length file.locations.items ≤ most_segments → IsGoodTree file.layout → BeginsOver (scan_by file settings) rows
     → ArePlansOf (scan_by file settings) settings.idle_limit plans → AreChunksOf (scan_by file settings) chunks.items → IsPreparedFor (scan_by file settings) settings.idle_limit settings.ordered (record { plans = plans; chunks = chunks; ordered = settings.ordered })
 rows_prepared file settings rows plans chunks few good begins are of_scan = record {
   plans = are_plans file settings plans few begins.fits are;
@@ -102,7 +103,7 @@ rows_prepared file settings rows plans chunks few good begins are of_scan = reco
   order_is = refl;
 }
 
-pub nothing_prepared : (file : ScanFile) (settings : Settings) (plans : ScanPlans) (chunks : Vec SelectedRows Global) → length file.locations.items ≤ 2 ^ 32 - 1 → (HasRows settings.range (row_count (scan_by file settings)) → ⊥) → chunks.items ≡ []
+pub nothing_prepared : (file : ScanFile) (settings : Settings) (plans : ScanPlans) (chunks : Vec SelectedRows Global) → length file.locations.items ≤ most_segments → (HasRows settings.range (row_count (scan_by file settings)) → ⊥) → chunks.items ≡ []
     → ArePlansOf (scan_by file settings) settings.idle_limit plans → IsPreparedFor (scan_by file settings) settings.idle_limit settings.ordered (record { plans = record plans { row_offset = 0 }; chunks = chunks; ordered = settings.ordered })
 nothing_prepared file settings plans chunks few none empty are =
     let scan : FileScan = scan_by file settings in

@@ -1,5 +1,5 @@
 -- What the chunks of a scan ask for is what the scan reaches, each time for another reason.
-use Rattle.std.proofs.Common.{◌≡◌, ℕ, zero, suc, ◌+◌, ◌<◌, inl, inr, List, [], ◌∷◌, ◌++◌, Some, length, map, refl, sym, ap, ◌∙◌, subst, arith}
+use Rattle.std.proofs.Common.{◌≡◌, ℕ, zero, suc, ◌+◌, ◌<◌, inl, inr, List, [], ◌∷◌, ◌++◌, Some, length, map, sym, ap, ◌∙◌, subst}
 use Rattle.std.specs.Prelude.{option_map}
 use Rattle.std.specs.List.{slice_get, flat_map, AllByRecursion}
 use Rattle.std.proofs.lemmas.List.Elements.{All-head, All-tail}
@@ -41,6 +41,7 @@ use Rattle.vx_scan.proofs.TakenReads.{read_below}
 use Rattle.vx_scan.proofs.UnsharedPlans.{none_shared}
 use Rattle.vx_scan.proofs.Ways.{found_by}
 use Rattle.vx_scan.proofs.Got.{got_mapped}
+use Rattle.vx_scan.proofs.Sessions.{located_at}
 
 any_left : (P : ℕ → Type 0) (ones twos : List ℕ) → AnyOf P ones → AnyOf P (ones ++ twos)
 any_left P [] twos any = absurd any
@@ -56,11 +57,6 @@ any_piece : (P : ℕ → Type 0) (pieces : List (List ℕ)) (place : ℕ) (rows 
 any_piece P [] place rows at any = absurd cc
 any_piece P (piece ∷ pieces) zero rows at any = let same : piece ≡ rows = cc in any_left P piece (flat_map (λ one. one) pieces) (subst (AnyOf P) (sym same) any)
 any_piece P (piece ∷ pieces) (suc place) rows at any = any_right P piece (flat_map (λ one. one) pieces) (any_piece P pieces place rows at any)
-
-pub place_there : (locations : List SegmentLocation) (segment : ℕ) → segment < length locations → slice_get locations segment ≡ Some (location_of locations segment)
-place_there [] segment below = absurd (omega (arith, below))
-place_there (at ∷ locations) zero below = refl
-place_there (at ∷ locations) (suc segment) below = place_there locations segment (omega (arith, below))
 
 -- ---- reasons
 
@@ -110,7 +106,7 @@ reason_for scan limit plans are chunks of_scan reason there is =
       here = ap (λ (pieces : List (List ℕ)). slice_get pieces reason.chunk) (sym of_scan.pieces) ∙ got_mapped chosen_rows chunks reason.chunk is.chunk is.here;
       reads = chunk_reads scan limit plans are is.chunk inside reason.way (read_for reason) is.reads;
       reaches = chunk_reaches scan limit plans are is.chunk inside reason.way (read_for reason) is.reads;
-      location = ap (λ (locations : List SegmentLocation). option_map range_of (slice_get locations reason.segment)) (sym are.locations) ∙ ap (option_map range_of) (place_there plans.locations.items reason.segment there);
+      location = ap (λ (locations : List SegmentLocation). option_map range_of (slice_get locations reason.segment)) (sym are.locations) ∙ ap (option_map range_of) (located_at plans.locations.items reason.segment there);
     }
 
 -- what is reached for a reason, the scan reaches

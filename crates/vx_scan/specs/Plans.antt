@@ -1,5 +1,5 @@
 -- What the plans of a scan and its chunks have to be, and when a source is quiet.
-use Rattle.std.specs.Prelude.{◌≡◌, ℕ, ◌-◌, ◌^◌, ◌<◌, ◌≤◌, List, [], ◌∷◌, length, Some}
+use Rattle.std.specs.Prelude.{◌≡◌, ℕ, ◌-◌, ◌<◌, ◌≤◌, List, [], ◌∷◌, length, Some}
 use Rattle.vx_base.specs.Sources.{SourceState, Rose, RoseBy}
 use Rattle.vx_io.specs.Ranges.{IsTableOf}
 use Rattle.vx_layout.specs.Rows.{segment_bytes}
@@ -12,12 +12,13 @@ use Rattle.vx_rows.specs.SegmentLeaves.{Bytes}
 use Rattle.vx_splits.specs.declared.selected_rows.SelectedRows.{SelectedRows}
 use Rattle.vx_steps.specs.Held.{FitsOffset}
 use Rattle.vx_scan.specs.declared.plans.ScanPlans.{ScanPlans}
+use Rattle.vx_base.specs.Limits.{most_segments}
 
 -- What plans have to be wherever they are handed in: the projection is one of the table, the ranges are those of the
 -- locations, of which there are few enough to be numbered, and each number of a row fits with the offset.
 pub record ArePlans (plans : ScanPlans) : Type 0 where
   pub known : number_of plans.projection < length plans.table
-  pub few : length plans.locations.items ≤ 2 ^ 32 - 1
+  pub few : length plans.locations.items ≤ most_segments
   pub ranges : IsTableOf plans.ranges plans.locations.items
   pub numbers : FitsOffset plans.table plans.row_offset
 
