@@ -33,8 +33,9 @@ fn text_of(alloc: Global, number: u64, batches: u64, totals: Totals) -> Result<V
     Ok(text)
 }
 
-/// The summary of the batches that a scan of the demo file of so many rows gave: five lines of text. It walks over the
-/// rows where they stand.
+/// The summary of the batches that a scan of the demo file of so many rows gave: five lines of text. The number of rows is
+/// the one that was asked for; what is counted are the batches and the three columns, up to the end of 64 bits, which a
+/// million rows don't reach. It walks over the rows where they stand.
 pub fn summary_of(alloc: Global, number: u64, batches: &[Column]) -> Result<Vec<u8>, AllocError>
     requires { number ≤ most_demo_rows }
     // The batches are counted, whatever they hold.
