@@ -1,10 +1,11 @@
-//! The commands.
+//! The commands. What was lent is let go by `drop`, so that the proof takes it apart there alone.
 
 use crate::desks::Desk;
 use crate::errors::{write_error, write_refusal};
 use crate::filters::{bound_of, write_new_filter, write_of_filter};
 use crate::queries::write_told;
 use std::alloc::{AllocError, Global};
+use std::mem::replace;
 use vx_expr::{BindError, BoundExpression};
 use vx_notation::dtype_of;
 
@@ -15,7 +16,11 @@ fn rebound(
     dtype: &str,
 ) -> Result<BoundExpression, BindError> {
     match dtype_of(alloc, dtype) {
-        Ok(dtype) => before.rebind(alloc, &dtype),
+        Ok(dtype) => {
+            let bound = before.rebind(alloc, &dtype);
+            drop(dtype);
+            bound
+        }
         Err(_) => Err(BindError::Memory),
     }
 }
@@ -47,10 +52,14 @@ fn write_asked(
 ) -> Result<(), AllocError> {
     match made(alloc, desk, command, rest) {
         Ok(bound) => {
-            desk.expression = bound;
+            drop(replace(&mut desk.expression, bound));
             write_told(alloc, desk, command, rest, out)
         }
-        Err(error) => write_refusal(&error, out),
+        Err(error) => {
+            let written = write_refusal(&error, out);
+            drop(error);
+            written
+        }
     }
 }
 
@@ -78,7 +87,8 @@ fn write_answer(
 
 /// Sets the root itself as the expression.
 fn set_root(alloc: Global, desk: &mut Desk) -> Result<(), AllocError> {
-    desk.expression = BoundExpression::new_root(alloc, desk.rows.dtype().copy(alloc)?)?;
+    let root = BoundExpression::new_root(alloc, desk.rows.dtype().copy(alloc)?)?;
+    drop(replace(&mut desk.expression, root));
     Ok(())
 }
 
@@ -124,5 +134,7 @@ pub(crate) fn write_answers(
     out: &mut String,
 ) -> Result<(), AllocError> {
     let mut desk = Desk::new(alloc)?;
-    write_lines(alloc, &mut desk, lines, out)
+    let written = write_lines(alloc, &mut desk, lines, out);
+    drop(desk);
+    written
 }

@@ -6,6 +6,7 @@ ghost use Rattle.vx_base.specs.declared.dtypes.Nullability.TheVariants.{NonNulla
 ghost use Rattle.vx_base.specs.Data.{int_type};
 
 use std::alloc::{AllocError, Global};
+use std::mem::replace;
 use vx_base::{Column, DType, Nullability};
 use vx_expr::{BoundExpression, FilterExpr};
 use vx_notation::{column_of, dtype_of};
@@ -53,7 +54,10 @@ impl Desk {
     /// No rows of truth values, and the root itself.
     pub(crate) fn new(alloc: Global) -> Result<Desk, AllocError> {
         let rows = no_rows(alloc)?;
-        let expression = root_itself(alloc)?;
+        let Ok(expression) = root_itself(alloc) else {
+            drop(rows);
+            return Err(AllocError);
+        };
         Ok(Desk {
             rows,
             first_row: 0,
@@ -71,7 +75,7 @@ impl Desk {
     ) -> Result<(), AllocError> {
         match rows_of(alloc, self.rows.dtype(), command, words) {
             Some(rows) => {
-                self.rows = rows;
+                drop(replace(&mut self.rows, rows));
                 self.first_row = 0;
                 Ok(())
             }

@@ -14,19 +14,31 @@ pub(crate) fn write_refusal(error: &BindError, out: &mut String) -> Result<(), A
     }
 }
 
-/// The text of a missing field `a b`.
-fn write_no_field(alloc: Global, out: &mut String) -> Result<(), AllocError> {
-    let field = Text::from_string(String::from_str(alloc, "a b")?);
-    write!(out, "{}", BindError::NoField(field))
+/// The error of binding of that name. The field is `a b`, and the part is 3.
+fn bind_error(alloc: Global, name: &str) -> Result<BindError, AllocError> {
+    match name {
+        "no_field" => {
+            let field = String::from_str(alloc, "a b")?;
+            Ok(BindError::NoField(Text::from_string(field)))
+        }
+        "mismatch" => Ok(BindError::TypeMismatch(3)),
+        "too_deep" => Ok(BindError::TooDeep),
+        _ => Ok(BindError::Memory),
+    }
 }
 
-/// The text of the error of that name. The field is `a b`, the part is 3, and the row is 7.
+/// The text of the error of binding of that name.
+fn write_bind_error(alloc: Global, name: &str, out: &mut String) -> Result<(), AllocError> {
+    let error = bind_error(alloc, name)?;
+    let written = write!(out, "{error}");
+    drop(error);
+    written
+}
+
+/// The text of the error of that name. The row is 7.
 pub(crate) fn write_error(alloc: Global, name: &str, out: &mut String) -> Result<(), AllocError> {
     match name {
-        "no_field" => write_no_field(alloc, out),
-        "mismatch" => write!(out, "{}", BindError::TypeMismatch(3)),
-        "too_deep" => write!(out, "{}", BindError::TooDeep),
-        "memory" => write!(out, "{}", BindError::Memory),
+        "no_field" | "mismatch" | "too_deep" | "memory" => write_bind_error(alloc, name, out),
         "fault" => write!(out, "{}", ApplyError::EvalFault(7)),
         "apply_memory" => write!(out, "{}", ApplyError::Memory),
         _ => Ok(()),

@@ -7,6 +7,7 @@ ghost use Rattle.vx_base.specs.Views.{data_type};
 use crate::desks::Desk;
 use crate::queries::{write_dtype, write_text};
 use std::alloc::{AllocError, Global};
+use std::mem::replace;
 use vx_base::DType;
 use vx_expr::{BindError, BoundExpression, FilterExpr, bind};
 use vx_expr_notation::spelled;
@@ -26,13 +27,16 @@ pub(crate) fn bound_of(
     words: &str,
 ) -> Result<BoundExpression, BindError> {
     let expr = spelled(alloc, words)?;
-    bind(alloc, &expr, root)
+    let bound = bind(alloc, &expr, root);
+    drop(expr);
+    bound
 }
 
 /// The filter that the words spell. None where they spell none.
 fn filter_of(alloc: Global, root: &DType, words: &str) -> Option<FilterExpr> {
     let bound = bound_of(alloc, root, words).ok()?;
     if !is_bool(bound.dtype()) {
+        drop(bound);
         return None;
     }
     FilterExpr::new(alloc, bound).ok()
@@ -157,7 +161,8 @@ pub(crate) fn write_new_filter(
     words: &str,
     out: &mut String,
 ) -> Result<(), AllocError> {
-    desk.filter = filter_of(alloc, desk.rows.dtype(), words);
+    let made = filter_of(alloc, desk.rows.dtype(), words);
+    drop(replace(&mut desk.filter, made));
     match &desk.filter {
         Some(filter) => write_filter(alloc, desk.rows.dtype(), filter, out),
         None => Ok(()),

@@ -2,7 +2,7 @@
 
 use crate::desks::{Desk, numbers_of};
 use std::alloc::{AllocError, Global};
-use vx_base::{Column, DType, Value};
+use vx_base::{Column, DType, Text, Value};
 use vx_expr::{ApplyError, BoundExpression, apply};
 use vx_notation::{column_text, dtype_of, dtype_text, write_value};
 
@@ -33,7 +33,9 @@ fn write_letters(printed: &str, out: &mut String) -> Result<(), AllocError> {
 /// The printed form of a copy.
 fn text_of_copy(alloc: Global, bound: &BoundExpression) -> Result<Vec<u8>, AllocError> {
     let copied = bound.copy(alloc)?;
-    copied.text(alloc)
+    let text = copied.text(alloc);
+    drop(copied);
+    text
 }
 
 /// The printed form of an expression, which is that of its copies.
@@ -76,6 +78,15 @@ fn write_looks(bound: &BoundExpression, out: &mut String) -> Result<(), AllocErr
     }
 }
 
+/// Appends names.
+fn write_names(names: &[Text], out: &mut String) -> Result<(), AllocError> {
+    out.push_str("fields")?;
+    for name in names {
+        write!(out, " {}", name.as_str())?;
+    }
+    Ok(())
+}
+
 /// The names of the fields that are got from the root.
 fn write_fields(
     alloc: Global,
@@ -85,11 +96,9 @@ fn write_fields(
     let Some(names) = bound.named_fields(alloc)? else {
         return out.push_str("the whole root");
     };
-    out.push_str("fields")?;
-    for name in &names {
-        write!(out, " {}", name.as_str())?;
-    }
-    Ok(())
+    let written = write_names(names.as_slice(), out);
+    drop(names);
+    written
 }
 
 /// Appends a value, where there is one.
@@ -104,19 +113,24 @@ fn write_end(value: Option<&Value>, out: &mut String) -> Result<(), AllocError> 
 /// How many values the column has, with the first and the last.
 fn write_ends(alloc: Global, column: &Column, out: &mut String) -> Result<(), AllocError> {
     let values = column.to_values(alloc)?;
-    write!(out, "{} rows:", values.len())?;
-    write_end(values.first(), out)?;
-    write_end(values.last(), out)
+    let written = write!(out, "{} rows:", values.len())
+        .and(write_end(values.first(), out))
+        .and(write_end(values.last(), out));
+    drop(values);
+    written
 }
 
 /// What the expression gives over the rows; rows that it can't be asked of are want of memory.
 fn applied(alloc: Global, desk: &Desk) -> Result<Column, ApplyError> {
     let numbers = numbers_of(alloc, desk.first_row, desk.rows.len())?;
     let is_bound = desk.expression.is_root_bound_to(desk.rows.dtype());
-    if numbers.len() != desk.rows.len() || !is_bound {
-        return Err(ApplyError::Memory);
-    }
-    apply(alloc, &desk.expression, &desk.rows, &numbers)
+    let given = if numbers.len() != desk.rows.len() || !is_bound {
+        Err(ApplyError::Memory)
+    } else {
+        apply(alloc, &desk.expression, &desk.rows, &numbers)
+    };
+    drop(numbers);
+    given
 }
 
 /// The column, whole or by its ends, or its first fault; want of memory is nothing.
@@ -144,7 +158,10 @@ fn write_applied(
     whole: bool,
     out: &mut String,
 ) -> Result<(), AllocError> {
-    write_given(alloc, &applied(alloc, desk), whole, out)
+    let given = applied(alloc, desk);
+    let written = write_given(alloc, &given, whole, out);
+    drop(given);
+    written
 }
 
 /// Whether the expression, and its copy, takes roots of a dtype.
@@ -156,7 +173,9 @@ fn write_takes(
 ) -> Result<(), AllocError> {
     let takes = bound.is_root_bound_to(dtype);
     let copied = bound.copy(alloc)?;
-    if copied.is_root_bound_to(dtype) != takes {
+    let is_same = copied.is_root_bound_to(dtype) == takes;
+    drop(copied);
+    if !is_same {
         return out.push_str("another answer than of a copy");
     }
     out.push_str(if takes { "yes" } else { "no" })
@@ -170,7 +189,11 @@ fn write_takes_written(
     out: &mut String,
 ) -> Result<(), AllocError> {
     match dtype_of(alloc, words) {
-        Ok(dtype) => write_takes(alloc, bound, &dtype, out),
+        Ok(dtype) => {
+            let written = write_takes(alloc, bound, &dtype, out);
+            drop(dtype);
+            written
+        }
         Err(_) => Ok(()),
     }
 }
