@@ -9,8 +9,8 @@ use vx_expr::{BoundExpression, Statistic, Statistics};
 use vx_notation::dtype_text;
 use vx_plan::{PlanRef, PlanTable};
 
-/// The kind, dtype and rows of a plan, and its children by their names.
-pub(crate) fn write_plan(
+/// The kind, dtype and rows of a plan.
+fn write_kind(
     alloc: Global,
     table: &PlanTable,
     plan: PlanRef,
@@ -22,11 +22,27 @@ pub(crate) fn write_plan(
     let Ok(dtype) = dtype_text(alloc, table.dtype(plan)) else {
         return Err(AllocError);
     };
-    write!(out, "{}({dtype}, rows={rows})", table.id(plan).text())?;
+    let written = write!(out, "{}({dtype}, rows={rows})", table.id(plan).text());
+    drop(dtype);
+    written
+}
+
+/// The kind, dtype and rows of a plan, and its children by their names.
+pub(crate) fn write_plan(
+    alloc: Global,
+    table: &PlanTable,
+    plan: PlanRef,
+    out: &mut String,
+) -> Result<(), AllocError>
+    requires { number_of plan < length table.now }
+{
+    write_kind(alloc, table, plan, out)?;
     for place in 0..table.child_count(plan) {
         let child = table.child_required(plan, place).0;
         let name = table.child_name(alloc, plan, place)?;
-        write!(out, " {}:{child}", name.as_str())?;
+        let written = write!(out, " {}:{child}", name.as_str());
+        drop(name);
+        written?;
     }
     Ok(())
 }
@@ -180,10 +196,10 @@ pub(crate) fn state_text(alloc: Global, table: &PlanTable) -> Result<String, All
     let mut out = String::new(alloc);
     if table.len() < 100 {
         for number in 0..table.len() {
-            write_plan(alloc, table, PlanRef(number), &mut out)?;
-            out.push(';')?;
-            write_parts(alloc, table, PlanRef(number), &mut out)?;
-            out.push(';')?;
+            write_plan(alloc, table, PlanRef(number), &mut out)
+                .and(out.push(';'))
+                .and(write_parts(alloc, table, PlanRef(number), &mut out))
+                .and(out.push(';'))?;
         }
     }
     Ok(out)

@@ -1,4 +1,5 @@
-//! The commands, over one table of plans.
+//! The commands, over one table of plans. What was lent is let go by `drop`, so that the proof takes it apart there
+//! alone.
 
 ghost use Rattle.std.specs.Prelude.{◌<◌, length};
 ghost use Rattle.vx_plan.specs.Refs.{number_of};
@@ -8,7 +9,26 @@ use crate::making::made;
 use crate::reaching::{write_reached, write_rooted};
 use crate::words::{number_at, numbers_of, plan_at};
 use std::alloc::{AllocError, Global};
+use std::mem::replace;
 use vx_plan::{PlanChildren, PlanError, PlanRef, PlanTable};
+
+/// The rule that a plan breaks, where the table is still the one that was told so.
+fn write_refused(
+    alloc: Global,
+    table: &PlanTable,
+    before: &str,
+    error: PlanError,
+    out: &mut String,
+) -> Result<(), AllocError> {
+    let after = state_text(alloc, table)?;
+    let is_same = after.as_str() == before;
+    drop(after);
+    if is_same {
+        write!(out, "{error}")
+    } else {
+        out.push_str("another table")
+    }
+}
 
 /// The number of the new plan, or the rule that it breaks; the table is then the one that it was.
 fn write_added(
@@ -23,17 +43,12 @@ fn write_added(
         return Ok(());
     }
     let before = state_text(alloc, table)?;
-    match made(alloc, table, command, numbers, rest) {
+    let written = match made(alloc, table, command, numbers, rest) {
         Ok(plan) => write!(out, "{}", plan.0),
-        Err(error) => {
-            let after = state_text(alloc, table)?;
-            if before.as_str() == after.as_str() {
-                write!(out, "{error}")
-            } else {
-                out.push_str("another table")
-            }
-        }
-    }
+        Err(error) => write_refused(alloc, table, before.as_str(), error, out),
+    };
+    drop(before);
+    written
 }
 
 /// The child of a plan at a place.
@@ -51,6 +66,16 @@ fn write_child(
     }
 }
 
+/// Whether these are the children, one by one.
+fn are_children(children: &PlanChildren, copied: &[PlanRef]) -> bool {
+    let mut same = copied.len() == children.len() && children.is_empty() == copied.is_empty();
+    for (place, child) in children.iter().enumerate() {
+        let other = copied.get(place).copied().unwrap_or(PlanRef(u32::MAX));
+        same = same && children.get(place) == Some(*child) && PlanRef::ptr_eq(other, *child);
+    }
+    same
+}
+
 /// How many children there are: the same number, and the same children, one by one and in a list of their own.
 fn write_children(
     alloc: Global,
@@ -58,11 +83,8 @@ fn write_children(
     out: &mut String,
 ) -> Result<(), AllocError> {
     let copied = children.to_vec(alloc)?;
-    let mut same = copied.len() == children.len() && children.is_empty() == copied.is_empty();
-    for (place, child) in children.iter().enumerate() {
-        let other = copied.get(place).copied().unwrap_or(PlanRef(u32::MAX));
-        same = same && children.get(place) == Some(*child) && PlanRef::ptr_eq(other, *child);
-    }
+    let same = are_children(children, copied.as_slice());
+    drop(copied);
     if same {
         write!(out, "{} children", children.len())
     } else {
@@ -100,10 +122,10 @@ fn write_answer(
 ) -> Result<(), AllocError> {
     let (front, rest) = line.split_once(" | ").unwrap_or((line, ""));
     let (command, words) = front.split_once(' ').unwrap_or((front, ""));
-    let numbers = numbers_of(alloc, words)?;
-    match command {
+    let numbers = numbers_of(alloc, words);
+    let written = match command {
         "new" => {
-            *table = PlanTable::new(alloc);
+            drop(replace(table, PlanTable::new(alloc)));
             out.push_str("0 plans")
         }
         "len" => write!(out, "{} plans", table.len()),
@@ -113,23 +135,37 @@ fn write_answer(
             write_asked(alloc, table, command, &numbers, rest, out)
         }
         _ => write_added(alloc, table, command, &numbers, rest, out),
-    }
+    };
+    drop(numbers);
+    written
 }
 
-/// Appends each line with its answer.
+/// Appends each line with its answer, over one table.
+fn write_lines(
+    alloc: Global,
+    table: &mut PlanTable,
+    lines: &str,
+    out: &mut String,
+) -> Result<(), AllocError> {
+    for line in lines.lines() {
+        out.push_str(line)?;
+        if !line.is_empty() && !line.starts_with("# ") {
+            out.push_str(" => ")?;
+            write_answer(alloc, table, line, out)?;
+        }
+        out.push('\n')?;
+    }
+    Ok(())
+}
+
+/// Appends each line with its answer, where the table is empty at first.
 pub(crate) fn write_answers(
     alloc: Global,
     lines: &str,
     out: &mut String,
 ) -> Result<(), AllocError> {
     let mut table = PlanTable::new(alloc);
-    for line in lines.lines() {
-        out.push_str(line)?;
-        if !line.is_empty() && !line.starts_with("# ") {
-            out.push_str(" => ")?;
-            write_answer(alloc, &mut table, line, out)?;
-        }
-        out.push('\n')?;
-    }
-    Ok(())
+    let written = write_lines(alloc, &mut table, lines, out);
+    drop(table);
+    written
 }

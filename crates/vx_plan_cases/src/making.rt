@@ -6,7 +6,7 @@ ghost use Rattle.vx_plan.specs.Refs.{number_of};
 
 use crate::words::{UNREAD, number_at, plan_at, plans_from, times};
 use std::alloc::Global;
-use vx_base::{DType, Nullability};
+use vx_base::{DType, Fields, Nullability};
 use vx_expr::{BoundExpression, bind};
 use vx_expr_notation::{spelled, statistics_of};
 use vx_notation::dtype_of;
@@ -39,12 +39,25 @@ fn scan(
 }
 
 /// The expression that is spelled so, bound to a dtype.
+fn bound_to(alloc: Global, dtype: &DType, words: &str) -> Result<BoundExpression, PlanError> {
+    let expr = spelled(alloc, words)?;
+    let bound = bind(alloc, &expr, dtype);
+    drop(expr);
+    match bound {
+        Ok(bound) => Ok(bound),
+        Err(error) => {
+            drop(error);
+            Err(UNREAD)
+        }
+    }
+}
+
+/// The expression that is spelled so, bound to the dtype that is written so.
 fn bound_of(alloc: Global, dtype: &str, words: &str) -> Result<BoundExpression, PlanError> {
     let dtype = dtype_in(alloc, dtype)?;
-    match bind(alloc, &spelled(alloc, words)?, &dtype) {
-        Ok(bound) => Ok(bound),
-        Err(_) => Err(UNREAD),
-    }
+    let bound = bound_to(alloc, &dtype, words);
+    drop(dtype);
+    bound
 }
 
 /// A plan over one other.
@@ -106,8 +119,8 @@ fn chunks(
 ) -> Result<PlanRef, PlanError>
     requires { length table.old < most_before_four }
 {
-    let dtype = dtype_in(alloc, rest)?;
     let children = plans_from(alloc, table, numbers, 0)?;
+    let dtype = dtype_in(alloc, rest)?;
     Ok(ConcatPlan::try_new(alloc, table, dtype, children)?.into_plan())
 }
 
@@ -122,9 +135,20 @@ fn repeated(
 {
     let count = number_at(numbers, 0);
     let child = plan_at(table, numbers, 1)?;
-    let dtype = dtype_in(alloc, rest)?;
     let children = times(alloc, table, child, count)?;
+    let dtype = dtype_in(alloc, rest)?;
     Ok(ConcatPlan::try_new(alloc, table, dtype, children)?.into_plan())
+}
+
+/// The fields and the nulls of the dtype of structs that is written so.
+fn struct_in(alloc: Global, text: &str) -> Result<(Fields, Nullability), PlanError> {
+    match dtype_in(alloc, text)? {
+        DType::Struct(fields, nulls) => Ok((fields, nulls)),
+        other => {
+            drop(other);
+            Err(UNREAD)
+        }
+    }
 }
 
 /// Structs of the rows that stand first, and of the fields behind them; with `?` a validity stands between.
@@ -145,9 +169,7 @@ fn structs(
     };
     let first = if command == "pack" { 1 } else { 2 };
     let children = plans_from(alloc, table, numbers, first)?;
-    let DType::Struct(fields, nulls) = dtype_in(alloc, rest)? else {
-        return Err(UNREAD);
-    };
+    let (fields, nulls) = struct_in(alloc, rest)?;
     Ok(PackPlan::try_new(alloc, table, fields, nulls, rows, children, validity)?.into_plan())
 }
 

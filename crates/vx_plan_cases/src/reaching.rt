@@ -45,7 +45,35 @@ fn write_found(found: &[SegmentReach], out: &mut String) -> Result<(), AllocErro
     Ok(())
 }
 
-/// What rows of a plan reach: all of a range, or those that a mask selects.
+/// What rows of a plan reach: all of a range, or those that the bits select. None of rows that the plan hasn't.
+fn reached(
+    alloc: Global,
+    table: &PlanTable,
+    plan: PlanRef,
+    numbers: &[u64],
+    at: &Reach,
+    bits: &str,
+) -> Option<Vec<SegmentReach>>
+    requires { number_of plan < length table.now }
+{
+    let (start, end) = (number_at(numbers, 1), number_at(numbers, 2));
+    if start > end || end > table.row_count(plan) || !has_room(at, table.row_count(plan)) {
+        return None;
+    }
+    if bits.is_empty() {
+        return reach(alloc, table, plan, start..end, at).ok();
+    }
+    let mask = Mask::of(alloc, bits_of(alloc, bits).unwrap_or(Vec::new(alloc))).ok()?;
+    let found = if mask.len() == end - start {
+        selected(alloc, table, plan, start..end, &mask, at).ok()
+    } else {
+        None
+    };
+    drop(mask);
+    found
+}
+
+/// The answer to what rows of a plan reach.
 pub(crate) fn write_reached(
     alloc: Global,
     table: &PlanTable,
@@ -56,21 +84,16 @@ pub(crate) fn write_reached(
 ) -> Result<(), AllocError>
     requires { number_of plan < length table.now }
 {
-    let (start, end) = (number_at(numbers, 1), number_at(numbers, 2));
     let (at, bits) = rest.split_once(" | ").unwrap_or((rest, ""));
     let at = at_of(at);
-    if start > end || end > table.row_count(plan) || !has_room(&at, table.row_count(plan)) {
+    let found = reached(alloc, table, plan, numbers, &at, bits);
+    drop(at);
+    let Some(found) = found else {
         return Ok(());
-    }
-    if bits.is_empty() {
-        return write_found(&reach(alloc, table, plan, start..end, &at)?, out);
-    }
-    let mask = Mask::of(alloc, bits_of(alloc, bits).unwrap_or(Vec::new(alloc)))?;
-    if mask.len() != end - start {
-        return Ok(());
-    }
-    let found = selected(alloc, table, plan, start..end, &mask, &at)?;
-    write_found(&found, out)
+    };
+    let written = write_found(found.as_slice(), out);
+    drop(found);
+    written
 }
 
 /// Appends where rows stand.
@@ -82,19 +105,37 @@ fn write_at(at: &Reach, out: &mut String) -> Result<(), AllocError> {
 }
 
 /// The rows of the root, the same behind more rows, and fixed.
+fn write_rooted_at(
+    at: &Reach,
+    start: u64,
+    end: u64,
+    by: u64,
+    out: &mut String,
+) -> Result<(), AllocError> {
+    if !has_room(at, start) || !has_room(at, end) || !has_room(at, by) {
+        return Ok(());
+    }
+    let rows = start..end;
+    let root = at.root(&rows);
+    let shifted = at.shift(by);
+    let fixed = at.fixed(&rows);
+    let written = write!(out, "root {}..{}", root.start, root.end)
+        .and(write_at(&shifted, out))
+        .and(write_at(&fixed, out));
+    drop(shifted);
+    drop(fixed);
+    written
+}
+
+/// The answer to where rows stand at the root.
 pub(crate) fn write_rooted(
     numbers: &[u64],
     rest: &str,
     out: &mut String,
 ) -> Result<(), AllocError> {
     let at = at_of(rest);
-    let rows = number_at(numbers, 0)..number_at(numbers, 1);
-    let by = number_at(numbers, 2);
-    if !has_room(&at, rows.start) || !has_room(&at, rows.end) || !has_room(&at, by) {
-        return Ok(());
-    }
-    let root = at.root(&rows);
-    write!(out, "root {}..{}", root.start, root.end)?;
-    write_at(&at.shift(by), out)?;
-    write_at(&at.fixed(&rows), out)
+    let (start, end) = (number_at(numbers, 0), number_at(numbers, 1));
+    let written = write_rooted_at(&at, start, end, number_at(numbers, 2), out);
+    drop(at);
+    written
 }

@@ -4,19 +4,19 @@ ghost use Rattle.std.specs.Prelude.{◌<◌, length, IfOk};
 ghost use Rattle.vx_plan.specs.Refs.{number_of};
 ghost use Rattle.vx_plan.specs.Tables.{AreIn};
 
-use std::alloc::{AllocError, Global};
+use std::alloc::Global;
 use vx_plan::{PlanChildren, PlanError, PlanRef, PlanTable};
 
 /// What a line that can't be read is refused by: the rules of plans are counted from 1.
 pub(crate) const UNREAD: PlanError = PlanError::BadPlan { rule: 0 };
 
-/// The numbers between blanks; what is no number is 0.
-pub(crate) fn numbers_of(alloc: Global, words: &str) -> Result<Vec<u64>, AllocError> {
+/// The numbers between blanks; what is no number is 0, and what has no room is left out.
+pub(crate) fn numbers_of(alloc: Global, words: &str) -> Vec<u64> {
     let mut numbers = Vec::new(alloc);
     for word in words.split_whitespace() {
-        numbers.push(word.parse::<u64>().unwrap_or(0))?;
+        let _pushed = numbers.push(word.parse::<u64>().unwrap_or(0)).ok();
     }
-    Ok(numbers)
+    numbers
 }
 
 /// The number at a place; where there is none, 0.
