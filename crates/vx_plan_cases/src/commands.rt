@@ -113,29 +113,51 @@ fn write_asked(
     }
 }
 
-/// Appends the answer to a line; to one that can't be read nothing.
-fn write_answer(
+/// The answer to a command with its numbers.
+fn write_of_numbers(
     alloc: Global,
     table: &mut PlanTable,
-    line: &str,
+    command: &str,
+    numbers: &[u64],
+    rest: &str,
     out: &mut String,
 ) -> Result<(), AllocError> {
-    let (front, rest) = line.split_once(" | ").unwrap_or((line, ""));
-    let (command, words) = front.split_once(' ').unwrap_or((front, ""));
-    let numbers = numbers_of(alloc, words);
-    let written = match command {
+    match command {
         "new" => {
             drop(replace(table, PlanTable::new(alloc)));
             out.push_str("0 plans")
         }
         "len" => write!(out, "{} plans", table.len()),
         "memory" => write!(out, "{}", PlanError::Memory),
-        "at" => write_rooted(&numbers, rest, out),
+        "at" => write_rooted(numbers, rest, out),
         "plan" | "parts" | "child" | "children" | "reach" => {
-            write_asked(alloc, table, command, &numbers, rest, out)
+            write_asked(alloc, table, command, numbers, rest, out)
         }
-        _ => write_added(alloc, table, command, &numbers, rest, out),
-    };
+        _ => write_added(alloc, table, command, numbers, rest, out),
+    }
+}
+
+/// Appends the answer to a line; to one that can't be read, or is no command, nothing.
+fn write_answer(
+    alloc: Global,
+    table: &mut PlanTable,
+    line: &str,
+    out: &mut String,
+) -> Result<(), AllocError> {
+    if line.is_empty() || line.starts_with("# ") {
+        return Ok(());
+    }
+    let (front, rest) = line.split_once(" | ").unwrap_or((line, ""));
+    let (command, words) = front.split_once(' ').unwrap_or((front, ""));
+    let numbers = numbers_of(alloc, words);
+    let written = out.push_str(" => ").and(write_of_numbers(
+        alloc,
+        table,
+        command,
+        numbers.as_slice(),
+        rest,
+        out,
+    ));
     drop(numbers);
     written
 }
@@ -148,12 +170,9 @@ fn write_lines(
     out: &mut String,
 ) -> Result<(), AllocError> {
     for line in lines.lines() {
-        out.push_str(line)?;
-        if !line.is_empty() && !line.starts_with("# ") {
-            out.push_str(" => ")?;
-            write_answer(alloc, table, line, out)?;
-        }
-        out.push('\n')?;
+        out.push_str(line)
+            .and(write_answer(alloc, table, line, out))
+            .and(out.push('\n'))?;
     }
     Ok(())
 }

@@ -120,7 +120,10 @@ fn chunks(
     requires { length table.old < most_before_four }
 {
     let children = plans_from(alloc, table, numbers, 0)?;
-    let dtype = dtype_in(alloc, rest)?;
+    let Ok(dtype) = dtype_in(alloc, rest) else {
+        drop(children);
+        return Err(UNREAD);
+    };
     Ok(ConcatPlan::try_new(alloc, table, dtype, children)?.into_plan())
 }
 
@@ -136,7 +139,10 @@ fn repeated(
     let count = number_at(numbers, 0);
     let child = plan_at(table, numbers, 1)?;
     let children = times(alloc, table, child, count)?;
-    let dtype = dtype_in(alloc, rest)?;
+    let Ok(dtype) = dtype_in(alloc, rest) else {
+        drop(children);
+        return Err(UNREAD);
+    };
     Ok(ConcatPlan::try_new(alloc, table, dtype, children)?.into_plan())
 }
 
@@ -169,7 +175,10 @@ fn structs(
     };
     let first = if command == "pack" { 1 } else { 2 };
     let children = plans_from(alloc, table, numbers, first)?;
-    let (fields, nulls) = struct_in(alloc, rest)?;
+    let Ok((fields, nulls)) = struct_in(alloc, rest) else {
+        drop(children);
+        return Err(UNREAD);
+    };
     Ok(PackPlan::try_new(alloc, table, fields, nulls, rows, children, validity)?.into_plan())
 }
 
