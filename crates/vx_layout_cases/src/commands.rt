@@ -1,9 +1,11 @@
-//! The commands, and the tree that the last good list of nodes made.
+//! The commands, and the tree that the last good list of nodes made. A value that was lent is let go by `drop`, so that
+//! the proof takes it apart there alone.
 
 use crate::large::large;
 use crate::nodes::write_node;
 use std::alloc::{AllocError, Global};
-use vx_expr::bind;
+use std::mem::replace;
+use vx_expr::{BoundExpression, bind};
 use vx_expr_notation::spelled;
 use vx_layout::{Kept, LayoutError, LayoutNode, LayoutTree};
 use vx_notation::dtype_text;
@@ -17,46 +19,68 @@ fn write_made(
     out: &mut String,
 ) -> Result<(), AllocError> {
     if nodes.len() >= 1073741824 {
+        drop(nodes);
         return Ok(());
     }
     match LayoutTree::try_new(alloc, nodes) {
         Ok(made) => {
-            *tree = Some(made);
+            drop(replace(tree, Some(made)));
             out.push_str("ok")
         }
         Err(error) => write!(out, "{error}"),
     }
 }
 
+/// The expression over the root that is written so.
+fn bound(alloc: Global, tree: &LayoutTree, words: &str) -> Option<BoundExpression> {
+    let expression = spelled(alloc, words).ok()?;
+    let bound = bind(alloc, &expression, tree.dtype()).ok();
+    drop(expression);
+    bound
+}
+
 /// The fields of the root that an expression over it keeps.
 fn kept(alloc: Global, tree: &LayoutTree, words: &str) -> Option<Kept> {
-    let expression = spelled(alloc, words).ok()?;
-    let expression = bind(alloc, &expression, tree.dtype()).ok()?;
-    tree.kept(alloc, &expression).ok()
+    let expression = bound(alloc, tree, words)?;
+    let kept = tree.kept(alloc, &expression).ok();
+    drop(expression);
+    kept
 }
 
 /// The names of the fields that are kept, or that all are.
-fn write_kept(kept: Option<Kept>, out: &mut String) -> Result<(), AllocError> {
+fn write_names(kept: &Kept, out: &mut String) -> Result<(), AllocError> {
     match kept {
-        Some(Kept::All) => out.push_str("all"),
-        Some(Kept::Fields(names)) => {
+        Kept::All => out.push_str("all"),
+        Kept::Fields(names) => {
             out.push_str("fields")?;
-            for name in &names {
+            for name in names {
                 write!(out, " {}", name.as_str())?;
             }
             Ok(())
         }
-        None => Ok(()),
     }
+}
+
+/// The names of the fields that an expression keeps.
+fn write_kept(
+    alloc: Global,
+    tree: &LayoutTree,
+    words: &str,
+    out: &mut String,
+) -> Result<(), AllocError> {
+    let Some(kept) = kept(alloc, tree, words) else {
+        return Ok(());
+    };
+    let written = write_names(&kept, out);
+    drop(kept);
+    written
 }
 
 /// What the tree says of its root.
 fn write_root(alloc: Global, tree: &LayoutTree, out: &mut String) -> Result<(), AllocError> {
     let (root, len, rows) = (tree.root(), tree.len(), tree.row_count());
-    match dtype_text(alloc, tree.dtype()) {
-        Ok(dtype) => write!(out, "node {root} of {len}, {rows} rows of {dtype}"),
-        Err(_) => Err(AllocError),
-    }
+    let dtype = dtype_text(alloc, tree.dtype()).unwrap_or(String::new(alloc));
+    write!(out, "node {root} of {len}, {rows} rows of {dtype}")
 }
 
 /// A node, or its child at a place.
@@ -91,7 +115,7 @@ fn write_asked(
 ) -> Result<(), AllocError> {
     match command {
         "root" => write_root(alloc, tree, out),
-        "kept" => write_kept(kept(alloc, tree, words), out),
+        "kept" => write_kept(alloc, tree, words, out),
         _ => write_numbered(alloc, tree, command, words, out),
     }
 }
@@ -100,7 +124,7 @@ fn write_asked(
 fn listed(alloc: Global, command: &str, words: &str) -> Option<Vec<LayoutNode>> {
     match command {
         "tree" => nodes_of(alloc, words),
-        "chunks" | "levels" | "fields" => large(alloc, command, words),
+        "chunks" | "levels" | "fields" => Some(large(alloc, command, words)),
         _ => None,
     }
 }
@@ -150,5 +174,7 @@ pub(crate) fn write_answers(
     out: &mut String,
 ) -> Result<(), AllocError> {
     let mut tree = None;
-    write_lines(alloc, &mut tree, lines, out)
+    let written = write_lines(alloc, &mut tree, lines, out);
+    drop(tree);
+    written
 }

@@ -11,11 +11,14 @@ pub(crate) fn write_node(
     node: &LayoutNode,
     out: &mut String,
 ) -> Result<(), AllocError> {
-    let Ok(dtype) = dtype_text(alloc, &node.dtype) else {
-        return Err(AllocError);
-    };
-    write_kind(&node.kind, out)?;
-    write!(out, " {} rows of {dtype}, children", node.row_count)?;
+    let dtype = dtype_text(alloc, &node.dtype).unwrap_or(String::new(alloc));
+    let written = write_kind(&node.kind, out).and(write!(
+        out,
+        " {} rows of {dtype}, children",
+        node.row_count
+    ));
+    drop(dtype);
+    written?;
     for child in &node.children {
         write!(out, " {child}")?;
     }
