@@ -8,14 +8,13 @@ use crate::answers::{write_column, write_error};
 use crate::commands::Desk;
 use crate::files::{bytes_of, places_of};
 use crate::splits::splits_of;
+use crate::trees::lowered_of;
 use std::alloc::{AllocError, Global};
 use vx_base::SegmentLocation;
 use vx_io::{IoRequest, IoRequestId, IoTarget};
-use vx_layout::LayoutTree;
 use vx_lower::Lowered;
 use vx_scan::{AdaptorError, AdaptorStep, ScanAdaptor, ScanError, State};
 use vx_steps::{Scan, StepError};
-use vx_tree_notation::{lowered, tree_of};
 
 /// The error of a scan whose adaptor refused so.
 fn refusal(error: AdaptorError) -> ScanError {
@@ -58,7 +57,11 @@ fn write_step(
     out: &mut String,
 ) -> Result<(), AllocError> {
     match adaptor.compute() {
-        Ok(step) => write_given(alloc, &step, out),
+        Ok(step) => {
+            let written = write_given(alloc, &step, out);
+            drop(step);
+            written
+        }
         Err(error) => write_error(refusal(error), out),
     }
 }
@@ -71,7 +74,7 @@ fn write_taken(
     out: &mut String,
 ) -> Result<(), AllocError> {
     let (number, words) = words.split_once(' ').unwrap_or((words, ""));
-    let bytes = bytes_of(alloc, words)?;
+    let bytes = bytes_of(alloc, words);
     match adaptor.set_io_result(IoRequestId(number.parse::<u32>().unwrap_or(0)), bytes) {
         Ok(()) => out.push_str(" taken;"),
         Err(_) => out.push_str(" not outstanding;"),
@@ -112,7 +115,9 @@ fn write_scanned(
     requires fresh { scan.progress.reads.handed ≡ 0 }
 {
     let mut adaptor = ScanAdaptor::new(alloc, scan, locations);
-    write_story(alloc, &mut adaptor, story, out)
+    let written = write_story(alloc, &mut adaptor, story, out);
+    drop(adaptor);
+    written
 }
 
 /// Appends the story of an adaptor of a scan of splits; behind `2 of ` so many of them may be active at once.
@@ -129,24 +134,27 @@ fn write_planned(
     let (words, story) = words.split_once(" | ").unwrap_or((words, ""));
     let (active, words) = words.split_once(" of ").unwrap_or(("1", words));
     let active = active.parse::<usize>().unwrap_or(1);
-    let splits = splits_of(alloc, words)?;
+    let splits = splits_of(alloc, words);
     match Scan::try_new(alloc, &plans.table, plans.root, splits) {
         Ok(scan) => write_scanned(alloc, scan.with_max_active(active), locations, story, out),
         Err(_) => out.push_str(" out of range;"),
     }
 }
 
-/// Appends the story of an adaptor over the tree, whose segments lie at these places.
+/// Appends the story of an adaptor over the plans, whose segments lie at these places.
 fn write_told(
     alloc: Global,
-    tree: &LayoutTree,
+    plans: &Lowered,
     places: &str,
     words: &str,
     out: &mut String,
-) -> Result<(), AllocError> {
-    let locations = places_of(alloc, places)?;
-    let plans = lowered(alloc, tree, "")?;
-    write_planned(alloc, &plans, &locations, words, out)
+) -> Result<(), AllocError>
+    requires { number_of plans.now.root < length plans.now.table }
+{
+    let locations = places_of(alloc, places);
+    let written = write_planned(alloc, plans, &locations, words, out);
+    drop(locations);
+    written
 }
 
 /// Appends the story of an adaptor over the tree.
@@ -156,8 +164,10 @@ pub(crate) fn write_adaptor(
     words: &str,
     out: &mut String,
 ) -> Result<(), AllocError> {
-    match tree_of(alloc, desk.nodes) {
-        Some(tree) => write_told(alloc, &tree, desk.places, words, out),
-        None => out.push_str(" no tree;"),
-    }
+    let Some(plans) = lowered_of(alloc, desk.nodes) else {
+        return out.push_str(" no tree;");
+    };
+    let written = write_told(alloc, &plans, desk.places, words, out);
+    drop(plans);
+    written
 }

@@ -21,10 +21,9 @@ fn write_rows(
     requires inside { rows.end ≤ length column.now.values }
 {
     let part = column.slice(alloc, rows)?;
-    match column_text(alloc, &part) {
-        Ok(text) => { write!(out, " {}", text.as_str()) }
-        Err(_) => Err(AllocError),
-    }
+    let text = column_text(alloc, &part).unwrap_or(String::new(alloc));
+    drop(part);
+    write!(out, " {}", text.as_str())
 }
 
 /// Appends the dtype of a column and its values; of many values, how many there are, the first, and the last.
@@ -62,39 +61,44 @@ pub(crate) fn write_columns(
 /// Appends the text of the error of a scan of that name: of plan 3, segment 4 and row 7.
 pub(crate) fn write_text(name: &str, out: &mut String) -> Result<(), AllocError> {
     let node = PlanRef(3);
-    match name {
-        "unsupported" => write!(out, " {}", ScanError::Unsupported(node)),
-        "no_location" => write!(out, " {}", ScanError::NoLocation(4)),
-        "bad_segment" => write!(out, " {}", ScanError::BadSegment(4)),
-        "bad_code" => write!(out, " {}", ScanError::BadCode { node, row: 7 }),
-        "fault" => write!(out, " {}", ScanError::EvalFault(7)),
-        "memory" => write!(out, " {}", ScanError::Memory),
-        _ => write_adaptor_text(name, out),
-    }
+    let error = match name {
+        "unsupported" => ScanError::Unsupported(node),
+        "no_location" => ScanError::NoLocation(4),
+        "bad_segment" => ScanError::BadSegment(4),
+        "bad_code" => ScanError::BadCode { node, row: 7 },
+        "fault" => ScanError::EvalFault(7),
+        "memory" => ScanError::Memory,
+        _ => return write_adaptor_text(name, out),
+    };
+    write!(out, " {error}")
 }
 
 /// Appends the text of the error of an adaptor of that name.
 fn write_adaptor_text(name: &str, out: &mut String) -> Result<(), AllocError> {
-    match name {
-        "adaptor_no_location" => write!(out, " {}", AdaptorError::NoLocation(4)),
-        "adaptor_step" => write!(out, " {}", AdaptorError::Step(StepError::BadSegment(4))),
-        "adaptor_not_outstanding" => write!(out, " {}", AdaptorError::NotOutstanding),
-        "adaptor_memory" => write!(out, " {}", AdaptorError::Memory),
-        _ => Ok(()),
-    }
+    let error = match name {
+        "adaptor_no_location" => AdaptorError::NoLocation(4),
+        "adaptor_step" => AdaptorError::Step(StepError::BadSegment(4)),
+        "adaptor_not_outstanding" => AdaptorError::NotOutstanding,
+        "adaptor_memory" => AdaptorError::Memory,
+        _ => return Ok(()),
+    };
+    write!(out, " {error}")
 }
 
 /// Appends why there are no rows.
 pub(crate) fn write_error(error: ScanError, out: &mut String) -> Result<(), AllocError> {
-    match error {
-        ScanError::Unsupported(plan) => { write!(out, " unsupported {};", plan.0) }
-        ScanError::NoLocation(segment) => { write!(out, " no location {segment};") }
-        ScanError::BadSegment(segment) => { write!(out, " bad segment {segment};") }
-        ScanError::BadCode { node, row } => { write!(out, " bad code {} {row};", node.0) }
-        ScanError::EvalFault(row) => { write!(out, " fault {row};") }
-        ScanError::Memory => Err(AllocError),
-        other => { write!(out, " {other};") }
-    }
+    let (word, number) = match error {
+        ScanError::Unsupported(plan) => ("unsupported", u64::from(plan.0)),
+        ScanError::NoLocation(segment) => ("no location", u64::from(segment)),
+        ScanError::BadSegment(segment) => ("bad segment", u64::from(segment)),
+        ScanError::EvalFault(row) => ("fault", row),
+        ScanError::BadCode { node, row } => {
+            return write!(out, " bad code {} {row};", node.0);
+        }
+        ScanError::Memory => return Err(AllocError),
+        other => return write!(out, " {other};"),
+    };
+    write!(out, " {word} {number};")
 }
 
 /// Appends what a source was asked, in order, how often it failed, how often a read went on, and whether one is in

@@ -8,7 +8,7 @@ use crate::files::{numbers_of, places_of};
 use std::alloc::{AllocError, Global};
 use std::ops::Range;
 use vx_base::DType;
-use vx_expr::{ArithOp, BindError, BoundExpression, Expr, bind};
+use vx_expr::{ArithOp, BoundExpression, Expr, bind};
 use vx_layout::LayoutTree;
 use vx_scan::{ScanBuilder, ScanFile};
 use vx_splits::{Selection, StrictSorted};
@@ -18,35 +18,47 @@ use vx_tree_notation::{dtype_in, tree_of};
 fn scan_of(alloc: Global, layout: LayoutTree, places: &str) -> Result<ScanBuilder, AllocError>
     ensures { IfOk result (λ builder. length builder.locations ≤ most_segments) }
 {
-    let locations = places_of(alloc, places)?;
+    let locations = places_of(alloc, places);
     ScanBuilder::new(alloc, ScanFile { layout, locations })
 }
 
 /// The builder of a scan of the whole file; none where its nodes are no tree.
-pub(crate) fn builder_of(alloc: Global, desk: Desk<'_>) -> Result<Option<ScanBuilder>, AllocError>
-    ensures { IfOk result (λ made. IfSome made (λ builder. length builder.locations ≤ most_segments)) }
+pub(crate) fn builder_of(alloc: Global, desk: Desk<'_>) -> Option<ScanBuilder>
+    ensures { IfSome result (λ builder. length builder.locations ≤ most_segments) }
 {
-    match tree_of(alloc, desk.nodes) {
-        Some(layout) => Ok(Some(scan_of(alloc, layout, desk.places)?)),
-        None => Ok(None),
+    let layout = tree_of(alloc, desk.nodes)?;
+    scan_of(alloc, layout, desk.places).ok()
+}
+
+/// The row's number for `row`, the root less the row's number for `less`, and the root for any other word.
+fn expression_of(alloc: Global, word: &str) -> Result<Expr, AllocError> {
+    match word {
+        "row" => Ok(Expr::RowIdx),
+        "less" => Expr::arith(alloc, ArithOp::Sub, Expr::Root, Expr::RowIdx),
+        _ => Ok(Expr::Root),
     }
+}
+
+/// The expression of that word over a root of the dtype.
+fn bound(alloc: Global, dtype: &DType, word: &str) -> Option<BoundExpression> {
+    let expression = expression_of(alloc, word).ok()?;
+    let bound = bind(alloc, &expression, dtype).ok();
+    drop(expression);
+    bound
 }
 
 /// The row's number for `row`, the root for `root`, the root less the row's number for `less`, and for any other word the
 /// root of that dtype.
-fn projection_of(alloc: Global, dtype: &DType, word: &str) -> Result<BoundExpression, BindError> {
-    match word {
-        "row" => bind(alloc, &Expr::RowIdx, dtype),
-        "root" => bind(alloc, &Expr::Root, dtype),
-        "less" => {
-            let less = Expr::arith(alloc, ArithOp::Sub, Expr::Root, Expr::RowIdx)?;
-            bind(alloc, &less, dtype)
-        }
-        other => match dtype_in(alloc, other) {
-            Some(root) => bind(alloc, &Expr::Root, &root),
-            None => bind(alloc, &Expr::Root, dtype),
-        },
+fn projection_of(alloc: Global, dtype: &DType, word: &str) -> Option<BoundExpression> {
+    if word == "row" || word == "root" || word == "less" {
+        return bound(alloc, dtype, word);
     }
+    let Some(root) = dtype_in(alloc, word) else {
+        return bound(alloc, dtype, word);
+    };
+    let projection = bound(alloc, &root, word);
+    drop(root);
+    projection
 }
 
 /// The scan of the file with the projection of that word; none where there is no tree, or it can't be bound.
@@ -54,14 +66,20 @@ fn projected(alloc: Global, desk: Desk<'_>, word: &str) -> Option<ScanBuilder>
     ensures { IfSome result (λ builder. length builder.locations ≤ most_segments) }
 {
     let layout = tree_of(alloc, desk.nodes)?;
-    let projection = projection_of(alloc, layout.dtype(), word).ok()?;
-    let builder = scan_of(alloc, layout, desk.places).ok()?;
+    let Some(projection) = projection_of(alloc, layout.dtype(), word) else {
+        drop(layout);
+        return None;
+    };
+    let Ok(builder) = scan_of(alloc, layout, desk.places) else {
+        drop(projection);
+        return None;
+    };
     Some(builder.with_projection(projection))
 }
 
 /// The numbers of rows that are written so; none where they don't ascend.
 fn indices_of(alloc: Global, words: &str) -> Option<StrictSorted> {
-    StrictSorted::try_new(numbers_of(alloc, words).ok()?).ok()
+    StrictSorted::try_new(numbers_of(alloc, words)).ok()
 }
 
 /// The selection that is written so: `all` is every row, and numbers are the rows that have them.
@@ -89,7 +107,11 @@ pub(crate) fn set_of(alloc: Global, desk: Desk<'_>, words: &str) -> Option<ScanB
     let (offset, root) = words.split_once(' ').unwrap_or((words, ""));
     let offset = offset.parse::<u64>().unwrap_or(0);
     let selection = selection_of(alloc, indices)?;
-    let builder = projected(alloc, desk, root)?
+    let Some(builder) = projected(alloc, desk, root) else {
+        drop(selection);
+        return None;
+    };
+    let builder = builder
         .with_ordered(false)
         .with_concurrency(2)
         .with_row_range(range_of(range))

@@ -11,16 +11,27 @@ use vx_plan::PlanRef;
 use vx_scan::{ScanPlans, ValueCache};
 use vx_steps::{KeptValue, asked_wholes};
 
-/// A cache that has these values.
-pub(crate) fn cache_of<R: AllocGlobal + Wait>(
-    rt: &R,
-    values: Vec<KeptValue>,
-) -> Result<ValueCache, AllocError> {
-    let cache = ValueCache::new(rt.alloc());
-    for KeptValue { node, column } in values {
-        let _kept = cache.insert(rt, node, column)?;
+/// Keeps the value that is written so in the cache, where it is one.
+fn keep<R: AllocGlobal + Wait>(rt: &R, cache: &ValueCache, text: &str) -> Result<(), AllocError> {
+    match value_of(rt.alloc(), text) {
+        Some(KeptValue { node, column }) => {
+            drop(cache.insert(rt, node, column)?);
+            Ok(())
+        }
+        None => Ok(()),
     }
-    Ok(cache)
+}
+
+/// Keeps the values that the words between ` | ` give in the cache.
+pub(crate) fn keep_all<R: AllocGlobal + Wait>(
+    rt: &R,
+    cache: &ValueCache,
+    text: &str,
+) -> Result<(), AllocError> {
+    for part in text.split(" | ") {
+        keep(rt, cache, part)?;
+    }
+    Ok(())
 }
 
 /// Appends the column that a cache has for a plan.
@@ -31,7 +42,11 @@ fn write_cached<R: AllocGlobal + Wait>(
     out: &mut String,
 ) -> Result<(), AllocError> {
     match cache.get(rt, node)? {
-        Some(column) => write_column(rt.alloc(), &column, out),
+        Some(column) => {
+            let written = write_column(rt.alloc(), &column, out);
+            drop(column);
+            written
+        }
         None => out.push_str(" none;"),
     }
 }
@@ -42,10 +57,27 @@ fn asked_by_all(alloc: Global, plans: &ScanPlans) -> Result<Vec<PlanRef>, AllocE
 {
     let rows = plans.table.row_count(plans.projection);
     let mask = Mask::new_true(alloc, rows)?;
-    if mask.len() > rows {
-        return Ok(Vec::new(alloc));
+    let asked = if mask.len() <= rows {
+        asked_wholes(alloc, &plans.table, plans.projection, 0, &mask)
+    } else {
+        Ok(Vec::new(alloc))
+    };
+    drop(mask);
+    asked
+}
+
+/// Appends what a cache has for each of the plans.
+fn write_entries<R: AllocGlobal + Wait>(
+    rt: &R,
+    nodes: &[PlanRef],
+    cache: &ValueCache,
+    out: &mut String,
+) -> Result<(), AllocError> {
+    for node in nodes {
+        write!(out, " kept {}", node.0)?;
+        write_cached(rt, cache, *node, out)?;
     }
-    asked_wholes(alloc, &plans.table, plans.projection, 0, &mask)
+    Ok(())
 }
 
 /// Appends what a cache has for each plan whose whole values the rows of the projection ask for.
@@ -57,11 +89,10 @@ pub(crate) fn write_kept<R: AllocGlobal + Wait>(
 ) -> Result<(), AllocError>
     requires { ArePlans plans.now }
 {
-    for node in &asked_by_all(rt.alloc(), plans)? {
-        write!(out, " kept {}", node.0)?;
-        write_cached(rt, cache, *node, out)?;
-    }
-    Ok(())
+    let nodes = asked_by_all(rt.alloc(), plans)?;
+    let written = write_entries(rt, &nodes, cache, out);
+    drop(nodes);
+    written
 }
 
 /// Appends what a step on a cache gives: `insert 3 u8: 7` or `get 3`.
@@ -79,7 +110,9 @@ fn write_step<R: AllocGlobal + Wait>(
     match value_of(rt.alloc(), step) {
         Some(KeptValue { node, column }) => {
             let kept = cache.insert(rt, node, column)?;
-            write_column(rt.alloc(), &kept, out)
+            let written = write_column(rt.alloc(), &kept, out);
+            drop(kept);
+            written
         }
         None => Ok(()),
     }
@@ -105,5 +138,7 @@ pub(crate) fn write_cache<R: AllocGlobal + Wait>(
     out: &mut String,
 ) -> Result<(), AllocError> {
     let cache = ValueCache::new(rt.alloc());
-    write_steps(rt, &cache, words, out)
+    let written = write_steps(rt, &cache, words, out);
+    drop(cache);
+    written
 }

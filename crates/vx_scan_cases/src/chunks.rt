@@ -1,36 +1,35 @@
 //! Runs of one chunk.
 
-ghost use Rattle.std.specs.Prelude.{IfOk, IsTrue};
+ghost use Rattle.std.specs.Prelude.{IfSome, IsTrue};
 ghost use Rattle.vx_scan.specs.Plans.{ArePlans, IsChunkOf};
 
 use crate::answers::{write_column, write_columns, write_error, write_source};
 use crate::commands::Desk;
 use crate::files::{places_of, source_of};
 use crate::splits::split_of;
+use crate::trees::lowered_of;
 use std::alloc::{AllocError, Global};
 use vx_base::ScriptSource;
 use vx_io::segment_ranges;
-use vx_layout::LayoutTree;
 use vx_lower::Lowered;
 use vx_notation::{column_of, dtype_of};
 use vx_plan::PlanRef;
 use vx_scan::{ChunkOutcome, ScanPlans, run_chunk};
 use vx_splits::{SelectedRows, WorkScope};
 use vx_steps::{KeptValue, Split};
-use vx_tree_notation::{lowered, tree_of};
 
-/// What the chunks of the tree share.
-pub(crate) fn plans_of(
-    alloc: Global,
-    tree: &LayoutTree,
-    desk: Desk<'_>,
-) -> Result<ScanPlans, AllocError>
-    ensures { IfOk result ArePlans }
+/// What the chunks of the tree share; none where its nodes are no tree.
+pub(crate) fn plans_of(alloc: Global, desk: Desk<'_>) -> Option<ScanPlans>
+    ensures { IfSome result ArePlans }
 {
-    let locations = places_of(alloc, desk.places)?;
-    let ranges = segment_ranges(alloc, &locations)?;
-    let Lowered { table, root } = lowered(alloc, tree, "")?;
-    Ok(ScanPlans {
+    let Lowered { table, root } = lowered_of(alloc, desk.nodes)?;
+    let locations = places_of(alloc, desk.places);
+    let Ok(ranges) = segment_ranges(alloc, &locations) else {
+        drop(table);
+        drop(locations);
+        return None;
+    };
+    Some(ScanPlans {
         table,
         projection: root,
         locations,
@@ -51,15 +50,15 @@ pub(crate) fn value_of(alloc: Global, text: &str) -> Option<KeptValue> {
     Some(KeptValue { node, column })
 }
 
-/// The values that the words between ` | ` give.
-pub(crate) fn given_of(alloc: Global, text: &str) -> Result<Vec<KeptValue>, AllocError> {
+/// The values that the words between ` | ` give. Those that have no room are left out.
+fn given_of(alloc: Global, text: &str) -> Vec<KeptValue> {
     let mut given = Vec::new(alloc);
     for part in text.split(" | ") {
         if let Some(value) = value_of(alloc, part) {
-            given.push(value)?;
+            let _pushed = given.push(value).ok();
         }
     }
-    Ok(given)
+    given
 }
 
 /// Appends the piece of a chunk, or why it has none, and the whole values that it used and made.
@@ -113,9 +112,10 @@ fn write_run(
     requires plans { ArePlans plans.now }
     requires chunk { IsChunkOf plans.now chosen.now }
 {
-    let given = given_of(alloc, words)?;
-    let outcome = run_chunk(alloc, plans, chosen, source, given);
-    write_outcome(alloc, &outcome, out)
+    let outcome = run_chunk(alloc, plans, chosen, source, given_of(alloc, words));
+    let written = write_outcome(alloc, &outcome, out);
+    drop(outcome);
+    written
 }
 
 /// Appends what a run of the chunk gives, where it is one, and what its source was asked.
@@ -132,23 +132,28 @@ fn write_chosen(
     if !is_chunk(plans, chosen) {
         return out.push_str(" out of range;");
     }
-    let mut source = source_of(alloc, desk.bytes, desk.script)?;
-    write_run(alloc, plans, chosen, &mut source, words, out)?;
-    write_source(&source, out)
+    let mut source = source_of(alloc, desk.bytes, desk.script);
+    let ran = write_run(alloc, plans, chosen, &mut source, words, out);
+    let written = ran.and(write_source(&source, out));
+    drop(source);
+    written
 }
 
-/// Appends what the chunk of those rows gives over the tree.
+/// Appends what the chunk of those rows gives over the plans.
 fn write_over(
     alloc: Global,
     desk: Desk<'_>,
-    tree: &LayoutTree,
+    plans: &ScanPlans,
     words: &str,
     out: &mut String,
-) -> Result<(), AllocError> {
+) -> Result<(), AllocError>
+    requires { ArePlans plans.now }
+{
     let (rows, words) = words.split_once(" | ").unwrap_or((words, ""));
     let chosen = chosen_of(alloc, rows)?;
-    let plans = plans_of(alloc, tree, desk)?;
-    write_chosen(alloc, desk, &plans, &chosen, words, out)
+    let written = write_chosen(alloc, desk, plans, &chosen, words, out);
+    drop(chosen);
+    written
 }
 
 /// Appends what a run of the chunk of those rows gives, and what its source was asked.
@@ -158,8 +163,10 @@ pub(crate) fn write_chunk(
     words: &str,
     out: &mut String,
 ) -> Result<(), AllocError> {
-    match tree_of(alloc, desk.nodes) {
-        Some(tree) => write_over(alloc, desk, &tree, words, out),
-        None => out.push_str(" no tree;"),
-    }
+    let Some(plans) = plans_of(alloc, desk) else {
+        return out.push_str(" no tree;");
+    };
+    let written = write_over(alloc, desk, &plans, words, out);
+    drop(plans);
+    written
 }

@@ -1,28 +1,27 @@
 //! The file as words: its bytes, where its segments lie, and the script that its source keeps to.
 
-ghost use Rattle.std.specs.Prelude.{◌≤◌, length, IfOk};
+ghost use Rattle.std.specs.Prelude.{◌≤◌, length};
 ghost use Rattle.vx_base.specs.Limits.{most_segments};
 
-use std::alloc::{AllocError, Global};
+use std::alloc::Global;
 use vx_base::{Script, ScriptSource, SegmentLocation};
 
-/// Adds the byte of the hexadecimal digits, so many times.
-fn push_bytes(digits: &str, count: u64, bytes: &mut Vec<u8>) -> Result<(), AllocError> {
+/// Adds the byte of the hexadecimal digits, so many times. What has no room is left out, here and below.
+fn push_bytes(digits: &str, count: u64, bytes: &mut Vec<u8>) {
     let byte = u8::from_str_radix(digits, 16).unwrap_or(0);
     for _time in 0..count {
-        bytes.push(byte)?;
+        let _pushed = bytes.push(byte).ok();
     }
-    Ok(())
 }
 
 /// The bytes that the words write: `07*200` is the byte 07 two hundred times.
-pub(crate) fn bytes_of(alloc: Global, words: &str) -> Result<Vec<u8>, AllocError> {
+pub(crate) fn bytes_of(alloc: Global, words: &str) -> Vec<u8> {
     let mut bytes = Vec::new(alloc);
     for word in words.split_whitespace() {
         let (digits, count) = word.split_once('*').unwrap_or((word, "1"));
-        push_bytes(digits, count.parse::<u64>().unwrap_or(0), &mut bytes)?;
+        push_bytes(digits, count.parse::<u64>().unwrap_or(0), &mut bytes);
     }
-    Ok(bytes)
+    bytes
 }
 
 /// The location of a range, as `4+2` for two bytes from the fourth on.
@@ -36,57 +35,49 @@ fn place_of(word: &str) -> SegmentLocation {
 }
 
 /// The locations of these ranges, of a thousand at most.
-pub(crate) fn places_of(alloc: Global, words: &str) -> Result<Vec<SegmentLocation>, AllocError>
-    ensures { IfOk result (λ places. length places.items ≤ most_segments) }
+pub(crate) fn places_of(alloc: Global, words: &str) -> Vec<SegmentLocation>
+    ensures { length result.items ≤ most_segments }
 {
     let mut places = Vec::new(alloc);
     for word in words.split_whitespace() {
-        places.push(place_of(word))?;
+        let _pushed = places.push(place_of(word)).ok();
     }
     if places.len() > 1000 {
         places.clear();
     }
-    Ok(places)
+    places
 }
 
 /// The numbers between commas; `-` is none.
-pub(crate) fn numbers_of(alloc: Global, text: &str) -> Result<Vec<u64>, AllocError> {
+pub(crate) fn numbers_of(alloc: Global, text: &str) -> Vec<u64> {
     let mut numbers = Vec::new(alloc);
     for word in text.split(',') {
         if word != "-" {
-            numbers.push(word.parse::<u64>().unwrap_or(0))?;
+            let _pushed = numbers.push(word.parse::<u64>().unwrap_or(0)).ok();
         }
     }
-    Ok(numbers)
+    numbers
+}
+
+/// The numbers of a word of a script, of which a missing one is none.
+fn listed(alloc: Global, word: &str) -> Vec<u64> {
+    numbers_of(alloc, if word.is_empty() { "-" } else { word })
 }
 
 /// The script that is written so: the requests that fail, the polls that fail, the waits and the order.
-fn script_of(alloc: Global, words: &str) -> Result<Script, AllocError> {
-    let mut made = Script {
-        fail_requests: Vec::new(alloc),
-        fail_polls: Vec::new(alloc),
-        waits: Vec::new(alloc),
-        order: Vec::new(alloc),
-    };
-    for (place, word) in words.split_whitespace().enumerate() {
-        let numbers = numbers_of(alloc, word)?;
-        match place {
-            0 => made.fail_requests = numbers,
-            1 => made.fail_polls = numbers,
-            2 => made.waits = numbers,
-            _ => made.order = numbers,
-        }
+fn script_of(alloc: Global, words: &str) -> Script {
+    let (requests, words) = words.split_once(' ').unwrap_or((words, ""));
+    let (polls, words) = words.split_once(' ').unwrap_or((words, ""));
+    let (waits, order) = words.split_once(' ').unwrap_or((words, ""));
+    Script {
+        fail_requests: listed(alloc, requests),
+        fail_polls: listed(alloc, polls),
+        waits: listed(alloc, waits),
+        order: listed(alloc, order),
     }
-    Ok(made)
 }
 
 /// The source of a file and a script.
-pub(crate) fn source_of(
-    alloc: Global,
-    bytes: &str,
-    script: &str,
-) -> Result<ScriptSource, AllocError> {
-    let bytes = bytes_of(alloc, bytes)?;
-    let script = script_of(alloc, script)?;
-    Ok(ScriptSource::new(alloc, bytes, script))
+pub(crate) fn source_of(alloc: Global, bytes: &str, script: &str) -> ScriptSource {
+    ScriptSource::new(alloc, bytes_of(alloc, bytes), script_of(alloc, script))
 }

@@ -1,6 +1,7 @@
 //! Cases of scans of files: reads a command a line, and prints the line with its answer.
 //!
 //! A line that is empty or begins with `# ` is printed as it is. The commands stand in `README.md`.
+//! A value that was lent is let go by `drop`, so that the proof takes it apart there alone.
 #![tactic(auto)]
 
 mod adaptors;

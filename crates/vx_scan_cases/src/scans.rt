@@ -10,7 +10,7 @@ use crate::files::source_of;
 use std::alloc::{AllocError, Global};
 use std::sync::Wait;
 use std::thread::Threads;
-use vx_base::{Column, DType, ScriptSource};
+use vx_base::{Column, DType};
 use vx_notation::dtype_text;
 use vx_scan::{ScanBuilder, ScanError};
 
@@ -32,20 +32,22 @@ fn write_batches(
     }
 }
 
-/// Appends the batches of a scan over the source, and what that was asked.
+/// Appends the batches of a scan of the file, and what its source was asked.
 fn write_run<R: AllocGlobal + Threads + Wait + Sync>(
     rt: &R,
+    desk: Desk<'_>,
     builder: ScanBuilder,
-    source: ScriptSource,
     out: &mut String,
 ) -> Result<(), AllocError>
     requires { length builder.locations ≤ most_segments }
 {
     let alloc = rt.alloc();
-    let mut sources = [source];
+    let mut sources = [source_of(alloc, desk.bytes, desk.script)];
     let batches = builder.into_batches(rt, alloc, &mut sources);
-    write_batches(alloc, &batches, out)?;
-    write_source(&sources[0], out)
+    let written = write_batches(alloc, &batches, out).and(write_source(&sources[0], out));
+    drop(batches);
+    drop(sources);
+    written
 }
 
 /// Appends the batches of a scan of the file, and what its source was asked.
@@ -54,9 +56,8 @@ pub(crate) fn write_scan<R: AllocGlobal + Threads + Wait + Sync>(
     desk: Desk<'_>,
     out: &mut String,
 ) -> Result<(), AllocError> {
-    let source = source_of(rt.alloc(), desk.bytes, desk.script)?;
-    match builder_of(rt.alloc(), desk)? {
-        Some(builder) => write_run(rt, builder.with_idle_limit(desk.limit.max(1)), source, out),
+    match builder_of(rt.alloc(), desk) {
+        Some(builder) => write_run(rt, desk, builder.with_idle_limit(desk.limit.max(1)), out),
         None => out.push_str(" no tree;"),
     }
 }
@@ -68,19 +69,16 @@ pub(crate) fn write_selected<R: AllocGlobal + Threads + Wait + Sync>(
     words: &str,
     out: &mut String,
 ) -> Result<(), AllocError> {
-    let source = source_of(rt.alloc(), desk.bytes, desk.script)?;
     match set_of(rt.alloc(), desk, words) {
-        Some(builder) => write_run(rt, builder, source, out),
+        Some(builder) => write_run(rt, desk, builder, out),
         None => out.push_str(" not set;"),
     }
 }
 
 /// Appends a dtype.
 fn write_type(alloc: Global, dtype: &DType, out: &mut String) -> Result<(), AllocError> {
-    match dtype_text(alloc, dtype) {
-        Ok(text) => { write!(out, " {}", text.as_str()) }
-        Err(_) => Err(AllocError),
-    }
+    let text = dtype_text(alloc, dtype).unwrap_or(String::new(alloc));
+    write!(out, " {}", text.as_str())
 }
 
 /// Appends the dtype of the batches.
@@ -89,8 +87,10 @@ pub(crate) fn write_dtype(
     desk: Desk<'_>,
     out: &mut String,
 ) -> Result<(), AllocError> {
-    match builder_of(alloc, desk)? {
-        Some(builder) => write_type(alloc, builder.dtype(), out),
-        None => out.push_str(" no tree;"),
-    }
+    let Some(builder) = builder_of(alloc, desk) else {
+        return out.push_str(" no tree;");
+    };
+    let written = write_type(alloc, builder.dtype(), out);
+    drop(builder);
+    written
 }

@@ -6,8 +6,7 @@ ghost use Rattle.vx_scan.specs.Plans.{ArePlans};
 
 use crate::answers::{write_column, write_error};
 use crate::builders::set_of;
-use crate::caches::{cache_of, write_kept};
-use crate::chunks::given_of;
+use crate::caches::{keep_all, write_kept};
 use crate::commands::Desk;
 use crate::workers::{sources_of, write_outcome};
 use std::alloc::{AllocError, Global};
@@ -26,14 +25,23 @@ fn write_reruns(alloc: Global, reruns: &[Rerun], out: &mut String) -> Result<(),
     Ok(())
 }
 
-/// What all sources were asked, in the order of the ranges.
-fn asked_of(alloc: Global, sources: &[ScriptSource]) -> Result<Vec<AskedRange>, AllocError> {
+/// What all sources were asked, in the order of the ranges. What has no room is left out.
+fn asked_of(alloc: Global, sources: &[ScriptSource]) -> Vec<AskedRange> {
     let mut asked = Vec::new(alloc);
     for source in sources {
-        asked.extend_from_slice(source.asked())?;
+        let _joined = asked.extend_from_slice(source.asked()).ok();
     }
-    asked.sort()?;
-    Ok(asked)
+    let _sorted = asked.sort().ok();
+    asked
+}
+
+/// Appends what was asked.
+fn write_ranges(ranges: &[AskedRange], out: &mut String) -> Result<(), AllocError> {
+    out.push_str(" asked")?;
+    for range in ranges {
+        write!(out, " {}+{}", range.offset, range.length)?;
+    }
+    Ok(())
 }
 
 /// Appends what all sources were asked, in the order of the ranges: which of them was asked for what is open.
@@ -42,11 +50,10 @@ fn write_asked(
     sources: &[ScriptSource],
     out: &mut String,
 ) -> Result<(), AllocError> {
-    out.push_str(" asked")?;
-    for range in &asked_of(alloc, sources)? {
-        write!(out, " {}+{}", range.offset, range.length)?;
-    }
-    Ok(())
+    let asked = asked_of(alloc, sources);
+    let written = write_ranges(&asked, out);
+    drop(asked);
+    written
 }
 
 /// Appends what a run gave, and what ran again.
@@ -70,7 +77,9 @@ fn write_run<R: AllocGlobal + Threads + Wait + Sync>(
 {
     let alloc = rt.alloc();
     let outcome = execute(rt, alloc, &prepared.plans, &prepared.chunks, sources, cache);
-    write_told(alloc, &outcome, out)
+    let written = write_told(alloc, &outcome, out);
+    drop(outcome);
+    written
 }
 
 /// Runs a prepared scan over the sources and the cache, and appends what came of these.
@@ -104,9 +113,13 @@ fn write_over<R: AllocGlobal + Threads + Wait + Sync>(
     requires plans { ArePlans prepared.now.plans }
     requires chunks { CanRun prepared.now.plans prepared.now.chunks.items }
 {
-    let cache = cache_of(rt, given_of(rt.alloc(), given)?)?;
-    let mut sources = sources_of(rt.alloc(), desk, count)?;
-    write_lent(rt, prepared, sources.as_mut_slice(), &cache, out)
+    let cache = ValueCache::new(rt.alloc());
+    let kept = keep_all(rt, &cache, given);
+    let mut sources = sources_of(rt.alloc(), desk, count);
+    let written = write_lent(rt, prepared, sources.as_mut_slice(), &cache, out);
+    drop(sources);
+    drop(cache);
+    kept.and(written)
 }
 
 /// Appends what a prepared scan gives over so many sources, with a cache that has the given values, what ran again, what
@@ -123,7 +136,11 @@ pub(crate) fn write_shared<R: AllocGlobal + Threads + Wait + Sync>(
     let count = count.parse::<u64>().unwrap_or(1);
     match set_of(alloc, desk, words) {
         Some(builder) => match builder.prepare(alloc) {
-            Ok(prepared) => write_over(rt, desk, &prepared, count, given, out),
+            Ok(prepared) => {
+                let written = write_over(rt, desk, &prepared, count, given, out);
+                drop(prepared);
+                written
+            }
             Err(error) => write_error(error, out),
         },
         None => out.push_str(" not set;"),

@@ -9,11 +9,26 @@ use crate::chunks::{chosen_of, is_chunk, plans_of};
 use crate::commands::Desk;
 use crate::files::source_of;
 use std::alloc::{AllocError, Global};
+use vx_base::Column;
 use vx_plan::PlanRef;
-use vx_scan::{ScanPlans, run_values};
+use vx_scan::{ScanError, ScanPlans, run_values};
 use vx_splits::SelectedRows;
 use vx_steps::asked_wholes;
-use vx_tree_notation::tree_of;
+
+/// Appends the values of a reading, or why there are none.
+fn write_read(
+    alloc: Global,
+    values: &Result<Column, ScanError>,
+    out: &mut String,
+) -> Result<(), AllocError> {
+    match values {
+        Ok(column) => {
+            out.push_str(" values")?;
+            write_column(alloc, column, out)
+        }
+        Err(error) => write_error(*error, out),
+    }
+}
 
 /// Appends the whole values of a plan, or why there are none, and what their source was asked.
 fn write_plan(
@@ -26,15 +41,12 @@ fn write_plan(
     requires plans { ArePlans plans.now }
     requires known { number_of node < length plans.now.table }
 {
-    let mut source = source_of(alloc, desk.bytes, desk.script)?;
-    match run_values(alloc, plans, node, &mut source) {
-        Ok(column) => {
-            out.push_str(" values")?;
-            write_column(alloc, &column, out)?;
-        }
-        Err(error) => write_error(error, out)?,
-    }
-    write_source(&source, out)
+    let mut source = source_of(alloc, desk.bytes, desk.script);
+    let values = run_values(alloc, plans, node, &mut source);
+    let written = write_read(alloc, &values, out).and(write_source(&source, out));
+    drop(values);
+    drop(source);
+    written
 }
 
 /// Appends what a reading of the plan of that number gives, where there is one.
@@ -60,11 +72,22 @@ pub(crate) fn write_values(
     words: &str,
     out: &mut String,
 ) -> Result<(), AllocError> {
-    let Some(tree) = tree_of(alloc, desk.nodes) else {
+    let Some(plans) = plans_of(alloc, desk) else {
         return out.push_str(" no tree;");
     };
-    let plans = plans_of(alloc, &tree, desk)?;
-    write_numbered(alloc, desk, &plans, words.parse::<u32>().unwrap_or(0), out)
+    let number = words.parse::<u32>().unwrap_or(0);
+    let written = write_numbered(alloc, desk, &plans, number, out);
+    drop(plans);
+    written
+}
+
+/// Appends that these plans are asked for.
+fn write_nodes(nodes: &[PlanRef], out: &mut String) -> Result<(), AllocError> {
+    out.push_str(" asks")?;
+    for node in nodes {
+        write!(out, " {}", node.0)?;
+    }
+    Ok(())
 }
 
 /// Appends the numbers of the plans whose whole values the rows of a chunk ask for.
@@ -80,11 +103,25 @@ fn write_asked(
         return out.push_str(" out of range;");
     }
     let row = chosen.scope.rows.start;
-    out.push_str(" asks")?;
-    for node in &asked_wholes(alloc, &plans.table, plans.projection, row, &chosen.mask)? {
-        write!(out, " {}", node.0)?;
-    }
-    Ok(())
+    let nodes = asked_wholes(alloc, &plans.table, plans.projection, row, &chosen.mask)?;
+    let written = write_nodes(&nodes, out);
+    drop(nodes);
+    written
+}
+
+/// Appends which whole values the rows of a split ask for over the plans.
+fn write_over(
+    alloc: Global,
+    plans: &ScanPlans,
+    words: &str,
+    out: &mut String,
+) -> Result<(), AllocError>
+    requires { ArePlans plans.now }
+{
+    let chosen = chosen_of(alloc, words)?;
+    let written = write_asked(alloc, plans, &chosen, out);
+    drop(chosen);
+    written
 }
 
 /// Appends which whole values the rows of a split ask for.
@@ -94,10 +131,10 @@ pub(crate) fn write_asks(
     words: &str,
     out: &mut String,
 ) -> Result<(), AllocError> {
-    let Some(tree) = tree_of(alloc, desk.nodes) else {
+    let Some(plans) = plans_of(alloc, desk) else {
         return out.push_str(" no tree;");
     };
-    let chosen = chosen_of(alloc, words)?;
-    let plans = plans_of(alloc, &tree, desk)?;
-    write_asked(alloc, &plans, &chosen, out)
+    let written = write_over(alloc, &plans, words, out);
+    drop(plans);
+    written
 }

@@ -13,7 +13,7 @@ use std::sync::Wait;
 use std::thread::Threads;
 use vx_base::ScriptSource;
 use vx_plan::PlanRef;
-use vx_scan::{Book, Outcome, Prepared, ValueCache, execute};
+use vx_scan::{Book, ClaimList, Outcome, Piece, Prepared, ValueCache, execute};
 use vx_steps::KeptValue;
 
 /// Appends the chunks of a prepared scan.
@@ -33,11 +33,34 @@ pub(crate) fn write_prepared(
 ) -> Result<(), AllocError> {
     match set_of(alloc, desk, words) {
         Some(builder) => match builder.prepare(alloc) {
-            Ok(prepared) => write_chunks(&prepared, out),
+            Ok(prepared) => {
+                let written = write_chunks(&prepared, out);
+                drop(prepared);
+                written
+            }
             Err(error) => write_error(error, out),
         },
         None => out.push_str(" not set;"),
     }
+}
+
+/// Appends the pieces of the chunks.
+fn write_pieces(alloc: Global, pieces: &[Piece], out: &mut String) -> Result<(), AllocError> {
+    for piece in pieces {
+        write!(out, " chunk {}", piece.chunk)?;
+        write_column(alloc, &piece.column, out)?;
+    }
+    Ok(())
+}
+
+/// The numbers of the chunks that were claimed, in their order. Those that have no room are left out.
+fn claimed_of(alloc: Global, lists: &[ClaimList]) -> Vec<u64> {
+    let mut claimed = Vec::new(alloc);
+    for list in lists {
+        let _joined = claimed.extend_from_slice(list.items()).ok();
+    }
+    let _sorted = claimed.sort().ok();
+    claimed
 }
 
 /// Appends the pieces of the chunks, the numbers of the chunks that were claimed, how many ran again, and the error.
@@ -46,16 +69,11 @@ pub(crate) fn write_outcome(
     outcome: &Outcome,
     out: &mut String,
 ) -> Result<(), AllocError> {
-    for piece in &outcome.pieces {
-        write!(out, " chunk {}", piece.chunk)?;
-        write_column(alloc, &piece.column, out)?;
-    }
-    let mut claimed = Vec::new(alloc);
-    for list in &outcome.claimed {
-        claimed.extend_from_slice(list.items())?;
-    }
-    claimed.sort()?;
-    write!(out, " claimed {claimed:?}; {} again;", outcome.reruns.len())?;
+    write_pieces(alloc, &outcome.pieces, out)?;
+    let claimed = claimed_of(alloc, &outcome.claimed);
+    let written = write!(out, " claimed {claimed:?}; {} again;", outcome.reruns.len());
+    drop(claimed);
+    written?;
     match outcome.error {
         Some(failed) => {
             write!(out, " chunk {}", failed.chunk)?;
@@ -65,17 +83,13 @@ pub(crate) fn write_outcome(
     }
 }
 
-/// Sources of the file, so many, and one at least.
-pub(crate) fn sources_of(
-    alloc: Global,
-    desk: Desk<'_>,
-    count: u64,
-) -> Result<Vec<ScriptSource>, AllocError> {
+/// Sources of the file, so many, and one at least. Those that have no room are left out.
+pub(crate) fn sources_of(alloc: Global, desk: Desk<'_>, count: u64) -> Vec<ScriptSource> {
     let mut sources = Vec::new(alloc);
     for _source in 0..count.clamp(1, 64) {
-        sources.push(source_of(alloc, desk.bytes, desk.script)?)?;
+        let _pushed = sources.push(source_of(alloc, desk.bytes, desk.script)).ok();
     }
-    Ok(sources)
+    sources
 }
 
 /// Runs a prepared scan over the sources.
@@ -101,7 +115,10 @@ fn write_run<R: AllocGlobal + Threads + Wait + Sync>(
         sources,
         &cache,
     );
-    write_outcome(alloc, &outcome, out)
+    drop(cache);
+    let written = write_outcome(alloc, &outcome, out);
+    drop(outcome);
+    written
 }
 
 /// Runs a prepared scan over so many sources of the file.
@@ -115,8 +132,10 @@ fn write_over<R: AllocGlobal + Threads + Wait + Sync>(
     requires plans { ArePlans prepared.now.plans }
     requires chunks { CanRun prepared.now.plans prepared.now.chunks.items }
 {
-    let mut sources = sources_of(rt.alloc(), desk, count)?;
-    write_run(rt, prepared, sources.as_mut_slice(), out)
+    let mut sources = sources_of(rt.alloc(), desk, count);
+    let written = write_run(rt, prepared, sources.as_mut_slice(), out);
+    drop(sources);
+    written
 }
 
 /// Appends what a prepared scan gives over so many sources.
@@ -131,7 +150,11 @@ pub(crate) fn write_executed<R: AllocGlobal + Threads + Wait + Sync>(
     let count = count.parse::<u64>().unwrap_or(1);
     match set_of(alloc, desk, words) {
         Some(builder) => match builder.prepare(alloc) {
-            Ok(prepared) => write_over(rt, desk, &prepared, count, out),
+            Ok(prepared) => {
+                let written = write_over(rt, desk, &prepared, count, out);
+                drop(prepared);
+                written
+            }
             Err(error) => write_error(error, out),
         },
         None => out.push_str(" not set;"),
@@ -146,7 +169,11 @@ fn write_value(
     out: &mut String,
 ) -> Result<(), AllocError> {
     match book.get(node)? {
-        Some(column) => write_column(alloc, &column, out),
+        Some(column) => {
+            let written = write_column(alloc, &column, out);
+            drop(column);
+            written
+        }
         None => out.push_str(" none;"),
     }
 }
@@ -166,17 +193,31 @@ fn write_step(
     match value_of(alloc, step) {
         Some(KeptValue { node, column }) => {
             let kept = book.insert(node, column)?;
-            write_column(alloc, &kept, out)
+            let written = write_column(alloc, &kept, out);
+            drop(kept);
+            written
         }
         None => Ok(()),
     }
 }
 
 /// Appends what the steps on a book give, which stand between ` | `, and how many entries it has then.
-pub(crate) fn write_book(alloc: Global, words: &str, out: &mut String) -> Result<(), AllocError> {
-    let mut book = Book::new(alloc);
+fn write_steps(
+    alloc: Global,
+    book: &mut Book,
+    words: &str,
+    out: &mut String,
+) -> Result<(), AllocError> {
     for step in words.split(" | ") {
-        write_step(alloc, &mut book, step, out)?;
+        write_step(alloc, book, step, out)?;
     }
     write!(out, " {} entries", book.entries().len())
+}
+
+/// Appends what the steps on a new book give, and how many entries it has then.
+pub(crate) fn write_book(alloc: Global, words: &str, out: &mut String) -> Result<(), AllocError> {
+    let mut book = Book::new(alloc);
+    let written = write_steps(alloc, &mut book, words, out);
+    drop(book);
+    written
 }
