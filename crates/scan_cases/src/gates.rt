@@ -1,4 +1,5 @@
-//! Runs over sources whose reads wait at a gate.
+//! Runs over sources whose reads wait at a gate. What was lent is let go by `drop`, so that the proof
+//! takes it apart there alone.
 
 ghost use Rattle.std.specs.Prelude.{◌<◌, ◌≤◌, length};
 
@@ -18,8 +19,8 @@ fn gate_source(
     adds: u64,
     waits: bool,
 ) -> Option<GateSource> {
-    let bytes = bytes.to_vec(alloc).ok()?;
     let gate = Arc::try_clone(gate).ok()?;
+    let bytes = bytes.to_vec(alloc).unwrap_or(Vec::new(alloc));
     Some(GateSource::new(alloc, bytes, gate, adds, waits))
 }
 
@@ -40,15 +41,16 @@ fn push_sources(
 }
 
 /// Sources of the file at one gate, which opens at the wanted number of requests. Each adds so many requests as its place
-/// in the first list says, and waits where its place in the second has 1.
+/// in the first list says, and waits where its place in the second has 1. What has no room is left out.
 fn gated(alloc: Global, file: &str, options: &str) -> Option<Vec<GateSource>> {
     let (_, text) = file.split_once(' ').unwrap_or((file, ""));
-    let mut sources = Vec::new(alloc);
-    let adds = list(alloc, options, "adds")?;
-    let waits = list(alloc, options, "waits")?;
-    let bytes = repeated_bytes(alloc, text, number(options, "file_times", 0))?;
     let gate = Gate::new(alloc, number(options, "wanted", 0) as u64).ok()?;
-    push_sources(alloc, &bytes, &gate, &adds, &waits, &mut sources)?;
+    let mut sources = Vec::new(alloc);
+    let adds = list(alloc, options, "adds");
+    let waits = list(alloc, options, "waits");
+    let bytes = repeated_bytes(alloc, text, number(options, "file_times", 0));
+    let _pushed = push_sources(alloc, &bytes, &gate, &adds, &waits, &mut sources);
+    drop(gate);
     Some(sources)
 }
 
@@ -63,13 +65,16 @@ fn run_gated<R: AllocGlobal + Threads + Wait + Sync>(
         return None;
     }
     let alloc = rt.alloc();
-    let words = words_of(alloc, option(options, "words")?)?;
-    let bytes = repeated_bytes(alloc, request, 0)?;
+    let words = words_of(alloc, option(options, "words")?);
+    let bytes = repeated_bytes(alloc, request, 0);
     let mut request = BytesSource::new(alloc, bytes, usize::MAX, Vec::new(alloc));
     let mut out = BytesSink::new(alloc, usize::MAX, Vec::new(alloc));
     let status = run(rt, &words, &mut request, sources, &mut out);
     let text = status_text(status);
     let count = out.written().len();
+    drop(out);
+    drop(request);
+    drop(words);
     format!(in alloc; "{status} {text}, wrote {count} bytes").ok()
 }
 
@@ -81,5 +86,7 @@ pub(crate) fn gate_outcome<R: AllocGlobal + Threads + Wait + Sync>(
     request: &str,
 ) -> Option<String> {
     let mut sources = gated(rt.alloc(), file, options)?;
-    run_gated(rt, options, request, sources.as_mut_slice())
+    let outcome = run_gated(rt, options, request, sources.as_mut_slice());
+    drop(sources);
+    outcome
 }

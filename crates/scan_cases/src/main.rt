@@ -49,10 +49,10 @@ fn write_lines<R: AllocGlobal + Threads + Wait + Sync>(
 ) -> Result<(), AllocError> {
     let mut desk = Desk { file: "" };
     for line in lines.lines() {
-        out.push_str(line)?;
         set(&mut desk, line);
-        write_answer(rt, desk, line, out)?;
-        out.push('\n')?;
+        out.push_str(line)
+            .and(write_answer(rt, desk, line, out))
+            .and(out.push('\n'))?;
     }
     Ok(())
 }
@@ -70,24 +70,34 @@ fn write_answer<R: AllocGlobal + Threads + Wait + Sync>(
     }
 }
 
+/// The error of a request of that name; any other name is want of memory.
+fn request_error(name: &str) -> RequestError {
+    match name {
+        "bad_request" => RequestError::BadRequest,
+        "bad_layout" => RequestError::BadLayout { node: 3, rule: 7 },
+        "bad_projection" => RequestError::BadProjection(BindError::TooDeep),
+        _ => RequestError::Memory,
+    }
+}
+
 /// Appends the text of the error of that name.
 fn write_error(name: &str, out: &mut String) -> Result<(), AllocError> {
     match name {
         "usage" => write!(out, "{}", WordsError::Usage),
         "words_memory" => write!(out, "{}", WordsError::Memory),
-        "bad_request" => write!(out, "{}", RequestError::BadRequest),
-        "bad_layout" => write!(out, "{}", RequestError::BadLayout { node: 3, rule: 7 }),
-        "bad_projection" => write!(out, "{}", RequestError::BadProjection(BindError::TooDeep)),
-        "request_memory" => write!(out, "{}", RequestError::Memory),
-        _ => Err(AllocError),
+        _ => {
+            let error = request_error(name);
+            let written = write!(out, "{error}");
+            drop(error);
+            written
+        }
     }
 }
 
 /// The text of the error of that name.
 fn error_text(alloc: Global, name: &str) -> Option<String> {
     let mut text = String::new(alloc);
-    write_error(name, &mut text).ok()?;
-    Some(text)
+    write_error(name, &mut text).ok().and(Some(text))
 }
 
 /// The answer to a line that has one, where the line `file` tells the file.

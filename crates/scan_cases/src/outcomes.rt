@@ -1,4 +1,5 @@
-//! A run over memory, and what it left behind.
+//! A run over memory, and what it left behind. What was lent is let go by `drop`, so that the proof
+//! takes it apart there alone.
 
 use crate::fields::{number, option};
 use crate::runs::{Ran, run_once};
@@ -33,10 +34,11 @@ pub(crate) fn outcome<R: AllocGlobal + Threads + Wait + Sync>(
 ) -> Option<String> {
     let words = option(options, "words").unwrap_or("scan,s,r");
     let count = number(options, "sources", 1);
-    let mut out = String::new(rt.alloc());
     let first = run_once(rt, file, options, words, count, request)?;
-    write_outcome(rt, file, options, request, &first, &mut out)?;
-    Some(out)
+    let mut out = String::new(rt.alloc());
+    let written = write_outcome(rt, file, options, request, &first, &mut out);
+    drop(first);
+    written.and(Some(out))
 }
 
 /// Whether the line has words of its own, or says what its source does: such a line isn't run by several workers besides.
@@ -69,7 +71,9 @@ fn is_same<R: AllocGlobal + Threads + Wait + Sync>(
         "scan,s,r,--unordered",
     ] {
         let again = run_once(rt, file, options, words, 4, request)?;
-        if again.status != first.status || again.out.written() != first.out.written() {
+        let is_same = again.status == first.status && again.out.written() == first.out.written();
+        drop(again);
+        if !is_same {
             return Some(false);
         }
     }
@@ -99,17 +103,14 @@ fn write_report(
     ran: &Ran,
     out: &mut String,
 ) -> Result<(), AllocError> {
+    let written = ran.out.written();
+    let (request, sink) = (ran.request.faults(), ran.out.faults());
     write!(out, "{} {}, wrote ", ran.status, status_text(ran.status))?;
     match option(options, "brief") {
-        Some(_) => write_brief(ran.out.written(), out)?,
-        None => write_whole(ran.out.written(), out)?,
+        Some(_) => write_brief(written, out)?,
+        None => write_whole(written, out)?,
     }
-    write!(
-        out,
-        ", faults {} {}",
-        ran.request.faults(),
-        ran.out.faults()
-    )?;
+    write!(out, ", faults {request} {sink}")?;
     match option(options, "together") {
         Some(_) => write_together(alloc, &ran.sources, out),
         None => write_each(&ran.sources, out),
@@ -126,7 +127,7 @@ fn write_each(sources: &[ScriptSource], out: &mut String) -> Result<(), AllocErr
 }
 
 /// Appends the ranges that all sources together were asked for, in the order of their offsets, and all faults: what does
-/// not hang on which worker came first.
+/// not hang on which worker came first. What has no room is left out.
 fn write_together(
     alloc: Global,
     sources: &[ScriptSource],
@@ -136,10 +137,10 @@ fn write_together(
     let mut faults: u64 = 0;
     for source in sources {
         for range in source.asked() {
-            asked.push((range.offset, range.length))?;
+            let _pushed = asked.push((range.offset, range.length)).ok();
         }
         faults = faults.saturating_add(source.faults());
     }
-    asked.sort()?;
+    let _sorted = asked.sort().ok();
     write!(out, "; asked {asked:?}, faults {faults}")
 }
