@@ -1,10 +1,12 @@
-//! The commands, over one tree and the plans that it was lowered to.
+//! The commands, over one tree and the plans that it was lowered to. What was lent is let go by `drop`, so that the
+//! proof takes it apart there alone.
 
 ghost use Rattle.std.specs.Prelude.{◌<◌, length};
 ghost use Rattle.vx_plan.specs.Refs.{number_of};
 
 use crate::texts::write_text;
 use std::alloc::{AllocError, Global};
+use std::mem::replace;
 use vx_expr::{BoundExpression, bind};
 use vx_expr_notation::spelled;
 use vx_layout::LayoutTree;
@@ -58,14 +60,19 @@ fn write_over(
 {
     let (dtype, words) = words.split_once(" | ").unwrap_or(("", words));
     let expr = spelled(alloc, words)?;
-    let bound = match dtype_in(alloc, dtype) {
-        Some(dtype) => bind(alloc, &expr, &dtype),
+    let dtype = dtype_in(alloc, dtype);
+    let bound = match &dtype {
+        Some(dtype) => bind(alloc, &expr, dtype),
         None => bind(alloc, &expr, plans.table.dtype(plans.root)),
     };
-    match bound {
-        Ok(bound) => write_planned(alloc, plans, command, &bound, out),
+    drop(dtype);
+    drop(expr);
+    let written = match &bound {
+        Ok(bound) => write_planned(alloc, plans, command, bound, out),
         Err(_) => out.push_str(" isn't bound"),
-    }
+    };
+    drop(bound);
+    written
 }
 
 /// Appends the text of a share of the root.
@@ -106,14 +113,28 @@ fn write_tree(
     words: &str,
     out: &mut String,
 ) -> Result<(), AllocError> {
-    desk.tree = tree_of(alloc, words);
+    drop(replace(&mut desk.tree, tree_of(alloc, words)));
     match &desk.tree {
         Some(tree) => write!(out, " {} nodes", tree.len()),
         None => out.push_str(" no tree"),
     }
 }
 
-/// Appends the answer to a line.
+/// Lowers the tree, where there is one, and appends the text of its plan.
+fn write_lowered(
+    alloc: Global,
+    desk: &mut Desk,
+    words: &str,
+    out: &mut String,
+) -> Result<(), AllocError> {
+    if let Some(tree) = &desk.tree {
+        let made = lowered(alloc, tree, words)?;
+        drop(replace(&mut desk.plans, made));
+    }
+    write_on_plans(alloc, &mut desk.plans, "lower", "", out)
+}
+
+/// Appends the answer to a command.
 fn write_answer(
     alloc: Global,
     desk: &mut Desk,
@@ -123,14 +144,23 @@ fn write_answer(
     let (command, words) = line.split_once(' ').unwrap_or((line, ""));
     match command {
         "tree" => write_tree(alloc, desk, words, out),
-        "lower" => {
-            if let Some(tree) = &desk.tree {
-                desk.plans = lowered(alloc, tree, words)?;
-            }
-            write_on_plans(alloc, &mut desk.plans, command, "", out)
-        }
+        "lower" => write_lowered(alloc, desk, words, out),
         _ => write_on_plans(alloc, &mut desk.plans, command, words, out),
     }
+}
+
+/// Appends the answer to a line that has one.
+fn write_line(
+    alloc: Global,
+    desk: &mut Desk,
+    line: &str,
+    out: &mut String,
+) -> Result<(), AllocError> {
+    if line.is_empty() || line.starts_with("# ") {
+        return Ok(());
+    }
+    out.push_str(" =>")
+        .and(write_answer(alloc, desk, line, out))
 }
 
 /// Appends each line with its answer.
@@ -141,12 +171,9 @@ fn write_lines(
     out: &mut String,
 ) -> Result<(), AllocError> {
     for line in lines.lines() {
-        out.push_str(line)?;
-        if !line.is_empty() && !line.starts_with("# ") {
-            out.push_str(" =>")?;
-            write_answer(alloc, desk, line, out)?;
-        }
-        out.push('\n')?;
+        out.push_str(line)
+            .and(write_line(alloc, desk, line, out))
+            .and(out.push('\n'))?;
     }
     Ok(())
 }
@@ -161,5 +188,7 @@ pub(crate) fn write_answers(
     let root = PlanRef(0);
     let plans = Lowered { table, root };
     let mut desk = Desk { tree: None, plans };
-    write_lines(alloc, &mut desk, lines, out)
+    let written = write_lines(alloc, &mut desk, lines, out);
+    drop(desk);
+    written
 }
