@@ -1,6 +1,7 @@
 //! Scans that are run by a worker for each of several sources, which share whole values by a cache that has some already.
 
 ghost use Rattle.std.specs.Prelude.{◌<◌, ◌≤◌, length};
+ghost use Rattle.vx_scan.specs.Limits.{most_workers};
 ghost use Rattle.vx_scan.specs.Executes.{CanRun};
 ghost use Rattle.vx_scan.specs.Plans.{ArePlans};
 
@@ -71,7 +72,7 @@ fn write_run<R: AllocGlobal + Threads + Wait + Sync>(
     out: &mut String,
 ) -> Result<(), AllocError>
     requires some { 0 < length sources.old }
-    requires workers { length sources.old ≤ 64 }
+    requires workers { length sources.old ≤ most_workers }
     requires plans { ArePlans prepared.now.plans }
     requires chunks { CanRun prepared.now.plans prepared.now.chunks.items }
 {
