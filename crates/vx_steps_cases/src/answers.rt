@@ -16,10 +16,8 @@ pub(crate) fn write_column(
     if 16 < rows {
         return write!(out, " {rows} rows;");
     }
-    match column_text(alloc, column) {
-        Ok(text) => { write!(out, " {};", text.as_str()) }
-        Err(_) => Err(AllocError),
-    }
+    let text = column_text(alloc, column).unwrap_or(String::new(alloc));
+    write!(out, " {};", text.as_str())
 }
 
 /// Appends kept columns, each behind a word and the number of its plan.
@@ -30,24 +28,29 @@ pub(crate) fn write_columns(
     out: &mut String,
 ) -> Result<(), AllocError> {
     for kept in columns {
-        write!(out, " {word} {}", kept.node.0)?;
-        write_column(alloc, &kept.column, out)?;
+        write!(out, " {word} {}", kept.node.0).and(write_column(alloc, &kept.column, out))?;
     }
     Ok(())
 }
 
-/// Appends the text of the error of that name: of plan 3, segment 4 and row 7.
-pub(crate) fn write_error(name: &str, out: &mut String) -> Result<(), AllocError> {
+/// The error of a step of that name: of plan 3, segment 4 and row 7.
+fn step_error(name: &str) -> StepError {
     let node = PlanRef(3);
     match name {
-        "unsupported" => write!(out, " {}", StepError::Unsupported(node)),
-        "bad_segment" => write!(out, " {}", StepError::BadSegment(4)),
-        "bad_code" => write!(out, " {}", StepError::BadCode { node, row: 7 }),
-        "fault" => write!(out, " {}", StepError::EvalFault(7)),
-        "memory" => write!(out, " {}", StepError::Memory),
+        "unsupported" => StepError::Unsupported(node),
+        "bad_segment" => StepError::BadSegment(4),
+        "bad_code" => StepError::BadCode { node, row: 7 },
+        "fault" => StepError::EvalFault(7),
+        _ => StepError::Memory,
+    }
+}
+
+/// Appends the text of the error of that name.
+pub(crate) fn write_error(name: &str, out: &mut String) -> Result<(), AllocError> {
+    match name {
         "unknown_read" => write!(out, " {}", DeliverError::UnknownRead),
         "out_of_range" => write!(out, " {}", ScanBuildError::OutOfRange),
-        _ => Ok(()),
+        _ => write!(out, " {}", step_error(name)),
     }
 }
 

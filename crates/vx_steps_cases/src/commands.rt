@@ -1,4 +1,5 @@
-//! The commands, over one tree, a plan of it, and the bytes of its segments.
+//! The commands, over one tree, a plan of it, and the bytes of its segments. What was lent is let go by `drop`, so that
+//! the proof takes it apart there alone.
 
 ghost use Rattle.std.specs.Prelude.{◌<◌, length};
 ghost use Rattle.vx_plan.specs.Refs.{number_of};
@@ -6,6 +7,7 @@ ghost use Rattle.vx_plan.specs.Refs.{number_of};
 use crate::answers::{write_columns, write_error};
 use crate::scans::write_scan;
 use std::alloc::{AllocError, Global};
+use std::mem::replace;
 use vx_expr::{BoundExpression, bind};
 use vx_expr_notation::spelled;
 use vx_lower::{Lowered, plan_row_idx_expression};
@@ -70,10 +72,14 @@ fn write_over(
     requires room { length plans.old.table < 1000000 }
 {
     let expr = spelled(alloc, words)?;
-    match bind(alloc, &expr, plans.table.dtype(plans.root)) {
-        Ok(bound) => write_bound(alloc, plans, &bound, out),
+    let bound = bind(alloc, &expr, plans.table.dtype(plans.root));
+    drop(expr);
+    let written = match &bound {
+        Ok(bound) => write_bound(alloc, plans, bound, out),
         Err(_) => out.push_str(" isn't bound"),
-    }
+    };
+    drop(bound);
+    written
 }
 
 /// Plans a share of the root.
@@ -100,7 +106,9 @@ fn write_tree(
     let Some(tree) = tree_of(alloc, text) else {
         return out.push_str(" no tree");
     };
-    *plans = lowered(alloc, &tree, words)?;
+    let made = lowered(alloc, &tree, words);
+    drop(tree);
+    drop(replace(plans, made?));
     write!(out, " plan {}", plans.root.0)
 }
 
@@ -113,14 +121,15 @@ fn push_bytes(digits: &str, count: u64, bytes: &mut Vec<u8>) -> Result<(), Alloc
     Ok(())
 }
 
-/// Puts bytes in the place of those of a segment. `07*200` is the byte 07 two hundred times.
+/// Puts bytes in the place of those of a segment. `07*200` is the byte 07 two hundred times. What has no room is left
+/// out.
 fn take_segment(alloc: Global, file: &mut Vec<Segment>, words: &str) -> Result<(), AllocError> {
     let (number, words) = words.split_once(' ').unwrap_or((words, ""));
     let number = number.parse::<u32>().unwrap_or(0);
     let mut bytes = Vec::new(alloc);
     for word in words.split_whitespace() {
         let (digits, count) = word.split_once('*').unwrap_or((word, "1"));
-        push_bytes(digits, count.parse::<u64>().unwrap_or(0), &mut bytes)?;
+        let _pushed = push_bytes(digits, count.parse::<u64>().unwrap_or(0), &mut bytes).ok();
     }
     file.push(Segment { number, bytes })?;
     Ok(())
@@ -163,6 +172,20 @@ fn write_answer(
     }
 }
 
+/// Appends the answer to a line that has one.
+fn write_line(
+    alloc: Global,
+    desk: &mut Desk,
+    line: &str,
+    out: &mut String,
+) -> Result<(), AllocError> {
+    if line.is_empty() || line.starts_with("# ") {
+        return Ok(());
+    }
+    out.push_str(" =>")
+        .and(write_answer(alloc, desk, line, out))
+}
+
 /// Appends each line with its answer.
 fn write_desk(
     alloc: Global,
@@ -171,12 +194,9 @@ fn write_desk(
     out: &mut String,
 ) -> Result<(), AllocError> {
     for line in lines.lines() {
-        out.push_str(line)?;
-        if !line.is_empty() && !line.starts_with("# ") {
-            out.push_str(" =>")?;
-            write_answer(alloc, desk, line, out)?;
-        }
-        out.push('\n')?;
+        out.push_str(line)
+            .and(write_line(alloc, desk, line, out))
+            .and(out.push('\n'))?;
     }
     Ok(())
 }
@@ -191,5 +211,7 @@ pub(crate) fn write_lines(alloc: Global, lines: &str, out: &mut String) -> Resul
         file: Vec::new(alloc),
         leaves: Vec::new(alloc),
     };
-    write_desk(alloc, &mut desk, lines, out)
+    let written = write_desk(alloc, &mut desk, lines, out);
+    drop(desk);
+    written
 }

@@ -49,13 +49,11 @@ fn push_column(alloc: Global, words: &str, columns: &mut Vec<KeptValue>) -> Resu
     let (dtype, values) = words.split_once(':').unwrap_or((words, ""));
     let node = PlanRef(number.parse::<u32>().unwrap_or(0));
     let dtype = dtype_of(alloc, dtype).unwrap_or(DType::Bool(Nullability::NonNullable));
-    match column_of(alloc, dtype, values) {
-        Ok(column) => {
-            columns.push(KeptValue { node, column })?;
-            Ok(())
-        }
-        Err(_) => Ok(()),
-    }
+    let Ok(column) = column_of(alloc, dtype, values) else {
+        return Ok(());
+    };
+    columns.push(KeptValue { node, column })?;
+    Ok(())
 }
 
 /// Sets the order of delivery.
@@ -97,12 +95,8 @@ fn set_options(alloc: Global, options: &mut Options, text: &str) -> Result<(), A
     Ok(())
 }
 
-/// What the words between ` | ` ask, and these leaves.
-pub(crate) fn options_of(
-    alloc: Global,
-    text: &str,
-    leaves: Vec<KeptValue>,
-) -> Result<Options, AllocError> {
+/// What the words between ` | ` ask, and these leaves. What has no room is left out.
+pub(crate) fn options_of(alloc: Global, text: &str, leaves: Vec<KeptValue>) -> Options {
     let mut options = Options {
         active: 1,
         offset: 0,
@@ -113,6 +107,6 @@ pub(crate) fn options_of(
         given: Vec::new(alloc),
         leaves,
     };
-    set_options(alloc, &mut options, text)?;
-    Ok(options)
+    let _set = set_options(alloc, &mut options, text).ok();
+    options
 }

@@ -17,14 +17,14 @@ pub(crate) struct Run<'a> {
     pub(crate) tells_held: bool,
 }
 
-/// The bytes of a segment, the last that were put there; none where there are none.
-fn bytes_of(alloc: Global, file: &[Segment], number: u32) -> Result<Vec<u8>, AllocError> {
+/// The bytes of a segment, the last that were put there; none where there are none, or no room for them.
+fn bytes_of(alloc: Global, file: &[Segment], number: u32) -> Vec<u8> {
     for segment in file.iter().rev() {
         if segment.number == number {
-            return Vec::from_slice(alloc, &segment.bytes);
+            return Vec::from_slice(alloc, &segment.bytes).unwrap_or(Vec::new(alloc));
         }
     }
-    Ok(Vec::new(alloc))
+    Vec::new(alloc)
 }
 
 /// The segment of a read that was handed out, and 0 for any other.
@@ -50,11 +50,12 @@ fn deliver(
     number: u64,
     out: &mut String,
 ) -> Result<(), AllocError> {
-    let bytes = bytes_of(alloc, run.file, segment_of(&run.reads, number))?;
-    if run.scan.deliver(ReadId(number), bytes).is_err() {
-        write!(out, " unknown {number};")?;
-    }
-    write_held(run, out)
+    let bytes = bytes_of(alloc, run.file, segment_of(&run.reads, number));
+    let said = match run.scan.deliver(ReadId(number), bytes) {
+        Ok(()) => Ok(()),
+        Err(_) => write!(out, " unknown {number};"),
+    };
+    said.and(write_held(run, out))
 }
 
 /// The next read that is to be delivered.
@@ -73,10 +74,7 @@ fn next_read(run: &mut Run<'_>) -> Option<u64> {
 /// Delivers the next read, and says whether there was one.
 fn deliver_next(alloc: Global, run: &mut Run<'_>, out: &mut String) -> Result<bool, AllocError> {
     match next_read(run) {
-        Some(number) => {
-            deliver(alloc, run, number, out)?;
-            Ok(true)
-        }
+        Some(number) => deliver(alloc, run, number, out).and(Ok(true)),
         None => Ok(false),
     }
 }
@@ -105,40 +103,37 @@ fn take_read(
 fn take_turn(
     alloc: Global,
     run: &mut Run<'_>,
-    turn: Turn,
+    turn: &Turn,
     out: &mut String,
 ) -> Result<bool, AllocError> {
     match turn {
-        Turn::Read(read) => take_read(alloc, run, read, out)?,
-        Turn::Output(split, column) => {
-            write!(out, " out {split}")?;
-            write_column(alloc, &column, out)?;
-            write_held(run, out)?;
-        }
-        Turn::Waiting => {
-            out.push_str(" waiting;")?;
-            write_held(run, out)?;
-            return deliver_next(alloc, run, out);
-        }
-        Turn::Done => {
-            out.push_str(" done;")?;
-            write_held(run, out)?;
-            return Ok(false);
-        }
+        Turn::Read(read) => take_read(alloc, run, *read, out).and(Ok(true)),
+        Turn::Output(split, column) => write!(out, " out {split}")
+            .and(write_column(alloc, column, out))
+            .and(write_held(run, out))
+            .and(Ok(true)),
+        Turn::Waiting => out
+            .push_str(" waiting;")
+            .and(write_held(run, out))
+            .and(deliver_next(alloc, run, out)),
+        Turn::Done => out
+            .push_str(" done;")
+            .and(write_held(run, out))
+            .and(Ok(false)),
     }
-    Ok(true)
 }
 
 /// Takes a step, and says whether there is another. There is one after a refusal.
 fn take_step(alloc: Global, run: &mut Run<'_>, out: &mut String) -> Result<bool, AllocError> {
-    match run.scan.step() {
+    let turn = run.scan.step();
+    let more = match &turn {
         Ok(turn) => take_turn(alloc, run, turn, out),
-        Err(error) => {
-            write_refusal(error, out)?;
-            write_held(run, out)?;
-            Ok(true)
-        }
-    }
+        Err(error) => write_refusal(*error, out)
+            .and(write_held(run, out))
+            .and(Ok(true)),
+    };
+    drop(turn);
+    more
 }
 
 /// Delivers reads after the end, and takes one more step.
@@ -154,8 +149,7 @@ fn deliver_late(
     for number in late {
         deliver(alloc, run, *number, out)?;
     }
-    let _more = take_step(alloc, run, out)?;
-    Ok(())
+    take_step(alloc, run, out).and(Ok(()))
 }
 
 /// Appends the turns of the scan to its end, and the whole values that it used and made.
@@ -170,7 +164,7 @@ pub(crate) fn write_run(
             break;
         }
     }
-    deliver_late(alloc, run, late, out)?;
-    write_columns(alloc, "used", run.scan.used(), out)?;
-    write_columns(alloc, "made", run.scan.made(), out)
+    deliver_late(alloc, run, late, out)
+        .and(write_columns(alloc, "used", run.scan.used(), out))
+        .and(write_columns(alloc, "made", run.scan.made(), out))
 }

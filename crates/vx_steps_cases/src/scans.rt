@@ -10,7 +10,7 @@ use crate::options::{Options, options_of};
 use crate::runs::{Run, write_run};
 use crate::splits::splits_of;
 use std::alloc::{AllocError, Global};
-use std::mem;
+use std::mem::replace;
 use vx_lower::Lowered;
 use vx_plan::{PlanRef, PlanTable};
 use vx_steps::{KeptValue, Scan};
@@ -40,14 +40,15 @@ fn with_offset<'a>(scan: Scan<'a>, table: &PlanTable, offset: u64) -> Scan<'a>
     }
 }
 
-/// Runs the scan as the options ask, and gives the leaves that it leaves.
+/// Runs the scan as the options ask, and puts the leaves that it leaves in the place of those that are kept.
 fn write_turns<'a>(
     alloc: Global,
     file: &'a [Segment],
     scan: Scan<'a>,
     options: Options,
+    kept: &mut Vec<KeptValue>,
     out: &mut String,
-) -> Result<Vec<KeptValue>, AllocError>
+) -> Result<(), AllocError>
     requires { IsUnstarted scan.progress }
 {
     let Options {
@@ -72,9 +73,10 @@ fn write_turns<'a>(
         queue,
         tells_held,
     };
-    write_run(alloc, &mut run, &late, out)?;
+    let written = write_run(alloc, &mut run, &late, out);
     let Run { scan, .. } = run;
-    Ok(scan.into_leaves())
+    drop(replace(kept, scan.into_leaves()));
+    written
 }
 
 /// Appends the turns of a scan of the root, and puts the leaves that it leaves in the place of those that are kept. It
@@ -90,17 +92,14 @@ pub(crate) fn write_scan(
     requires { number_of plans.now.root < length plans.now.table }
 {
     let (words, text) = words.split_once(" | ").unwrap_or((words, ""));
-    let mut kept = mem::replace(leaves, Vec::new(alloc));
+    let Ok(scan) = Scan::try_new(alloc, &plans.table, plans.root, splits_of(alloc, words)) else {
+        leaves.clear();
+        return out.push_str(" out of range;");
+    };
     if !text.ends_with("kept") {
-        kept.clear();
+        leaves.clear();
     }
-    let options = options_of(alloc, text, kept)?;
-    match Scan::try_new(alloc, &plans.table, plans.root, splits_of(alloc, words)?) {
-        Ok(scan) => {
-            let scan = with_offset(scan, &plans.table, options.offset);
-            *leaves = write_turns(alloc, file, scan, options, out)?;
-            Ok(())
-        }
-        Err(_) => out.push_str(" out of range;"),
-    }
+    let options = options_of(alloc, text, replace(leaves, Vec::new(alloc)));
+    let scan = with_offset(scan, &plans.table, options.offset);
+    write_turns(alloc, file, scan, options, leaves, out)
 }
