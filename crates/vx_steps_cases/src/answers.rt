@@ -54,13 +54,18 @@ pub(crate) fn write_error(name: &str, out: &mut String) -> Result<(), AllocError
     }
 }
 
+/// Appends words and a number.
+fn write_number(words: &str, number: u64, out: &mut String) -> Result<(), AllocError> {
+    write!(out, " {words} {number};")
+}
+
 /// Appends why a step is refused.
 pub(crate) fn write_refusal(error: StepError, out: &mut String) -> Result<(), AllocError> {
     match error {
-        StepError::Unsupported(plan) => { write!(out, " unsupported {};", plan.0) }
-        StepError::BadSegment(segment) => { write!(out, " bad segment {segment};") }
+        StepError::Unsupported(plan) => write_number("unsupported", u64::from(plan.0), out),
+        StepError::BadSegment(segment) => write_number("bad segment", u64::from(segment), out),
         StepError::BadCode { node, row } => { write!(out, " bad code {} {row};", node.0) }
-        StepError::EvalFault(row) => { write!(out, " fault {row};") }
+        StepError::EvalFault(row) => write_number("fault", row, out),
         StepError::Memory => Err(AllocError),
     }
 }

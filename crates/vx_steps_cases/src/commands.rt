@@ -112,27 +112,31 @@ fn write_tree(
     write!(out, " plan {}", plans.root.0)
 }
 
-/// Adds the bytes of the hexadecimal digits, so many times.
-fn push_bytes(digits: &str, count: u64, bytes: &mut Vec<u8>) -> Result<(), AllocError> {
+/// Adds the byte of the hexadecimal digits; behind a `*` stands how many times.
+fn push_bytes(word: &str, bytes: &mut Vec<u8>) -> Result<(), AllocError> {
+    let (digits, count) = word.split_once('*').unwrap_or((word, "1"));
     let byte = u8::from_str_radix(digits, 16).unwrap_or(0);
-    for _time in 0..count {
+    for _time in 0..count.parse::<u64>().unwrap_or(0) {
         bytes.push(byte)?;
     }
     Ok(())
 }
 
-/// Puts bytes in the place of those of a segment. `07*200` is the byte 07 two hundred times. What has no room is left
-/// out.
-fn take_segment(alloc: Global, file: &mut Vec<Segment>, words: &str) -> Result<(), AllocError> {
-    let (number, words) = words.split_once(' ').unwrap_or((words, ""));
-    let number = number.parse::<u32>().unwrap_or(0);
+/// The bytes of the words. `07*200` is the byte 07 two hundred times. What has no room is left out.
+fn bytes_in(alloc: Global, words: &str) -> Vec<u8> {
     let mut bytes = Vec::new(alloc);
     for word in words.split_whitespace() {
-        let (digits, count) = word.split_once('*').unwrap_or((word, "1"));
-        let _pushed = push_bytes(digits, count.parse::<u64>().unwrap_or(0), &mut bytes).ok();
+        let _pushed = push_bytes(word, &mut bytes).ok();
     }
-    file.push(Segment { number, bytes })?;
-    Ok(())
+    bytes
+}
+
+/// Puts bytes in the place of those of a segment.
+fn take_segment(alloc: Global, file: &mut Vec<Segment>, words: &str) {
+    let (number, words) = words.split_once(' ').unwrap_or((words, ""));
+    let number = number.parse::<u32>().unwrap_or(0);
+    let bytes = bytes_in(alloc, words);
+    let _pushed = file.push(Segment { number, bytes }).ok();
 }
 
 /// Appends the answer to a command over the plans, of which there are few.
@@ -165,7 +169,10 @@ fn write_answer(
     let (command, words) = line.split_once(' ').unwrap_or((line, ""));
     match command {
         "tree" => write_tree(alloc, &mut desk.plans, words, out),
-        "file" => take_segment(alloc, &mut desk.file, words),
+        "file" => {
+            take_segment(alloc, &mut desk.file, words);
+            Ok(())
+        }
         "leaves" => write_columns(alloc, "leaf", &desk.leaves, out),
         "error" => write_error(words, out),
         _ => write_on_plans(alloc, desk, command, words, out),

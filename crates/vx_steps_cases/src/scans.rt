@@ -79,8 +79,28 @@ fn write_turns<'a>(
     written
 }
 
-/// Appends the turns of a scan of the root, and puts the leaves that it leaves in the place of those that are kept. It
-/// is handed those that are kept where it asks for them.
+/// Runs the scan as the words ask. It is handed the leaves that are kept where it asks for them.
+fn write_asked<'a>(
+    alloc: Global,
+    table: &PlanTable,
+    file: &'a [Segment],
+    scan: Scan<'a>,
+    text: &str,
+    leaves: &mut Vec<KeptValue>,
+    out: &mut String,
+) -> Result<(), AllocError>
+    requires unstarted { IsUnstarted scan.progress }
+    requires nodes { scan.nodes ≡ table.now }
+{
+    if !text.ends_with("kept") {
+        leaves.clear();
+    }
+    let options = options_of(alloc, text, replace(leaves, Vec::new(alloc)));
+    let scan = with_offset(scan, table, options.offset);
+    write_turns(alloc, file, scan, options, leaves, out)
+}
+
+/// Appends the turns of a scan of the root, and puts the leaves that it leaves in the place of those that are kept.
 pub(crate) fn write_scan(
     alloc: Global,
     plans: &Lowered,
@@ -96,10 +116,5 @@ pub(crate) fn write_scan(
         leaves.clear();
         return out.push_str(" out of range;");
     };
-    if !text.ends_with("kept") {
-        leaves.clear();
-    }
-    let options = options_of(alloc, text, replace(leaves, Vec::new(alloc)));
-    let scan = with_offset(scan, &plans.table, options.offset);
-    write_turns(alloc, file, scan, options, leaves, out)
+    write_asked(alloc, &plans.table, file, scan, text, leaves, out)
 }
