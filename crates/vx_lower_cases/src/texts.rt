@@ -45,27 +45,6 @@ fn write_display(
     }
 }
 
-/// The display that says a letter of each plan besides; an `s` is the summary.
-fn with_letter<'a>(
-    alloc: Global,
-    display: PlanTreeDisplay<'a>,
-    letter: u8,
-) -> Result<PlanTreeDisplay<'a>, AllocError> {
-    if letter == b's' {
-        let Ok(summary) = Box::new(alloc, PlanSummaryExtractor) else {
-            drop(display);
-            return Err(AllocError);
-        };
-        display.with_boxed(summary)
-    } else {
-        let Ok(said) = Box::new(alloc, Letter { letter }) else {
-            drop(display);
-            return Err(AllocError);
-        };
-        display.with_boxed(said)
-    }
-}
-
 /// Appends the text of a plan as the command asks: `names` without the summary, `line` the first line alone. Each of
 /// the letters is said of each plan, behind what is said already; an `s` is the summary.
 pub(crate) fn write_text(
@@ -85,7 +64,13 @@ pub(crate) fn write_text(
         PlanTreeDisplay::default_display(alloc, table, plan)
     };
     for letter in letters.bytes() {
-        display = with_letter(alloc, display, letter)?;
+        if letter == b's' {
+            let summary = Box::new(alloc, PlanSummaryExtractor)?;
+            display = display.with_boxed(summary)?;
+        } else {
+            let said = Box::new(alloc, Letter { letter })?;
+            display = display.with_boxed(said)?;
+        }
     }
     let written = write_display(&display, command == "line", out);
     drop(display);
