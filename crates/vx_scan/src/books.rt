@@ -1,6 +1,6 @@
 //! Whole values that workers share: a book of columns by plan, and a cache that keeps one under a lock.
 
-ghost use Rattle.std.specs.Prelude.{◌≡◌, [], map, IfOk, OnErr, OnOk, option_copied};
+ghost use Rattle.std.specs.Prelude.{◌≡◌, [], map, IfOk, None, OnErr, OnOk, option_copied};
 ghost use Rattle.vx_plan.specs.Refs.{number_of};
 ghost use Rattle.vx_steps.specs.Kept.{kept_at, kept_data};
 ghost use Rattle.vx_scan.specs.Books.{Inserts};
@@ -93,12 +93,39 @@ impl Book {
         ensures gives { IfOk result (λ kept. Inserts (number_of node) column kept self.old self.new) }
         ensures as_before { OnErr result (self.new ≡ self.old) }
     {
-        if let Some(kept) = self.get(node)? {
-            return Ok(kept);
+        match self.get(node) {
+            Ok(None) => self.accept(node, column),
+            Ok(Some(kept)) => {
+                drop(column);
+                Ok(kept)
+            }
+            Err(error) => {
+                drop(column);
+                Err(error)
+            }
         }
-        let given = column.copy(self.alloc)?;
-        self.entries.push(KeptValue { node, column })?;
-        Ok(given)
+    }
+
+    /// Keeps the column of a plan that has none, and gives a copy of it.
+    fn accept(&mut self, node: PlanRef, column: Column) -> Result<Column, AllocError>
+        requires none { kept_at self.old (number_of node) ≡ None }
+        ensures gives { IfOk result (λ kept. Inserts (number_of node) column kept self.old self.new) }
+        ensures as_before { OnErr result (self.new ≡ self.old) }
+    {
+        let given = match column.copy(self.alloc) {
+            Ok(given) => given,
+            Err(error) => {
+                drop(column);
+                return Err(error);
+            }
+        };
+        match self.entries.push(KeptValue { node, column }) {
+            Ok(()) => Ok(given),
+            Err(failed) => {
+                drop(given);
+                Err(failed.into())
+            }
+        }
     }
 
     /// The entries, in the order in which they were accepted. It takes no memory.

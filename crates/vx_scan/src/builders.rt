@@ -186,12 +186,19 @@ fn prepare_file(alloc: Global, file: ScanFile, settings: Settings) -> Result<Pre
     ensures cause { IfErr result (λ error. (error ≡ lacking) ⊎ Refuses (scan_by file settings) error) }
     ensures refused { (error : Refusal) → Refuses (scan_by file settings) error → result ≡ Err error }
 {
-    let rows = match begin(&file, &settings) {
-        Ok(Some(rows)) => rows,
-        Ok(None) => return Ok(prepare_nothing(alloc, file, settings)?),
-        Err(error) => return Err(error),
-    };
-    Ok(prepare_rows(alloc, file, &settings, rows)?)
+    match begin(&file, &settings) {
+        Ok(Some(rows)) => {
+            let prepared = prepare_rows(alloc, file, &settings, rows);
+            drop(settings);
+            Ok(prepared?)
+        }
+        Ok(None) => Ok(prepare_nothing(alloc, file, settings)?),
+        Err(error) => {
+            drop(file);
+            drop(settings);
+            Err(error)
+        }
+    }
 }
 
 /// Runs the scan of the file by the settings over the sources.

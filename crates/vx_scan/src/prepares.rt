@@ -58,11 +58,14 @@ pub(crate) fn prepare_nothing(
     requires none { ¬ (HasRows settings.range (row_count (scan_by file settings))) }
     ensures { IfOk result (IsPreparedFor (scan_by file settings) settings.idle_limit settings.ordered) }
 {
-    let mut plans = plan_file(alloc, file, &settings)?;
+    let ordered = settings.ordered;
+    let planned = plan_file(alloc, file, &settings);
+    drop(settings);
+    let mut plans = planned?;
     plans.row_offset = 0;
     Ok(Prepared {
         plans,
         chunks: Vec::new(alloc),
-        ordered: settings.ordered,
+        ordered,
     })
 }
