@@ -14,7 +14,7 @@ ghost use Rattle.vx_layout.specs.Rows.{value, Reaches, ReachesDirectly, ReachesT
 ghost use Rattle.vx_layout.specs.Kept.{all, only, kept_fields};
 ghost use Rattle.vx_layout.specs.WorkedRows.{i64, flat_node, chunked_node, two_chunks, two_leaves, two_truths, at, worth, segments_read, three_rows, null_structs, second_is_null, no_values, no_values_at, null_codes, code_zero, torn_value, torn_file, torn_at, one_range, one_segment, twice, signed_and_unsigned, with_list, list_field, list_file, field_a, seven_and_null, in_zones, zoned_file, zoned_at, one_two_three, nested};
 
-/// One flat node is a tree, and no node is none; a child twice, the depth of a chunk's chunk and of a list. Two
+/// No nodes are no tree; a child twice, the depth of a chunk's chunk and of a list. Two
 /// chunks: their tree, and the value of a row of the second and of no row.
 pub fn trees_by_hand()
     ensures no_nodes { RefusedBy [] (BadLayout 0 1) }

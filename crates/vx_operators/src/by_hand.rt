@@ -11,9 +11,9 @@ ghost use Rattle.vx_operators.specs.Logic.{and_valid, or_valid};
 ghost use Rattle.vx_operators.specs.Operators.{and_of, or_of, negated, comparison_of, null_test_of, value_test_of, arithmetic_of, bound_test_of};
 ghost use Rattle.vx_operators.specs.Rows.{along, front};
 
-/// False and null are false, true or null is true, and what the value beside the null would decide is null; not null
-/// is null. A number is no truth value. Over masks, row by row: of a null beside true and of one beside false only the
-/// second has a conjunction, and only the first a disjunction. Null is null, and no value.
+/// False and null are false, true or null is true, and where the value beside the null leaves it open the result is
+/// null; not null is null. A number is no truth value. Over masks, row by row: of a null beside true and of one
+/// beside false only the second has a conjunction, and only the first a disjunction. Null is null, and no value.
 pub fn truth_by_hand()
     ensures false_and_null { and_of (truth false) null ≡ Some (truth false) }
     ensures null_and_true { and_of null (truth true) ≡ Some null }

@@ -14,7 +14,7 @@ ghost use Rattle.vx_words.specs.Rows.{taken};
 
 /// Of three rows that are looked up, the places 0 and 2 are such rows; a null, a number below 0 and a number past
 /// the last row have the place past the last one, and so has a number that is not valid. What is taken at the place
-/// past the last row is null, and rows are taken in the order of their places.
+/// past the last row is null, and rows are taken in the order in which the places are listed.
 pub fn places_by_hand()
     ensures codes { code_places 3 (number (pos 2) ∷ null ∷ number (pos 0) ∷ number (negsuc 0) ∷ number (pos 7) ∷ []) ≡ 2 ∷ 3 ∷ 0 ∷ 3 ∷ 3 ∷ [] }
     ensures numbers { places_in 3 (true ∷ false ∷ true ∷ true ∷ []) (pos 2 ∷ pos 0 ∷ negsuc 0 ∷ pos 7 ∷ []) ≡ 2 ∷ 3 ∷ 3 ∷ 3 ∷ [] }
@@ -32,8 +32,8 @@ pub fn texts_by_hand()
     ensures moved_text { moved 10 4 9 ≡ 15 }
 {}
 
-/// What slots tell of a dtype, and the blank of each. The second item of a struct, the item that it doesn't have, and
-/// the field of a null; the fields of a null are nulls. Parts beside one another, row by row, in the order of the
+/// What slots tell of a dtype, and the blank of each. The second item of a struct, and the item that it doesn't have;
+/// the fields of a null are nulls. Parts beside one another, row by row, in the order of the
 /// fields; no parts have rows too.
 pub fn structs_by_hand()
     ensures told { bare (struct_type (member (97 ∷ []) (int_type I8 Nullable) (member (98 ∷ []) (list_type (utf8_type Nullable) Nullable) no_members)) Nullable) ≡ struct_type (member [] (int_type I8 NonNullable) (member [] (list_type (bool_type NonNullable) NonNullable) no_members)) NonNullable }
