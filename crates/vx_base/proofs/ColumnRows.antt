@@ -1,7 +1,8 @@
 -- Columns, row by row.
-use Rattle.std.proofs.Common.{◌≡◌, ℕ, zero, suc, ◌+◌, ◌-◌, ◌<◌, pos, ℤ, true, List, [], ◌∷◌, ◌++◌, length, map, get_or, take, replicate, Some, refl, sym, ap, ◌∙◌, arith}
+use Rattle.std.proofs.Common.{◌≡◌, ℕ, zero, suc, ◌+◌, ◌-◌, pos, ℤ, true, List, [], ◌∷◌, ◌++◌, length, map, get_or, take, replicate, Some, refl, sym, ap, ◌∙◌, arith}
 use Rattle.std.specs.Prelude.{slice_get, ◌↔◌}
 use Rattle.std.specs.List.{AllByRecursion}
+use Rattle.std.proofs.lemmas.Option.{slice_get_within}
 use Rattle.std.proofs.lemmas.List.{map-append, take_more}
 use Rattle.vx_types.specs.declared.dtypes.Nullability.TheVariants.{NonNullable}
 use Rattle.vx_types.specs.declared.values.Value.{Value}
@@ -13,10 +14,6 @@ use Rattle.vx_words.specs.Rows.{NullsHold}
 use Rattle.vx_packed.specs.Slots.{Takes}
 
 -- ---- one value more
-pub inside : (xs : List Datum) (row : ℕ) (v : Datum) → slice_get xs row ≡ Some v → row < length xs
-inside [] row v e = absurd cc
-inside (x ∷ xs) zero v e = omega arith
-inside (x ∷ xs) (suc row) v e = omega (arith, inside xs row v e)
 
 pub value_at : (xs : List Datum) (row : ℕ) (v : Datum) → slice_get xs row ≡ Some v → get_or xs row null ≡ v
 value_at [] row v e = absurd cc
@@ -25,7 +22,7 @@ value_at (x ∷ xs) (suc row) v e = value_at xs row v e
 
 pub values_more : (xs : List Datum) (values more : List Value) (row : ℕ) (value : Value) → slice_get xs row ≡ Some (datum value) → more ≡ values ++ value ∷ [] → map datum values ≡ take row xs → map datum more ≡ take (row + 1) xs
 values_more xs values more row value at pushed so_far =
-    ap (map datum) pushed ∙ map-append datum values (value ∷ []) ∙ (λ i. so_far i ++ sym (value_at xs row (datum value) at) i ∷ []) ∙ sym (take_more xs row null (inside xs row (datum value) at))
+    ap (map datum) pushed ∙ map-append datum values (value ∷ []) ∙ (λ i. so_far i ++ sym (value_at xs row (datum value) at) i ∷ []) ∙ sym (take_more xs row null (slice_get_within xs row (datum value) at))
 
 -- ---- numbers that are all valid
 pub all_held : (n : ℕ) (zs : List ℤ) → NullsHold (pos 0) (replicate n true) zs

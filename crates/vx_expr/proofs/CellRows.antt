@@ -18,17 +18,18 @@ use Rattle.vx_expr.specs.declared.steps.TwoStep.TheVariants.{Arith}
 use Rattle.vx_expr.specs.Meaning.{arithmetic_of}
 use Rattle.vx_expr.specs.Rows.{along, front}
 use Rattle.vx_expr.specs.Steps.{cell_datum, evaluated_rows, item_at, two_step}
-use Rattle.vx_base.proofs.ColumnRows.{inside, value_at}
+use Rattle.vx_base.proofs.ColumnRows.{value_at}
 use Rattle.vx_operators.proofs.Somes.{front_somes}
 use Rattle.vx_expr.proofs.Fronts.{along_none}
 use Rattle.vx_operators.specs.declared.operators.ArithOp.{ArithOp}
 use Rattle.vx_operators.specs.declared.worths.Worth.{Worth}
 use Rattle.vx_operators.specs.Worths.{worth_rows}
+use Rattle.std.proofs.lemmas.Option.{slice_get_within}
 
 -- one cell more
 pub cells_more : (xs : List Datum) (cells more : List Cell) (row : ℕ) (cell : Cell) (v : Datum) → slice_get xs row ≡ Some v → cell_datum cell ≡ v → more ≡ cells ++ cell ∷ [] → map cell_datum cells ≡ take row xs → map cell_datum more ≡ take (row + 1) xs
 cells_more xs cells more row cell v at is pushed so_far =
-    ap (map cell_datum) pushed ∙ map-append cell_datum cells (cell ∷ []) ∙ (λ i. so_far i ++ (is ∙ sym (value_at xs row v at)) i ∷ []) ∙ sym (take_more xs row null (inside xs row v at))
+    ap (map cell_datum) pushed ∙ map-append cell_datum cells (cell ∷ []) ∙ (λ i. so_far i ++ (is ∙ sym (value_at xs row v at)) i ∷ []) ∙ sym (take_more xs row null (slice_get_within xs row v at))
 
 -- ---- items at a place
 all_valid : (mask : List Bool) (vs : List Datum) → All (λ bit. bit ≡ true) mask → length mask ≡ length vs → where_valid mask vs ≡ vs

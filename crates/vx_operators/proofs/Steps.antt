@@ -1,26 +1,13 @@
 -- Rows that are made one by one: one row more, and no rows left.
 use Rattle.std.specs.Prelude.{slice_get}
-use Rattle.std.proofs.Common.{◌≡◌, ℕ, zero, suc, ◌+◌, ◌<◌, Bool, cond, map, get_or, drop, refl, Some, None, append_assoc, List, [], ◌∷◌, ◌++◌, length, Option, sym, ap, ◌∙◌, arith}
+use Rattle.std.proofs.Common.{◌≡◌, ℕ, ◌+◌, Bool, cond, map, drop, Some, None, append_assoc, List, [], ◌∷◌, ◌++◌, Option, sym, ap, ◌∙◌}
+use Rattle.std.proofs.lemmas.Option.{slice_get_within, get_or_from_slice_get}
 use Rattle.std.proofs.lemmas.List.{append-nil, drop_more, map-append}
 use Rattle.vx_operators.specs.Rows.{along, front}
 use Rattle.vx_operators.specs.Kernels.{of_two}
 
-abbrev or_else : {X : Type 0} → Option X → X → X
-or_else None d = d
-or_else (Some x) d = x
-
-pub there : {X : Type 0} (xs : List X) (i : ℕ) (x : X) → slice_get xs i ≡ Some x → i < length xs
-there [] i x e = absurd cc
-there (y ∷ xs) zero x e = omega arith
-there (y ∷ xs) (suc i) x e = omega (arith, there xs i x e)
-
-there_is : {X : Type 0} (xs : List X) (i : ℕ) (x : X) → slice_get xs i ≡ Some x → get_or xs i x ≡ x
-there_is [] i x e = refl
-there_is (y ∷ xs) zero x e = ap (λ r. or_else r x) e
-there_is (y ∷ xs) (suc i) x e = there_is xs i x e
-
 pub got : {X : Type 0} (xs : List X) (i : ℕ) (x : X) → slice_get xs i ≡ Some x → drop i xs ≡ x ∷ drop (i + 1) xs
-got {X} xs i x e = drop_more xs i x (there xs i x e) ∙ ap (λ (y : X). y ∷ drop (i + 1) xs) (there_is xs i x e)
+got {X} xs i x e = drop_more xs i x (slice_get_within xs i x e) ∙ ap (λ (y : X). y ∷ drop (i + 1) xs) (get_or_from_slice_get xs i x x e)
 
 -- ---- row by row
 pub more_along : {X Y Z : Type 0} (f : X → Y → Z) (xs : List X) (ys : List Y) (out longer whole : List Z) (i : ℕ) (x : X) (y : Y) (z : Z) → slice_get xs i ≡ Some x → slice_get ys i ≡ Some y

@@ -1,10 +1,12 @@
 -- What rows hold that have no value, and places, row by row.
-use Rattle.std.proofs.Common.{◌≡◌, ℕ, zero, suc, ◌+◌, ◌<◌, ◌≤◌, ℤ, Bool, true, false, cond, List, [], ◌∷◌, ◌++◌, length, map, get_or, take, Some, refl, sym, ap, subst, ◌∙◌, arith, add-one}
+use Rattle.std.proofs.Common.{◌≡◌, ℕ, zero, suc, ◌+◌, ◌<◌, ◌≤◌, ℤ, Bool, true, false, List, [], ◌∷◌, ◌++◌, length, map, get_or, take, Some, refl, sym, ap, subst, ◌∙◌, arith, add-one}
 use Rattle.std.proofs.lemmas.List.{length-map, map-append, take_more}
-use Rattle.std.proofs.lemmas.List.Sums.{sum_by-cons, count_by-le-length}
+use Rattle.std.proofs.lemmas.List.Sums.{count_by-le-length}
 use Rattle.std.specs.Prelude.{slice_get}
 use Rattle.vx_words.specs.Masks.{true_count}
-use Rattle.vx_packed.proofs.PickedRows.{there, there_is}
+use Rattle.std.proofs.lemmas.Option.{slice_get_within}
+use Rattle.vx_words.proofs.Places.{true_count-cons}
+use Rattle.vx_packed.proofs.PickedRows.{there_is}
 use Rattle.vx_words.specs.Rows.{Holds, NullsHold}
 use Rattle.vx_packed.specs.Places.{place_in, places_in}
 
@@ -21,14 +23,12 @@ pub bit_held : {X : Type 0} (blank : X) (mask : List Bool) (i : ℕ) (b : Bool) 
 bit_held blank mask i b x e h = subst (λ (bit : Bool). Holds blank bit x) (sym (bit_is mask i b e)) h
 
 -- ---- a mask that leaves no row out
-one_true : (bit : Bool) (mask : List Bool) → true_count (bit ∷ mask) ≡ cond bit 1 0 + true_count mask
-one_true bit mask = sum_by-cons (λ (b : Bool). cond b 1 0) bit mask
 
 pub full_held : {X : Type 0} (blank : X) (mask : List Bool) (xs : List X) → true_count mask ≡ length mask → NullsHold blank mask xs
 full_held blank [] xs e = tt
 full_held blank (true ∷ mask) [] e = tt
-full_held blank (false ∷ mask) xs e = absurd (omega (arith, one_true false mask, count_by-le-length (λ (b : Bool). b) mask))
-full_held blank (true ∷ mask) (x ∷ xs) e = full_held blank mask xs (omega (arith, one_true true mask))
+full_held blank (false ∷ mask) xs e = absurd (omega (arith, true_count-cons false mask, count_by-le-length (λ (b : Bool). b) mask))
+full_held blank (true ∷ mask) (x ∷ xs) e = full_held blank mask xs (omega (arith, true_count-cons true mask))
 
 -- ---- blanks
 held_suc : {X Y : Type 0} (f : X → Y) (blank : Y) (mask : List Bool) (xs : List X) (i : ℕ) (x : X) → i < length mask → i < length xs → x ≡ get_or xs i x → Holds blank (get_or mask i false) (f x)
@@ -65,7 +65,7 @@ held_row_suc blank (false ∷ mask) (y ∷ xs) (suc i) x lt lt2 e p h = (h.0, he
 pub held_row_more : {X : Type 0} (blank : X) (mask : List Bool) (xs : List X) (i : ℕ) (x : X) → length mask ≡ length xs → slice_get xs i ≡ Some x → Holds blank (get_or mask i false) x
     → NullsHold blank (take i mask) (take i xs) → NullsHold blank (take (i + 1) mask) (take (i + 1) xs)
 held_row_more blank mask xs i x len at p h =
-    let lt = there xs i x at in
+    let lt = slice_get_within xs i x at in
     rw add-one (held_row_suc blank mask xs i x (omega arith) lt (there_is xs i x at) p h)
 
 held_row : {X : Type 0} (blank : X) (mask : List Bool) (xs : List X) (i : ℕ) (x : X) → length mask ≡ length xs → i < length xs → x ≡ get_or xs i x → NullsHold blank mask xs → Holds blank (get_or mask i false) x
@@ -77,7 +77,7 @@ held_row blank (true ∷ mask) (y ∷ xs) (suc i) x len lt e h = held_row blank 
 held_row blank (false ∷ mask) (y ∷ xs) (suc i) x len lt e h = held_row blank mask xs i x (omega arith) (omega arith) e h.1
 
 pub held_row_at : {X : Type 0} (blank : X) (mask : List Bool) (xs : List X) (i : ℕ) (x : X) → length mask ≡ length xs → slice_get xs i ≡ Some x → NullsHold blank mask xs → Holds blank (get_or mask i false) x
-held_row_at blank mask xs i x len at h = held_row blank mask xs i x len (there xs i x at) (there_is xs i x at) h
+held_row_at blank mask xs i x len at h = held_row blank mask xs i x len (slice_get_within xs i x at) (there_is xs i x at) h
 
 -- ---- places
 places_append : (past : ℕ) (mask more : List Bool) (zs others : List ℤ) → length mask ≡ length zs → places_in past (mask ++ more) (zs ++ others) ≡ places_in past mask zs ++ places_in past more others

@@ -15,6 +15,7 @@ use Rattle.vx_types.specs.Columns.{ColumnData}
 use Rattle.vx_types.specs.Data.{member, Datum, null, structure, Items, no_items, item}
 use Rattle.vx_types.specs.Sizes.{type_size, members_size}
 use Rattle.vx_words.specs.Masks.{chosen, true_count}
+use Rattle.vx_words.proofs.Places.{false_first}
 use Rattle.vx_packed.specs.PartRows.{members_in, beside, rows_of, StructRows, struct_rows, HaveRows, sliced, filtered, picked_at, joined_each}
 
 -- ---- how many rows
@@ -104,9 +105,6 @@ sliced_have from to rows parts made le inside e h = subst (λ (ps : List ColumnD
 one_more : (bits : List Bool) → true_count (true ∷ bits) ≡ 1 + true_count bits
 one_more bits = sum_by-cons (λ (b : Bool). cond b 1 0) true bits
 
-none_more : (bits : List Bool) → true_count (false ∷ bits) ≡ true_count bits
-none_more bits = omega (arith, sum_by-cons (λ (b : Bool). cond b 1 0) false bits)
-
 chosen-beside : (bits : List Bool) (values : List Datum) (rows : List Items) → chosen bits (beside values rows) ≡ beside (chosen bits values) (chosen bits rows)
 chosen-beside [] values rows = refl
 chosen-beside (true ∷ bits) [] rows = refl
@@ -123,13 +121,13 @@ chosen-replicate (true ∷ bits) (suc rows) e =
     let one : suc (true_count bits) ≡ true_count (true ∷ bits) = omega (arith, one_more bits) in
     ap (λ (rest : List Items). no_items ∷ rest) (chosen-replicate bits rows (omega arith)) ∙ ap (λ (n : ℕ). replicate n no_items) one
 chosen-replicate (false ∷ bits) (suc rows) e =
-    chosen-replicate bits rows (omega arith) ∙ ap (λ (n : ℕ). replicate n no_items) (sym (none_more bits))
+    chosen-replicate bits rows (omega arith) ∙ ap (λ (n : ℕ). replicate n no_items) (sym (false_first bits))
 
 length-chosen_rows : (bits : List Bool) (values : List Datum) → length bits ≡ length values → length (chosen bits values) ≡ true_count bits
 length-chosen_rows [] values e = refl
 length-chosen_rows (bit ∷ bits) [] e = absurd (omega arith)
 length-chosen_rows (true ∷ bits) (v ∷ values) e = omega (arith, one_more bits, length-chosen_rows bits values (omega arith))
-length-chosen_rows (false ∷ bits) (v ∷ values) e = omega (arith, none_more bits, length-chosen_rows bits values (omega arith))
+length-chosen_rows (false ∷ bits) (v ∷ values) e = omega (arith, false_first bits, length-chosen_rows bits values (omega arith))
 
 rows_chosen : (bits : List Bool) (rows : ℕ) (parts : List ColumnData) → length bits ≡ rows → rows_of (true_count bits) (map (filtered bits) parts) ≡ chosen bits (rows_of rows parts)
 rows_chosen bits rows [] e = sym (chosen-replicate bits rows e)

@@ -1,7 +1,7 @@
 -- Rows that are picked out of a list, row by row.
 use Rattle.std.proofs.Common.{◌≡◌, ℕ, zero, suc, ◌+◌, ◌<◌, Bool, true, false, List, [], ◌∷◌, ◌++◌, length, get_or, drop, Some, refl, sym, subst, ◌∙◌, arith, append_assoc}
 use Rattle.std.specs.Prelude.{slice_get}
-use Rattle.std.proofs.lemmas.Option.{slice_get-get_or}
+use Rattle.std.proofs.lemmas.Option.{slice_get_within, get_or_from_slice_get}
 use Rattle.std.proofs.lemmas.List.{append-nil, drop_more}
 use Rattle.vx_words.specs.Masks.{chosen}
 
@@ -25,16 +25,8 @@ chosen_skip bits rows kept row value len lt bit is h =
     let more = rw (one, bit, two) at h.kept_all in
     record { kept_all = more }
 
-some_same : {X : Type 0} (a b : X) → Some a ≡ Some b → a ≡ b
-some_same a b e = cc
-
-pub there : {X : Type 0} (xs : List X) (i : ℕ) (x : X) → slice_get xs i ≡ Some x → i < length xs
-there [] i x e = absurd cc
-there (y ∷ xs) zero x e = omega arith
-there (y ∷ xs) (suc i) x e = omega (arith, there xs i x e)
-
 pub there_is : {X : Type 0} (xs : List X) (i : ℕ) (x : X) → slice_get xs i ≡ Some x → x ≡ get_or xs i x
-there_is xs i x e = some_same x (get_or xs i x) (sym e ∙ slice_get-get_or xs i x (there xs i x e))
+there_is xs i x e = sym (get_or_from_slice_get xs i x x e)
 
 pub other_default : {X : Type 0} (xs : List X) (i : ℕ) (x y : X) → i < length xs → get_or xs i x ≡ get_or xs i y
 other_default [] i x y h = absurd (omega arith)
@@ -50,5 +42,5 @@ step_by {X} bits rows kept row value false len lt is e h = subst (λ (xs : List 
 pub chosen_step : {X : Type 0} (bits : List Bool) (rows kept more : List X) (row : ℕ) (bit : Bool) (value : X) → length bits ≡ length rows → slice_get bits row ≡ Some bit → slice_get rows row ≡ Some value → more ≡ kept ++ chosen (bit ∷ []) (value ∷ [])
     → ChosenSoFar bits rows kept row → ChosenSoFar bits rows more (row + 1)
 chosen_step {X} bits rows kept more row bit value len here at pushed h =
-    let is : get_or bits row false ≡ bit = other_default bits row false bit (there bits row bit here) ∙ sym (there_is bits row bit here) in
-    subst (λ (xs : List X). ChosenSoFar bits rows xs (row + 1)) (sym pushed) (step_by bits rows kept row value bit len (there rows row value at) (there_is rows row value at) is h)
+    let is : get_or bits row false ≡ bit = other_default bits row false bit (slice_get_within bits row bit here) ∙ sym (there_is bits row bit here) in
+    subst (λ (xs : List X). ChosenSoFar bits rows xs (row + 1)) (sym pushed) (step_by bits rows kept row value bit len (slice_get_within rows row value at) (there_is rows row value at) is h)

@@ -5,7 +5,8 @@ use Rattle.std.specs.Int.{w32, to_le_bytes}
 use Rattle.std.specs.Prelude.{slice_get}
 use Rattle.std.proofs.lemmas.List.{take_more, append-nil}
 use Rattle.std.proofs.lemmas.List.Concat.{flat_map-append}
-use Rattle.vx_packed.proofs.PickedRows.{there, there_is, other_default}
+use Rattle.std.proofs.lemmas.Option.{slice_get_within}
+use Rattle.vx_packed.proofs.PickedRows.{there_is, other_default}
 use Rattle.vx_types.specs.Columns.{ColumnData}
 use Rattle.vx_types.specs.Data.{Datum, truth, number, text}
 use Rattle.vx_types.specs.Leaf.{slot_bytes}
@@ -87,5 +88,5 @@ texts_short mask slots ts column view h e short =
 
 pub lens_more : (f : List ℕ → List ℕ) (ts : List (List ℕ)) (i : ℕ) (t : List ℕ) → slice_get ts i ≡ Some t → flat_map f (take (i + 1) ts) ≡ flat_map f (take i ts) ++ f t
 lens_more f ts i t e =
-    ap (flat_map f) (take_more ts i [] (there ts i t e) ∙ ap (λ (u : List ℕ). take i ts ++ u ∷ []) (other_default ts i [] t (there ts i t e) ∙ sym (there_is ts i t e)))
+    ap (flat_map f) (take_more ts i [] (slice_get_within ts i t e) ∙ ap (λ (u : List ℕ). take i ts ++ u ∷ []) (other_default ts i [] t (slice_get_within ts i t e) ∙ sym (there_is ts i t e)))
     ∙ flat_map-append f (take i ts) (t ∷ []) ∙ ap (λ (bs : List ℕ). flat_map f (take i ts) ++ bs) (append-nil (f t))

@@ -3,7 +3,7 @@ use Rattle.std.proofs.Common.{◌≡◌, ℕ, zero, suc, ◌+◌, ◌-◌, ◌<�
 use Rattle.std.specs.Prelude.{slice_range}
 use Rattle.std.specs.List.{slice_get, range_with_len}
 use Rattle.std.proofs.lemmas.List.{length-map}
-use Rattle.vx_words.proofs.Places.{true_count-cons}
+use Rattle.vx_words.proofs.Places.{true_count-cons, false_first}
 use Rattle.vx_base.specs.Data.{Datum}
 use Rattle.vx_base.specs.Masks.{chosen, true_count}
 use Rattle.vx_steps.specs.Rows.{rows_of, SelectsNone, AreOf}
@@ -12,9 +12,6 @@ use Rattle.vx_steps.specs.Rows.{rows_of, SelectsNone, AreOf}
 
 pub true_first : (bits : List Bool) → true_count (true ∷ bits) ≡ suc (true_count bits)
 true_first bits = omega (arith, true_count-cons true bits)
-
-pub false_first : (bits : List Bool) → true_count (false ∷ bits) ≡ true_count bits
-false_first bits = omega (arith, true_count-cons false bits)
 
 -- ---- selected rows
 

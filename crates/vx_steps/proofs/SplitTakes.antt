@@ -29,8 +29,9 @@ use Rattle.vx_steps.specs.TakeLaws.{HasWhole, HasTakes, EachHasTakes, Ends, Goes
 use Rattle.vx_steps.specs.Turns.{FailsInWholes}
 use Rattle.vx_steps.specs.Wholes.{AreThere, IsThere}
 use Rattle.vx_steps.proofs.OutermostTakes.{take_there}
-use Rattle.vx_steps.proofs.SelectedRows.{false_first, true_first}
+use Rattle.vx_steps.proofs.SelectedRows.{true_first}
 use Rattle.vx_steps.proofs.Standing.{fault_outside}
+use Rattle.vx_words.proofs.Places.{false_first}
 
 -- ---- one split
 

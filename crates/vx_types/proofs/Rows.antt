@@ -1,7 +1,6 @@
 -- The bits of a segment: what is behind the last row, and the front where they stand.
-use Rattle.std.proofs.Common.{◌≡◌, ℕ, ◌+◌, ◌*◌, ◌/◌, ◌%◌, ◌^◌, ◌<◌, ◌≤◌, List, ◌++◌, length, sym, ap, subst, ◌∙◌, arith}
+use Rattle.std.proofs.Common.{◌≡◌, ℕ, ◌+◌, ◌≤◌, List, ◌++◌, length, sym, ap, subst, ◌∙◌, arith}
 use Rattle.std.proofs.lemmas.List.{take_at}
-use Rattle.std.proofs.lemmas.Nat.{shr_split, mod_below, div_below, pow_pos}
 use Rattle.vx_types.specs.Data.{Datum}
 use Rattle.vx_types.specs.Parts.{IsPadded, AreBits}
 use Rattle.vx_types.specs.Segment.{is_value, packed}
@@ -10,17 +9,6 @@ use Rattle.vx_types.proofs.Bits.{packed_padded}
 use Rattle.vx_types.proofs.Leaves.{validity_len}
 use Rattle.std.proofs.lemmas.List.{length-map, length-append}
 use Rattle.std.proofs.Common.{map, take}
-
--- ---- padding
-pub small_from_shift : (b k : ℕ) → b / 2 ^ k ≡ 0 → b < 2 ^ k
-small_from_shift b k e =
-    let split : 0 * 2 ^ k + b % 2 ^ k ≡ b = subst (λ (q : ℕ). q * 2 ^ k + b % 2 ^ k ≡ b) e (shr_split b k) in
-    omega (arith, split, mod_below b (2 ^ k) (pow_pos k))
-
-pub shift_from_small : (b k : ℕ) → b < 2 ^ k → b / 2 ^ k ≡ 0
-shift_from_small b k h =
-    let low : b / 2 ^ k < 1 = div_below b (2 ^ k) 1 (pow_pos k) (omega arith) in
-    omega (arith, low)
 
 -- a validity has its bits
 pub packed_bits : (values : List Datum) → AreBits (length values) (packed (map is_value values))
