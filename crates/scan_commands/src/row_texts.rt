@@ -46,7 +46,7 @@ pub(crate) fn append_lead(out: &mut Vec<u8>, place: usize, name: &str) -> Result
 
 /// Appends the item at a place of a struct, which is null past the last item.
 #[cycle(texts)]
-#[tactic(auto, using(scan_demo::proofs::StructItems::item_there, scan_demo::proofs::StructItems::item_past))]
+#[tactic(auto, using(vx_packed::proofs::ValueRows::field_here, vx_packed::proofs::ValueRows::field_past))]
 pub(crate) fn append_item(
     dtype: &DType,
     items: &[Value],

@@ -4,8 +4,7 @@ use Rattle.std.specs.List.{slice_get}
 use Rattle.std.proofs.lemmas.List.{length-map}
 use Rattle.vx_base.specs.Cells.{struct_at}
 use Rattle.vx_base.specs.Data.{Datum, null, structure, Items, no_items, item}
-use Rattle.vx_base.specs.ValueViews.{data_in, datum, items_of}
-use Rattle.vx_base.specs.declared.values.Value.{Value}
+use Rattle.vx_base.specs.ValueViews.{data_in}
 use Rattle.vx_types.proofs.Items.{some_datum}
 use Rattle.vx_packed.specs.Fields.{field_at, first_item, items_behind}
 
@@ -47,18 +46,3 @@ pub struct_past : (rows : List Items) (row : ℕ) → length rows ≤ row → st
 struct_past [] row past = refl
 struct_past (vs ∷ rows) zero past = absurd (omega arith)
 struct_past (vs ∷ rows) (suc row) past = struct_past rows row (omega arith)
-
--- ---- the items of a struct in memory
-pub item_there : (values : List Value) (place : ℕ) (value : Value) → place < length values → value ≡ get_or values place value → field_at place (structure (items_of values)) ≡ datum value
-item_there [] place value lt here = absurd (omega arith)
-item_there (v ∷ values) zero value lt here = ap datum (sym here)
-item_there (v ∷ values) (suc place) value lt here = item_there values place value (omega arith) here
-
-none_behind : (place : ℕ) → first_item (items_behind place no_items) ≡ null
-none_behind zero = refl
-none_behind (suc place) = refl
-
-pub item_past : (values : List Value) (place : ℕ) → length values ≤ place → field_at place (structure (items_of values)) ≡ null
-item_past [] place past = none_behind place
-item_past (v ∷ values) zero past = absurd (omega arith)
-item_past (v ∷ values) (suc place) past = item_past values place (omega arith)

@@ -111,7 +111,7 @@ impl FieldFacts {
     }
 
     /// The facts of the item at a place, which is null past the last item.
-    #[tactic(auto, using(crate::proofs::StructItems::item_there, crate::proofs::StructItems::item_past))]
+    #[tactic(auto, using(vx_packed::proofs::ValueRows::field_here, vx_packed::proofs::ValueRows::field_past))]
     fn of_item(items: &[Value], place: usize) -> FieldFacts
         ensures { result ≡ facts_of (field_at place (structure (items_of items.now))) }
     {

@@ -21,5 +21,5 @@ mod TextEnds
 mod TextRows
 mod TruthBits
 mod ValidRows
-mod ValueRows
+pub mod ValueRows
 mod WrittenRows

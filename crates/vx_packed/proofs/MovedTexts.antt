@@ -3,9 +3,10 @@ use Rattle.std.proofs.Common.{◌≡◌, ℕ, zero, suc, ◌+◌, ◌-◌, ◌<�
 use Rattle.std.specs.List.{AllByRecursion, slice_range}
 use Rattle.std.specs.Str.{IsUtf8}
 use Rattle.std.proofs.Math.Seq.{drop-append-add}
-use Rattle.std.proofs.lemmas.List.{length-append, length-take, length-drop, drop-take, drop-drop, take-take}
+use Rattle.std.proofs.lemmas.List.{length-append, length-drop, drop-take, drop-drop, take-take}
 use Rattle.vx_packed.specs.Texts.{cut, start_in, moved, AreEnds, AreTexts}
 use Rattle.vx_packed.proofs.PackedRows.{all_take, all_drop}
+use Rattle.vx_packed.proofs.PartRows.{length-range}
 use Rattle.vx_packed.proofs.CutTexts.{start_from, start_same, ends_below, ends-append, cut-append, cut-front}
 use Rattle.vx_types.proofs.AllFit.{all-append}
 
@@ -107,8 +108,6 @@ range_bytes bytes ends a b le high h =
     }
 
 -- ---- behind others
-pub length_range : {X : Type 0} (xs : List X) (from to : ℕ) → from ≤ to → to ≤ length xs → length (slice_range xs from to) ≡ to - from
-length_range xs from to le high = omega (arith, length-take (to - from) (drop from xs), length-drop from xs)
 
 pub texts_behind : (bytes ends others more : List ℕ) (a b : ℕ) → RangeBytes others more a b → AreTexts bytes ends
     → cut (bytes ++ slice_range others (start_in more a) (start_in more b)) 0 (ends ++ map (moved (length bytes) (start_in more a)) (slice_range more a b)) ≡ cut bytes 0 ends ++ slice_range (cut others 0 more) a b
@@ -132,7 +131,7 @@ are_behind bytes ends others more a b r h =
     let to = start_in more b in
     let own = map (moved (length bytes) from) (slice_range more a b) in
     let base : moved (length bytes) from from ≡ length bytes = omega arith in
-    let len : moved (length bytes) from to ≡ length (bytes ++ slice_range others from to) = omega (arith, length-append bytes (slice_range others from to), length_range others from to r.forwards r.inside, r.forwards) in
+    let len : moved (length bytes) from to ≡ length (bytes ++ slice_range others from to) = omega (arith, length-append bytes (slice_range others from to), length-range others from to r.forwards r.inside, r.forwards) in
     let lie : AreEnds (length bytes) (length (bytes ++ slice_range others from to)) own =
     subst (λ (k : ℕ). AreEnds k (length (bytes ++ slice_range others from to)) own) base (subst (λ (k : ℕ). AreEnds (moved (length bytes) from from) k own) len (ends_moved (length bytes) from from to (slice_range more a b) (omega arith) r.ends_lie)) in
     record {

@@ -91,7 +91,7 @@ struct_members f parts made e h = ap members_in e ∙ same_members f parts h
 pub struct_sliced : (from to rows : ℕ) (parts made : List ColumnData) → from ≤ to → to ≤ rows → made ≡ map (sliced from to) parts → rows_of (to - from) made ≡ slice_range (rows_of rows parts) from to
 struct_sliced from to rows parts made le inside e = ap (rows_of (to - from)) e ∙ rows_in_range from to rows parts le inside
 
-length-range : {X : Type 0} (xs : List X) (from to : ℕ) → from ≤ to → to ≤ length xs → length (slice_range xs from to) ≡ to - from
+pub length-range : {X : Type 0} (xs : List X) (from to : ℕ) → from ≤ to → to ≤ length xs → length (slice_range xs from to) ≡ to - from
 length-range xs from to le inside = length-take-le (to - from) (drop from xs) (omega (arith, length-drop from xs))
 
 sliced_rows : (from to rows : ℕ) (parts : List ColumnData) → from ≤ to → to ≤ rows → HaveRows rows parts → HaveRows (to - from) (map (sliced from to) parts)

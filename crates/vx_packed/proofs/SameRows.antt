@@ -3,7 +3,7 @@ use Rattle.std.proofs.Common.{◌≡◌, ℕ, zero, suc, ◌+◌, ◌<◌, ◌�
 use Rattle.std.specs.Prelude.{slice_get, IsTrue, not}
 use mathlib.Core.Bool.{beq}
 use Rattle.std.proofs.lemmas.List.{take_all, take_more, map-append}
-use Rattle.std.proofs.lemmas.Option.{slice_get-get_or}
+use Rattle.std.proofs.lemmas.Option.{slice_get-get_or, same_Some}
 use Rattle.vx_types.specs.Columns.{ColumnData}
 use Rattle.vx_types.specs.Data.{Datum, null, truth, number, text, structure, Items}
 use Rattle.vx_types.specs.Reading.{where_valid}
@@ -18,7 +18,7 @@ use Rattle.vx_packed.specs.PartRows.{members_in, StructRows, struct_rows, HaveRo
 use Rattle.vx_packed.specs.Slots.{slot_values, IsPart, part_column}
 use Rattle.vx_packed.proofs.PackedRows.{valid_cell, null_cell}
 use Rattle.vx_packed.proofs.PartRanges.{part_validity}
-use Rattle.vx_packed.proofs.PartRows.{row_there, struct_len, same_head, same_rest}
+use Rattle.vx_packed.proofs.PartRows.{row_there, struct_len, same_head, same_rest, get_map}
 use Rattle.vx_packed.proofs.WrittenRows.{truths_of, numbers_of, texts_of}
 
 -- ---- whole leaves
@@ -75,20 +75,16 @@ texts_same mask more xs ys a b h e =
     sym (texts_of mask xs h.one_part) ∙ seen_of text_in mask more (variants.Texts xs) (variants.Texts ys) a b h e ∙ texts_of more ys h.two_part
 
 -- ---- row by row
-some_same : {X : Type 0} (a b : X) → Some a ≡ Some b → a ≡ b
-some_same a b e = cc
 
 there_or : {X : Type 0} (xs : List X) (i : ℕ) (d : X) → i < length xs → slice_get xs i ≡ Some (get_or xs i d)
 there_or xs i d lt = slice_get-get_or xs i d lt
 
 pub rows_more : (xs ys : List Datum) (i : ℕ) → i < length xs → i < length ys → slice_get xs i ≡ slice_get ys i → take i xs ≡ take i ys → take (i + 1) xs ≡ take (i + 1) ys
 rows_more xs ys i lt lu e h =
-    let here : get_or xs i null ≡ get_or ys i null = some_same (get_or xs i null) (get_or ys i null) (sym (there_or xs i null lt) ∙ e ∙ there_or ys i null lu) in
+    let here : get_or xs i null ≡ get_or ys i null = same_Some (get_or xs i null) (get_or ys i null) (sym (there_or xs i null lt) ∙ e ∙ there_or ys i null lu) in
     take_more xs i null lt ∙ (λ j. h j ++ here j ∷ []) ∙ sym (take_more ys i null lu)
 
 -- ---- a row of two parts
-null_here : (mask : List Bool) (slots : Slots) (a : ColumnData) (row : ℕ) → part_column mask slots ≡ a → IsPart mask slots → slice_get mask row ≡ Some false → slice_get a.values row ≡ Some null
-null_here mask slots a row view h e = ap (λ (c : ColumnData). slice_get c.values row) (sym view) ∙ null_cell mask (slot_values slots) row h.rows e
 
 pub there_in : {X : Type 0} (xs : List X) (i : ℕ) → i < length xs → (x : X) × (slice_get xs i ≡ Some x)
 there_in [] i lt = absurd (omega arith)
@@ -113,13 +109,13 @@ row_values mask slots a row view h e =
     valid_here mask slots a row at.0 view e at.1 ∙ sym at.1
 
 pub row_null : (mask : List Bool) (slots : Slots) (a : ColumnData) (row : ℕ) → part_column mask slots ≡ a → IsPart mask slots → slice_get mask row ≡ Some false → slice_get a.values row ≡ Some null
-row_null mask slots a row view h e = null_here mask slots a row view h e
+row_null mask slots a row view h e = ap (λ (c : ColumnData). slice_get c.values row) (sym view) ∙ null_cell mask (slot_values slots) row h.rows e
 
 -- a value is not null
 bit_again : (mask : List Bool) (slots : Slots) (a : ColumnData) (row : ℕ) (bit : Bool) → part_column mask slots ≡ a → IsPart mask slots → slice_get mask row ≡ Some bit → (v : Datum) → slice_get a.values row ≡ Some v → is_value v ≡ bit
 bit_again mask slots a row bit view h e v f =
     let all : mask ≡ map is_value a.values = part_validity mask slots h ∙ ap (λ (c : ColumnData). map is_value c.values) view in
-    some_same (is_value v) bit (sym (mapped a.values row v f) ∙ ap (λ (bits : List Bool). slice_get bits row) (sym all) ∙ e)
+    same_Some (is_value v) bit (sym (mapped a.values row v f) ∙ ap (λ (bits : List Bool). slice_get bits row) (sym all) ∙ e)
   where
     mapped : (vs : List Datum) (i : ℕ) (w : Datum) → slice_get vs i ≡ Some w → slice_get (map is_value vs) i ≡ Some (is_value w)
     mapped [] i w g = absurd cc
@@ -163,7 +159,7 @@ pub rows_same : (row second : ℕ) (ones others : List ColumnData) (a b : Struct
 rows_same row second ones others a b e f h = e ∙ ap (λ (vs : List Datum). Some (items_from vs)) h ∙ sym f
 
 pub same_rows : (row second : ℕ) (ones others : List ColumnData) (a b : StructRows) → slice_get a.rows row ≡ Some (items_from (map (in_row row) ones)) → slice_get b.rows second ≡ Some (items_from (map (in_row second) others)) → slice_get a.rows row ≡ slice_get b.rows second → map (in_row row) ones ≡ map (in_row second) others
-same_rows row second ones others a b e f h = items_same (map (in_row row) ones) (map (in_row second) others) (some_same (items_from (map (in_row row) ones)) (items_from (map (in_row second) others)) (sym e ∙ h ∙ f))
+same_rows row second ones others a b e f h = items_same (map (in_row row) ones) (map (in_row second) others) (same_Some (items_from (map (in_row row) ones)) (items_from (map (in_row second) others)) (sym e ∙ h ∙ f))
 
 part_row : (part : ColumnData) (row : ℕ) → row < length part.values → slice_get part.values row ≡ Some (in_row row part)
 part_row part row lt = slice_get-get_or part.values row null lt
@@ -173,7 +169,7 @@ pub agree_more : (row second i : ℕ) (ones others : List ColumnData) (a b : Col
 agree_more row second i ones others a b lt len p q la lb same h =
     let one = take_more ones i a lt in
     let two = take_more others i b (omega arith) in
-    let here : in_row row a ≡ in_row second b = some_same (in_row row a) (in_row second b) (sym (part_row a row la) ∙ same ∙ part_row b second lb) in
+    let here : in_row row a ≡ in_row second b = same_Some (in_row row a) (in_row second b) (sym (part_row a row la) ∙ same ∙ part_row b second lb) in
     rw (one, two, ← p, ← q, map-append (in_row row) (take i ones) (a ∷ []), map-append (in_row second) (take i others) (b ∷ []), h, here) refl
 
 pub agree_at : (row second i : ℕ) (ones others : List ColumnData) (a b : ColumnData) → i < length ones → length others ≡ length ones → a ≡ get_or ones i a → b ≡ get_or others i b → row < length a.values → second < length b.values → map (in_row row) ones ≡ map (in_row second) others → slice_get a.values row ≡ slice_get b.values second
@@ -192,18 +188,14 @@ members_alike rows more ps qs ones others a b view other e f same =
     ap members_in f ∙ ap (λ (s : StructRows). s.members) other ∙ same ∙ sym (ap (λ (s : StructRows). s.members) view) ∙ sym (ap members_in e)
 
 -- ---- a slot of two
-mapped_at : {X : Type 0} (f : X → Datum) (xs : List X) (row : ℕ) (x : X) → slice_get xs row ≡ Some x → slice_get (map f xs) row ≡ Some (f x)
-mapped_at f [] row x e = absurd cc
-mapped_at f (y ∷ xs) zero x e = cc
-mapped_at f (y ∷ xs) (suc row) x e = mapped_at f xs row x e
 
 pub slots_agree : {X : Type 0} (f : X → Datum) (one two : Slots) (xs ys : List X) (row second : ℕ) (x y : X) → slot_values one ≡ map f xs → slot_values two ≡ map f ys → slice_get xs row ≡ Some x → slice_get ys second ≡ Some y → x ≡ y → slice_get (slot_values one) row ≡ slice_get (slot_values two) second
 slots_agree f one two xs ys row second x y e g h l same =
-    ap (λ (vs : List Datum). slice_get vs row) e ∙ mapped_at f xs row x h ∙ ap (λ z. Some (f z)) same ∙ sym (mapped_at f ys second y l) ∙ sym (ap (λ (vs : List Datum). slice_get vs second) g)
+    ap (λ (vs : List Datum). slice_get vs row) e ∙ get_map f xs row x h ∙ ap (λ z. Some (f z)) same ∙ sym (get_map f ys second y l) ∙ sym (ap (λ (vs : List Datum). slice_get vs second) g)
 
 pub agree_slots : {X : Type 0} (f : X → Datum) → ((x y : X) → f x ≡ f y → x ≡ y) → (one two : Slots) (xs ys : List X) (row second : ℕ) (x y : X) → slot_values one ≡ map f xs → slot_values two ≡ map f ys → slice_get xs row ≡ Some x → slice_get ys second ≡ Some y → slice_get (slot_values one) row ≡ slice_get (slot_values two) second → x ≡ y
 agree_slots f back one two xs ys row second x y e g h l same =
-    back x y (some_same (f x) (f y) (sym (mapped_at f xs row x h) ∙ sym (ap (λ (vs : List Datum). slice_get vs row) e) ∙ same ∙ ap (λ (vs : List Datum). slice_get vs second) g ∙ mapped_at f ys second y l))
+    back x y (same_Some (f x) (f y) (sym (get_map f xs row x h) ∙ sym (ap (λ (vs : List Datum). slice_get vs row) e) ∙ same ∙ ap (λ (vs : List Datum). slice_get vs second) g ∙ get_map f ys second y l))
 
 pub texts_back : (x y : List ℕ) → text x ≡ text y → x ≡ y
 texts_back x y e = cc
@@ -218,7 +210,7 @@ pub structs_agree : (one two : Slots) (xs ys : List Items) (row second : ℕ) �
 structs_agree one two xs ys row second e g lt lu same =
     let a = there_in xs row lt in
     let b = there_in ys second lu in
-    slots_agree structure one two xs ys row second a.0 b.0 e g a.1 b.1 (some_same a.0 b.0 (sym a.1 ∙ same ∙ b.1))
+    slots_agree structure one two xs ys row second a.0 b.0 e g a.1 b.1 (same_Some a.0 b.0 (sym a.1 ∙ same ∙ b.1))
 
 pub agree_structs : (one two : Slots) (xs ys : List Items) (row second : ℕ) → slot_values one ≡ map structure xs → slot_values two ≡ map structure ys → row < length xs → second < length ys → slice_get (slot_values one) row ≡ slice_get (slot_values two) second → slice_get xs row ≡ slice_get ys second
 agree_structs one two xs ys row second e g lt lu same =

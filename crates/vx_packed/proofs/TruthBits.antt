@@ -2,6 +2,7 @@
 use Rattle.std.proofs.Common.{◌≡◌, ℕ, ◌&&◌, Bool, true, false, List, [], ◌∷◌, ◌++◌, length, map, Option, Some, refl, sym, ap, subst, ◌∙◌, arith}
 use Rattle.std.specs.List.{AllByRecursion}
 use Rattle.std.proofs.lemmas.List.{length-map}
+use Rattle.std.proofs.Math.Bool.{and-true}
 use Rattle.vx_types.specs.declared.dtypes.Nullability.{Nullability}
 use Rattle.vx_types.specs.Data.{bool_type, Datum, null, truth}
 use Rattle.vx_types.specs.Fits.{Fits}
@@ -18,11 +19,9 @@ use Rattle.vx_packed.proofs.DecodedNumbers.{validity_is, mask_taken}
 use Rattle.vx_packed.proofs.PackedRows.{all_fit, held_truths}
 use Rattle.vx_packed.proofs.SlotRows.{truths_fit}
 use Rattle.vx_packed.proofs.ValidRows.{length-where_valid, valid_again, slots_again}
+use Rattle.vx_packed.proofs.WrittenRows.{truths_in}
 
 -- ---- a mask within another
-and_true : (b : Bool) → (b && true) ≡ b
-and_true true = refl
-and_true false = refl
 
 and_false : (b : Bool) → (b && false) ≡ false
 and_false true = refl
@@ -41,17 +40,13 @@ pub held_both : (mask bits : List Bool) → length mask ≡ length bits → Null
 held_both [] [] len h = refl
 held_both [] (b ∷ bits) len h = absurd (omega arith)
 held_both (bit ∷ mask) [] len h = absurd (omega arith)
-held_both (true ∷ mask) (b ∷ bits) len h = λ i. and_true b i ∷ held_both mask bits (omega arith) h i
+held_both (true ∷ mask) (b ∷ bits) len h = λ i. and-true b i ∷ held_both mask bits (omega arith) h i
 held_both (false ∷ mask) (b ∷ bits) len h = λ i. (and_false b ∙ sym h.0) i ∷ held_both mask bits (omega arith) h.1 i
 
 -- ---- the bits again
 truths_are_values : (bits : List Bool) → AllByRecursion (λ v. is_value v ≡ true) (map truth bits)
 truths_are_values [] = tt
 truths_are_values (b ∷ bits) = (refl, truths_are_values bits)
-
-truths_in : (bits : List Bool) → map truth_in (map truth bits) ≡ bits
-truths_in [] = refl
-truths_in (b ∷ bits) = ap (λ (bs : List Bool). b ∷ bs) (truths_in bits)
 
 pub bits_again : (mask bits : List Bool) → length mask ≡ length bits → NullsHold false mask bits → map truth_in (where_valid mask (map truth bits)) ≡ bits
 bits_again mask bits len held = slots_again truth_in (truth false) mask (map truth bits) (len ∙ sym (length-map bits truth)) refl (held_truths mask bits held) ∙ truths_in bits

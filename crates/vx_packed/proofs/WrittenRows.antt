@@ -20,7 +20,7 @@ use Rattle.vx_packed.specs.Slots.{slot_values, blank_in, slot_type, IsPart, part
 use Rattle.vx_packed.proofs.ValidRows.{slots_again}
 
 -- ---- what stands in the slots, again
-truths_in : (bits : List Bool) → map truth_in (map truth bits) ≡ bits
+pub truths_in : (bits : List Bool) → map truth_in (map truth bits) ≡ bits
 truths_in [] = refl
 truths_in (b ∷ bits) = ap (λ (bs : List Bool). b ∷ bs) (truths_in bits)
 

@@ -42,12 +42,12 @@ pub record IsBelow (nodes : List Node) (n child : ℕ) : Type 0 where
 pub shape_there : (nodes : List Node) (n : ℕ) (shape : Shape) → n < length nodes → HasShape nodes n shape → ShapeOf nodes n (node_at nodes n) shape
 shape_there nodes n shape known has = subst (λ (o : Option Node). IsSomeAnd o (λ node. ShapeOf nodes n node shape)) (slice_get-get_or nodes n absent known) has
 
-made_of : (nodes : List Node) (n : ℕ) (node : Node) (p : Plan) (kind : PlanKind) (children : List ℕ) → IsOver nodes n node p kind children → IsMadeAs kind node (nodes_at nodes children)
+pub made_of : (nodes : List Node) (n : ℕ) (node : Node) (p : Plan) (kind : PlanKind) (children : List ℕ) → IsOver nodes n node p kind children → IsMadeAs kind node (nodes_at nodes children)
 made_of nodes n node p kind children over =
     subst (λ (k : PlanKind). IsMadeAs k node (nodes_at nodes children)) over.kind_is
     (subst (λ (ns : List ℕ). IsMadeAs node.kind node (nodes_at nodes ns)) over.children_are over.good.made)
 
-lower_of : (nodes : List Node) (n : ℕ) (node : Node) (p : Plan) (kind : PlanKind) (children : List ℕ) → IsOver nodes n node p kind children → All (λ child. child < n) children
+pub lower_of : (nodes : List Node) (n : ℕ) (node : Node) (p : Plan) (kind : PlanKind) (children : List ℕ) → IsOver nodes n node p kind children → All (λ child. child < n) children
 lower_of nodes n node p kind children over = subst (λ (ns : List ℕ). All (λ child. child < n) ns) over.children_are over.good.below
 
 first_below : (nodes : List Node) (n : ℕ) (node : Node) (p : Plan) (kind : PlanKind) (child : ℕ) (rest : List ℕ) → n < length nodes → IsOver nodes n node p kind (child ∷ rest) → IsBelow nodes n child

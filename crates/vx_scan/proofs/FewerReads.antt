@@ -1,9 +1,9 @@
 -- What selected rows read of leaves and lists with values in place of whole ones, they read with none.
-use Rattle.std.proofs.Common.{ℕ, ◌+◌, inr, ⊎_elim, List, [], ◌∷◌, ◌++◌, Option, Some, None, sym, subst}
+use Rattle.std.proofs.Common.{ℕ, ◌+◌, inr, ⊎_elim, List, [], ◌++◌, Option, Some, None, sym, subst}
 use Rattle.std.specs.List.{slice_get}
 use Rattle.vx_base.specs.Data.{Datum}
 use Rattle.vx_rows.specs.Derivations.{Derivation, nothing, cell, list_row, given, packed, valid_where, looked_up, worked_out, read_whole, Derivations, no_more, also}
-use Rattle.vx_rows.specs.Given.{GivenValues, all_given, values_with, given_row, share_with, with_given, each_with_given}
+use Rattle.vx_rows.specs.Given.{GivenValues, values_with, share_with, with_given, each_with_given}
 use Rattle.vx_rows.specs.Reads.{Way, directly, inside, CodeRow, code_row, Found, a_code, Read, reads_of, reads_of_each, Finds}
 use Rattle.vx_rows.proofs.ReadRows.{any_either, any_left, any_right}
 use Rattle.vx_plan.specs.PlanRows.{plan_derivation}
@@ -13,7 +13,7 @@ use Rattle.vx_steps.specs.Given.{given_for, values_for}
 use Rattle.vx_steps.specs.KeptData.{Kept}
 use Rattle.vx_steps.specs.Laws.{IsRowOf}
 use Rattle.vx_steps.specs.ScanLaws.{IsTornIn}
-use Rattle.vx_steps.proofs.ReadVisits.{no_columns}
+use Rattle.vx_steps.proofs.ReadVisits.{no_columns, nothing_in, nothing_at}
 use Rattle.vx_steps.proofs.VisitedReads.{none_served}
 use Rattle.vx_scan.specs.declared.plans.ScanPlans.{ScanPlans}
 use Rattle.vx_scan.specs.ChunkRows.{given_to, ChunkFinds, ChunkReadsList, ChunkReadsTorn}
@@ -25,21 +25,13 @@ use Rattle.vx_scan.specs.Plans.{projection_plan}
 abbrev pub NoCode : (Found → Type 0) → Type 0
 NoCode P = (code : CodeRow) → P (a_code code) → ⊥
 
-none_given : (P : Found → Type 0) (way : Way) (vs : List Datum) → Finds P (reads_of_each way (all_given vs)) → ⊥
-none_given P way [] any = any
-none_given P way (v ∷ vs) any = none_given P way vs any
-
 pub values_read : (P : Found → Type 0) (way : Way) (values : Derivations) (handed : Option (List Datum)) → Finds P (reads_of_each way (values_with handed values)) → Finds P (reads_of_each way values)
 values_read P way values None any = any
-values_read P way values (Some vs) any = absurd (none_given P way vs any)
-
-row_unread : (P : Found → Type 0) (way : Way) (v : Option Datum) → Finds P (reads_of way (given_row v)) → ⊥
-row_unread P way None any = any
-row_unread P way (Some v) any = any
+values_read P way values (Some vs) any = absurd (nothing_in P way vs any)
 
 pub share_read : (P : Found → Type 0) (way : Way) (row : ℕ) (d : Derivation) (handed : Option (List Datum)) → Finds P (reads_of way (share_with handed row d)) → Finds P (reads_of way d)
 share_read P way row d None any = any
-share_read P way row d (Some vs) any = absurd (row_unread P way (slice_get vs row) any)
+share_read P way row d (Some vs) any = absurd (nothing_at P way (slice_get vs row) any)
 
 -- in two lists, each of which reads no more
 pub no_more_in : (P : Found → Type 0) (xs ys us vs : List Read) → (Finds P xs → Finds P us) → (Finds P ys → Finds P vs) → Finds P (xs ++ ys) → Finds P (us ++ vs)

@@ -66,7 +66,7 @@ no_more_segments values d way segment any =
 
 -- ---- where values are handed in nothing is read for them
 
-nothing_in : (Q : Found → Type 0) (way : Way) (vs : List Datum) → Finds Q (reads_of_each way (all_given vs)) → ⊥
+pub nothing_in : (Q : Found → Type 0) (way : Way) (vs : List Datum) → Finds Q (reads_of_each way (all_given vs)) → ⊥
 nothing_in Q way [] any = any
 nothing_in Q way (v ∷ vs) any = nothing_in Q way vs any
 
@@ -74,7 +74,7 @@ values_unread : (Q : Found → Type 0) (way : Way) (v : Option (List Datum)) (ds
 values_unread Q way None ds any = (refl, any)
 values_unread Q way (Some vs) ds any = absurd (nothing_in Q way vs any)
 
-nothing_at : (Q : Found → Type 0) (way : Way) (v : Option Datum) → Finds Q (reads_of way (given_row v)) → ⊥
+pub nothing_at : (Q : Found → Type 0) (way : Way) (v : Option Datum) → Finds Q (reads_of way (given_row v)) → ⊥
 nothing_at Q way None any = any
 nothing_at Q way (Some v) any = any
 

@@ -27,19 +27,11 @@ use Rattle.vx_plan.specs.Shapes.{HasShape, IsOver, zoned_kind}
 use Rattle.vx_plan.specs.Tables.{IsGoodNode, IsGoodTable}
 use Rattle.vx_plan.specs.Kinds.{HasKind, IsPack}
 use Rattle.vx_plan.proofs.Adding.{head_in_table}
-use Rattle.vx_plan.proofs.Collecting.{kind_known, shape_there}
+use Rattle.vx_plan.proofs.Collecting.{kind_known, shape_there, made_of, lower_of}
 use Rattle.vx_plan.proofs.Unfolding.{known as known_at}
 use Rattle.vx_steps.specs.Given.{given_as, given_at, given_for}
 use Rattle.vx_steps.specs.KeptData.{Kept}
 use Rattle.vx_steps.specs.Kept.{whole_of}
-
-made_of : (nodes : List Node) (n : ℕ) (node : Node) (p : Plan) (kind : PlanKind) (children : List ℕ) → IsOver nodes n node p kind children → IsMadeAs kind node (nodes_at nodes children)
-made_of nodes n node p kind children over =
-    subst (λ (k : PlanKind). IsMadeAs k node (nodes_at nodes children)) over.kind_is
-    (subst (λ (ns : List ℕ). IsMadeAs node.kind node (nodes_at nodes ns)) over.children_are over.good.made)
-
-lower_of : (nodes : List Node) (n : ℕ) (node : Node) (p : Plan) (kind : PlanKind) (children : List ℕ) → IsOver nodes n node p kind children → All (λ child. child < n) children
-lower_of nodes n node p kind children over = subst (λ (ns : List ℕ). All (λ child. child < n) ns) over.children_are over.good.below
 
 first_of : (nodes : List Node) (n : ℕ) (node : Node) (p : Plan) (kind : PlanKind) (child : ℕ) (rest : List ℕ) → IsOver nodes n node p kind (child ∷ rest) → child < n
 first_of nodes n node p kind child rest over = All-head (λ child. child < n) child rest (lower_of nodes n node p kind (child ∷ rest) over)

@@ -10,6 +10,7 @@ use Rattle.std.specs.Cmp.Lexicographic.{slice_cmp}
 use Rattle.std.proofs.lemmas.Map.Text.{is_eq-slice_cmp}
 use Rattle.std.proofs.lemmas.Slice.Eq.{bytes_eq-Decides}
 use Rattle.vx_types.specs.Names.{are_distinct}
+use Rattle.std.proofs.Math.Bool.{and-true}
 
 -- the name stands among those seen
 abbrev pub is_seen : List (List ℕ) → List ℕ → Bool
@@ -65,13 +66,9 @@ none_seen : (names : List (List ℕ)) → list_any (is_seen []) names ≡ false
 none_seen [] = refl
 none_seen (name ∷ names) = none_seen names
 
-and_yes : (b : Bool) → (b && true) ≡ b
-and_yes true = refl
-and_yes false = refl
-
 -- names are distinct where all of them are fresh
 pub distinct_is : (names : List (List ℕ)) → are_distinct names ≡ are_fresh [] names
-distinct_is names = sym (fresh_is [] names ∙ ap (λ (b : Bool). are_distinct names && not b) (none_seen names) ∙ and_yes (are_distinct names))
+distinct_is names = sym (fresh_is [] names ∙ ap (λ (b : Bool). are_distinct names && not b) (none_seen names) ∙ and-true (are_distinct names))
 
 -- ---- what a set has seen
 -- it doesn't matter in which order names were seen

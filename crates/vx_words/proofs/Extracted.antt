@@ -9,10 +9,10 @@ use Rattle.std.proofs.lemmas.List.Sums.{count_by-le-length}
 use Rattle.std.proofs.lemmas.Nat.{mul-add-lt, shr-shr, shr_below, shl_whole}
 use Rattle.vx_words.specs.Masks.{true_count, chosen}
 use Rattle.vx_words.specs.Words.{low_bits}
-use Rattle.vx_words.proofs.LowBits.{lowest_one, length-low_bits, low_bits-add, low_bits-above, low_bits-nothing, drop-low_bits}
+use Rattle.vx_words.proofs.LowBits.{lowest_one, length-low_bits, low_bits-add, low_bits-above, low_bits-nothing, drop-low_bits, true_count-low_bits}
 use Rattle.vx_words.proofs.Numbers.{rest_of}
 use Rattle.vx_words.proofs.Places.{true_count-cons, count_none}
-use Rattle.vx_words.proofs.Ranks.{low_bits-few, ones_counted}
+use Rattle.vx_words.proofs.Ranks.{low_bits-few}
 use Rattle.vx_words.proofs.Walked.{low_bits-single, low_bits-next, ones_nothing}
 use Rattle.vx_words.proofs.Chosen.{chosen_skip, chosen_nothing, chosen_wide, chosen_front}
 
@@ -42,12 +42,12 @@ pub extracted_small : (word value result count rest left : ℕ) → rest ≡ 0 �
 extracted_small word value result count rest left e h = subst (λ (k : ℕ). result < 2 ^ k) (counted_all word value result count rest left e h) h.small
 
 few_ones : (word : ℕ) → word < 2 ^ 64 → ones word ≤ 64
-few_ones word h = omega (arith, ones_counted 64 word h, length-low_bits 64 word, count_by-le-length (λ (b : Bool). b) (low_bits 64 word))
+few_ones word h = omega (arith, true_count-low_bits 64 word h, length-low_bits 64 word, count_by-le-length (λ (b : Bool). b) (low_bits 64 word))
 
 some_one : (k rest p above : ℕ) → rest < 2 ^ k → low_bits k rest ≡ replicate p false ++ true ∷ low_bits above (rest / 2 ^ suc p) → rest / 2 ^ suc p < 2 ^ above → ones rest ≡ suc (ones (rest / 2 ^ suc p))
 some_one k rest p above small split less =
     let ys = low_bits above (rest / 2 ^ suc p) in
-    sym (ones_counted k rest small) ∙ ap true_count split ∙ count_none p (true ∷ ys) ∙ omega (arith, true_count-cons true ys, ones_counted above (rest / 2 ^ suc p) less)
+    sym (true_count-low_bits k rest small) ∙ ap true_count split ∙ count_none p (true ∷ ys) ∙ omega (arith, true_count-cons true ys, true_count-low_bits above (rest / 2 ^ suc p) less)
 
 pub count_inside : (word value result count rest left : ℕ) → word < 2 ^ 64 → 0 < rest → rest < 2 ^ 64 → Extracted word value result count rest left → count < 64
 count_inside word value result count rest left fits some small h =

@@ -132,21 +132,18 @@ deposited_all word ranks result done rest left e h =
     ∙ ap (λ (k : ℕ). replicate k false) (length-low_bits (64 - done) rest) in
     ap (λ (k : ℕ). low_bits k result) wide ∙ low_bits-wide done (64 - done) result h.small ∙ ap (λ (bs : List Bool). low_bits done result ++ bs) (sym none) ∙ h.same
 
-pub ones_counted : (k n : ℕ) → n < 2 ^ k → true_count (low_bits k n) ≡ ones n
-ones_counted k n h = true_count-low_bits k n h
-
 -- the place of the next row
 pub place_known : (done rest rank : ℕ) → done ≤ 64 → rest < 2 ^ (64 - done) → rank < ones rest → place_of_rank (low_bits 64 rest) rank ≡ place_of_rank (low_bits (64 - done) rest) rank
 place_known done rest rank few small h =
     let xs = low_bits (64 - done) rest in
     let wide : 64 ≡ (64 - done) + done = omega arith in
     ap (λ (k : ℕ). place_of_rank (low_bits k rest) rank) wide ∙ ap (λ (bs : List Bool). place_of_rank bs rank) (low_bits-wide (64 - done) done rest small)
-    ∙ place-append xs (replicate done false) rank (omega (arith, ones_counted (64 - done) rest small))
+    ∙ place-append xs (replicate done false) rank (omega (arith, true_count-low_bits (64 - done) rest small))
 
 pub place_fits : (done rest rank : ℕ) → done ≤ 64 → rest < 2 ^ (64 - done) → rank < ones rest → done + place_of_rank (low_bits 64 rest) rank < 64
 place_fits done rest rank few small h =
     let xs = low_bits (64 - done) rest in
-    omega (arith, place_known done rest rank few small h, rank_inside xs rank (omega (arith, ones_counted (64 - done) rest small)), length-low_bits (64 - done) rest)
+    omega (arith, place_known done rest rank few small h, rank_inside xs rank (omega (arith, true_count-low_bits (64 - done) rest small)), length-low_bits (64 - done) rest)
 
 pub deposited_more : (word ranks result done rest left p : ℕ) → 0 < left → left < 2 ^ 64 → p ≡ place_of_rank (low_bits 64 rest) (count_trailing_zeros 64 left) → Deposited word ranks result done rest left
     → Deposited word ranks (result + 2 ^ (done + p)) (done + suc p) (rest / 2 ^ suc p) (left / 2 ^ suc (count_trailing_zeros 64 left))
@@ -156,7 +153,7 @@ deposited_more word ranks result done rest left p some small at h =
     let r = 64 - done in
     let xs = low_bits r rest in
     let k = ones rest in
-    let counted : true_count xs ≡ k = ones_counted r rest h.rest_small in
+    let counted : true_count xs ≡ k = true_count-low_bits r rest h.rest_small in
     let known : rank < k = pick_inside k left some small h.left_small in
     let inside : rank < true_count xs = omega arith in
     let place : p ≡ place_of_rank xs rank = at ∙ place_known done rest rank h.few h.rest_small known in
@@ -169,7 +166,7 @@ deposited_more word ranks result done rest left p some small at h =
     let dropped : drop (suc p) xs ≡ low_bits r_after rest_after = ap (λ (j : ℕ). drop (suc p) (low_bits j rest)) cut ∙ drop-low_bits (suc p) r_after rest in
     let rest_less : rest_after < 2 ^ r_after = shr_below rest r_after (suc p) (subst (λ (j : ℕ). rest < 2 ^ j) cut_back h.rest_small) in
     let fewer : ones rest_after + suc rank ≡ k =
-    ap (λ (j : ℕ). j + suc rank) (sym (ones_counted r_after rest_after rest_less) ∙ ap true_count (sym dropped) ∙ ap (λ (j : ℕ). true_count (drop (suc j) xs)) place) ∙ rank_rest xs rank inside ∙ counted in
+    ap (λ (j : ℕ). j + suc rank) (sym (true_count-low_bits r_after rest_after rest_less) ∙ ap true_count (sym dropped) ∙ ap (λ (j : ℕ). true_count (drop (suc j) xs)) place) ∙ rank_rest xs rank inside ∙ counted in
     let k_after : k - suc rank ≡ ones rest_after = omega arith in
     let k_cut : k ≡ ones rest_after + suc rank = sym fewer in
     let ls = low_bits (ones rest_after) left_after in
@@ -226,7 +223,7 @@ pub record RankedWords (mask ranks : List Bool) (i rank : ℕ) (ws : List ℕ) :
 counted_word : (mask : List Bool) (i c word : ℕ) → WordRows mask i c word → true_count (drop (64 * i) mask) ≡ ones word + true_count (drop (64 * (i + 1)) mask)
 counted_word mask i c word rows =
     ap true_count rows.split ∙ sum_by-append (λ (b : Bool). cond b 1 0) (low_bits c word) (drop (64 * (i + 1)) mask)
-    ∙ ap (λ (k : ℕ). k + true_count (drop (64 * (i + 1)) mask)) (ones_counted c word rows.small)
+    ∙ ap (λ (k : ℕ). k + true_count (drop (64 * (i + 1)) mask)) (true_count-low_bits c word rows.small)
 
 pub ranks_inside : (mask : List Bool) (i c word rank : ℕ) → WordRows mask i c word → rank ≡ true_count (take (64 * i) mask) → rank + ones word ≤ true_count mask
 ranks_inside mask i c word rank rows e = omega (arith, counted_word mask i c word rows, sum_by-take-drop (λ (b : Bool). cond b 1 0) mask (64 * i))
@@ -249,7 +246,7 @@ next_of_ranks mask ranks n i c word rank d w view len passed rows more is cut =
     let k = ones word in
     let few : low_bits k (n / 2 ^ rank % 2 ^ k) ≡ take k left =
     low_bits-mod k (n / 2 ^ rank) ∙ sym (part_of_bits rank k (length ranks) n (omega (arith, ranks_inside mask i c word rank rows passed))) ∙ ap (λ (bs : List Bool). take k (drop rank bs)) (sym view) in
-    let counted : k ≡ true_count here = sym (ones_counted c word rows.small) in
+    let counted : k ≡ true_count here = sym (true_count-low_bits c word rows.small) in
     let here_ranked = chosen_of_chosen here left in
     let long : length here_ranked ≡ c = length-ranked here left ∙ length-low_bits c word in
     let from_word : take c (low_bits 64 d) ≡ here_ranked =

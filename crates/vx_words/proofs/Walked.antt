@@ -11,10 +11,10 @@ use Rattle.std.proofs.Math.Nat.{mul-mod_left, mod-le, mul-pos}
 use Rattle.std.proofs.lemmas.Bool.{cases_lt}
 use Rattle.vx_words.specs.Masks.{true_count, chosen_of_chosen}
 use Rattle.vx_words.specs.Words.{low_bits}
-use Rattle.vx_words.proofs.LowBits.{lowest_one, cleared_low, low_bits-add, low_bits-above, low_bits-nothing}
+use Rattle.vx_words.proofs.LowBits.{lowest_one, cleared_low, low_bits-add, low_bits-above, low_bits-nothing, true_count-low_bits}
 use Rattle.vx_words.proofs.Numbers.{rest_of}
 use Rattle.vx_words.proofs.Places.{true_count-cons, count_none}
-use Rattle.vx_words.proofs.Ranks.{Deposited, deposited_none, deposited_all, lowest_at, ones_counted}
+use Rattle.vx_words.proofs.Ranks.{Deposited, deposited_none, deposited_all, lowest_at}
 
 -- so many rows are done, and the rest has the set bits of the others in their places
 pub record Walked (word ranks result rest left : ℕ) : Type 0 where
@@ -74,7 +74,7 @@ deposited_bit word ranks result done later left p low h =
     let ys = low_bits r_after after in
     let here : xs ≡ replicate p false ++ true ∷ ys = lowest_at r later p low lt in
     let fewer : ones later ≡ suc (ones after) =
-    sym (ones_counted r later h.rest_small) ∙ ap true_count here ∙ count_none p (true ∷ ys) ∙ omega (arith, true_count-cons true ys, ones_counted r_after after less) in
+    sym (true_count-low_bits r later h.rest_small) ∙ ap true_count here ∙ count_none p (true ∷ ys) ∙ omega (arith, true_count-cons true ys, true_count-low_bits r_after after less) in
     let zs = low_bits (ones after) (left / 2) in
     let ranked : low_bits (ones later) left ≡ (b == 1) ∷ zs = ap (λ (j : ℕ). low_bits j left) fewer ∙ low_bits-next (ones after) left in
     let rest = chosen_of_chosen ys zs in

@@ -2,14 +2,14 @@ use Rattle.std.proofs.Common.{◌≡◌, ◌∙◌, ap, sym, arith, length, Bool
 use Rattle.vx_words.specs.Masks.{chosen}
 use Rattle.vx_types.specs.Columns.{ColumnData}
 use Rattle.vx_packed.specs.PartRows.{filtered, sliced}
-use Rattle.vx_packed.proofs.MovedTexts.{length_range}
+use Rattle.vx_packed.proofs.PartRows.{length-range}
 use Rattle.vx_packed.proofs.PartRanges.{part_len, part_range_chosen, part_range_filtered}
 use Rattle.vx_packed.proofs.parts.Part.filter_range.Goals as goal
 
 pub filter-requires : goal.filter-requires
 filter-requires c =
     let rows : length c.self.inside.validity ≡ length c.args.self.now.values = sym (part_len c.self.inside.validity c.self.inside.slots c.self.invariant) ∙ ap (λ (a : ColumnData). length a.values) c.self.view_is in
-    omega (arith, c.requires.masked, ap (λ (bits : List Bool). length bits) c.in_ok-range.ensures, length_range c.self.inside.validity c.args.rows.start c.args.rows.end c.requires.forwards (omega (arith, rows, c.requires.inside)))
+    omega (arith, c.requires.masked, ap (λ (bits : List Bool). length bits) c.in_ok-range.ensures, length-range c.self.inside.validity c.args.rows.start c.args.rows.end c.requires.forwards (omega (arith, rows, c.requires.inside)))
 
 pub invariant_of-result : goal.invariant_of-result
 invariant_of-result c =
