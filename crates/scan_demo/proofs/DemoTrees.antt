@@ -6,7 +6,7 @@ use Rattle.vx_base.specs.Columns.{ColumnData}
 use Rattle.vx_base.specs.Data.{Datum}
 use Rattle.vx_layout.specs.declared.nodes.LayoutKind.TheVariants as kinds
 use Rattle.vx_layout.specs.Kept.{all}
-use Rattle.vx_layout.specs.Nodes.{Node}
+use Rattle.vx_layout.specs.Nodes.{Node, parent_node}
 use Rattle.vx_layout.specs.Rows.{AreForestValues, AreTreeValues}
 use Rattle.vx_layout.specs.Shape.{IsGoodTree}
 use Rattle.vx_layout.specs.Sound.{IsSound}
@@ -16,7 +16,7 @@ use Rattle.vx_layout.proofs.Ruled.{good_sound}
 use Rattle.vx_layout.proofs.Unfolding.{good_later, unfolds}
 use Rattle.vx_rows.specs.Derivations.{Leaves}
 use Rattle.scan_demo.specs.declared.stored_columns.StoredColumn.{StoredColumn}
-use Rattle.scan_demo.specs.DemoNodes.{flat_node, parent_node}
+use Rattle.scan_demo.specs.DemoNodes.{flat_node}
 use Rattle.scan_demo.specs.Flats.{chunk_count, chunk_flat, chunk_rows, column_type, stored_value}
 use Rattle.scan_demo.proofs.ChunkRows.{chunks_joined}
 

@@ -5,10 +5,10 @@ use Rattle.std.proofs.lemmas.Bool.{cases_lt}
 use Rattle.std.proofs.lemmas.List.{length-append}
 use Rattle.std.proofs.lemmas.List.FromFn.{length-map-range_with_len}
 use Rattle.vx_layout.specs.declared.nodes.LayoutKind.TheVariants as kinds
-use Rattle.vx_layout.specs.Nodes.{Node}
+use Rattle.vx_layout.specs.Nodes.{Node, parent_node}
 use Rattle.scan_demo.specs.declared.stored_columns.StoredColumn.{StoredColumn}
 use Rattle.scan_demo.specs.declared.stored_columns.StoredColumn.TheVariants.{Ids, Codes, Flags}
-use Rattle.scan_demo.specs.DemoNodes.{chunked_nodes, demo_nodes, dict_node, flat_node, parent_node}
+use Rattle.scan_demo.specs.DemoNodes.{chunked_nodes, demo_nodes, dict_node, flat_node}
 use Rattle.scan_demo.specs.Flats.{chunk_count, chunk_flat, column_type, name_flat}
 use Rattle.scan_demo.proofs.DemoTrees.{AreChunkNodes}
 use Rattle.scan_demo.proofs.Places.{get_behind, get_front, get_of_range}

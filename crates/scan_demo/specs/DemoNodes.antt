@@ -8,7 +8,7 @@ use Rattle.vx_base.specs.declared.dtypes.IntKind.TheVariants.{I64}
 use Rattle.vx_base.specs.declared.dtypes.Nullability.TheVariants.{NonNullable, Nullable}
 use Rattle.vx_layout.specs.declared.nodes.LayoutKind.{LayoutKind}
 use Rattle.vx_layout.specs.declared.nodes.LayoutKind.TheVariants as kinds
-use Rattle.vx_layout.specs.Nodes.{Node}
+use Rattle.vx_layout.specs.Nodes.{Node, parent_node}
 use Rattle.scan_demo.specs.declared.stored_columns.StoredColumn.{StoredColumn}
 use Rattle.scan_demo.specs.declared.stored_columns.StoredColumn.TheVariants.{Ids, Codes, Flags}
 use Rattle.scan_demo.specs.Flats.{chunk_count, column_type, chunk_flat, name_flat}
@@ -24,9 +24,6 @@ row_type = struct_type row_members NonNullable
 -- a flat over the segment of that number
 abbrev pub flat_node : ℕ → ColumnData → Node
 flat_node segment flat = record { kind = kinds.Flat segment; dtype = flat.dtype; rows = length flat.values; children = [] }
-
-abbrev pub parent_node : LayoutKind → DataType → ℕ → List ℕ → Node
-parent_node kind t rows children = record { kind = kind; dtype = t; rows = rows; children = children }
 
 -- the chunks of a column, the first of which has the segment of that number
 abbrev pub chunk_nodes : StoredColumn → ℕ → ℕ → List Node

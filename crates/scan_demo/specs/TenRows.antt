@@ -4,8 +4,8 @@ use Rattle.vx_base.specs.Data.{DataType, bool_type, int_type, utf8_type}
 use Rattle.vx_base.specs.declared.dtypes.IntKind.TheVariants.{U8, I64}
 use Rattle.vx_base.specs.declared.dtypes.Nullability.TheVariants.{NonNullable, Nullable}
 use Rattle.vx_layout.specs.declared.nodes.LayoutKind.TheVariants as kinds
-use Rattle.vx_layout.specs.Nodes.{Node}
-use Rattle.scan_demo.specs.DemoNodes.{parent_node, row_type}
+use Rattle.vx_layout.specs.Nodes.{Node, parent_node}
+use Rattle.scan_demo.specs.DemoNodes.{row_type}
 
 -- so many values over the segment of that number
 abbrev pub values_node : ℕ → DataType → ℕ → Node

@@ -22,6 +22,7 @@ use Rattle.vx_expr.specs.Terms.{Term, root, literal, get_field, pack, negation, 
 use Rattle.vx_expr.specs.Types.{on_both, either_nullable, is_kind, type_in, field_type, negation_type, logic_type, comparison_type, arithmetic_type, test_type, bound_test_type, one_more_member, names_in, type_of, types_in}
 use Rattle.vx_base.proofs.BuiltRows.{fits_where}
 use Rattle.vx_base.proofs.Spelled.{leaf_fits, le_from}
+use Rattle.std.proofs.lemmas.Option.{same_Some}
 
 -- ---- values of a dtype, case by case
 abbrev bool_cases : (P : Datum → Type 0) (n : Nullability) (v : Datum) → Fits (bool_type n) v → (TakesNull n → P null) → ((b : Bool) → P (truth b)) → P v
@@ -55,8 +56,6 @@ right_null NonNullable m h = h
 right_null Nullable m h = tt
 
 -- ---- dtypes that were found
-found : (s t : DataType) → Some s ≡ Some t → s ≡ t
-found s t e = cc
 
 -- what a part is worth, carried over a rule
 one_part : (rule : DataType → Option DataType) (f : Option DataType → Datum → Option Datum) (s : DataType)
@@ -77,7 +76,7 @@ two_parts rule f s step (Some x) (Some y) (Some v) (Some w) e h g = step x y e v
 
 -- ---- the rule of each form
 literal_fits : (b : Bool) (w : Datum) (t s : DataType) → fits_leaf t w ≡ b → cond b (Some t) None ≡ Some s → Fits s w
-literal_fits true w t s p e = subst (λ (x : DataType). Fits x w) (found t s e) (leaf_fits t w p)
+literal_fits true w t s p e = subst (λ (x : DataType). Fits x w) (same_Some t s e) (leaf_fits t w p)
 literal_fits false w t s p e = absurd cc
 
 -- the item that is found fits the member that is found
@@ -86,23 +85,23 @@ item_fits no_members name vs x h e = tt
 item_fits (member other t ms) name no_items x h e = absurd h
 item_fits (member other t ms) name (item v vs) x h e = here (bytes_eq other name) t x v (type_in ms name) (item_in ms name vs) h.0 e (λ f. item_fits ms name vs x h.1 f) where
   here : (b : Bool) (t x : DataType) (v : Datum) (o : Option DataType) (m : Option Datum) → Fits t v → cond b (Some t) o ≡ Some x → (o ≡ Some x → IfSome m (Fits x)) → IfSome (cond b (Some v) m) (Fits x)
-  here true t x v o m fit e rest = subst (λ (y : DataType). Fits y v) (found t x e) fit
+  here true t x v o m fit e rest = subst (λ (y : DataType). Fits y v) (same_Some t x e) fit
   here false t x v o m fit e rest = rest e
 
 -- a field of a nullable struct takes the nulls of the struct
 field_null : (n : Nullability) (o : Option DataType) (s : DataType) → option_map (nullable_where n) o ≡ Some s → TakesNull n → Fits s null
 field_null NonNullable o s e h = absurd h
 field_null Nullable None s e h = absurd cc
-field_null Nullable (Some (bool_type m)) s e h = subst (λ (x : DataType). Fits x null) (found (bool_type Nullable) s e) tt
-field_null Nullable (Some (int_type kind m)) s e h = subst (λ (x : DataType). Fits x null) (found (int_type kind Nullable) s e) tt
-field_null Nullable (Some (utf8_type m)) s e h = subst (λ (x : DataType). Fits x null) (found (utf8_type Nullable) s e) tt
-field_null Nullable (Some (struct_type ms m)) s e h = subst (λ (x : DataType). Fits x null) (found (struct_type ms Nullable) s e) tt
-field_null Nullable (Some (list_type t m)) s e h = subst (λ (x : DataType). Fits x null) (found (list_type t Nullable) s e) tt
+field_null Nullable (Some (bool_type m)) s e h = subst (λ (x : DataType). Fits x null) (same_Some (bool_type Nullable) s e) tt
+field_null Nullable (Some (int_type kind m)) s e h = subst (λ (x : DataType). Fits x null) (same_Some (int_type kind Nullable) s e) tt
+field_null Nullable (Some (utf8_type m)) s e h = subst (λ (x : DataType). Fits x null) (same_Some (utf8_type Nullable) s e) tt
+field_null Nullable (Some (struct_type ms m)) s e h = subst (λ (x : DataType). Fits x null) (same_Some (struct_type ms Nullable) s e) tt
+field_null Nullable (Some (list_type t m)) s e h = subst (λ (x : DataType). Fits x null) (same_Some (list_type t Nullable) s e) tt
 
 found_field : (n : Nullability) (o : Option DataType) (s : DataType) (m : Option Datum) → option_map (nullable_where n) o ≡ Some s → ((x : DataType) → o ≡ Some x → IfSome m (Fits x)) → IfSome m (Fits s)
 found_field n None s m e h = absurd cc
 found_field n (Some x) s None e h = tt
-found_field n (Some x) s (Some w) e h = subst (λ (y : DataType). Fits y w) (found (nullable_where n x) s e) (fits_where n x w (h x refl))
+found_field n (Some x) s (Some w) e h = subst (λ (y : DataType). Fits y w) (same_Some (nullable_where n x) s e) (fits_where n x w (h x refl))
 
 field_step : (name : List ℕ) (s x : DataType) → field_type name x ≡ Some s → (w : Datum) → Fits x w → IfSome (field_of (Some x) name w) (Fits s)
 field_step name s (bool_type n) e w h = absurd cc
@@ -116,7 +115,7 @@ field_step name s (struct_type ms n) e (number z) h = absurd h
 field_step name s (struct_type ms n) e (text bytes) h = absurd h
 
 negation_step : (s x : DataType) → negation_type x ≡ Some s → (w : Datum) → Fits x w → IfSome (negated w) (Fits s)
-negation_step s (bool_type n) e w h = subst (λ (y : DataType). IfSome (negated w) (Fits y)) (found (bool_type n) s e) (bool_cases (λ v. IfSome (negated v) (Fits (bool_type n))) n w h (λ k. k) (λ b. tt))
+negation_step s (bool_type n) e w h = subst (λ (y : DataType). IfSome (negated w) (Fits y)) (same_Some (bool_type n) s e) (bool_cases (λ v. IfSome (negated v) (Fits (bool_type n))) n w h (λ k. k) (λ b. tt))
 negation_step s (int_type kind n) e w h = absurd cc
 negation_step s (utf8_type n) e w h = absurd cc
 negation_step s (struct_type ms n) e w h = absurd cc
@@ -134,7 +133,7 @@ or_fits n m v w h k = bool_cases (λ x. IfSome (or_of x w) (Fits (bool_type (eit
 
 logic_step : (f : Datum → Datum → Option Datum) → ((n m : Nullability) (v w : Datum) → Fits (bool_type n) v → Fits (bool_type m) w → IfSome (f v w) (Fits (bool_type (either_nullable n m))))
     → (s x y : DataType) → logic_type x y ≡ Some s → (v w : Datum) → Fits x v → Fits y w → IfSome (f v w) (Fits s)
-logic_step f fits s (bool_type n) (bool_type m) e v w h k = subst (λ (y : DataType). IfSome (f v w) (Fits y)) (found (bool_type (either_nullable n m)) s e) (fits n m v w h k)
+logic_step f fits s (bool_type n) (bool_type m) e v w h k = subst (λ (y : DataType). IfSome (f v w) (Fits y)) (same_Some (bool_type (either_nullable n m)) s e) (fits n m v w h k)
 logic_step f fits s _ _ e v w h k = absurd cc
 
 abbrev Compares : CompareOp → Nullability → Nullability → Datum → Datum → Type 0
@@ -150,13 +149,13 @@ texts_compare : (op : CompareOp) (n m : Nullability) (v w : Datum) → Fits (utf
 texts_compare op n m v w h k = utf8_cases (λ x. Compares op n m x w) n v h (λ nv. left_null n m nv) (λ a. utf8_cases (λ x. Compares op n m (text a) x) m w k (λ nw. right_null n m nw) (λ b. tt))
 
 picked : (b : Bool) (t s : DataType) → cond b (Some t) None ≡ Some s → t ≡ s
-picked true t s e = found t s e
+picked true t s e = same_Some t s e
 picked false t s e = absurd cc
 
 comparison_step : (op : CompareOp) (s x y : DataType) → comparison_type x y ≡ Some s → (v w : Datum) → Fits x v → Fits y w → IfSome (comparison_of op v w) (Fits s)
-comparison_step op s (bool_type n) (bool_type m) e v w h k = subst (λ (y : DataType). IfSome (comparison_of op v w) (Fits y)) (found (bool_type (either_nullable n m)) s e) (bools_compare op n m v w h k)
+comparison_step op s (bool_type n) (bool_type m) e v w h k = subst (λ (y : DataType). IfSome (comparison_of op v w) (Fits y)) (same_Some (bool_type (either_nullable n m)) s e) (bools_compare op n m v w h k)
 comparison_step op s (int_type i n) (int_type j m) e v w h k = subst (λ (y : DataType). IfSome (comparison_of op v w) (Fits y)) (picked (is_kind i j) (bool_type (either_nullable n m)) s e) (ints_compare op i j n m v w h k)
-comparison_step op s (utf8_type n) (utf8_type m) e v w h k = subst (λ (y : DataType). IfSome (comparison_of op v w) (Fits y)) (found (bool_type (either_nullable n m)) s e) (texts_compare op n m v w h k)
+comparison_step op s (utf8_type n) (utf8_type m) e v w h k = subst (λ (y : DataType). IfSome (comparison_of op v w) (Fits y)) (same_Some (bool_type (either_nullable n m)) s e) (texts_compare op n m v w h k)
 comparison_step op s _ _ e v w h k = absurd cc
 
 inside_fits : (kind : IntKind) (n : Nullability) (o : Option ℤ) → IfSome (option_and_then (if_inside kind) o) (Fits (int_type kind n))
@@ -177,10 +176,10 @@ arithmetic_step op s (int_type i n) (int_type j m) e v w h k = subst (λ (y : Da
 arithmetic_step op s _ _ e v w h k = absurd cc
 
 test_step : (f : Datum → Bool) (s x : DataType) → test_type x ≡ Some s → (w : Datum) → Fits s (truth (f w))
-test_step f s x e w = subst (λ (y : DataType). Fits y (truth (f w))) (found (bool_type NonNullable) s e) tt
+test_step f s x e w = subst (λ (y : DataType). Fits y (truth (f w))) (same_Some (bool_type NonNullable) s e) tt
 
 bound_test_step : (bound : ℕ) (s x : DataType) → bound_test_type x ≡ Some s → (w : Datum) → Fits x w → IfSome (bound_test_of bound w) (Fits s)
-bound_test_step bound s (int_type U64 n) e w h = subst (λ (y : DataType). IfSome (bound_test_of bound w) (Fits y)) (found (bool_type n) s e) (int_cases (λ v. IfSome (bound_test_of bound v) (Fits (bool_type n))) U64 n w h (λ k. k) (λ z. tt))
+bound_test_step bound s (int_type U64 n) e w h = subst (λ (y : DataType). IfSome (bound_test_of bound w) (Fits y)) (same_Some (bool_type n) s e) (int_cases (λ v. IfSome (bound_test_of bound v) (Fits (bool_type n))) U64 n w h (λ k. k) (λ z. tt))
 bound_test_step bound s _ e w h = absurd cc
 
 pack_fits : (b : Bool) (o : Option Members) (m : Option Items) (s : DataType) → option_and_then (λ ms. cond b (Some (struct_type ms NonNullable)) None) o ≡ Some s → ((ms : Members) → o ≡ Some ms → IfSome m (EachFits ms)) → IfSome (option_and_then struct_of m) (Fits s)
@@ -210,7 +209,7 @@ in_right false b h = h
 
 mutual
   pub worth_fits : (t : DataType) (e : Term) (s : DataType) (bound : ℕ) (v : Datum) (row : ℕ) → type_of t e ≡ Some s → (IsTrue (uses_root e) → Fits t v) → row < 2 ^ 64 → IfSome (meaning t bound e v row) (Fits s)
-  worth_fits t root s bound v row h fit lt = subst (λ (y : DataType). Fits y v) (found t s h) (fit refl)
+  worth_fits t root s bound v row h fit lt = subst (λ (y : DataType). Fits y v) (same_Some t s h) (fit refl)
   worth_fits t (literal w u) s bound v row h fit lt = literal_fits (fits_leaf u w) w u s refl h
   worth_fits t (get_field name e) s bound v row h fit lt = one_part (field_type name) (λ o. field_of o name) s (field_step name s) (type_of t e) (meaning t bound e v row) h (λ x f. worth_fits t e x bound v row f fit lt)
   worth_fits t (pack es) s bound v row h fit lt = pack_fits (are_distinct (names_in es)) (types_in t es) (meanings_in t bound es v row) s h (λ ms f. items_fit t es ms bound v row f fit lt)
@@ -221,7 +220,7 @@ mutual
   worth_fits t (null_test e) s bound v row h fit lt = one_part test_type (λ o. null_test_of) s (λ x f w k. test_step is_null s x f w) (type_of t e) (meaning t bound e v row) h (λ x f. worth_fits t e x bound v row f fit lt)
   worth_fits t (value_test e) s bound v row h fit lt = one_part test_type (λ o. value_test_of) s (λ x f w k. test_step (λ u. not (is_null u)) s x f w) (type_of t e) (meaning t bound e v row) h (λ x f. worth_fits t e x bound v row f fit lt)
   worth_fits t (arithmetic op a b) s bound v row h fit lt = two_parts arithmetic_type (arithmetic_of op) s (arithmetic_step op s) (type_of t a) (type_of t b) (meaning t bound a v row) (meaning t bound b v row) h (λ x f. worth_fits t a x bound v row f (λ u. fit (in_left (uses_root a) (uses_root b) u)) lt) (λ x f. worth_fits t b x bound v row f (λ u. fit (in_right (uses_root a) (uses_root b) u)) lt)
-  worth_fits t row_number s bound v row h fit lt = subst (λ (y : DataType). Fits y (number (pos row))) (found (int_type U64 NonNullable) s h) (row_fits row lt)
+  worth_fits t row_number s bound v row h fit lt = subst (λ (y : DataType). Fits y (number (pos row))) (same_Some (int_type U64 NonNullable) s h) (row_fits row lt)
   worth_fits t (bound_test e) s bound v row h fit lt = one_part bound_test_type (λ o. bound_test_of bound) s (bound_test_step bound s) (type_of t e) (meaning t bound e v row) h (λ x f. worth_fits t e x bound v row f fit lt)
 
   pub items_fit : (t : DataType) (es : Terms) (ms : Members) (bound : ℕ) (v : Datum) (row : ℕ) → types_in t es ≡ Some ms → (IsTrue (mentions_in Root es) → Fits t v) → row < 2 ^ 64 → IfSome (meanings_in t bound es v row) (EachFits ms)

@@ -9,7 +9,7 @@ use Rattle.vx_rows.specs.Derivations.{Leaves}
 use Rattle.vx_rows.specs.Reads.{Way, directly, Found, a_cell, a_code, a_list_row, Read}
 use Rattle.vx_layout.specs.declared.nodes.LayoutKind.{LayoutKind}
 use Rattle.vx_layout.specs.declared.nodes.LayoutKind.TheVariants as kinds
-use Rattle.vx_layout.specs.Nodes.{Node}
+use Rattle.vx_layout.specs.Nodes.{Node, parent_node}
 use Rattle.vx_layout.specs.Trees.{leaf, Forest, no_trees, tree, head_at, subtree}
 use Rattle.vx_layout.specs.Kept.{KeptFields, only}
 use Rattle.vx_layout.specs.Rows.{value, reads, file_leaves}
@@ -20,7 +20,7 @@ u8 = int_type U8 NonNullable
 abbrev i8 : DataType
 i8 = int_type I8 NonNullable
 
-abbrev i32 : DataType
+abbrev pub i32 : DataType
 i32 = int_type I32 NonNullable
 
 abbrev pub i64 : DataType
@@ -35,12 +35,9 @@ at offset length = record { offset = offset; length = length; alignment = 1 }
 abbrev pub flat_node : DataType → ℕ → ℕ → Node
 flat_node t rows segment = record { kind = kinds.Flat segment; dtype = t; rows = rows; children = [] }
 
-abbrev pub inner_node : LayoutKind → DataType → ℕ → List ℕ → Node
-inner_node kind t rows children = record { kind = kind; dtype = t; rows = rows; children = children }
-
 -- a chunked node of numbers of 64 bits
 abbrev pub chunked_node : ℕ → List ℕ → Node
-chunked_node rows children = inner_node kinds.Chunked i64 rows children
+chunked_node rows children = parent_node kinds.Chunked i64 rows children
 
 -- what these rows of the root are worth
 abbrev pub worth : List ℕ → List SegmentLocation → List Node → KeptFields → List ℕ → List (Option Datum)
@@ -74,14 +71,14 @@ two_truths dtype rows segment = Some (truth true ∷ truth false ∷ [])
 
 -- ---- structs without fields, of which some are null
 abbrev pub null_structs : List Node
-null_structs = inner_node kinds.Struct (struct_type no_members Nullable) 3 (1 ∷ []) ∷ flat_node (bool_type NonNullable) 3 0 ∷ []
+null_structs = parent_node kinds.Struct (struct_type no_members Nullable) 3 (1 ∷ []) ∷ flat_node (bool_type NonNullable) 3 0 ∷ []
 
 abbrev pub second_is_null : List (Option Datum)
 second_is_null = Some (structure no_items) ∷ Some null ∷ Some (structure no_items) ∷ []
 
 -- ---- a dictionary without values
 abbrev pub no_values : List Node
-no_values = inner_node kinds.Dict (utf8_type Nullable) 3 (1 ∷ 2 ∷ []) ∷ flat_node text_type 0 0 ∷ flat_node (int_type U8 Nullable) 3 1 ∷ []
+no_values = parent_node kinds.Dict (utf8_type Nullable) 3 (1 ∷ 2 ∷ []) ∷ flat_node text_type 0 0 ∷ flat_node (int_type U8 Nullable) 3 1 ∷ []
 
 abbrev pub no_values_at : List SegmentLocation
 no_values_at = at 0 0 ∷ at 0 4 ∷ []
@@ -96,7 +93,7 @@ code_zero = 1 ∷ 0 ∷ 0 ∷ 0 ∷ []
 -- ---- a dictionary of which one value, that no row has, is torn
 abbrev pub torn_value : List Node
 torn_value =
-    inner_node kinds.Dict text_type 2 (1 ∷ 4 ∷ []) ∷ inner_node kinds.Chunked text_type 2 (2 ∷ 3 ∷ [])
+    parent_node kinds.Dict text_type 2 (1 ∷ 4 ∷ []) ∷ parent_node kinds.Chunked text_type 2 (2 ∷ 3 ∷ [])
     ∷ flat_node text_type 1 0 ∷ flat_node text_type 1 1 ∷ flat_node u8 2 2 ∷ []
 
 abbrev pub torn_file : List ℕ
@@ -110,10 +107,10 @@ abbrev two_fields : DataType → DataType
 two_fields second = struct_type (member (codes "a") i8 (member (codes "b") second no_members)) NonNullable
 
 abbrev pub one_range : List Node
-one_range = inner_node kinds.Struct (two_fields i8) 2 (1 ∷ 2 ∷ []) ∷ flat_node i8 2 0 ∷ flat_node i8 2 1 ∷ []
+one_range = parent_node kinds.Struct (two_fields i8) 2 (1 ∷ 2 ∷ []) ∷ flat_node i8 2 0 ∷ flat_node i8 2 1 ∷ []
 
 abbrev pub one_segment : List Node
-one_segment = inner_node kinds.Struct (two_fields u8) 1 (1 ∷ 2 ∷ []) ∷ flat_node i8 1 0 ∷ flat_node u8 1 0 ∷ []
+one_segment = parent_node kinds.Struct (two_fields u8) 1 (1 ∷ 2 ∷ []) ∷ flat_node i8 1 0 ∷ flat_node u8 1 0 ∷ []
 
 abbrev pub twice : ℕ → Option Datum
 twice n = Some (structure (item (number (pos n)) (item (number (pos n)) no_items)))
@@ -127,8 +124,8 @@ with_list = struct_type (member (codes "a") i64 (member (codes "l") (list_type i
 
 abbrev pub list_field : List Node
 list_field =
-    inner_node kinds.Struct with_list 1 (1 ∷ 2 ∷ []) ∷ flat_node i64 1 0
-    ∷ inner_node kinds.List (list_type i64 NonNullable) 1 (3 ∷ 4 ∷ []) ∷ flat_node i64 0 1 ∷ flat_node i64 2 2 ∷ []
+    parent_node kinds.Struct with_list 1 (1 ∷ 2 ∷ []) ∷ flat_node i64 1 0
+    ∷ parent_node kinds.List (list_type i64 NonNullable) 1 (3 ∷ 4 ∷ []) ∷ flat_node i64 0 1 ∷ flat_node i64 2 2 ∷ []
 
 abbrev pub list_file : List ℕ
 list_file = 7 ∷ 0 ∷ 0 ∷ 0 ∷ 0 ∷ 0 ∷ 0 ∷ 0 ∷ []
@@ -146,9 +143,9 @@ zones_of_numbers =
 
 abbrev pub in_zones : ℕ → List Node
 in_zones zone_len =
-    inner_node (kinds.Zoned zone_len (Min ∷ Max ∷ [])) i32 3 (1 ∷ 4 ∷ []) ∷ inner_node kinds.Chunked i32 3 (2 ∷ 3 ∷ [])
+    parent_node (kinds.Zoned zone_len (Min ∷ Max ∷ [])) i32 3 (1 ∷ 4 ∷ []) ∷ parent_node kinds.Chunked i32 3 (2 ∷ 3 ∷ [])
     ∷ flat_node i32 1 0 ∷ flat_node i32 2 1
-    ∷ inner_node kinds.Struct zones_of_numbers 1 (5 ∷ 6 ∷ [])
+    ∷ parent_node kinds.Struct zones_of_numbers 1 (5 ∷ 6 ∷ [])
     ∷ flat_node (int_type I32 Nullable) 1 2 ∷ flat_node (int_type I32 Nullable) 1 3 ∷ []
 
 abbrev pub zoned_file : List ℕ
@@ -163,5 +160,5 @@ one_two_three = map (λ n. Some (number (pos n))) (1 ∷ 2 ∷ 3 ∷ [])
 -- ---- a dictionary whose values are a dictionary
 abbrev pub nested : List Node
 nested =
-    inner_node kinds.Dict i8 1 (1 ∷ 4 ∷ []) ∷ inner_node kinds.Dict i8 1 (2 ∷ 3 ∷ []) ∷ flat_node i8 1 0 ∷ flat_node u8 1 1
+    parent_node kinds.Dict i8 1 (1 ∷ 4 ∷ []) ∷ parent_node kinds.Dict i8 1 (2 ∷ 3 ∷ []) ∷ flat_node i8 1 0 ∷ flat_node u8 1 1
     ∷ flat_node u8 1 2 ∷ []

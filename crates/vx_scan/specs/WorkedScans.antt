@@ -1,14 +1,11 @@
 -- Scans that were written by hand, on which the definitions of answers and of causes are checked.
 use Rattle.std.specs.Prelude.{ℕ, List, [], ◌∷◌}
 use Rattle.vx_base.specs.declared.locations.SegmentLocation.{SegmentLocation}
-use Rattle.vx_base.specs.declared.dtypes.IntKind.TheVariants.{I32}
-use Rattle.vx_base.specs.declared.dtypes.Nullability.TheVariants.{NonNullable}
-use Rattle.vx_base.specs.Data.{DataType, int_type}
 use Rattle.vx_expr.specs.Terms.{root}
 use Rattle.vx_layout.specs.declared.nodes.LayoutKind.TheVariants as kinds
-use Rattle.vx_layout.specs.Nodes.{Node}
+use Rattle.vx_layout.specs.Nodes.{Node, parent_node}
 use Rattle.vx_layout.specs.Trees.{head_of, subtree}
-use Rattle.vx_layout.specs.WorkedRows.{at, flat_node, inner_node, i64}
+use Rattle.vx_layout.specs.WorkedRows.{at, flat_node, i64, i32}
 use Rattle.vx_lower.specs.Projected.{Projection}
 
 -- the whole of each row of a layout
@@ -28,11 +25,8 @@ abbrev pub three_numbers_file : List ℕ
 three_numbers_file = 1 ∷ 0 ∷ 0 ∷ 0 ∷ 0 ∷ 0 ∷ 0 ∷ 0 ∷ 2 ∷ 0 ∷ 0 ∷ 0 ∷ 0 ∷ 0 ∷ 0 ∷ 0 ∷ 44 ∷ 1 ∷ 0 ∷ 0 ∷ 0 ∷ 0 ∷ 0 ∷ 0 ∷ []
 
 -- ---- three chunks of three rows
-abbrev i32 : DataType
-i32 = int_type I32 NonNullable
-
 abbrev pub nine_numbers : List Node
-nine_numbers = inner_node kinds.Chunked i32 9 (1 ∷ 2 ∷ 3 ∷ []) ∷ flat_node i32 3 0 ∷ flat_node i32 3 1 ∷ flat_node i32 3 2 ∷ []
+nine_numbers = parent_node kinds.Chunked i32 9 (1 ∷ 2 ∷ 3 ∷ []) ∷ flat_node i32 3 0 ∷ flat_node i32 3 1 ∷ flat_node i32 3 2 ∷ []
 
 abbrev pub nine_numbers_at : List SegmentLocation
 nine_numbers_at = at 0 12 ∷ at 12 12 ∷ at 24 12 ∷ []

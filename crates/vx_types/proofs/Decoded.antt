@@ -15,6 +15,7 @@ use Rattle.vx_types.specs.Reading.{decoded, bits_of, bits_read, packed_len}
 use Rattle.vx_types.proofs.Bits.{packed_read, length-bits_of}
 use Rattle.vx_types.proofs.KindNumbers.{size_of, number_len}
 use Rattle.vx_types.proofs.Leaves.{none_null, validity_len, two_parts, length_slots_len}
+use Rattle.std.proofs.lemmas.Option.{same_Some}
 
 abbrev pub AreBytes : List ℕ → Type 0
 AreBytes bytes = (i : ℕ) → get_or bytes i 0 < 256
@@ -43,11 +44,8 @@ pub record Known (t : DataType) (n : Nullability) (rows : ℕ) (validity slots :
   pub valid : valid_bits n rows validity ≡ map is_value values
   pub slot : slots ≡ slot_bytes t values
 
-some_injective : (a b : List ℕ) → Some a ≡ Some b → a ≡ b
-some_injective a b e = cc
-
 pub two_spelled : (t : DataType) (n : Nullability) (rows : ℕ) (bytes : List ℕ) (values : List Datum) → IsLeaf t → nullability_of t ≡ n → Spells t rows bytes values → bytes ≡ validity_bytes n values ++ slot_bytes t values
-two_spelled t n rows bytes values l e s = some_injective bytes (validity_bytes n values ++ slot_bytes t values) (sym s.spelled ∙ two_parts t values l ∙ ap (λ (m : Nullability). Some (validity_bytes m values ++ slot_bytes t values)) e)
+two_spelled t n rows bytes values l e s = same_Some bytes (validity_bytes n values ++ slot_bytes t values) (sym s.spelled ∙ two_parts t values l ∙ ap (λ (m : Nullability). Some (validity_bytes m values ++ slot_bytes t values)) e)
 
 same_parts : (n : Nullability) (rows : ℕ) (values : List Datum) (validity slots rest : List ℕ) → length values ≡ rows → IsValidity n rows validity → validity ++ slots ≡ validity_bytes n values ++ rest → (validity ≡ validity_bytes n values) × (slots ≡ rest)
 same_parts NonNullable rows values validity slots rest count ok e = (ok, ap (λ (v : List ℕ). v ++ slots) (sym ok) ∙ e)

@@ -12,6 +12,7 @@ use Rattle.vx_types.specs.Fits.{Fits, TakesNull, takes_null, least_of, greatest_
 use Rattle.vx_types.specs.Segment.{Spells, spelling, IsShort, text_in}
 use Rattle.vx_types.specs.Reading.{decoded, is_spelled, if_spelled, fits_leaf, spelled_as, leaf_read}
 use Rattle.vx_types.specs.Laws.{HasOneSpelling, ReadsSpelled}
+use Rattle.std.proofs.lemmas.Option.{same_Some}
 
 four_parts : (a b c d : Bool) → (a && b && c && d) ≡ true → (a ≡ true) × (b ≡ true) × (c ≡ true) × (d ≡ true)
 four_parts true true true true e = (refl, refl, refl, refl)
@@ -77,5 +78,4 @@ reads_spelled (list_type t n) rows bytes values e = absurd cc
 
 pub has_one_spelling : HasOneSpelling
 has_one_spelling t rows values a b p q =
-    let e : some_bytes a ≡ some_bytes b = sym p.spelled ∙ q.spelled in
-    cc
+    same_Some a b (sym p.spelled ∙ q.spelled)

@@ -1,9 +1,10 @@
 use Rattle.std.proofs.Common.{[], ◌∷◌}
 use Rattle.vx_layout.specs.declared.nodes.LayoutKind.TheVariants.{Chunked}
-use Rattle.scan_demo.specs.DemoNodes.{chunk_nodes, parent_node}
+use Rattle.scan_demo.specs.DemoNodes.{chunk_nodes}
 use Rattle.scan_demo.specs.Flats.{chunk_flats, column_type}
 use Rattle.scan_demo.proofs.Written.{wrote_then}
 use Rattle.scan_demo.proofs.file_writers.FileWriter.push_chunked.Goals as goal
+use Rattle.vx_layout.specs.Nodes.{parent_node}
 
 pub returns : goal.returns
 returns c =
