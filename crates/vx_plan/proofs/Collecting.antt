@@ -234,12 +234,6 @@ held f (Some x) n h = h
 
 -- ---- laws of the shapes
 
-pub same_law : (nodes : List Node) (n child : ℕ) → n < length nodes → HasShape nodes n (shapes.Same child) → (at : Reach) (start : ℕ) (bits : List Bool) → selected_of (plan_at nodes child) at start bits ≡ selected_of (plan_at nodes n) at start bits
-same_law nodes n child known has at start bits = sym (ap (λ (p : Plan). selected_of p at start bits) (shape_there nodes n (shapes.Same child) known has).law)
-
-pub zoned_law : (nodes : List Node) (n content table : ℕ) → n < length nodes → HasShape nodes n (shapes.Zoned content table) → (at : Reach) (start : ℕ) (bits : List Bool) → selected_of (plan_at nodes content) at start bits ≡ selected_of (plan_at nodes n) at start bits
-zoned_law nodes n content table known has at start bits = sym (ap (λ (p : Plan). selected_of p at start bits) (shape_there nodes n (shapes.Zoned content table) known has).over.law)
-
 pub chunks_law : (nodes : List Node) (n : ℕ) → n < length nodes → HasShape nodes n shapes.Chunks → (at : Reach) (start : ℕ) (bits : List Bool) → selected_chunks 0 (plans_from (map (plan_at nodes) (node_at nodes n).children)) at start bits ≡ selected_of (plan_at nodes n) at start bits
 chunks_law nodes n known has at start bits = sym (ap (λ (p : Plan). selected_of p at start bits) (shape_there nodes n shapes.Chunks known has).law)
 

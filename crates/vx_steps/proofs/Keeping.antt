@@ -1,12 +1,11 @@
 -- Kept columns, and one more.
-use Rattle.std.proofs.Common.{◌≡◌, Bor, ℕ, zero, suc, ◌==◌, Bool, true, false, cond, List, [], ◌∷◌, ◌++◌, Option, Some, None, length, refl, sym, ap, ◌∙◌, subst, arith}
+use Rattle.std.proofs.Common.{◌≡◌, ℕ, zero, suc, ◌==◌, Bool, true, false, cond, List, [], ◌∷◌, ◌++◌, Option, Some, None, length, refl, sym, ap, ◌∙◌, subst, arith}
 use Rattle.std.specs.Prelude.{IsSomeAnd, if◌then◌else◌}
 use Rattle.std.specs.List.{slice_get}
 use Rattle.vx_base.specs.Columns.{ColumnData}
 use Rattle.vx_steps.specs.declared.places.PlaceTable.{PlaceTable}
 use Rattle.vx_steps.specs.KeptData.{Kept}
-use Rattle.std.specs.Option.{option_copied, is_some}
-use Rattle.vx_steps.specs.Kept.{kept_at, IsPlace, values_of, whole_of}
+use Rattle.vx_steps.specs.Kept.{kept_at, IsPlace}
 use Rattle.vx_steps.specs.Places.{place_in}
 
 pub step_new : (b : Bool) (x : ColumnData) (old more new : Option ColumnData) → (old ≡ None → more ≡ new) → (if b then Some x else old) ≡ None → (if b then Some x else more) ≡ new
@@ -64,10 +63,6 @@ places_more old new kept node column places none put n =
         let Q : ℕ → Type 0 = λ m. IsPlace (kept ++ record { node = node; column = column } ∷ []) m (Some (length kept)) in
         subst Q same (is_place_here kept node column none)
     chosen false e = is_place_other kept node column n e (place_in old n) (places n)
-
-pub none_given : (found : Option (Bor ColumnData)) (kept : List Kept) (n : ℕ) → option_copied found ≡ kept_at kept n → is_some found ≡ false → whole_of kept n ≡ None
-none_given None kept n e none = ap values_of (sym e)
-none_given (Some column) kept n e none = absurd cc
 
 -- ---- places of a list
 

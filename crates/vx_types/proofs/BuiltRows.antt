@@ -1,18 +1,14 @@
 -- Columns that are made of several columns, row by row.
 use Rattle.vx_types.specs.declared.dtypes.IntKind.{IntKind}
 use Rattle.std.proofs.lemmas.Int.{ints}
-use Rattle.std.proofs.Common.{cond, ◌≡◌, ℕ, zero, suc, ◌+◌, ◌<◌, ◌≤◌, pos, negsuc, Bool, true, false, List, [], ◌∷◌, ◌++◌, length, map, get_or, Option, Some, None, sym, ap, subst, ◌∙◌, arith}
+use Rattle.std.proofs.Common.{cond, ◌≡◌, ℕ, zero, suc, ◌+◌, ◌<◌, ◌≤◌, pos, negsuc, Bool, true, false, List, [], ◌∷◌, length, map, get_or, Option, Some, None, subst, arith}
 use Rattle.std.specs.List.{AllByRecursion, range_with_len}
-use Rattle.std.proofs.lemmas.List.{map-append}
-use Rattle.std.proofs.lemmas.List.FromFn.{map-range_with_len_more}
-use Rattle.vx_types.specs.declared.values.Value.{Value}
 use Rattle.vx_types.specs.declared.dtypes.IntKind.TheVariants.{U8, U16, U32, U64, I8, I16, I32, I64}
 use Rattle.vx_types.specs.declared.dtypes.Nullability.{Nullability}
 use Rattle.vx_types.specs.declared.dtypes.Nullability.TheVariants.{NonNullable, Nullable}
 use Rattle.vx_types.specs.Data.{DataType, bool_type, int_type, utf8_type, struct_type, list_type, Members, no_members, member, Datum, null, truth, number, text, structure}
 use Rattle.vx_types.specs.Columns.{ColumnData}
 use Rattle.vx_types.specs.Fits.{Fits, EachFits, nullability_of}
-use Rattle.vx_types.specs.ValueViews.{datum}
 use Rattle.vx_types.specs.ColumnCalls.{made_nullable, nullable_where, IsUnsigned, IsCodeBelow, IsPlaceBelow, value_at, ArePartsOf, nullability_with, items_at, packed_at, IsFitting, FitsParts}
 
 -- ---- codes
@@ -120,8 +116,3 @@ packed_fit ms parts validity rows h f = all_rows_fit ms parts validity 0 rows ro
 
 abbrev pub in_row : ℕ → ColumnData → Datum
 in_row row part = get_or part.values row null
-
-pub rows_more : (validity : Option (List Bool)) (parts : List ColumnData) (values more : List Value) (row : ℕ) (value : Value) → more ≡ values ++ value ∷ [] → datum value ≡ packed_at validity parts row
-    → map datum values ≡ map (packed_at validity parts) (range_with_len 0 row) → map datum more ≡ map (packed_at validity parts) (range_with_len 0 (row + 1))
-rows_more validity parts values more row value pushed is so_far =
-    ap (map datum) pushed ∙ map-append datum values (value ∷ []) ∙ ap (λ (vs : List Datum). vs ++ datum value ∷ []) so_far ∙ ap (λ (v : Datum). map (packed_at validity parts) (range_with_len 0 row) ++ v ∷ []) is ∙ sym (map-range_with_len_more (packed_at validity parts) 0 row row (omega arith))

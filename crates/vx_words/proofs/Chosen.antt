@@ -122,9 +122,6 @@ module _ (X : Type 0) where
     pub same : kept ++ chosen (low_bits 64 rest) left ≡ all ++ chosen (low_bits 64 word) values
     pub inside : rest < 2 ^ length left
 
-  pub picked_none : (all : List X) (word : ℕ) (values : List X) → word < 2 ^ length values → Picked all all word word values values
-  picked_none all word values h = record { same = refl; inside = h }
-
   pub picked_all : (all kept : List X) (word rest : ℕ) (values left : List X) → rest ≡ 0 → Picked all kept word rest values left → kept ≡ all ++ chosen (low_bits 64 word) values
   picked_all all kept word rest values left e h =
       sym (append-nil kept)
@@ -175,9 +172,6 @@ module _ (X : Type 0) where
 
   pub filtered_none : (mask : List Bool) (values : List X) → Filtered mask values [] 0
   filtered_none mask values = record { same = refl }
-
-  pub filtered_all : (mask : List Bool) (values kept : List X) (i : ℕ) → length mask ≤ 64 * i → Filtered mask values kept i → kept ≡ chosen mask values
-  filtered_all mask values kept i past h = sym (append-nil kept) ∙ ap (λ (bs : List Bool). kept ++ chosen bs (drop (64 * i) values)) (sym (drop_all (64 * i) mask past)) ∙ h.same
 
   rows_after : (mask : List Bool) (left : List X) (i c : ℕ) → c ≡ min 64 (length mask - 64 * i) → chosen (drop (64 * (i + 1)) mask) (drop c left) ≡ chosen (drop (64 * (i + 1)) mask) (drop 64 left)
   rows_after mask left i c count =
