@@ -1,5 +1,5 @@
 -- What the rows of a leaf hold, as bytes.
-use Rattle.std.proofs.Common.{◌≡◌, ℕ, ℤ, ◌+◌, ◌^◌, ◌<◌, Bool, List, [], ◌∷◌, ◌++◌, length, map, take, Some, refl, sym, ap, ap₂, subst, ◌∙◌}
+use Rattle.std.proofs.Common.{◌≡◌, ℕ, ℤ, ◌+◌, ◌<◌, Bool, List, [], ◌∷◌, ◌++◌, length, map, take, Some, refl, sym, ap, ap₂, subst, ◌∙◌}
 use Rattle.std.specs.List.{AllByRecursion, flat_map}
 use Rattle.std.specs.Int.{w32, to_le_bytes}
 use Rattle.std.specs.Prelude.{slice_get}
@@ -10,6 +10,7 @@ use Rattle.vx_packed.proofs.PickedRows.{there_is, other_default}
 use Rattle.vx_types.specs.Columns.{ColumnData}
 use Rattle.vx_types.specs.Data.{Datum, truth, number, text}
 use Rattle.vx_types.specs.Leaf.{slot_bytes}
+use Rattle.vx_types.specs.Limits.{text_limit}
 use Rattle.vx_types.specs.Reading.{where_valid}
 use Rattle.vx_types.specs.Segment.{IsShort, truth_in, number_in, text_in, number_bytes, packed}
 use Rattle.vx_packed.specs.declared.numbers.Numbers.{Numbers}
@@ -80,9 +81,9 @@ all_mapped P g [] h = tt
 all_mapped P g (v ∷ vs) h = (h.0, all_mapped P g vs h.1)
 
 pub texts_short : (mask : List Bool) (slots : Slots) (ts : List (List ℕ)) (column : ColumnData) → part_column mask slots ≡ column → IsPart mask slots → slots ≡ variants.Texts ts → AllByRecursion IsShort column.values
-    → AllByRecursion (λ t. length t < 2 ^ 32) ts
+    → AllByRecursion (λ t. length t < text_limit) ts
 texts_short mask slots ts column view h e short =
-    let P : List ℕ → Type 0 = λ t. length t < 2 ^ 32 in
+    let P : List ℕ → Type 0 = λ t. length t < text_limit in
     let values : AllByRecursion IsShort (where_valid mask (map text ts)) = subst (λ (c : ColumnData). AllByRecursion IsShort c.values) (sym (at_slots mask slots (variants.Texts ts) column view e)) short in
     subst (AllByRecursion P) (texts_of mask ts (subst (IsPart mask) e h)) (all_mapped P text_in (where_valid mask (map text ts)) values)
 

@@ -4,6 +4,7 @@ ghost use Rattle.std.specs.Prelude.{◌≡◌, ◌≤◌, ◌<◌, ◌^◌, ◌+
 ghost use Rattle.std.specs.List.{AllByRecursion, flat_map};
 ghost use Rattle.std.specs.Str.{IsUtf8};
 ghost use Rattle.std.specs.Int.{w32, to_le_bytes};
+ghost use Rattle.vx_types.specs.Limits.{text_limit};
 ghost use Rattle.vx_words.specs.Masks.{chosen};
 ghost use Rattle.vx_words.specs.Rows.{taken, Holds, NullsHold};
 ghost use Rattle.vx_packed.specs.Texts.{cut, moved, start_in, AreEnds, AreTexts};
@@ -330,7 +331,7 @@ impl Texts {
 
     /// Writes the lengths of all texts, in four bytes each.
     pub fn write_lengths(&self, bytes: &mut Vec<u8>) -> Result<(), AllocError>
-        requires { AllByRecursion (λ text. length text < 2 ^ 32) self.now }
+        requires { AllByRecursion (λ text. length text < text_limit) self.now }
         ensures { OnOk result (bytes.new.items ≡ bytes.old.items ++ flat_map (λ text. to_le_bytes w32 (length text)) self.now) }
     {
         for row in 0..self.len() {

@@ -6,6 +6,7 @@ use Rattle.std.proofs.lemmas.Bool.{cases_lt}
 use Rattle.std.proofs.lemmas.List.{get_or_append_left, length-map, map-append}
 use Rattle.std.proofs.lemmas.List.Elements.{All-head, All-tail, All-weaker}
 use Rattle.vx_plan.specs.declared.nodes.PlanNode.{PlanNode}
+use Rattle.vx_plan.specs.Limits.{most_plans}
 use Rattle.vx_plan.specs.Nodes.{Node, node_data, absent}
 use Rattle.vx_plan.specs.Rules.{node_at, nodes_at, IsMade, KeepsRules}
 use Rattle.vx_plan.specs.Tables.{AreIn, IsAdded, IsGoodNode, IsGoodTable}
@@ -60,7 +61,7 @@ good_more nodes node good here number =
     (cases_lt number (length nodes))
 
 -- the nodes that a table holds, with one more
-pub pushed_good : (xs ys : List PlanNode) (node : PlanNode) (slice : List PlanNode) (nodes : List Node) → ys ≡ xs ++ node ∷ [] → slice ≡ xs → nodes ≡ map node_data xs → IsGoodTable (map node_data xs) → length nodes < 4294967295 → AreIn nodes node.children → IsMade (node_data node) (nodes_at nodes node.children) → KeepsRules (node_data node) (nodes_at (map node_data slice) node.children) → IsGoodTable (map node_data ys) × (length ys < 4294967296)
+pub pushed_good : (xs ys : List PlanNode) (node : PlanNode) (slice : List PlanNode) (nodes : List Node) → ys ≡ xs ++ node ∷ [] → slice ≡ xs → nodes ≡ map node_data xs → IsGoodTable (map node_data xs) → length nodes < most_plans → AreIn nodes node.children → IsMade (node_data node) (nodes_at nodes node.children) → KeepsRules (node_data node) (nodes_at (map node_data slice) node.children) → IsGoodTable (map node_data ys) × (length ys ≤ most_plans)
 pushed_good xs ys node slice nodes pushed same seen good room known made kept =
     let Known : List Node → Type 0 = λ (ns : List Node). AreIn ns node.children in
     let Made : List Node → Type 0 = λ (ns : List Node). IsMade (node_data node) (nodes_at ns node.children) in

@@ -1,10 +1,11 @@
 -- A good table stays good when its last plans are taken away: the others have their children in front of them.
-use Rattle.std.proofs.Common.{◌≡◌, ℕ, ◌<◌, ◌^◌, List, ◌++◌, Option, Some, None, length, map, take, drop, refl, sym, ap, ◌∙◌, subst, arith}
+use Rattle.std.proofs.Common.{◌≡◌, ℕ, ◌<◌, ◌≤◌, List, ◌++◌, Option, Some, None, length, map, take, drop, refl, sym, ap, ◌∙◌, subst, arith}
 use Rattle.std.specs.Prelude.{IfSome}
 use Rattle.std.specs.List.{slice_get}
 use Rattle.std.proofs.lemmas.List.{length-take, take-append-drop, take-map}
 use Rattle.std.proofs.lemmas.Option.{slice_get_within}
 use Rattle.vx_plan.specs.declared.nodes.PlanNode.{PlanNode}
+use Rattle.vx_plan.specs.Limits.{most_plans}
 use Rattle.vx_plan.specs.Nodes.{Node, node_data}
 use Rattle.vx_plan.specs.Rules.{nodes_at, IsMade, KeepsRules}
 use Rattle.vx_plan.specs.Tables.{IsGoodNode, IsGoodTable}
@@ -22,7 +23,7 @@ pub front_good : (front rest : List Node) → IsGoodTable (front ++ rest) → Is
 front_good front rest good n = good_at_front front rest good n (slice_get front n) refl
 
 -- the nodes that a table holds, without the last of them
-pub truncated_good : (xs ys : List PlanNode) (count : ℕ) → ys ≡ take count xs → IsGoodTable (map node_data xs) × (length xs < 2 ^ 32) → IsGoodTable (map node_data ys) × (length ys < 2 ^ 32)
+pub truncated_good : (xs ys : List PlanNode) (count : ℕ) → ys ≡ take count xs → IsGoodTable (map node_data xs) × (length xs ≤ most_plans) → IsGoodTable (map node_data ys) × (length ys ≤ most_plans)
 truncated_good xs ys count left good =
     let e : take count (map node_data xs) ≡ map node_data ys = take-map node_data count xs ∙ ap (map node_data) (sym left) in (
       subst IsGoodTable e (front_good (take count (map node_data xs)) (drop count (map node_data xs)) (subst IsGoodTable (sym (take-append-drop count (map node_data xs))) good.0)),

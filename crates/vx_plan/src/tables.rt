@@ -35,13 +35,14 @@ impl Model for PlanTable {
 
     ghost coded = { coded_nodes };
 
-    ghost use Rattle.std.specs.Prelude.{◌<◌, ◌^◌, length};
+    ghost use Rattle.std.specs.Prelude.{◌≤◌, length};
+    ghost use Rattle.vx_plan.specs.Limits.{most_plans};
     ghost use Rattle.vx_plan.specs.Nodes.{node_data};
     ghost use Rattle.vx_plan.specs.Tables.{IsGoodTable};
 
     ghost view = { λ a. map node_data a.nodes.items };
 
-    ghost invariant = { λ a. IsGoodTable (map node_data a.nodes.items) × (length a.nodes.items < 2 ^ 32) };
+    ghost invariant = { λ a. IsGoodTable (map node_data a.nodes.items) × (length a.nodes.items ≤ most_plans) };
 }
 
 /// The last child, where that is a validity.

@@ -1,5 +1,5 @@
 -- What the bytes of a leaf spell is read from them.
-use Rattle.std.proofs.Common.{◌≡◌, ℕ, suc, pos, ◌*◌, ◌^◌, Bool, true, false, T, List, [], ◌∷◌, ◌++◌, length, map, take, drop, replicate, Option, Some, None, refl, sym, ap, subst, ◌∙◌, arith, append_assoc}
+use Rattle.std.proofs.Common.{◌≡◌, ℕ, suc, pos, ◌*◌, Bool, true, false, T, List, [], ◌∷◌, ◌++◌, length, map, take, drop, replicate, Option, Some, None, refl, sym, ap, subst, ◌∙◌, arith, append_assoc}
 use Rattle.std.specs.Prelude.{int_le, nat_lt}
 use Rattle.std.specs.List.{AllByRecursion, list_all, flat_map}
 use Rattle.std.specs.Int.{w32, from_le_bytes}
@@ -17,6 +17,7 @@ use Rattle.vx_types.specs.Data.{DataType, bool_type, int_type, utf8_type, struct
 use Rattle.vx_types.specs.Fits.{Fits, IsInside, TakesNull, takes_null, least_of, greatest_of, nullability_of}
 use Rattle.vx_types.specs.Leaf.{IsLeaf, number_slot, length_slot, slot_bytes}
 use Rattle.vx_types.specs.Segment.{IsShort, spelling, is_value, truth_in, number_in, text_in, number_bytes, validity_bytes, packed}
+use Rattle.vx_types.specs.Limits.{text_limit}
 use Rattle.vx_types.specs.Reading.{decoded, is_spelled, if_spelled, fits_leaf, spelled_as, numbers_read, lengths_read, texts_read, bits_read, validity_read, slots, slots_read, where_valid, leaf_read, packed_len}
 use Rattle.vx_types.specs.Laws.{LeavesHaveOneMeaning, SpelledLeavesAreRead, EncodingIsUndone}
 use Rattle.vx_types.proofs.Spelled.{some_bytes}
@@ -154,9 +155,9 @@ all_pass : (t : DataType) (values : List Datum) → IsLeaf t → AllByRecursion 
 all_pass t [] l h = refl
 all_pass t (v ∷ vs) l h = and_from _ _ (fits_passes t v l h.0) (all_pass t vs l h.1)
 
-short_pass : (values : List Datum) → AllByRecursion IsShort values → list_all (λ v. nat_lt (length (text_in v)) (2 ^ 32)) values ≡ true
+short_pass : (values : List Datum) → AllByRecursion IsShort values → list_all (λ v. nat_lt (length (text_in v)) text_limit) values ≡ true
 short_pass [] h = refl
-short_pass (v ∷ vs) h = and_from _ _ (lt-ltb (length (text_in v)) (2 ^ 32) h.0) (short_pass vs h.1)
+short_pass (v ∷ vs) h = and_from _ _ (lt-ltb (length (text_in v)) text_limit h.0) (short_pass vs h.1)
 
 abbrev some_data : List Datum → Option (List Datum)
 some_data values = Some values

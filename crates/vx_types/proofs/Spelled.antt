@@ -1,5 +1,5 @@
 -- What is read from bytes is what they spell.
-use Rattle.std.proofs.Common.{◌≡◌, ℕ, ℤ, ◌^◌, Bool, true, false, ◌&&◌, cond, T, eqb, List, [], ◌∷◌, length, Option, Some, None, refl, sym, ap, subst, ◌∙◌}
+use Rattle.std.proofs.Common.{◌≡◌, ℕ, ℤ, Bool, true, false, ◌&&◌, cond, T, eqb, List, [], ◌∷◌, length, Option, Some, None, refl, sym, ap, subst, ◌∙◌}
 use Rattle.std.specs.Prelude.{◌≤ℤ◌, int_le, nat_lt}
 use Rattle.std.specs.List.{AllByRecursion, list_all}
 use Rattle.std.proofs.lemmas.Bool.{and_parts, eqb-true, ltb-true}
@@ -10,6 +10,7 @@ use Rattle.vx_types.specs.declared.dtypes.Nullability.TheVariants.{NonNullable, 
 use Rattle.vx_types.specs.Data.{DataType, bool_type, int_type, utf8_type, struct_type, list_type, Datum, null, truth, number, text}
 use Rattle.vx_types.specs.Fits.{Fits, TakesNull, takes_null, least_of, greatest_of}
 use Rattle.vx_types.specs.Segment.{Spells, spelling, IsShort, text_in}
+use Rattle.vx_types.specs.Limits.{text_limit}
 use Rattle.vx_types.specs.Reading.{decoded, is_spelled, if_spelled, fits_leaf, spelled_as, leaf_read}
 use Rattle.vx_types.specs.Laws.{HasOneSpelling, ReadsSpelled}
 use Rattle.std.proofs.lemmas.Option.{same_Some}
@@ -47,9 +48,9 @@ all_fit : (t : DataType) (vs : List Datum) → list_all (fits_leaf t) vs ≡ tru
 all_fit t [] e = tt
 all_fit t (v ∷ vs) e = let p = and_parts (fits_leaf t v) (list_all (fits_leaf t) vs) e in (leaf_fits t v p.0, all_fit t vs p.1)
 
-all_short : (vs : List Datum) → list_all (λ v. nat_lt (length (text_in v)) (2 ^ 32)) vs ≡ true → AllByRecursion IsShort vs
+all_short : (vs : List Datum) → list_all (λ v. nat_lt (length (text_in v)) text_limit) vs ≡ true → AllByRecursion IsShort vs
 all_short [] e = tt
-all_short (v ∷ vs) e = let p = and_parts (nat_lt (length (text_in v)) (2 ^ 32)) (list_all (λ w. nat_lt (length (text_in w)) (2 ^ 32)) vs) e in (ltb-true (length (text_in v)) (2 ^ 32) p.0, all_short vs p.1)
+all_short (v ∷ vs) e = let p = and_parts (nat_lt (length (text_in v)) text_limit) (list_all (λ w. nat_lt (length (text_in w)) text_limit) vs) e in (ltb-true (length (text_in v)) text_limit p.0, all_short vs p.1)
 
 abbrev pub some_bytes : List ℕ → Option (List ℕ)
 some_bytes bytes = Some bytes
@@ -60,7 +61,7 @@ spelled_from (Some spelt) bytes e = ap some_bytes ((bytes_eq-Decides spelt bytes
 
 spells_from : (t : DataType) (rows : ℕ) (bytes : List ℕ) (values : List Datum) → is_spelled t rows bytes values ≡ true → Spells t rows bytes values
 spells_from t rows bytes values e =
-    let p = four_parts (eqb (length values) rows) (list_all (fits_leaf t) values) (list_all (λ v. nat_lt (length (text_in v)) (2 ^ 32)) values) (spelled_as (spelling t values) bytes) e in
+    let p = four_parts (eqb (length values) rows) (list_all (fits_leaf t) values) (list_all (λ v. nat_lt (length (text_in v)) text_limit) values) (spelled_as (spelling t values) bytes) e in
     record { count = eqb-true (length values) rows p.0; fit = all_fit t values p.1; short = all_short values p.2; spelled = spelled_from (spelling t values) bytes p.3 }
 
 spells_if : (t : DataType) (rows : ℕ) (bytes : List ℕ) (read values : List Datum) → if_spelled t rows bytes read ≡ Some values → Spells t rows bytes values

@@ -6,6 +6,7 @@ pub mod Falls
 pub mod Fits
 pub mod Laws
 pub mod Leaf
+pub mod Limits
 pub mod Names
 pub mod Parts
 pub mod Reading

@@ -1,6 +1,6 @@
 -- Reading a segment: the values that the bytes spell, where they spell any. Each part is read as it
 -- comes, and what was read counts where its spelling is these very bytes.
-use Rattle.std.specs.Prelude.{ℕ, zero, suc, ◌+◌, ◌*◌, ◌/◌, ◌^◌, ℤ, pos, int_le, Bool, true, false, ◌&&◌, ◌==◌, nat_lt, if◌then◌else◌, List, [], ◌∷◌, length, map, take, drop, replicate, Option, Some, None}
+use Rattle.std.specs.Prelude.{ℕ, zero, suc, ◌+◌, ◌*◌, ◌/◌, ℤ, pos, int_le, Bool, true, false, ◌&&◌, ◌==◌, nat_lt, if◌then◌else◌, List, [], ◌∷◌, length, map, take, drop, replicate, Option, Some, None}
 use Rattle.std.specs.List.{flat_map, list_all}
 use Rattle.std.specs.Int.{w32, byte_len, bit_at, cast_signed, from_le_bytes}
 use Rattle.std.specs.Str.{is_utf8, bytes_eq}
@@ -10,6 +10,7 @@ use Rattle.vx_types.specs.declared.dtypes.Nullability.{Nullability}
 use Rattle.vx_types.specs.declared.dtypes.Nullability.TheVariants.{NonNullable, Nullable}
 use Rattle.vx_types.specs.Data.{DataType, bool_type, int_type, utf8_type, struct_type, list_type, Datum, null, truth, number, text}
 use Rattle.vx_types.specs.Fits.{least_of, greatest_of, takes_null}
+use Rattle.vx_types.specs.Limits.{text_limit}
 use Rattle.vx_types.specs.Segment.{text_in, width_of, spelling}
 
 abbrev pub is_signed : IntKind → Bool
@@ -96,7 +97,7 @@ spelled_as (Some spelt) bytes = bytes_eq spelt bytes
 
 -- `Spells`, as a test
 abbrev pub is_spelled : DataType → ℕ → List ℕ → List Datum → Bool
-is_spelled t rows bytes values = (length values == rows) && list_all (fits_leaf t) values && list_all (λ v. nat_lt (length (text_in v)) (2 ^ 32)) values && spelled_as (spelling t values) bytes
+is_spelled t rows bytes values = (length values == rows) && list_all (fits_leaf t) values && list_all (λ v. nat_lt (length (text_in v)) text_limit) values && spelled_as (spelling t values) bytes
 
 abbrev pub if_spelled : DataType → ℕ → List ℕ → List Datum → Option (List Datum)
 if_spelled t rows bytes values = if is_spelled t rows bytes values then Some values else None

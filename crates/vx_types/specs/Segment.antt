@@ -1,6 +1,6 @@
 -- Which bytes spell which values of a leaf dtype. A segment is the validity bits of a nullable leaf,
 -- then the slots of all rows, and for texts the lengths of all rows before the texts.
-use Rattle.std.specs.Prelude.{◌≡◌, ℕ, ◌^◌, ◌<◌, ℤ, pos, Bool, true, false, List, [], ◌++◌, length, map, Option, Some, None}
+use Rattle.std.specs.Prelude.{◌≡◌, ℕ, ◌<◌, ℤ, pos, Bool, true, false, List, [], ◌++◌, length, map, Option, Some, None}
 use Rattle.std.specs.List.{flat_map, AllByRecursion}
 use Rattle.std.specs.Int.{Width, w8, w16, w32, w64, cast_unsigned, to_le_bytes}
 use Rattle.vx_types.specs.declared.dtypes.IntKind.{IntKind}
@@ -9,6 +9,7 @@ use Rattle.vx_types.specs.declared.dtypes.Nullability.{Nullability}
 use Rattle.vx_types.specs.declared.dtypes.Nullability.TheVariants.{NonNullable, Nullable}
 use Rattle.vx_types.specs.Data.{DataType, bool_type, int_type, utf8_type, struct_type, list_type, Datum, null, truth, number, text, structure}
 use Rattle.vx_types.specs.Fits.{Fits}
+use Rattle.vx_types.specs.Limits.{text_limit}
 pub use Rattle.vx_words.specs.Bytes.{byte_of, packed}
 
 -- What a row has in each part of the bytes. A null has false, 0 or the empty text, so `truth_in` also says
@@ -61,7 +62,7 @@ spelling (list_type t n) values = None
 
 -- the length of a text has four bytes
 abbrev pub IsShort : Datum → Type 0
-IsShort v = length (text_in v) < 2 ^ 32
+IsShort v = length (text_in v) < text_limit
 
 -- The bytes spell these values: so many as there are rows, each of them fits, and these are their bytes.
 pub record Spells (t : DataType) (rows : ℕ) (bytes : List ℕ) (values : List Datum) : Type 0 where
