@@ -7,7 +7,7 @@ ghost use Rattle.vx_claims.specs.Views.{above, both, drawn, fresh, less_a_part, 
 
 /// The greatest number below the count is claimed, behind those before it, and the count itself tells the end. A seat
 /// that takes in another has its own numbers first, and was told the end where either was. The first seat has all parts
-/// and gives one; a new one has one.
+/// and gives one; a new one has one. What stands above a list is one more than its greatest number, and 0 above none.
 pub fn seats_by_hand()
     ensures last_chunk { drawn (knows (0 ∷ []) false 0 65) 2 ≡ knows (0 ∷ 2 ∷ []) false 0 65 }
     ensures at_count { drawn (knows (0 ∷ 2 ∷ []) false 0 65) 3 ≡ knows (0 ∷ 2 ∷ []) true 1 65 }
@@ -19,8 +19,8 @@ pub fn seats_by_hand()
     ensures above_none { above [] ≡ 0 }
 {}
 
-/// How often a number stands in a list and over all lists; once below a bound, and never at it. The numbers below a bound
-/// weigh what 0 and each up to the bound do, without the bound; those of lists weigh as often as they stand there.
+/// How often a number stands in a list and over all lists; once below a bound, and never at it. The weights of all
+/// numbers below a bound, without the bound; in lists each counts as often as it stands there.
 pub fn lists_by_hand()
     ensures twice { times 2 (2 ∷ 1 ∷ 2 ∷ []) ≡ 2 }
     ensures over_lists { times_over 1 ((2 ∷ 1 ∷ []) ∷ [] ∷ (1 ∷ 1 ∷ []) ∷ []) ≡ 3 }

@@ -15,10 +15,10 @@ ghost use Rattle.vx_expr.specs.Terms.{conjunction};
 ghost use Rattle.vx_expr.specs.TermText.{term_text};
 ghost use Rattle.vx_expr.specs.Types.{type_of};
 
-/// A field of a nullable struct is nullable. Of two parts without a dtype the left one is told; a part is
-/// told by its place among all parts, each before its own. Division cuts towards zero; by zero it is a fault,
-/// which is apart from null: false and null are false, where false and a fault are a fault. Of several faulty
-/// rows the first is told. The report at a tenth of eleven is the second.
+/// A field of a nullable struct is nullable. Of two parts without a dtype the left one is told; a part is told by its
+/// place among all parts, each before its own. Division cuts towards zero; by zero it is a fault, which is apart from
+/// null: false and null are false, where false and a fault are a fault. A conjunction is not strict, and it is written
+/// in parentheses. Of several faulty rows the first is told. The report at a tenth of eleven is the second.
 pub fn expressions_by_hand()
     ensures typed { type_of pairs field_a ≡ Some (int_type I64 Nullable) }
     ensures left_refusal { refusal pairs two_unfit 0 ≡ NoField (codes "A") }

@@ -9,7 +9,7 @@ use Rattle.vx_layout.specs.Trees.{Tree, missing, leaf, chunks, fields, dict, lis
 use Rattle.vx_layout.specs.Kept.{KeptFields, all, is_kept}
 use Rattle.vx_rows.specs.Derivations.{Derivation, nothing, cell, list_row, given, packed, valid_where, looked_up, Derivations, no_more, also, each_row, Leaves, derived}
 use Rattle.vx_rows.specs.SegmentLeaves.{leaves_of}
-use Rattle.vx_rows.specs.Reads.{Way, directly, through, Read, Found, reads_of, Finds, FindsBy, IsIn}
+use Rattle.vx_rows.specs.Reads.{Way, directly, Read, Found, reads_of, Finds, IsIn}
 
 -- the fields of a struct
 abbrev pub struct_members : DataType → Members
@@ -72,18 +72,6 @@ value leaves t kept row = derived leaves (derivation t kept row)
 -- what a row reads, come to by a way
 abbrev pub reads : Tree → Way → KeptFields → ℕ → List Read
 reads t way kept row = reads_of way (derivation t kept row)
-
--- the row reads a cell of a leaf that names the segment
-abbrev pub Reaches : Tree → KeptFields → ℕ → ℕ → Type 0
-Reaches root kept row segment = Finds (IsIn segment) (reads root directly kept row)
-
--- the same by no step from a dictionary to its values
-abbrev pub ReachesDirectly : Tree → KeptFields → ℕ → ℕ → Type 0
-ReachesDirectly root kept row segment = FindsBy directly (IsIn segment) (reads root directly kept row)
-
--- the same where the first such step leaves the dictionary of that number
-abbrev pub ReachesThroughValues : Tree → KeptFields → ℕ → ℕ → ℕ → Type 0
-ReachesThroughValues root kept row dictionary segment = FindsBy (through dictionary) (IsIn segment) (reads root directly kept row)
 
 -- ---- all rows
 

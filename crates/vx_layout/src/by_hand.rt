@@ -4,18 +4,18 @@ ghost use Rattle.std.specs.Prelude.{◌≡◌, ◌∷◌, [], codes, Some, None,
 ghost use Rattle.vx_base.specs.declared.dtypes.Nullability.TheVariants.{NonNullable, Nullable};
 ghost use Rattle.vx_base.specs.Data.{bool_type, list_type, null, truth};
 ghost use Rattle.vx_expr.specs.Terms.{root, get_field, conjunction, row_number};
-ghost use Rattle.vx_rows.specs.Reads.{directly, through};
+ghost use Rattle.vx_rows.specs.Reads.{directly, through, Finds, FindsBy, IsIn};
 ghost use Rattle.vx_layout.specs.declared.errors.LayoutError.TheVariants.{BadLayout};
 ghost use Rattle.vx_layout.specs.Children.{times_child};
 ghost use Rattle.vx_layout.specs.Depths.{depth_of, dtype_depth};
 ghost use Rattle.vx_layout.specs.Faults.{RefusedBy};
 ghost use Rattle.vx_layout.specs.Trees.{chunks, head_at, subtree};
-ghost use Rattle.vx_layout.specs.Rows.{value, Reaches, ReachesDirectly, ReachesThroughValues};
+ghost use Rattle.vx_layout.specs.Rows.{reads, value};
 ghost use Rattle.vx_layout.specs.Kept.{all, only, kept_fields};
 ghost use Rattle.vx_layout.specs.WorkedRows.{i64, flat_node, chunked_node, two_chunks, two_leaves, two_truths, at, worth, segments_read, three_rows, null_structs, second_is_null, no_values, no_values_at, null_codes, code_zero, torn_value, torn_file, torn_at, one_range, one_segment, twice, signed_and_unsigned, with_list, list_field, list_file, field_a, seven_and_null, in_zones, zoned_file, zoned_at, one_two_three, nested};
 
-/// No nodes are no tree; a child twice, the depth of a chunk's chunk and of a list. Two
-/// chunks: their tree, and the value of a row of the second and of no row.
+/// No nodes are no tree; a child twice, the depth of a chunk's chunk and of a list. Two chunks: their tree, and the
+/// value of a row of the second and of no row.
 pub fn trees_by_hand()
     ensures no_nodes { RefusedBy [] (BadLayout 0 1) }
     ensures twice { times_child (chunked_node 0 (1 ∷ 1 ∷ []) ∷ flat_node i64 0 0 ∷ []) 1 ≡ 2 }
@@ -26,8 +26,9 @@ pub fn trees_by_hand()
     ensures behind { value two_truths (subtree two_chunks 0) all 3 ≡ None }
 {}
 
-/// A struct is null where its validity is false. A field that isn't kept is null and not read, and a list that is
-/// kept makes the row a fault.
+/// A struct is null where its validity is false. Two fields may lie in one range of the file, and in one segment too,
+/// where each has the values of its own dtype. A field that isn't kept is null and not read, and a list that is kept
+/// makes the row a fault.
 pub fn structs_by_hand()
     ensures validity { worth (5 ∷ []) (at 0 1 ∷ []) null_structs all three_rows ≡ second_is_null }
     ensures validity_is_read { segments_read null_structs all 0 ≡ (directly, 0) ∷ [] }
@@ -46,9 +47,9 @@ pub fn dictionaries_by_hand()
     ensures code_of_no_value { worth code_zero no_values_at no_values all three_rows ≡ None ∷ Some null ∷ Some null ∷ [] }
     ensures torn { worth torn_file torn_at torn_value all (0 ∷ 1 ∷ []) ≡ None ∷ None ∷ [] }
     ensures each_value_is_read { segments_read torn_value all 0 ≡ (directly, 2) ∷ (through 0, 0) ∷ (through 0, 1) ∷ [] }
-    ensures reached { Reaches (subtree nested 0) all 0 0 }
-    ensures reached_directly { ReachesDirectly (subtree nested 0) all 0 2 }
-    ensures reached_through_values { ReachesThroughValues (subtree nested 0) all 0 0 1 }
+    ensures reached { Finds (IsIn 0) (reads (subtree nested 0) directly all 0) }
+    ensures reached_directly { FindsBy directly (IsIn 2) (reads (subtree nested 0) directly all 0) }
+    ensures reached_through_values { FindsBy (through 0) (IsIn 1) (reads (subtree nested 0) directly all 0) }
     ensures outermost { segments_read nested all 0 ≡ (directly, 2) ∷ (through 0, 1) ∷ (through 0, 0) ∷ [] }
 {}
 

@@ -8,7 +8,15 @@ use Rattle.vx_words.specs.Rows.{Holds, NullsHold}
 use Rattle.vx_operators.specs.Operators.{negated, and_of, or_of, null_test_of, value_test_of}
 use Rattle.vx_operators.specs.Rows.{along}
 use Rattle.vx_words.specs.Masks.{either, without}
-use Rattle.vx_operators.specs.Logic.{and_valid, or_valid}
+
+-- ---- which rows have a value
+-- both have a value, or one has it and is false
+abbrev pub and_valid : List Bool → List Bool → List Bool → List Bool → List Bool
+and_valid va a vb b = either (both va vb) (either (without va a) (without vb b))
+
+-- both have a value, or one is true
+abbrev pub or_valid : List Bool → List Bool → List Bool → List Bool → List Bool
+or_valid va a vb b = either (both va vb) (either a b)
 
 -- ---- one row
 and_row : (v x w y : Bool) → Holds false v x → Holds false w y → and_of (cond v (truth x) null) (cond w (truth y) null) ≡ Some (cond ((v && w) || ((v && not x) || (w && not y))) (truth (x && y)) null)

@@ -1,5 +1,4 @@
 pub mod Kernels
-pub mod Logic
 pub mod Operators
 pub mod Rows
 pub mod Sides

@@ -7,13 +7,11 @@ ghost use Rattle.vx_types.specs.Data.{int_type, no_items, null, truth, number, t
 ghost use Rattle.vx_operators.specs.declared.operators.ArithOp.TheVariants.{Add, Sub, Mul, Div};
 ghost use Rattle.vx_operators.specs.declared.operators.CompareOp.TheVariants.{Ne, Lt, Le, Gt, Ge};
 ghost use Rattle.vx_operators.specs.Kernels.{exact_inside, of_two};
-ghost use Rattle.vx_operators.specs.Logic.{and_valid, or_valid};
 ghost use Rattle.vx_operators.specs.Operators.{and_of, or_of, negated, comparison_of, null_test_of, value_test_of, arithmetic_of, bound_test_of};
 ghost use Rattle.vx_operators.specs.Rows.{along, front};
 
 /// False and null are false, true or null is true, and where the value beside the null leaves it open the result is
-/// null; not null is null. A number is no truth value. Over masks, row by row: of a null beside true and of one
-/// beside false only the second has a conjunction, and only the first a disjunction. Null is null, and no value.
+/// null; not null is null. A number is no truth value. Null is null, and no value.
 pub fn truth_by_hand()
     ensures false_and_null { and_of (truth false) null ≡ Some (truth false) }
     ensures null_and_true { and_of null (truth true) ≡ Some null }
@@ -21,8 +19,6 @@ pub fn truth_by_hand()
     ensures false_or_null { or_of (truth false) null ≡ Some null }
     ensures not_null { negated null ≡ Some null }
     ensures of_number { and_of (truth false) (number (pos 0)) ≡ None }
-    ensures conjunctions { and_valid (false ∷ false ∷ true ∷ false ∷ []) (false ∷ false ∷ true ∷ false ∷ []) (true ∷ true ∷ true ∷ false ∷ []) (true ∷ false ∷ false ∷ false ∷ []) ≡ false ∷ true ∷ true ∷ false ∷ [] }
-    ensures disjunctions { or_valid (false ∷ false ∷ true ∷ false ∷ []) (false ∷ false ∷ true ∷ false ∷ []) (true ∷ true ∷ true ∷ false ∷ []) (true ∷ false ∷ false ∷ false ∷ []) ≡ true ∷ false ∷ true ∷ false ∷ [] }
     ensures is_null { null_test_of null ≡ Some (truth true) }
     ensures is_no_value { value_test_of null ≡ Some (truth false) }
 {}

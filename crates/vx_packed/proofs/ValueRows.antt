@@ -21,7 +21,7 @@ use Rattle.vx_words.specs.Rows.{NullsHold}
 use Rattle.vx_packed.proofs.DecodedNumbers.{nulls_are_zero}
 use Rattle.vx_packed.proofs.DecodedTexts.{nulls_are_empty}
 use Rattle.vx_packed.proofs.TruthBits.{nulls_are_false}
-use Rattle.vx_packed.specs.Fields.{items_behind, first_item, field_at, items_for, columns_for}
+use Rattle.vx_packed.specs.Fields.{items_behind, first_item, field_at, columns_for}
 use Rattle.vx_packed.specs.PartRows.{members_in, beside, rows_of, StructRows, struct_rows, HaveRows}
 use Rattle.vx_packed.specs.Slots.{bare, bare_members}
 
@@ -39,6 +39,11 @@ none_but_nulls t (null ∷ vs) h = ap (λ (ws : List Datum). null ∷ ws) (none_
 none_but_nulls t (_ ∷ vs) h = absurd h.0
 
 -- ---- structs, field by field
+-- the items of all members, the first of which is at the given place
+abbrev pub items_for : ℕ → Members → Datum → Items
+items_for place no_members v = no_items
+items_for place (member name t ms) v = item (field_at place v) (items_for (suc place) ms v)
+
 one_behind : (place : ℕ) (vs : Items) (v : Datum) (ws : Items) → items_behind place vs ≡ item v ws → items_behind (suc place) vs ≡ ws
 one_behind zero vs v ws e = ap (items_behind 1) e
 one_behind (suc place) no_items v ws e = absurd cc

@@ -19,11 +19,6 @@ abbrev pub field_at : ℕ → Datum → Datum
 field_at place (structure vs) = first_item (items_behind place vs)
 field_at place v = null
 
--- the items of all members, the first of which is at the given place
-abbrev pub items_for : ℕ → Members → Datum → Items
-items_for place no_members v = no_items
-items_for place (member name t ms) v = item (field_at place v) (items_for (suc place) ms v)
-
 -- a column for each member
 abbrev pub columns_for : ℕ → Members → List Datum → List ColumnData
 columns_for place no_members values = []

@@ -4,7 +4,7 @@ ghost use Rattle.std.specs.Prelude.{◌≡◌, ◌∷◌, [], pos, negsuc, true,
 ghost use Rattle.vx_types.specs.declared.dtypes.IntKind.TheVariants.{I8};
 ghost use Rattle.vx_types.specs.declared.dtypes.Nullability.TheVariants.{NonNullable, Nullable};
 ghost use Rattle.vx_types.specs.Data.{bool_type, int_type, utf8_type, struct_type, list_type, no_members, member, no_items, item, null, truth, number, text, structure};
-ghost use Rattle.vx_packed.specs.Fields.{field_at, items_for};
+ghost use Rattle.vx_packed.specs.Fields.{field_at};
 ghost use Rattle.vx_packed.specs.LookUps.{code_places};
 ghost use Rattle.vx_packed.specs.PartRows.{beside, rows_of};
 ghost use Rattle.vx_packed.specs.Places.{places_in};
@@ -21,8 +21,9 @@ pub fn places_by_hand()
     ensures taken_rows { taken null (number (pos 5) ∷ number (pos 6) ∷ []) (1 ∷ 2 ∷ 0 ∷ 1 ∷ []) ≡ number (pos 6) ∷ null ∷ number (pos 5) ∷ number (pos 6) ∷ [] }
 {}
 
-/// Three texts in one buffer, the second of which is empty: where they end, where each begins, and what each is.
-/// A text that is moved keeps its length.
+/// Three texts in one buffer, the second of which is empty: where they end, and what each is; and a text that begins
+/// behind the first byte. Of texts that end at 2, 5 and 9 the first begins at 0, and the last where the one before it
+/// ends. A text that is moved keeps its length.
 pub fn texts_by_hand()
     ensures ends { ends_after 0 (2 ∷ 0 ∷ 1 ∷ []) ≡ 2 ∷ 2 ∷ 3 ∷ [] }
     ensures texts { cut (97 ∷ 98 ∷ 99 ∷ []) 0 (2 ∷ 2 ∷ 3 ∷ []) ≡ (97 ∷ 98 ∷ []) ∷ [] ∷ (99 ∷ []) ∷ [] }
@@ -32,15 +33,15 @@ pub fn texts_by_hand()
     ensures moved_text { moved 10 4 9 ≡ 15 }
 {}
 
-/// What slots tell of a dtype, and the blank of each. The second item of a struct, and the item that it doesn't have;
-/// the fields of a null are nulls. Parts beside one another, row by row, in the order of the
-/// fields; no parts have rows too.
+/// What slots tell of a dtype, and the blank of each. The second item of a struct, the item that it doesn't have, and
+/// the field of a null. Parts beside one another, row by row, in the order of the fields; no parts have rows too.
+/// Values beside rows go as far as the shorter of them.
 pub fn structs_by_hand()
     ensures told { bare (struct_type (member (97 ∷ []) (int_type I8 Nullable) (member (98 ∷ []) (list_type (utf8_type Nullable) Nullable) no_members)) Nullable) ≡ struct_type (member [] (int_type I8 NonNullable) (member [] (list_type (bool_type NonNullable) NonNullable) no_members)) NonNullable }
     ensures blank { blank_in (struct_type (member [] (bool_type NonNullable) (member [] (utf8_type NonNullable) no_members)) NonNullable) ≡ structure (item null (item null no_items)) }
     ensures second { field_at 1 (structure (item (truth true) (item (number (negsuc 1)) no_items))) ≡ number (negsuc 1) }
     ensures no_such_item { field_at 2 (structure (item (truth true) (item (number (negsuc 1)) no_items))) ≡ null }
-    ensures of_null { items_for 0 (member [] (bool_type NonNullable) (member [] (utf8_type NonNullable) no_members)) null ≡ item null (item null no_items) }
+    ensures field_of_null { field_at 0 null ≡ null }
     ensures in_order { rows_of 2 (record { dtype = bool_type NonNullable; values = truth true ∷ null ∷ [] } ∷ record { dtype = utf8_type NonNullable; values = text [] ∷ text (97 ∷ []) ∷ [] } ∷ []) ≡ item (truth true) (item (text []) no_items) ∷ item null (item (text (97 ∷ [])) no_items) ∷ [] }
     ensures no_parts { rows_of 2 [] ≡ no_items ∷ no_items ∷ [] }
     ensures shorter { beside (truth true ∷ []) (no_items ∷ no_items ∷ []) ≡ item (truth true) no_items ∷ [] }

@@ -48,8 +48,8 @@ pub fn reads_by_hand()
 {}
 
 /// Values that are handed in stand for those of their dictionary, not of another, and not inside values that are read.
-/// A share's row is that of the values that are handed in, which is missing behind them. Other numbers are those of
-/// dictionaries, shares and lists, not those of rows and segments.
+/// A share's row is that of the values that are handed in, which is missing behind them. Renumbering changes the
+/// numbers of dictionaries, shares and lists alone.
 pub fn handed_values_by_hand()
     ensures dictionary { with_given (handed_for 9 (natural 4 ∷ null ∷ [])) (looked_up 9 1 (leaf_row 0 1) (also (leaf_row 1 0) no_more)) ≡ looked_up 9 1 (leaf_row 0 1) (also (given (natural 4)) (also (given null) no_more)) }
     ensures other { with_given (handed_for 8 (natural 4 ∷ [])) (looked_up 9 1 (leaf_row 0 1) (also (leaf_row 1 0) no_more)) ≡ looked_up 9 1 (leaf_row 0 1) (also (leaf_row 1 0) no_more) }

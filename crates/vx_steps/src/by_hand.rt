@@ -17,8 +17,8 @@ ghost use Rattle.vx_steps.specs.ReadTable.{bytes_of, held_bytes};
 ghost use Rattle.vx_steps.specs.Rows.{rows_of};
 ghost use Rattle.vx_steps.specs.Structs.{structs_at};
 
-/// Splits that select no row have a number, and aren't done. The rows of a split are those of the plan. The row behind
-/// all splits is that behind the furthest, selected or not; a split without rows has none behind it.
+/// Splits that select no row have a number, and are never done. The rows of a split are those of the plan. The row
+/// behind all splits is that behind the furthest, selected or not; a split without rows has none behind it.
 pub fn splits_by_hand()
     ensures numbers { numbers_from 4 (split_of 0 2 (true ∷ false ∷ []) ∷ split_of 2 4 (false ∷ false ∷ []) ∷ split_of 4 5 (true ∷ []) ∷ []) ≡ 4 ∷ 6 ∷ [] }
     ensures selected { rows_of 3 (true ∷ false ∷ true ∷ []) ≡ 3 ∷ 5 ∷ [] }

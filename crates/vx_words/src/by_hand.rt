@@ -14,8 +14,10 @@ pub fn bytes_by_hand()
     ensures two_words { words_for 65 ≡ 2 }
 {}
 
-/// What a mask chooses: the rows at its true places, in order. A choice among the chosen keeps or drops the true
-/// rows alone; ranks and places count from 0.
+/// What a mask chooses: the rows at its true places, in order. A choice among the chosen keeps or drops the true rows
+/// alone. Of two masks, the rows of both, of either, and of the first without the second. Ranks and places count from
+/// 0. A place that is listed is among those of the list. Rows are taken by their places, and past the last row the
+/// blank.
 pub fn masks_by_hand()
     ensures picked { chosen {X = ℕ} (true ∷ false ∷ true ∷ []) (10 ∷ 20 ∷ 30 ∷ []) ≡ 10 ∷ 30 ∷ [] }
     ensures among_picked { chosen_of_chosen (true ∷ false ∷ true ∷ true ∷ []) (false ∷ true ∷ true ∷ []) ≡ false ∷ false ∷ true ∷ true ∷ [] }
