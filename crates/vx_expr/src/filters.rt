@@ -318,12 +318,12 @@ impl FilterExpr {
         None
     }
 
-    /// Takes in which share of the rows a conjunct selected, in permille. Once each conjunct has a report,
-    /// the ordering is sorted by the report at a tenth of each conjunct's ascending reports; conjuncts of
-    /// equal reports keep their order. A conjunct that has `u64::MAX` reports takes no more. A report of at
-    /// most 1000 is counted, which takes no memory, and the ordering is sorted again only where that report
-    /// at a tenth changed or now each conjunct has one; where it can't be sorted for want of memory, the
-    /// report is taken back.
+    /// Takes in which share of the rows a conjunct selected, in permille. Once each conjunct has a report, the ordering
+    /// is sorted by the report at a tenth of each conjunct's ascending reports; conjuncts of equal reports keep their
+    /// order. A conjunct that has `u64::MAX` reports takes no more. A report of at most 1000 is counted, which takes no
+    /// memory; one above is kept by itself, since a report is a number of 64 bits, and the call takes them all. The
+    /// ordering is sorted again only where the conjunct's report at a tenth changed or now each conjunct has one; where
+    /// it can't be sorted for want of memory, the report is taken back.
     pub fn report_selectivity(&mut self, conjunct: usize, permille: u64) -> Result<(), AllocError>
         requires { conjunct < length self.old.conjuncts }
         ensures taken { OnOk result (TakesReport self.old conjunct permille self.new) }

@@ -146,8 +146,9 @@ impl<'a> PlanTreeDisplay<'a> {
         })
     }
 
-    /// The text: the plan stands under the name `root`, and each child under its own, indented by two spaces more
-    /// than its plan. It calls itself once for each level of the plan.
+    /// The text: the plan stands under the name `root`, and each child under its own, indented by two spaces more than
+    /// its plan. It calls itself once for each level of the plan. Lowered plans are at most twice as deep as a tree may
+    /// be; a caller that builds deeper ones by the constructors needs as much stack.
     pub fn text(&self) -> Result<Vec<u8>, AllocError>
         ensures { IfOk result (λ text. text.items ≡ plan_text (all_headers self.now.headers.has_summary (map (λ extractor. (PlanTreeExtractor-box extractor).header extractor.value) self.now.headers.extractors.items)) self.now.table.now (number_of self.now.plan)) }
     {

@@ -185,15 +185,16 @@ impl PlanTable {
         self.node(plan.0).row_offsets.as_slice()
     }
 
-    /// Takes away the plans behind the first so many, as a caller does that could not add all it meant to. It takes
-    /// no memory.
+    /// Takes away the plans behind the first so many, as a caller does that runs out of memory between its plans, so
+    /// that the table is as it was after every refusal. It takes no memory.
     pub fn truncate(&mut self, count: u32)
         ensures left { self.new ≡ take count self.old }
     {
         self.nodes.truncate(count as usize);
     }
 
-    /// Adds a plan that is made as its kind asks, where it keeps the rules.
+    /// Adds a plan that is made as its kind asks, where it keeps the rules. It asks only for the room that it needs, as
+    /// each plan's constructor does: fewer plans than a `u32` can number.
     pub(crate) fn add(&mut self, alloc: Global, node: PlanNode) -> Result<PlanRef, PlanError>
         requires room { length self.old < most_plans }
         requires known { AreIn self.old node.children }

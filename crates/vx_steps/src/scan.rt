@@ -93,7 +93,8 @@ impl<'a> Scan<'a> {
         self
     }
 
-    /// The scan, with the offset added to the numbers of rows. It is called before the first step.
+    /// The scan, with the offset added to the numbers of rows. It is called before the first step, as all calls that
+    /// hand in: values that were made under another offset would be wrong.
     pub fn with_row_offset(mut self, offset: u64) -> Scan<'a>
         requires unstarted { IsUnstarted self.progress }
         requires fits { FitsOffset self.nodes offset }

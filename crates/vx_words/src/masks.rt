@@ -266,7 +266,9 @@ impl Mask {
         Ok(Mask { words, len })
     }
 
-    /// The chosen rows that the other mask chooses of them: its rows are the chosen rows of this mask.
+    /// The chosen rows that the other mask chooses of them: its rows are the chosen rows of this mask. Places are
+    /// looked up only where at most one row of a word is chosen, and elsewhere the set bits are walked: looking up one
+    /// place costs as much as walking to it.
     pub fn intersect_by_rank(&self, alloc: Global, other: &Mask) -> Result<Mask, AllocError>
         requires { length other.now ≡ true_count self.now }
         ensures { IfOk result (λ mask. mask ≡ chosen_of_chosen self.now other.now) }
