@@ -6,7 +6,6 @@ use Rattle.vx_base.specs.Columns.{ColumnData}
 use Rattle.vx_base.specs.Data.{DataType, bool_type, int_type, utf8_type, struct_type, Members, no_members, member}
 use Rattle.vx_base.specs.declared.dtypes.IntKind.TheVariants.{I64}
 use Rattle.vx_base.specs.declared.dtypes.Nullability.TheVariants.{NonNullable, Nullable}
-use Rattle.vx_layout.specs.declared.nodes.LayoutKind.{LayoutKind}
 use Rattle.vx_layout.specs.declared.nodes.LayoutKind.TheVariants as kinds
 use Rattle.vx_layout.specs.Nodes.{Node, parent_node}
 use Rattle.scan_demo.specs.declared.stored_columns.StoredColumn.{StoredColumn}

@@ -7,7 +7,6 @@ use Rattle.vx_base.specs.Data.{DataType, bool_type, int_type, utf8_type, struct_
 use Rattle.vx_expr.specs.declared.statistics.Statistic.TheVariants.{Min, Max}
 use Rattle.vx_rows.specs.Derivations.{Leaves}
 use Rattle.vx_rows.specs.Reads.{Way, directly, Found, a_cell, a_code, a_list_row, Read}
-use Rattle.vx_layout.specs.declared.nodes.LayoutKind.{LayoutKind}
 use Rattle.vx_layout.specs.declared.nodes.LayoutKind.TheVariants as kinds
 use Rattle.vx_layout.specs.Nodes.{Node, parent_node}
 use Rattle.vx_layout.specs.Trees.{leaf, Forest, no_trees, tree, head_at, subtree}

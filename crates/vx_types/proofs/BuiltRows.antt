@@ -112,7 +112,6 @@ pub packed_fit : (ms : Members) (parts : List ColumnData) (validity : Option (Li
     → AllByRecursion (Fits (struct_type ms (nullability_with validity))) (map (packed_at validity parts) (range_with_len 0 rows))
 packed_fit ms parts validity rows h f = all_rows_fit ms parts validity 0 rows rows (omega arith) h f
 
--- ---- one more
-
+-- ---- a part of a row
 abbrev pub in_row : ℕ → ColumnData → Datum
 in_row row part = get_or part.values row null
