@@ -48,7 +48,9 @@ fn joined_rows(alloc: Global, dtype: &DType, parts: Vec<Column>) -> Result<Part,
 {
     let mut joined = Part::with_room(alloc, dtype, rows_in(&parts))?;
     for part in parts {
-        joined = part.append_to(alloc, joined)?;
+        let longer = part.append_to(alloc, joined);
+        drop(part);
+        joined = longer?;
     }
     Ok(joined)
 }
@@ -152,8 +154,8 @@ impl Column {
         let _codes_fit = codes.len();
         let found = values.rows();
         let places = codes.places(alloc, found.len())?;
-        let rows = found.take(alloc, places.as_slice())?;
         let dtype = looked_up_dtype(alloc, codes.dtype(), values.dtype())?;
+        let rows = found.take(alloc, places.as_slice())?;
         Ok(Column::of_part(dtype, rows))
     }
 

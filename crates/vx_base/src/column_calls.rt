@@ -38,10 +38,10 @@ impl Column {
         ensures dtype { IfOk result (λ column. column.dtype ≡ self.now.dtype) }
         ensures values { IfOk result (λ column. column.values ≡ slice_range self.now.values rows.start rows.end) }
     {
+        let dtype = self.dtype().copy(alloc)?;
         let made = self
             .rows()
             .slice(alloc, rows.start as usize..rows.end as usize)?;
-        let dtype = self.dtype().copy(alloc)?;
         Ok(Column::of_rows(dtype, made))
     }
 
@@ -51,8 +51,8 @@ impl Column {
         ensures dtype { IfOk result (λ column. column.dtype ≡ self.now.dtype) }
         ensures values { IfOk result (λ column. column.values ≡ chosen mask.now self.now.values) }
     {
-        let made = self.rows().filter(alloc, mask)?;
         let dtype = self.dtype().copy(alloc)?;
+        let made = self.rows().filter(alloc, mask)?;
         Ok(Column::of_rows(dtype, made))
     }
 
@@ -70,8 +70,8 @@ impl Column {
         ensures values { IfOk result (λ column. column.values ≡ chosen mask.now (slice_range self.now.values rows.start rows.end)) }
     {
         let range = rows.start as usize..rows.end as usize;
-        let made = self.rows().filter_range(alloc, range, mask)?;
         let dtype = self.dtype().copy(alloc)?;
+        let made = self.rows().filter_range(alloc, range, mask)?;
         Ok(Column::of_rows(dtype, made))
     }
 
