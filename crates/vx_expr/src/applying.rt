@@ -80,8 +80,13 @@ fn column_of(alloc: Global, dtype: &DType, made: Evaluated<'_>) -> Result<Column
     ensures values { IfOk result (λ column. column.values ≡ evaluated_rows made.entry) }
 {
     let part = part_of(alloc, dtype, made)?;
-    let dtype = dtype.copy(alloc)?;
-    Ok(Column::of_part(dtype, part))
+    match dtype.copy(alloc) {
+        Ok(dtype) => Ok(Column::of_part(dtype, part)),
+        Err(error) => {
+            drop(part);
+            Err(error)
+        }
+    }
 }
 
 /// The rows of a column, spread.
@@ -120,6 +125,7 @@ fn applied(
     let made = expression.expr().evaluated(alloc, rows, &mut finds)?;
     let found = made.len();
     if found < count {
+        drop(made);
         return Err(ApplyError::EvalFault(found as u64));
     }
     let column = column_of(alloc, expression.dtype(), made)?;

@@ -231,8 +231,8 @@ impl BoundExpression {
         ensures { IfOk result (λ bound. bound ≡ record self.now { root = data_type dtype.now }) }
     {
         let (typed, found) = found_over(alloc, &self.expr, dtype)?;
-        let expr = self.expr.copy(alloc)?;
         let root = dtype.copy(alloc)?;
+        let expr = self.expr.copy(alloc)?;
         Ok(BoundExpression {
             expr,
             root,
@@ -266,8 +266,8 @@ impl BoundExpression {
     pub fn over_row_idx(&self, alloc: Global) -> Result<BoundExpression, AllocError>
         ensures { IfOk result (λ bound. bound ≡ over_row_number self.now) }
     {
-        let expr = self.expr.rewritten(alloc, Leaves::OverRowIdx)?;
         let root = with_row_idx(alloc, &self.root)?;
+        let expr = self.expr.rewritten(alloc, Leaves::OverRowIdx)?;
         let (dtype, found) = found_over(alloc, &expr, &root)?;
         Ok(BoundExpression {
             expr,
@@ -290,10 +290,10 @@ impl BoundExpression {
     pub fn copy(&self, alloc: Global) -> Result<BoundExpression, AllocError>
         ensures { IfOk result (λ copied. copied ≡ self.now) }
     {
-        let expr = self.expr.copy(alloc)?;
-        let root = self.root.copy(alloc)?;
-        let dtype = self.dtype.copy(alloc)?;
         let found = self.found.clone()?;
+        let dtype = self.dtype.copy(alloc)?;
+        let root = self.root.copy(alloc)?;
+        let expr = self.expr.copy(alloc)?;
         Ok(BoundExpression {
             expr,
             root,

@@ -9,6 +9,16 @@ use std::alloc::{AllocError, Global};
 use vx_base::Text;
 use vx_operators::{ArithOp, CompareOp};
 
+/// Two parts, each in memory of its own.
+fn operands(alloc: Global, left: Expr, right: Expr) -> Result<(Operand, Operand), AllocError>
+    ensures left { IfOk result (λ parts. parts.0 ≡ term left) }
+    ensures right { IfOk result (λ parts. parts.1 ≡ term right) }
+{
+    let left = Operand::of(alloc, left);
+    let right = Operand::of(alloc, right)?;
+    Ok((left?, right))
+}
+
 impl Expr {
     /// The field of that name of a struct.
     pub fn get_field(alloc: Global, name: Text, operand: Expr) -> Result<Expr, AllocError>
@@ -35,14 +45,16 @@ impl Expr {
     pub fn and(alloc: Global, left: Expr, right: Expr) -> Result<Expr, AllocError>
         ensures { IfOk result (λ expr. term expr ≡ conjunction (term left) (term right)) }
     {
-        Ok(Expr::And(Operand::of(alloc, left)?, Operand::of(alloc, right)?))
+        let (left, right) = operands(alloc, left, right)?;
+        Ok(Expr::And(left, right))
     }
 
     /// Whether one is true.
     pub fn or(alloc: Global, left: Expr, right: Expr) -> Result<Expr, AllocError>
         ensures { IfOk result (λ expr. term expr ≡ disjunction (term left) (term right)) }
     {
-        Ok(Expr::Or(Operand::of(alloc, left)?, Operand::of(alloc, right)?))
+        let (left, right) = operands(alloc, left, right)?;
+        Ok(Expr::Or(left, right))
     }
 
     /// How two values compare.
@@ -54,7 +66,8 @@ impl Expr {
     ) -> Result<Expr, AllocError>
         ensures { IfOk result (λ expr. term expr ≡ comparison op (term left) (term right)) }
     {
-        Ok(Expr::Compare(op, Operand::of(alloc, left)?, Operand::of(alloc, right)?))
+        let (left, right) = operands(alloc, left, right)?;
+        Ok(Expr::Compare(op, left, right))
     }
 
     /// Whether there is no value.
@@ -75,7 +88,8 @@ impl Expr {
     pub fn arith(alloc: Global, op: ArithOp, left: Expr, right: Expr) -> Result<Expr, AllocError>
         ensures { IfOk result (λ expr. term expr ≡ arithmetic op (term left) (term right)) }
     {
-        Ok(Expr::Arith(op, Operand::of(alloc, left)?, Operand::of(alloc, right)?))
+        let (left, right) = operands(alloc, left, right)?;
+        Ok(Expr::Arith(op, left, right))
     }
 
     /// Whether a number is at most the bound.

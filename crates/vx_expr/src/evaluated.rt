@@ -118,8 +118,9 @@ pub(crate) fn worth_cells<'a>(alloc: Global, worth: Worth<'a>) -> Result<Vec<Cel
             Ok(cells)
         }
         Worth::Made(part) => {
-            let cells = own_cells(alloc, &part)?;
-            Ok(cells)
+            let cells = own_cells(alloc, &part);
+            drop(part);
+            cells
         }
         Worth::Same(single, rows) => {
             let cells = same_cells(alloc, &single, rows)?;
@@ -235,12 +236,19 @@ fn one_of_worth<'a>(
 ) -> Result<Evaluated<'a>, AllocError>
     ensures { IfOk result (λ made. evaluated_rows made ≡ front (map (one_step step) (worth_rows worth.entry))) }
 {
-    match whole_one(alloc, step, &worth)? {
-        Some(part) => Ok(Evaluated::Packed(Worth::Made(part))),
-        None => {
+    match whole_one(alloc, step, &worth) {
+        Ok(Some(part)) => {
+            drop(worth);
+            Ok(Evaluated::Packed(Worth::Made(part)))
+        }
+        Ok(None) => {
             let cells = worth_cells(alloc, worth)?;
             let made = one_each(alloc, step, cells)?;
             Ok(Evaluated::Cells(made))
+        }
+        Err(error) => {
+            drop(worth);
+            Err(error)
         }
     }
 }
@@ -312,13 +320,23 @@ fn two_of_worths<'a>(
     requires { length (worth_rows right) ≡ length (worth_rows left) }
     ensures { IfOk result (λ made. evaluated_rows made ≡ front (along (two_step step) (worth_rows left.entry) (worth_rows right.entry))) }
 {
-    match whole_two(alloc, step, &left, &right)? {
-        Some(part) => Ok(Evaluated::Packed(Worth::Made(part))),
-        None => {
-            let lefts = worth_cells(alloc, left)?;
+    match whole_two(alloc, step, &left, &right) {
+        Ok(Some(part)) => {
+            drop(left);
+            drop(right);
+            Ok(Evaluated::Packed(Worth::Made(part)))
+        }
+        Ok(None) => {
+            let lefts = worth_cells(alloc, left);
             let rights = worth_cells(alloc, right)?;
+            let lefts = lefts?;
             let made = two_each(alloc, step, &lefts, &rights)?;
             Ok(Evaluated::Cells(made))
+        }
+        Err(error) => {
+            drop(left);
+            drop(right);
+            Err(error)
         }
     }
 }
@@ -339,8 +357,9 @@ pub(crate) fn paired<'a>(
             two_of_worths(alloc, step, left, right)
         }
         (left, right) => {
-            let lefts = left.into_cells(alloc)?;
+            let lefts = left.into_cells(alloc);
             let rights = right.into_cells(alloc)?;
+            let lefts = lefts?;
             let made = two_each(alloc, step, &lefts, &rights)?;
             Ok(Evaluated::Cells(made))
         }

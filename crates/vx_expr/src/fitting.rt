@@ -67,8 +67,9 @@ fn fitting_part(alloc: Global, dtype: &DType, part: Part) -> Result<Part, AllocE
     if is_leaf_of(dtype, &part) {
         Ok(part)
     } else {
-        let cells = own_cells(alloc, &part)?;
-        let fitting = cell_part(alloc, dtype, cells)?;
+        let cells = own_cells(alloc, &part);
+        drop(part);
+        let fitting = cell_part(alloc, dtype, cells?)?;
         Ok(fitting)
     }
 }
@@ -97,8 +98,8 @@ fn fitting_single(
         let none = Part::with_room(alloc, dtype, 0)?;
         return Ok(none);
     }
-    let one = cell_part(alloc, dtype, vec![in alloc; Cell::single(single)]?)?;
     let places = vec![in alloc; 0; rows]?;
+    let one = cell_part(alloc, dtype, vec![in alloc; Cell::single(single)]?)?;
     let part = one.take(alloc, places.as_slice())?;
     Ok(part)
 }
