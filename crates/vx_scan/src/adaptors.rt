@@ -9,6 +9,7 @@ ghost use Rattle.vx_scan.specs.Gathered.{IsNoRead, StepOf};
 use crate::adaptor_errors::AdaptorError;
 use crate::gathering::gather;
 use std::alloc::Global;
+use std::mem::replace;
 use vx_base::{Column, SegmentLocation};
 use vx_io::{IoRequest, IoRequestId};
 use vx_steps::{ReadId, Scan, Turn};
@@ -57,7 +58,7 @@ fn step_of(
     requires { IsNoRead turn }
     ensures { StepOf batch turn result held.new state.new }
 {
-    *held = None;
+    drop(held.take());
     *state = State::NeedsCompute;
     let is_empty = batch.is_empty();
     match turn {
@@ -65,7 +66,7 @@ fn step_of(
             if is_empty {
                 return AdaptorStep::Piece(column);
             }
-            *held = Some((split, column));
+            drop(replace(held, Some((split, column))));
             AdaptorStep::NeedsIo(batch)
         }
         Turn::Waiting => {
@@ -145,7 +146,8 @@ impl<'a> ScanAdaptor<'a> {
     pub(crate) fn into_scan(self) -> Scan<'a>
         ensures { result ≡ (adaptor_data self.entry).scan }
     {
-        let ScanAdaptor { scan, .. } = self;
+        let ScanAdaptor { scan, held, .. } = self;
+        drop(held);
         scan
     }
 

@@ -25,6 +25,7 @@ use crate::prepares::{Prepared, prepare_nothing, prepare_rows};
 use crate::settings::Settings;
 use std::alloc::{AllocError, Global};
 use std::marker::Model;
+use std::mem::replace;
 use std::ops::Range;
 use std::sync::Wait;
 use std::thread::Threads;
@@ -80,7 +81,7 @@ impl ScanBuilder {
     pub fn with_projection(mut self, projection: BoundExpression) -> ScanBuilder
         ensures { result ≡ record self { projection = projection } }
     {
-        self.settings.projection = projection;
+        drop(replace(&mut self.settings.projection, projection));
         self
     }
 
@@ -218,8 +219,14 @@ fn scan_file<R: Threads + Wait + Sync, S: SegmentSource + Send>(
 {
     let rows = match begin(&file, settings) {
         Ok(Some(rows)) => rows,
-        Ok(None) => return Ok(Vec::new(alloc)),
-        Err(error) => return Err(error),
+        Ok(None) => {
+            drop(file);
+            return Ok(Vec::new(alloc));
+        }
+        Err(error) => {
+            drop(file);
+            return Err(error);
+        }
     };
     let Prepared { plans, chunks, .. } = prepare_rows(alloc, file, settings, rows)?;
     let cache = ValueCache::new(alloc);

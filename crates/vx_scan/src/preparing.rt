@@ -110,8 +110,14 @@ fn plan_projection(
     }
     let bound = projection.with_root(alloc, table.dtype(root))?;
     match plan_row_idx_expression(alloc, table, &bound, root) {
-        Ok(plan) => Ok(plan),
-        Err(PlanError::Memory) => Err(AllocError),
+        Ok(plan) => {
+            drop(bound);
+            Ok(plan)
+        }
+        Err(PlanError::Memory) => {
+            drop(bound);
+            Err(AllocError)
+        }
         Err(PlanError::BadPlan { .. }) => unreachable!(),
     }
 }
