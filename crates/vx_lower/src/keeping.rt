@@ -103,7 +103,9 @@ impl<'a> Keeping<'a> {
         let flags = kept_flags(alloc, fields, names)?;
         let items = kept_items(alloc, fields, &flags)?;
         let expr = Expr::pack(items);
-        let pack = bound(alloc, &expr, dtype, names)?;
+        let pack = bound(alloc, &expr, dtype, names);
+        drop(expr);
+        let pack = pack?;
         let kept_type = pack.dtype().copy(alloc)?;
         Ok(Keeping {
             names,

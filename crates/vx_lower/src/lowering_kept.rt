@@ -53,8 +53,8 @@ fn keep_looked_up(
     requires keeping { IsKeeping (tree_head tree.now node).dtype keeping.now }
     ensures { IfOk result (λ plan. AddsPlan table.old table.new (lowered (subtree tree.now node) (kept_of keeping.now)) (number_of plan)) }
 {
-    let pack = keeping.pack.copy(alloc)?;
     let whole = lower_look_up(alloc, tree, node, codes, values, table)?;
+    let pack = keeping.pack.copy(alloc)?;
     add_eval(alloc, pack, whole, table)
 }
 

@@ -35,7 +35,9 @@ fn lower_root(
         Kept::All => lower_whole(alloc, tree, 0, None, table),
         Kept::Fields(names) => {
             let keeping = Keeping::of(alloc, tree.dtype(), names)?;
-            lower_kept(alloc, tree, 0, &keeping, table)
+            let plan = lower_kept(alloc, tree, 0, &keeping, table);
+            drop(keeping);
+            plan
         }
     }
 }

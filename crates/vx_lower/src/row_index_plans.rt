@@ -178,8 +178,8 @@ fn over_row_numbers(
     ensures kept { OnErr result (HoldsAll table.old table.new) }
 {
     let row_count = table.row_count(child);
-    let over_numbers = expression.row_idx_as_root(alloc)?;
     let numbers = add_row_numbers(alloc, table, row_count)?;
+    let over_numbers = expression.row_idx_as_root(alloc)?;
     add_eval(alloc, table, over_numbers, numbers)
 }
 
@@ -199,8 +199,8 @@ fn over_empty_structs(
     ensures kept { OnErr result (HoldsAll table.old table.new) }
 {
     let row_count = table.row_count(child);
-    let copied = expression.copy(alloc)?;
     let structs = add_empty_structs(alloc, table, row_count)?;
+    let copied = expression.copy(alloc)?;
     add_eval(alloc, table, copied, structs)
 }
 
@@ -221,9 +221,9 @@ fn over_numbered_rows(
     ensures kept { OnErr result (HoldsAll table.old table.new) }
 {
     let row_count = table.row_count(child);
-    let over_both = expression.over_row_idx(alloc)?;
     let numbers = add_row_numbers(alloc, table, row_count)?;
     let rows = add_numbered_rows(alloc, table, numbers, child)?;
+    let over_both = expression.over_row_idx(alloc)?;
     add_eval(alloc, table, over_both, rows)
 }
 

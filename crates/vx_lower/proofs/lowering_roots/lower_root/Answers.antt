@@ -29,16 +29,16 @@ of-requires-clause-may c =
 pub of-requires-clause-distinct : goal.of-requires-clause-distinct
 of-requires-clause-distinct c = root_names c.args.tree.now c.requires.can.tree (data_type c.dtype.result.now) c.dtype.ensures
 
-pub lower_kept-requires-clause-can : goal.lower_kept-requires-clause-can
-lower_kept-requires-clause-can c =
+pub lower_kept-plan-requires-clause-can : goal.lower_kept-plan-requires-clause-can
+lower_kept-plan-requires-clause-can c =
     let e : kept_data c.args.kept.now ≡ kept_of c.in_ok-keeping-in-Fields.keeping = ap kept_data c.in-Fields.is ∙ ap only (sym c.deref.ensures.value) ∙ sym c.in_ok-keeping-in-Fields.ensures.names in
     subst (λ (kept : KeptFields). CanLower c.args.tree.now 0 kept c.args.table.now) e c.requires.can
 
-pub lower_kept-requires-clause-keeping : goal.lower_kept-requires-clause-keeping
-lower_kept-requires-clause-keeping c =
+pub lower_kept-plan-requires-clause-keeping : goal.lower_kept-plan-requires-clause-keeping
+lower_kept-plan-requires-clause-keeping c =
     subst (λ (t : DataType). IsKeeping t c.in_ok-keeping-in-Fields.keeping) (root_type c.args.tree.now c.requires.can.tree (data_type c.dtype.result.now) c.dtype.ensures) c.in_ok-keeping-in-Fields.ensures.keeping
 
 pub returns-in_ok-keeping-in-Fields : goal.returns-in_ok-keeping-in-Fields
 returns-in_ok-keeping-in-Fields c =
     let e : kept_data c.args.kept.now ≡ kept_of c.in_ok-keeping-in-Fields.keeping = ap kept_data c.in-Fields.is ∙ ap only (sym c.deref.ensures.value) ∙ sym c.in_ok-keeping-in-Fields.ensures.names in
-    subst (λ (kept : KeptFields). IfOk c.lower_kept.result (λ plan. AddsPlan c.args.table.now c.lower_kept.new.table (lowered (subtree c.args.tree.now 0) kept) (number_of plan))) (sym e) c.lower_kept.ensures
+    subst (λ (kept : KeptFields). IfOk c.lower_kept-plan.result (λ plan. AddsPlan c.args.table.now c.lower_kept-plan.new.table (lowered (subtree c.args.tree.now 0) kept) (number_of plan))) (sym e) c.lower_kept-plan.ensures
