@@ -291,11 +291,21 @@ fn take_of(
         Err(error) => return Err(error),
     };
     if let Some(values) = from.whole(values) {
-        return looked_up(alloc, plan, &codes, values, start, mask);
+        let made = looked_up(alloc, plan, &codes, values, start, mask);
+        drop(codes);
+        return made;
     }
     match whole_of_plan(alloc, from, values) {
-        Ok(values) => looked_up(alloc, plan, &codes, &values, start, mask),
-        Err(error) => Err(error),
+        Ok(values) => {
+            let made = looked_up(alloc, plan, &codes, &values, start, mask);
+            drop(values);
+            drop(codes);
+            made
+        }
+        Err(error) => {
+            drop(codes);
+            Err(error)
+        }
     }
 }
 
@@ -324,7 +334,12 @@ fn share_of(
         return Ok(picked(alloc, column, start, mask)?);
     }
     match whole_of_plan(alloc, from, child) {
-        Ok(column) => Ok(picked(alloc, &column, start, mask)?),
+        Ok(column) => {
+            let rows = picked(alloc, &column, start, mask);
+            drop(column);
+            let rows = rows?;
+            Ok(rows)
+        }
         Err(error) => Err(error),
     }
 }
@@ -356,7 +371,11 @@ fn eval_of(
         Err(error) => return Err(error),
     };
     match from.table.as_eval(PlanRef(plan)) {
-        Some(eval) => worked_out(alloc, eval.expression(from.table), &root, start, mask),
+        Some(eval) => {
+            let made = worked_out(alloc, eval.expression(from.table), &root, start, mask);
+            drop(root);
+            made
+        }
         None => unreachable!(),
     }
 }

@@ -127,7 +127,7 @@ impl KeptColumns {
             return Ok(());
         }
         if self.places.put(node, place).is_err() {
-            self.columns.pop();
+            drop(self.columns.pop());
             return Err(AllocError);
         }
         self.indexed = place + 1;

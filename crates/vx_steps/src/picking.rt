@@ -172,7 +172,9 @@ pub(crate) fn worked_out(
     ensures fault { IfErr result (IsEvalFault root.now.dtype expression.now.term root.now.values start mask.now) }
 {
     let numbers = zeros(alloc, root.len())?;
-    match apply(alloc, expression, root, &numbers) {
+    let made = apply(alloc, expression, root, &numbers);
+    drop(numbers);
+    match made {
         Ok(column) => Ok(column),
         Err(ApplyError::EvalFault(place)) => {
             Err(StepError::EvalFault(selected_row(start, mask, place)))
@@ -208,7 +210,12 @@ fn last_truths(alloc: Global, parts: &mut Vec<Column>) -> Result<Option<Mask>, A
     ensures left { IfOk result (λ _. parts.new.items ≡ front_parts parts.old.items) }
 {
     match parts.pop() {
-        Some(validity) => Ok(Some(validity.truth(alloc)?)),
+        Some(validity) => {
+            let truth = validity.truth(alloc);
+            drop(validity);
+            let truth = truth?;
+            Ok(Some(truth))
+        }
         None => Ok(None),
     }
 }

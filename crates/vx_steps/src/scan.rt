@@ -205,11 +205,24 @@ impl<'a> Scan<'a> {
             alloc,
             table,
             job,
+            segments,
             progress,
             ..
         } = self;
-        let Progress { leaves, .. } = progress;
-        leaves_behind(alloc, table, &job, leaves)
+        drop(segments);
+        let Progress {
+            active,
+            reads,
+            leaves,
+            wholes,
+            ..
+        } = progress;
+        drop(active);
+        drop(reads);
+        drop(wholes);
+        let leaves = leaves_behind(alloc, table, &job, leaves);
+        drop(job);
+        leaves
     }
 
     /// What the scan leaves to the next one: the leaves that `into_leaves` gives, and the whole values that `used` and
@@ -229,13 +242,25 @@ impl<'a> Scan<'a> {
             alloc,
             table,
             job,
+            segments,
             progress,
             ..
         } = self;
-        let Progress { leaves, wholes, .. } = progress;
+        drop(segments);
+        let Progress {
+            active,
+            reads,
+            leaves,
+            wholes,
+            ..
+        } = progress;
+        drop(active);
+        drop(reads);
         let Wholes { made, used } = wholes;
+        let leaves = leaves_behind(alloc, table, &job, leaves);
+        drop(job);
         ScanKept {
-            leaves: leaves_behind(alloc, table, &job, leaves),
+            leaves,
             used: used.into_columns(),
             made: made.into_columns(),
         }

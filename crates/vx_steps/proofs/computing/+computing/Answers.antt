@@ -187,20 +187,20 @@ eval_of-returns-in-Err-clause-computed g c =
     let over = over_plan c.args.from.table.now c.requires.good c.args.plan c.args.child c.requires.known c.requires.eval in
     eval_failed (held c.args.from) c.args.plan c.args.child c.args.start over.expression c.args.mask.now c.in-Err.error over.plan c.in-Err.ensures.computed
 
-pub eval_of-worked_out-requires-clause-bound : goal.eval_of-worked_out-requires-clause-bound
-eval_of-worked_out-requires-clause-bound g c =
+pub eval_of-worked_out-made-requires-clause-bound : goal.eval_of-worked_out-made-requires-clause-bound
+eval_of-worked_out-made-requires-clause-bound g c =
     let over = eval_at c.args.from.table.now c.requires.good c.args.plan c.args.child c.in-Some.eval.plan c.expression.result.now c.requires.known c.requires.eval c.in-Some.ensures.same c.expression.ensures in
     λ uses. over.bound uses ∙ sym c.in-Ok.ensures.dtype
 
 pub eval_of-returns-clause-dtype : goal.eval_of-returns-clause-dtype
 eval_of-returns-clause-dtype g c =
     let over = eval_at c.args.from.table.now c.requires.good c.args.plan c.args.child c.in-Some.eval.plan c.expression.result.now c.requires.known c.requires.eval c.in-Some.ensures.same c.expression.ensures in
-    IfOk-weaker c.worked_out.result (λ column. column.dtype ≡ c.expression.result.now.dtype) (λ column. column.dtype ≡ (node_at c.args.from.table.now c.args.plan).dtype) (λ column h. h ∙ sym over.dtype) c.worked_out.ensures.dtype
+    IfOk-weaker c.worked_out-made.result (λ column. column.dtype ≡ c.expression.result.now.dtype) (λ column. column.dtype ≡ (node_at c.args.from.table.now c.args.plan).dtype) (λ column h. h ∙ sym over.dtype) c.worked_out-made.ensures.dtype
 
 pub eval_of-returns-clause-computed : goal.eval_of-returns-clause-computed
 eval_of-returns-clause-computed g c =
     let over = eval_at c.args.from.table.now c.requires.good c.args.plan c.args.child c.in-Some.eval.plan c.expression.result.now c.requires.known c.requires.eval c.in-Some.ensures.same c.expression.ensures in
-    eval_computed (held c.args.from) c.args.plan c.args.child c.args.start c.expression.result.now c.args.mask.now c.in-Ok.root c.worked_out.result over c.in-Ok.ensures.dtype c.in-Ok.ensures.computed c.worked_out.ensures.values c.worked_out.ensures.fault
+    eval_computed (held c.args.from) c.args.plan c.args.child c.args.start c.expression.result.now c.args.mask.now c.in-Ok.root c.worked_out-made.result over c.in-Ok.ensures.dtype c.in-Ok.ensures.computed c.worked_out-made.ensures.values c.worked_out-made.ensures.fault
 
 -- ---- fields
 
@@ -247,8 +247,8 @@ whole_of_plan-returns-clause-computed g c =
 pub take_of-returns-in-Err-clause-computed : goal.take_of-returns-in-Err-clause-computed
 take_of-returns-in-Err-clause-computed g c = codes_failed (held c.args.from) c.args.plan c.args.codes c.args.values c.args.start c.args.mask.now c.in-Err.error (take_plan_at c.args.from.table.now c.requires.good c.args.plan c.args.codes c.args.values c.requires.known c.requires.take) c.in-Err.ensures.computed
 
-pub take_of-looked_up-requires-clause-unsigned : goal.take_of-looked_up-requires-clause-unsigned
-take_of-looked_up-requires-clause-unsigned g c =
+pub take_of-looked_up-made-requires-clause-unsigned : goal.take_of-looked_up-made-requires-clause-unsigned
+take_of-looked_up-made-requires-clause-unsigned g c =
     let over = take_plan_at c.args.from.table.now c.requires.good c.args.plan c.args.codes c.args.values c.requires.known c.requires.take in
     subst IsUnsigned (sym c.in-Ok.ensures.dtype) over.unsigned
 
@@ -256,15 +256,15 @@ pub take_of-returns-in-Some-clause-dtype : goal.take_of-returns-in-Some-clause-d
 take_of-returns-in-Some-clause-dtype g c =
     let over = take_plan_at c.args.from.table.now c.requires.good c.args.plan c.args.codes c.args.values c.requires.known c.requires.take in
     let typed = whole_typed (held c.args.from) c.args.values c.in-Some.values.now c.requires.held (sym c.in-Some.ensures) in
-    IfOk-weaker c.looked_up.result (λ column. column.dtype ≡ nullable_where (nullability_of c.in-Ok.codes.dtype) c.in-Some.values.now.dtype) (λ column. column.dtype ≡ (node_at c.args.from.table.now c.args.plan).dtype)
-    (λ column h. looked_dtype (node_at c.args.from.table.now c.args.codes).dtype (node_at c.args.from.table.now c.args.values).dtype column.dtype c.in-Ok.codes.dtype c.in-Some.values.now.dtype h c.in-Ok.ensures.dtype typed.0 ∙ sym over.dtype) c.looked_up.ensures.dtype
+    IfOk-weaker c.looked_up-made.result (λ column. column.dtype ≡ nullable_where (nullability_of c.in-Ok.codes.dtype) c.in-Some.values.now.dtype) (λ column. column.dtype ≡ (node_at c.args.from.table.now c.args.plan).dtype)
+    (λ column h. looked_dtype (node_at c.args.from.table.now c.args.codes).dtype (node_at c.args.from.table.now c.args.values).dtype column.dtype c.in-Ok.codes.dtype c.in-Some.values.now.dtype h c.in-Ok.ensures.dtype typed.0 ∙ sym over.dtype) c.looked_up-made.ensures.dtype
 
 pub take_of-returns-in-Some-clause-computed : goal.take_of-returns-in-Some-clause-computed
 take_of-returns-in-Some-clause-computed g c =
     let over = take_plan_at c.args.from.table.now c.requires.good c.args.plan c.args.codes c.args.values c.requires.known c.requires.take in
     let typed = whole_typed (held c.args.from) c.args.values c.in-Some.values.now c.requires.held (sym c.in-Some.ensures) in
-    take_computed (held c.args.from) c.args.plan c.args.codes c.args.values c.args.start c.args.mask.now c.in-Ok.codes c.in-Some.values.now c.looked_up.result over c.in-Ok.ensures.computed
-    (λ leaves are. whole_there (held c.args.from) leaves c.args.plan c.args.values c.in-Some.values.now over.given are (sym c.in-Some.ensures)) typed.1 c.looked_up.ensures.values c.looked_up.ensures.fault
+    take_computed (held c.args.from) c.args.plan c.args.codes c.args.values c.args.start c.args.mask.now c.in-Ok.codes c.in-Some.values.now c.looked_up-made.result over c.in-Ok.ensures.computed
+    (λ leaves are. whole_there (held c.args.from) leaves c.args.plan c.args.values c.in-Some.values.now over.given are (sym c.in-Some.ensures)) typed.1 c.looked_up-made.ensures.values c.looked_up-made.ensures.fault
 
 pub take_of-whole_of_plan-requires : goal.take_of-whole_of_plan-requires
 take_of-whole_of_plan-requires g c =
@@ -273,26 +273,26 @@ take_of-whole_of_plan-requires g c =
     let none : whole_in (held c.args.from) c.args.values ≡ None = sym c.in_default.ensures in
     (omega arith, (c.requires.good, (over.values_known, (c.requires.held, ready_values (held c.args.from) c.args.plan c.args.codes c.args.values c.args.start c.args.mask.now over (nothing_given (held c.args.from) c.args.values none) c.requires.some c.requires.ready))))
 
-pub take_of-looked_up-requires-in-Ok-whole_of_plan-clause-unsigned : goal.take_of-looked_up-requires-in-Ok-whole_of_plan-clause-unsigned
-take_of-looked_up-requires-in-Ok-whole_of_plan-clause-unsigned g c =
+pub take_of-looked_up-made-requires-in-Ok-whole_of_plan-clause-unsigned : goal.take_of-looked_up-made-requires-in-Ok-whole_of_plan-clause-unsigned
+take_of-looked_up-made-requires-in-Ok-whole_of_plan-clause-unsigned g c =
     let over = take_plan_at c.args.from.table.now c.requires.good c.args.plan c.args.codes c.args.values c.requires.known c.requires.take in
     subst IsUnsigned (sym c.in-Ok.ensures.dtype) over.unsigned
 
 pub take_of-returns-in-Ok-whole_of_plan-clause-dtype : goal.take_of-returns-in-Ok-whole_of_plan-clause-dtype
 take_of-returns-in-Ok-whole_of_plan-clause-dtype g c =
     let over = take_plan_at c.args.from.table.now c.requires.good c.args.plan c.args.codes c.args.values c.requires.known c.requires.take in
-    IfOk-weaker c.looked_up-in-Ok-whole_of_plan.result (λ column. column.dtype ≡ nullable_where (nullability_of c.in-Ok.codes.dtype) c.in-Ok-whole_of_plan.values.dtype) (λ column. column.dtype ≡ (node_at c.args.from.table.now c.args.plan).dtype)
-    (λ column h. looked_dtype (node_at c.args.from.table.now c.args.codes).dtype (node_at c.args.from.table.now c.args.values).dtype column.dtype c.in-Ok.codes.dtype c.in-Ok-whole_of_plan.values.dtype h c.in-Ok.ensures.dtype c.in-Ok-whole_of_plan.ensures.dtype ∙ sym over.dtype) c.looked_up-in-Ok-whole_of_plan.ensures.dtype
+    IfOk-weaker c.looked_up-made-in-Ok-whole_of_plan.result (λ column. column.dtype ≡ nullable_where (nullability_of c.in-Ok.codes.dtype) c.in-Ok-whole_of_plan.values.dtype) (λ column. column.dtype ≡ (node_at c.args.from.table.now c.args.plan).dtype)
+    (λ column h. looked_dtype (node_at c.args.from.table.now c.args.codes).dtype (node_at c.args.from.table.now c.args.values).dtype column.dtype c.in-Ok.codes.dtype c.in-Ok-whole_of_plan.values.dtype h c.in-Ok.ensures.dtype c.in-Ok-whole_of_plan.ensures.dtype ∙ sym over.dtype) c.looked_up-made-in-Ok-whole_of_plan.ensures.dtype
 
 pub take_of-returns-in-Ok-whole_of_plan-clause-computed : goal.take_of-returns-in-Ok-whole_of_plan-clause-computed
 take_of-returns-in-Ok-whole_of_plan-clause-computed g c =
     let over = take_plan_at c.args.from.table.now c.requires.good c.args.plan c.args.codes c.args.values c.requires.known c.requires.take in
     let none : whole_in (held c.args.from) c.args.values ≡ None = sym c.in_default.ensures in
-    take_computed (held c.args.from) c.args.plan c.args.codes c.args.values c.args.start c.args.mask.now c.in-Ok.codes c.in-Ok-whole_of_plan.values c.looked_up-in-Ok-whole_of_plan.result over c.in-Ok.ensures.computed
-    (λ leaves are. whole_made (held c.args.from) leaves c.args.plan c.args.values c.args.values (plan_head (plan_at c.args.from.table.now c.args.values)).rows c.in-Ok-whole_of_plan.values.values over.given none (c.in-Ok-whole_of_plan.ensures.computed leaves are)) c.in-Ok-whole_of_plan.ensures.rows c.looked_up-in-Ok-whole_of_plan.ensures.values c.looked_up-in-Ok-whole_of_plan.ensures.fault
+    take_computed (held c.args.from) c.args.plan c.args.codes c.args.values c.args.start c.args.mask.now c.in-Ok.codes c.in-Ok-whole_of_plan.values c.looked_up-made-in-Ok-whole_of_plan.result over c.in-Ok.ensures.computed
+    (λ leaves are. whole_made (held c.args.from) leaves c.args.plan c.args.values c.args.values (plan_head (plan_at c.args.from.table.now c.args.values)).rows c.in-Ok-whole_of_plan.values.values over.given none (c.in-Ok-whole_of_plan.ensures.computed leaves are)) c.in-Ok-whole_of_plan.ensures.rows c.looked_up-made-in-Ok-whole_of_plan.ensures.values c.looked_up-made-in-Ok-whole_of_plan.ensures.fault
 
-pub take_of-returns-clause-computed : goal.take_of-returns-clause-computed
-take_of-returns-clause-computed g c =
+pub take_of-returns-in-Err-whole_of_plan-clause-computed : goal.take_of-returns-in-Err-whole_of_plan-clause-computed
+take_of-returns-in-Err-whole_of_plan-clause-computed g c =
     let over = take_plan_at c.args.from.table.now c.requires.good c.args.plan c.args.codes c.args.values c.requires.known c.requires.take in
     let none : whole_in (held c.args.from) c.args.values ≡ None = sym c.in_default.ensures in
     values_failed (held c.args.from) c.args.plan c.args.codes c.args.values c.args.start c.args.mask.now c.in-Err-whole_of_plan.error over none c.requires.some c.in-Err-whole_of_plan.ensures.computed
@@ -318,30 +318,30 @@ share_of-whole_of_plan-requires g c =
     let none : whole_in (held c.args.from) c.args.plan ≡ None = sym c.in_default.ensures in
     (omega arith, (c.requires.good, (over.like.known, (c.requires.held, ready_shared (held c.args.from) c.args.plan c.args.child c.args.start c.args.mask.now over (nothing_given (held c.args.from) c.args.plan none) c.requires.some c.requires.ready))))
 
-pub share_of-picked-requires-in-Ok : goal.share_of-picked-requires-in-Ok
-share_of-picked-requires-in-Ok g c =
+pub share_of-picked-rows-requires : goal.share_of-picked-rows-requires
+share_of-picked-rows-requires g c =
     let over = share_plan_at c.args.from.table.now c.requires.good c.args.plan c.args.child c.requires.known c.requires.share in
     let rows : (node_at c.args.from.table.now c.args.plan).rows ≡ (node_at c.args.from.table.now c.args.child).rows = over.like.rows in
     omega (arith, c.in-Ok.ensures.rows)
 
-pub share_of-returns-in_ok-picked-in-Ok-clause-dtype : goal.share_of-returns-in_ok-picked-in-Ok-clause-dtype
-share_of-returns-in_ok-picked-in-Ok-clause-dtype g c =
+pub share_of-returns-in_ok-rows-in-Ok-clause-dtype : goal.share_of-returns-in_ok-rows-in-Ok-clause-dtype
+share_of-returns-in_ok-rows-in-Ok-clause-dtype g c =
     let over = share_plan_at c.args.from.table.now c.requires.good c.args.plan c.args.child c.requires.known c.requires.share in
-    c.in_ok-picked-in-Ok.ensures.dtype ∙ c.in-Ok.ensures.dtype ∙ sym over.like.dtype
+    c.in_ok-rows-in-Ok.ensures.dtype ∙ c.in-Ok.ensures.dtype ∙ sym over.like.dtype
 
-pub share_of-returns-in_ok-picked-in-Ok-clause-rows : goal.share_of-returns-in_ok-picked-in-Ok-clause-rows
-share_of-returns-in_ok-picked-in-Ok-clause-rows g c =
+pub share_of-returns-in_ok-rows-in-Ok-clause-rows : goal.share_of-returns-in_ok-rows-in-Ok-clause-rows
+share_of-returns-in_ok-rows-in-Ok-clause-rows g c =
     let over = share_plan_at c.args.from.table.now c.requires.good c.args.plan c.args.child c.requires.known c.requires.share in
     let rows : (node_at c.args.from.table.now c.args.plan).rows ≡ (node_at c.args.from.table.now c.args.child).rows = over.like.rows in
-    ap length c.in_ok-picked-in-Ok.ensures.values ∙ picked_count c.in-Ok.column.values c.args.start c.args.mask.now (omega (arith, c.in-Ok.ensures.rows))
+    ap length c.in_ok-rows-in-Ok.ensures.values ∙ picked_count c.in-Ok.column.values c.args.start c.args.mask.now (omega (arith, c.in-Ok.ensures.rows))
 
-pub share_of-returns-in_ok-picked-in-Ok-clause-computed : goal.share_of-returns-in_ok-picked-in-Ok-clause-computed
-share_of-returns-in_ok-picked-in-Ok-clause-computed g c =
+pub share_of-returns-in_ok-rows-in-Ok-clause-computed : goal.share_of-returns-in_ok-rows-in-Ok-clause-computed
+share_of-returns-in_ok-rows-in-Ok-clause-computed g c =
     let over = share_plan_at c.args.from.table.now c.requires.good c.args.plan c.args.child c.requires.known c.requires.share in
     let none : whole_in (held c.args.from) c.args.plan ≡ None = sym c.in_default.ensures in
     let head : (plan_head (plan_at c.args.from.table.now c.args.child)).rows ≡ (node_at c.args.from.table.now c.args.child).rows = ap (λ h. h.rows) over.child_head in
-    share_computed (held c.args.from) c.args.plan c.args.child c.args.start c.args.mask.now c.in-Ok.column c.in_ok-picked-in-Ok.field-0 over c.requires.inside
-    (λ leaves are. share_made (held c.args.from) leaves c.args.plan c.args.child c.in-Ok.column.values over none (c.in-Ok.ensures.computed leaves are)) (c.in-Ok.ensures.rows ∙ sym over.like.rows) c.in_ok-picked-in-Ok.ensures.values
+    share_computed (held c.args.from) c.args.plan c.args.child c.args.start c.args.mask.now c.in-Ok.column c.in_ok-rows-in-Ok.rows over c.requires.inside
+    (λ leaves are. share_made (held c.args.from) leaves c.args.plan c.args.child c.in-Ok.column.values over none (c.in-Ok.ensures.computed leaves are)) (c.in-Ok.ensures.rows ∙ sym over.like.rows) c.in_ok-rows-in-Ok.ensures.values
 
 pub share_of-returns-in-Err-clause-computed : goal.share_of-returns-in-Err-clause-computed
 share_of-returns-in-Err-clause-computed g c =
