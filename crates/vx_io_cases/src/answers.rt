@@ -33,12 +33,15 @@ fn write_asked(
 ) -> Result<(), AllocError> {
     let ranges = ranges_of(alloc, ranges)?;
     let mut source = source_of(alloc, script)?;
-    match command {
+    let written = match command {
         "session" => write_session(alloc, &mut source, &ranges, words, out),
         "announced" => write_announced(alloc, &mut source, &ranges, words, out),
         "drive" => write_three(alloc, &mut source, &ranges, words, out),
         _ => Ok(()),
-    }
+    };
+    drop(source);
+    drop(ranges);
+    written
 }
 
 /// Appends the answer to a line.

@@ -85,8 +85,10 @@ fn write_drive(
     requires { AreDistinct (fetches_in commands.items) }
 {
     let mut session = SegmentIoSource::new(alloc, source, ranges);
-    write_driven(&drive(alloc, &mut session, commands), out)?;
-    write_notes(session.into_source(), out)
+    let driven = drive(alloc, &mut session, commands);
+    let written = write_driven(&driven, out);
+    drop(driven);
+    written.and(write_notes(session.into_source(), out))
 }
 
 /// The answer to `drive SCRIPT | RANGES | BETWEEN BEHIND RANGE RANGE RANGE`.

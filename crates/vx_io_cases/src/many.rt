@@ -68,10 +68,12 @@ fn write_ended(
 ) -> Result<(), AllocError> {
     let mut session = SegmentIoSource::new(alloc, source, ranges);
     if session.submit(OWNER, batch).is_err() {
+        drop(session);
         return out.push_str("refused");
     }
     let (ended, order) = drain(&mut session, polls);
     let left = session.in_flight();
+    drop(session);
     write!(out, "{ended} ended, {left} left, order {order}")
 }
 

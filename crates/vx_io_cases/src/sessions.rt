@@ -66,6 +66,5 @@ pub(crate) fn write_session(
     out: &mut String,
 ) -> Result<(), AllocError> {
     let mut session = SegmentIoSource::new(alloc, source, ranges);
-    turns(alloc, &mut session, words, out)?;
-    write_notes(session.into_source(), out)
+    turns(alloc, &mut session, words, out).and(write_notes(session.into_source(), out))
 }
