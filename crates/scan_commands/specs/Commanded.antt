@@ -3,6 +3,7 @@ use Rattle.std.specs.Prelude.{◌≡◌, ℕ, ◌⊎◌, min, nat_le, Bool, true
 use Rattle.std.specs.Bool.{MatchBool}
 use Rattle.scan_words.specs.declared.commands.Command.{Command}
 use Rattle.scan_words.specs.declared.commands.Command.TheVariants.{Scan, Read, Tree, Demo}
+use Rattle.vx_scan.specs.Builders.{default_concurrency}
 use Rattle.scan_commands.specs.DemoRuns.{ServesDemo}
 use Rattle.scan_commands.specs.PlanRuns.{ServesPlan, IsPlanComplete}
 use Rattle.scan_commands.specs.Runs.{World, without_sources, Serves, IsComplete}
@@ -17,13 +18,9 @@ abbrev pub have_sources : Option ℕ → ℕ → Bool
 have_sources None count = true
 have_sources (Some workers) count = nat_le workers count
 
--- the workers where no number is said
-abbrev pub default_workers : ℕ
-default_workers = 4
-
 -- how many workers serve: so many as are said, else four, or as many as there are sources where those are fewer
 abbrev pub workers_of : Option ℕ → ℕ → ℕ
-workers_of None count = min default_workers count
+workers_of None count = min default_concurrency count
 workers_of (Some workers) count = workers
 
 -- the same with the first so many of the sources

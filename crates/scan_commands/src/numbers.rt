@@ -1,11 +1,10 @@
 //! The numbers that are promises, and the constants of the code that are held to them.
 
 ghost use Rattle.std.specs.Prelude.{◌≡◌};
-ghost use Rattle.vx_scan.specs.Builders.{default_concurrency, default_idle_limit};
+ghost use Rattle.vx_scan.specs.Builders.{default_idle_limit};
 ghost use Rattle.vx_scan.specs.Limits as scans;
 ghost use Rattle.scan_demo.specs.DemoRows as demo;
 ghost use Rattle.scan_words.specs.Limits as words;
-ghost use Rattle.scan_commands.specs.Commanded.{default_workers};
 ghost use Rattle.scan_commands.specs.JsonForms.{most_items};
 ghost use Rattle.scan_commands.specs.Reading.{most_bytes, most_piece};
 ghost use Rattle.scan_commands.specs.Statuses.{done_status, usage_status, not_yet_status, bad_request_status, bad_layout_status, bad_projection_status, row_out_of_range_status, row_offset_overflow_status, lists_unsupported_status, no_location_status, bad_segment_status, bad_code_status, expression_fault_status, read_fault_status, stalled_status, write_fault_status, request_fault_status, request_too_large_status, not_readable_status, memory_status};
@@ -49,7 +48,6 @@ pub fn numbers_are_promised()
 /// A number that two crates promise, of which neither stands on the other, is one number.
 pub fn numbers_agree()
     ensures workers { words.most_workers ≡ scans.most_workers }
-    ensures concurrency { default_workers ≡ default_concurrency }
     ensures idle { words.default_idle ≡ default_idle_limit }
     ensures demo_rows { words.most_demo_rows ≡ demo.most_demo_rows }
 {}

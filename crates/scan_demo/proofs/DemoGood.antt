@@ -18,7 +18,7 @@ use Rattle.vx_layout.specs.declared.rules.ShapeRule.TheVariants as rules
 use Rattle.vx_layout.specs.Children.{ChildAt}
 use Rattle.vx_layout.specs.Depths.{dtype_depth}
 use Rattle.vx_layout.specs.Nodes.{Node}
-use Rattle.vx_layout.specs.Shape.{Asks, IsChildOnce, IsGoodTree, IsShallow, Keeps, rows_of}
+use Rattle.vx_layout.specs.Shape.{Asks, IsChildOnce, IsGoodTree, IsLater, IsShallow, Keeps, rows_of}
 use Rattle.scan_demo.specs.declared.stored_columns.StoredColumn.{StoredColumn}
 use Rattle.scan_demo.specs.declared.stored_columns.StoredColumn.TheVariants.{Ids, Codes, Flags}
 use Rattle.scan_demo.specs.DemoNodes.{demo_nodes, dict_node, flat_node, root_node, row_members}
@@ -148,19 +148,15 @@ column_asks column number few rules.FittingZones = tt
 
 -- ---- the dictionary
 
--- the child comes after the node, and is a node
-abbrev IsLater : ℕ → ℕ → ℕ → Type 0
-IsLater number n child = (n < child) × (child < length (nodes_of number))
-
-later : (number n child : ℕ) → n < child → child < 3 * chunks_of number + 6 → IsLater number n child
+later : (number n child : ℕ) → n < child → child < 3 * chunks_of number + 6 → IsLater (nodes_of number) n child
 later number n child above below = (above, omega (arith, node_count number))
 
 dict_asks : (number : ℕ) → number ≤ 1000000 → (rule : ShapeRule) → Asks rule (nodes_of number) (chunks_of number + 2) (dict_node number (chunks_of number))
 dict_asks number few rules.Nonempty = tt
 dict_asks number few rules.LaterChildren =
     let n : ℕ = chunks_of number + 2 in
-    All-cons (IsLater number n) (chunks_of number + 3) ((chunks_of number + 4) ∷ []) (later number n (chunks_of number + 3) (omega arith) (omega arith))
-    (All-cons (IsLater number n) (chunks_of number + 4) [] (later number n (chunks_of number + 4) (omega arith) (omega arith)) (All-nil (IsLater number n)))
+    All-cons (IsLater (nodes_of number) n) (chunks_of number + 3) ((chunks_of number + 4) ∷ []) (later number n (chunks_of number + 3) (omega arith) (omega arith))
+    (All-cons (IsLater (nodes_of number) n) (chunks_of number + 4) [] (later number n (chunks_of number + 4) (omega arith) (omega arith)) (All-nil (IsLater (nodes_of number) n)))
 dict_asks number few rules.ChildOnce = once number (chunks_of number + 2) (omega arith)
 dict_asks number few rules.Shallow = shallow number (chunks_of number + 2) (dict_node number (chunks_of number)) (omega arith)
 dict_asks number few rules.FewRows = omega arith
@@ -186,9 +182,9 @@ HasRows number child = IsSomeAnd (slice_get (nodes_of number) child) (λ node. n
 root_asks : (number : ℕ) → number ≤ 1000000 → (rule : ShapeRule) → Asks rule (nodes_of number) 0 (root_node number (chunks_of number))
 root_asks number few rules.Nonempty = tt
 root_asks number few rules.LaterChildren =
-    All-cons (IsLater number 0) 1 ((chunks_of number + 2) ∷ (2 * chunks_of number + 5) ∷ []) (later number 0 1 (omega arith) (omega arith))
-    (All-cons (IsLater number 0) (chunks_of number + 2) ((2 * chunks_of number + 5) ∷ []) (later number 0 (chunks_of number + 2) (omega arith) (omega arith))
-    (All-cons (IsLater number 0) (2 * chunks_of number + 5) [] (later number 0 (2 * chunks_of number + 5) (omega arith) (omega arith)) (All-nil (IsLater number 0))))
+    All-cons (IsLater (nodes_of number) 0) 1 ((chunks_of number + 2) ∷ (2 * chunks_of number + 5) ∷ []) (later number 0 1 (omega arith) (omega arith))
+    (All-cons (IsLater (nodes_of number) 0) (chunks_of number + 2) ((2 * chunks_of number + 5) ∷ []) (later number 0 (chunks_of number + 2) (omega arith) (omega arith))
+    (All-cons (IsLater (nodes_of number) 0) (2 * chunks_of number + 5) [] (later number 0 (2 * chunks_of number + 5) (omega arith) (omega arith)) (All-nil (IsLater (nodes_of number) 0))))
 root_asks number few rules.ChildOnce = tt
 root_asks number few rules.Shallow = shallow number 0 (root_node number (chunks_of number)) (omega arith)
 root_asks number few rules.FewRows = omega arith

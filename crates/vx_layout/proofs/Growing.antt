@@ -8,6 +8,7 @@ use Rattle.vx_base.specs.declared.dtypes.Nullability.{Nullability}
 use Rattle.vx_base.specs.declared.dtypes.Nullability.TheVariants.{NonNullable, Nullable}
 use Rattle.vx_base.specs.Data.{DataType, bool_type, Members, no_members, member}
 use Rattle.vx_base.specs.Fits.{nullability_of}
+use Rattle.vx_layout.specs.Shape.{IsLater}
 use Rattle.vx_layout.specs.declared.nodes.LayoutKind.{LayoutKind}
 use Rattle.vx_layout.specs.declared.nodes.LayoutKind.TheVariants as kinds
 use Rattle.vx_layout.specs.Nodes.{Node}
@@ -111,14 +112,14 @@ kind_sound nodes later number node kinds.List sound fit =
 kind_sound nodes later number node (kinds.Zoned zone_len stats) sound fit = zoned_sound nodes later (head_at number node) (zones_of false zone_len stats) node.children sound fit
 kind_sound nodes later number node (kinds.LegacyStats zone_len stats) sound fit = zoned_sound nodes later (head_at number node) (zones_of true zone_len stats) node.children sound fit
 
-each_sound : (nodes : List Node) (n : ℕ) (ns : List ℕ) → All (λ child. (n < child) × (child < length nodes)) ns → ((child : ℕ) → n < child → child < length nodes → IsSound (subtree nodes child)) → AreSound nodes ns
+each_sound : (nodes : List Node) (n : ℕ) (ns : List ℕ) → All (IsLater nodes n) ns → ((child : ℕ) → n < child → child < length nodes → IsSound (subtree nodes child)) → AreSound nodes ns
 each_sound nodes n [] later sound = tt
 each_sound nodes n (m ∷ ns) later sound =
-    let here : (n < m) × (m < length nodes) = All-head (λ child. (n < child) × (child < length nodes)) m ns later in
-    (sound m here.0 here.1, each_sound nodes n ns (All-tail (λ child. (n < child) × (child < length nodes)) m ns later) sound)
+    let here : (n < m) × (m < length nodes) = All-head (IsLater nodes n) m ns later in
+    (sound m here.0 here.1, each_sound nodes n ns (All-tail (IsLater nodes n) m ns later) sound)
 
 node_sound : (nodes : List Node) → HaveLaterChildren nodes → (n : ℕ) (o : Option Node) → slice_get nodes n ≡ o → n < length nodes
-    → IfSome o (λ node. All (λ child. (n < child) × (child < length nodes)) node.children) → IfSome o (λ node. FitsKind nodes (head_at n node) node.kind node.children)
+    → IfSome o (λ node. All (IsLater nodes n) node.children) → IfSome o (λ node. FitsKind nodes (head_at n node) node.kind node.children)
     → ((child : ℕ) → n < child → child < length nodes → IsSound (subtree nodes child)) → IsSound (grown (subtree nodes) n o)
 node_sound nodes later n None at lt children fit below = absurd (inside nodes n lt at)
   where

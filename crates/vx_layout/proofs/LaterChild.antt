@@ -5,10 +5,7 @@ use Rattle.std.specs.List.{slice_get, All}
 use Rattle.std.proofs.lemmas.List.Elements.{All-head, All-tail}
 use Rattle.vx_layout.specs.declared.rules.ShapeRule.TheVariants.{LaterChildren}
 use Rattle.vx_layout.specs.Nodes.{Node}
-use Rattle.vx_layout.specs.Shape.{HasLaterChildren, IsGoodTree}
-
-abbrev pub IsLater : List Node → ℕ → ℕ → Type 0
-IsLater nodes n child = (n < child) × (child < length nodes)
+use Rattle.vx_layout.specs.Shape.{HasLaterChildren, IsGoodTree, IsLater}
 
 all_at : (P : ℕ → Type 0) (ns : List ℕ) (place : ℕ) → All P ns → IfSome (slice_get ns place) P
 all_at P [] place each = tt

@@ -11,7 +11,7 @@ use Rattle.vx_layout.specs.Nodes.{Node}
 use Rattle.vx_rows.specs.Heads.{Head}
 use Rattle.vx_layout.specs.Trees.{Tree, head_of, head_at, gap, grown_as, grown, grow, subtree}
 use Rattle.vx_layout.specs.declared.rules.ShapeRule.TheVariants.{LaterChildren}
-use Rattle.vx_layout.specs.Shape.{HasLaterChildren, IsGoodTree}
+use Rattle.vx_layout.specs.Shape.{HasLaterChildren, IsGoodTree, IsLater}
 use Rattle.vx_rows.proofs.Each.{if_some_weaker}
 
 -- the children of a node, if there is one, come later
@@ -60,7 +60,7 @@ grow_same nodes later zero (suc t) n h k = grown_past nodes (grow t nodes) n (om
 grow_same nodes later (suc s) zero n h k = sym (grown_past nodes (grow s nodes) n (omega arith))
 grow_same nodes later (suc s) (suc t) n h k =
     grown_same (grow s nodes) (grow t nodes) n (slice_get nodes n)
-    (if_some_weaker (λ node. All (λ child. (n < child) × (child < length nodes)) node.children) (λ node. Same (grow s nodes) (grow t nodes) node.children)
+    (if_some_weaker (λ node. All (IsLater nodes n) node.children) (λ node. Same (grow s nodes) (grow t nodes) node.children)
     (λ node each i d lt.
     let above : n < get_or node.children i d = (each i d lt).0 in
     grow_same nodes later s t (get_or node.children i d) (omega arith) (omega arith))
@@ -70,7 +70,7 @@ grow_unfolds : (nodes : List Node) (levels : ℕ) → HaveLaterChildren nodes �
 unfolding grow
 grow_unfolds nodes levels later enough n =
     grown_same (grow levels nodes) (grow (suc levels) nodes) n (slice_get nodes n)
-    (if_some_weaker (λ node. All (λ child. (n < child) × (child < length nodes)) node.children) (λ node. Same (grow levels nodes) (grow (suc levels) nodes) node.children)
+    (if_some_weaker (λ node. All (IsLater nodes n) node.children) (λ node. Same (grow levels nodes) (grow (suc levels) nodes) node.children)
     (λ node each i d lt.
     let above : n < get_or node.children i d = (each i d lt).0 in
     grow_same nodes later levels (suc levels) (get_or node.children i d) (omega arith) (omega arith))

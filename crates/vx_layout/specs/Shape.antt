@@ -37,9 +37,13 @@ most_levels = 64
 
 -- ---- numbers, depths and rows
 
+-- a node behind the one of that number
+abbrev pub IsLater : List Node → ℕ → ℕ → Type 0
+IsLater nodes number child = (number < child) × (child < length nodes)
+
 -- The children have greater numbers than the node, and are nodes themselves.
 abbrev pub HasLaterChildren : List Node → ℕ → Node → Type 0
-HasLaterChildren nodes number node = All (λ child. (number < child) × (child < length nodes)) node.children
+HasLaterChildren nodes number node = All (IsLater nodes number) node.children
 
 -- Each node but the root is a child exactly once.
 abbrev pub IsChildOnce : List Node → ℕ → Type 0

@@ -5,7 +5,7 @@ ghost use Rattle.vx_base.specs.Views.{data_type};
 ghost use Rattle.vx_layout.specs.Kept.{kept_data, kept_fields};
 ghost use Rattle.vx_layout.specs.Nodes.{node_data};
 ghost use Rattle.vx_layout.specs.Faults.{RefusedBy};
-ghost use Rattle.vx_layout.specs.Shape.{node_limit, IsGoodTree};
+ghost use Rattle.vx_layout.specs.Shape.{node_limit, IsGoodTree, IsLater};
 
 use crate::children::{child_number, node_at};
 use crate::errors::LayoutError;
@@ -91,7 +91,7 @@ impl LayoutTree {
     pub fn node(&self, node: u32) -> &LayoutNode
         requires { node < length self.now }
         ensures at { slice_get self.now node ≡ Some (node_data result.now) }
-        ensures later { All (λ child. (node < child) × (child < length self.now)) result.now.children.items }
+        ensures later { All (IsLater self.now node) result.now.children.items }
         ensures good { IsGoodTree self.now }
     {
         node_at(&self.nodes, node)
@@ -102,7 +102,7 @@ impl LayoutTree {
     pub fn child(&self, node: u32, place: usize) -> Option<u32>
         requires { node < length self.now }
         ensures at { result ≡ option_and_then (λ node. slice_get node.children place) (slice_get self.now node) }
-        ensures later { IfSome result (λ child. (node < child) × (child < length self.now)) }
+        ensures later { IfSome result (IsLater self.now node) }
     {
         child_number(&self.nodes, node, place)
     }

@@ -10,6 +10,7 @@ use Rattle.vx_layout.specs.Kept.{KeptFields, all, only, is_kept}
 use Rattle.vx_layout.specs.Nodes.{Node}
 use Rattle.vx_layout.specs.Rows.{struct_members}
 use Rattle.vx_rows.specs.TypeForms.{IsStruct}
+use Rattle.vx_layout.specs.Shape.{IsLater}
 use Rattle.vx_layout.specs.Sound.{IsSound, AreFields, IsValidity}
 use Rattle.vx_layout.specs.Trees.{Tree, tree, fields, forest_from, subtree}
 use Rattle.vx_plan.specs.Nodes.{Node as PlanNode}
@@ -61,15 +62,15 @@ fields_count f (member name t ms) rows [] sound = absurd sound
 fields_count f (member name t ms) rows (n ∷ ns) sound = omega (arith, fields_count f ms rows ns sound.2)
 
 one_more_later : (nodes : List Node) (n : ℕ) (b : Bool) (m : ℕ) (ns : List ℕ) → (n < m) × (m < length nodes) → AreLater nodes n ns → AreLater nodes n (cond b (m ∷ ns) ns)
-one_more_later nodes n true m ns here later = All-cons (λ child. (n < child) × (child < length nodes)) m ns here later
+one_more_later nodes n true m ns here later = All-cons (IsLater nodes n) m ns here later
 one_more_later nodes n false m ns here later = later
 
 chosen_later : (nodes : List Node) (n : ℕ) (flags : List Bool) (ns : List ℕ) → AreLater nodes n ns → AreLater nodes n (chosen flags ns)
-chosen_later nodes n [] ns later = All-nil (λ child. (n < child) × (child < length nodes))
-chosen_later nodes n (flag ∷ flags) [] later = All-nil (λ child. (n < child) × (child < length nodes))
+chosen_later nodes n [] ns later = All-nil (IsLater nodes n)
+chosen_later nodes n (flag ∷ flags) [] later = All-nil (IsLater nodes n)
 chosen_later nodes n (flag ∷ flags) (m ∷ ns) later =
-    one_more_later nodes n flag m (chosen flags ns) (All-head (λ child. (n < child) × (child < length nodes)) m ns later)
-    (chosen_later nodes n flags ns (All-tail (λ child. (n < child) × (child < length nodes)) m ns later))
+    one_more_later nodes n flag m (chosen flags ns) (All-head (IsLater nodes n) m ns later)
+    (chosen_later nodes n flags ns (All-tail (IsLater nodes n) m ns later))
 
 -- ---- the kept dtype
 
@@ -120,7 +121,7 @@ kept_can nodes n ns v keeping table ms can over is these =
     let later = later_front nodes n ns (given_validity v) over.later in
     subst (λ (ms : List ℕ). CanLowerEach nodes n (ms ++ given_validity v) all table) (sym (these ∙ has.same)) (record {
       tree = can.tree;
-      later = All-append (λ child. (n < child) × (child < length nodes)) picked (given_validity v) (chosen_later nodes n (flags_of kept (tree_head nodes n).dtype) ns later.0) later.1;
+      later = All-append (IsLater nodes n) picked (given_validity v) (chosen_later nodes n (flags_of kept (tree_head nodes n).dtype) ns later.0) later.1;
       room = omega (arith, can.room, validity_size nodes v);
       good = can.good;
     })

@@ -7,7 +7,7 @@ use Rattle.std.proofs.lemmas.List.Elements.{All-cons, All-head, All-nil, All-tai
 use Rattle.vx_layout.specs.declared.rules.ShapeRule.TheVariants.{FewRows}
 use Rattle.vx_layout.specs.Kept.{KeptFields}
 use Rattle.vx_layout.specs.Nodes.{Node}
-use Rattle.vx_layout.specs.Shape.{most_rows, HasFewRows, IsGoodTree}
+use Rattle.vx_layout.specs.Shape.{most_rows, HasFewRows, IsGoodTree, IsLater}
 use Rattle.vx_layout.specs.Sound.{IsSound}
 use Rattle.vx_rows.specs.Heads.{Head}
 use Rattle.vx_layout.specs.Trees.{Tree, head_at, subtree}
@@ -77,28 +77,28 @@ place_added nodes ns kept old table new i numbers k lt adds here =
 pub first_can : (nodes : List Node) (n m : ℕ) (ns : List ℕ) (kept : KeptFields) (table : List PlanNode) → CanLowerEach nodes n (m ∷ ns) kept table → CanLower nodes m kept table
 first_can nodes n m ns kept table can = record {
   tree = can.tree;
-  known = (All-head (λ child. (n < child) × (child < length nodes)) m ns can.later).1;
+  known = (All-head (IsLater nodes n) m ns can.later).1;
   room = omega (arith, can.room);
   good = can.good;
 }
 
 pub first_later : (nodes : List Node) (n m : ℕ) (ns : List ℕ) (kept : KeptFields) (table : List PlanNode) → CanLowerEach nodes n (m ∷ ns) kept table → (n < m) × (m < length nodes)
-first_later nodes n m ns kept table can = All-head (λ child. (n < child) × (child < length nodes)) m ns can.later
+first_later nodes n m ns kept table can = All-head (IsLater nodes n) m ns can.later
 
 pub rest_can : (nodes : List Node) (n m : ℕ) (ns : List ℕ) (kept : KeptFields) (table new : List PlanNode) (k : ℕ) → CanLowerEach nodes n (m ∷ ns) kept table → AddsPlan table new (lowered (subtree nodes m) kept) k → CanLowerEach nodes n ns kept new
 rest_can nodes n m ns kept table new k can adds = record {
   tree = can.tree;
-  later = All-tail (λ child. (n < child) × (child < length nodes)) m ns can.later;
+  later = All-tail (IsLater nodes n) m ns can.later;
   room = omega (arith, can.room, adds.count);
   good = adds.good;
 }
 
 -- those in front, and then those behind
 pub later_front : (nodes : List Node) (n : ℕ) (ns ms : List ℕ) → AreLater nodes n (ns ++ ms) → AreLater nodes n ns × AreLater nodes n ms
-later_front nodes n [] ms later = (All-nil (λ child. (n < child) × (child < length nodes)), later)
+later_front nodes n [] ms later = (All-nil (IsLater nodes n), later)
 later_front nodes n (m ∷ ns) ms later =
-    let rest : AreLater nodes n ns × AreLater nodes n ms = later_front nodes n ns ms (All-tail (λ child. (n < child) × (child < length nodes)) m (ns ++ ms) later) in
-    (All-cons (λ child. (n < child) × (child < length nodes)) m ns (All-head (λ child. (n < child) × (child < length nodes)) m (ns ++ ms) later) rest.0, rest.1)
+    let rest : AreLater nodes n ns × AreLater nodes n ms = later_front nodes n ns ms (All-tail (IsLater nodes n) m (ns ++ ms) later) in
+    (All-cons (IsLater nodes n) m ns (All-head (IsLater nodes n) m (ns ++ ms) later) rest.0, rest.1)
 
 pub front_can : (nodes : List Node) (n : ℕ) (ns ms : List ℕ) (kept : KeptFields) (table : List PlanNode) → CanLowerEach nodes n (ns ++ ms) kept table → CanLowerEach nodes n ns kept table
 front_can nodes n ns ms kept table can =

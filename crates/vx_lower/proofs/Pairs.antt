@@ -9,7 +9,7 @@ use Rattle.vx_base.specs.declared.dtypes.Nullability.{Nullability}
 use Rattle.vx_expr.specs.declared.statistics.Statistic.{Statistic}
 use Rattle.vx_layout.specs.Kept.{KeptFields, all}
 use Rattle.vx_layout.specs.Nodes.{Node}
-use Rattle.vx_layout.specs.Shape.{ZonesCount}
+use Rattle.vx_layout.specs.Shape.{IsLater, ZonesCount}
 use Rattle.vx_layout.specs.Sound.{IsSound}
 use Rattle.vx_layout.specs.Sound.{AreZones as AreTreeZones}
 use Rattle.vx_layout.specs.Trees.{Tree, dict, lists, zoned, subtree}
@@ -132,10 +132,10 @@ record HasZones (nodes : List Node) (n : ℕ) (zones : Zones) (content table : �
 
 has_zones : (nodes : List Node) (n : ℕ) (tells : Bool) (zones : Zones) (content table : ℕ) (kept : KeptFields) (plans : List PlanNode) → CanLower nodes n kept plans → IsZonedNode nodes n tells zones content table → HasZones nodes n zones content table
 has_zones nodes n tells zones content table kept plans can is =
-    let rest = All-tail (λ child. (n < child) × (child < length nodes)) content (table ∷ []) is.over.later in
+    let rest = All-tail (IsLater nodes n) content (table ∷ []) is.over.later in
     record {
-      content_later = All-head (λ child. (n < child) × (child < length nodes)) content (table ∷ []) is.over.later;
-      table_later = All-head (λ child. (n < child) × (child < length nodes)) table [] rest;
+      content_later = All-head (IsLater nodes n) content (table ∷ []) is.over.later;
+      table_later = All-head (IsLater nodes n) table [] rest;
       sound = sound_as nodes n (zoned (tree_head nodes n) zones (subtree nodes content) (subtree nodes table)) (content ∷ table ∷ []) can.tree can.known is.over;
     }
 

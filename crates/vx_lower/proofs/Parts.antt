@@ -12,7 +12,7 @@ use Rattle.vx_layout.specs.declared.nodes.LayoutKind.{LayoutKind}
 use Rattle.vx_layout.specs.declared.nodes.LayoutKind.TheVariants as kinds
 use Rattle.vx_layout.specs.declared.rules.ShapeRule.TheVariants.{ChildCount}
 use Rattle.vx_layout.specs.Nodes.{Node}
-use Rattle.vx_layout.specs.Shape.{validity_count, CountFits, HasFittingCount, IsGoodTree}
+use Rattle.vx_layout.specs.Shape.{validity_count, CountFits, HasFittingCount, IsGoodTree, IsLater}
 use Rattle.vx_rows.specs.Heads.{Head}
 use Rattle.vx_rows.specs.Zones.{zones_of}
 use Rattle.vx_layout.specs.Trees.{Tree, fields, dict, lists, zoned, head_at, forest_from, child_in, field_trees, validity_in, grown_as, grown, subtree}
@@ -51,7 +51,7 @@ count_is nodes n node kind is =
 -- ---- leaves and chunks
 
 pub leaf_parts : (nodes : List Node) (n : ℕ) (node : Node) (segment : ℕ) → IsNode nodes n node (kinds.Flat segment) → IsLeafNode nodes n segment
-leaf_parts nodes n node segment is = record { tree = tree_is nodes n node (kinds.Flat segment) is; later = All-nil (λ child. (n < child) × (child < length nodes)) }
+leaf_parts nodes n node segment is = record { tree = tree_is nodes n node (kinds.Flat segment) is; later = All-nil (IsLater nodes n) }
 
 pub chunk_parts : (nodes : List Node) (n : ℕ) (node : Node) (ns : List ℕ) → IsNode nodes n node kinds.Chunked → ns ≡ node.children → IsChunked nodes n ns
 chunk_parts nodes n node ns is these = subst (IsChunked nodes n) (sym these) (record { tree = tree_is nodes n node kinds.Chunked is; later = is.later })
@@ -61,10 +61,9 @@ chunk_parts nodes n node ns is these = subst (IsChunked nodes n) (sym these) (re
 later_swapped : (nodes : List Node) (n m : ℕ) (ns : List ℕ) → AreLater nodes n (m ∷ ns) → AreLater nodes n (ns ++ m ∷ [])
 later_swapped nodes n m [] later = later
 later_swapped nodes n m (k ∷ ns) later =
-    let Later : ℕ → Type 0 = λ (child : ℕ). (n < child) × (child < length nodes) in
-    let rest = All-tail Later m (k ∷ ns) later in
-    All-cons Later k (ns ++ m ∷ []) (All-head Later k ns rest)
-    (later_swapped nodes n m ns (All-cons Later m ns (All-head Later m (k ∷ ns) later) (All-tail Later k ns rest)))
+    let rest = All-tail (IsLater nodes n) m (k ∷ ns) later in
+    All-cons (IsLater nodes n) k (ns ++ m ∷ []) (All-head (IsLater nodes n) k ns rest)
+    (later_swapped nodes n m ns (All-cons (IsLater nodes n) m ns (All-head (IsLater nodes n) m (k ∷ ns) later) (All-tail (IsLater nodes n) k ns rest)))
 
 plain_by : (nodes : List Node) (n : ℕ) (k : Nullability) (ns : List ℕ) → takes_null k ≡ false → subtree nodes n ≡ fields (tree_head nodes n) (forest_from (field_trees k (map (subtree nodes) ns))) (validity_in k (map (subtree nodes) ns) 0) → AreLater nodes n ns → IsStructNode nodes n ns None
 plain_by nodes n NonNullable ns plain is later = record { tree = is; later = subst (AreLater nodes n) (sym (append-nil ns)) later }

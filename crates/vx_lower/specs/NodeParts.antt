@@ -6,7 +6,7 @@ use Rattle.vx_expr.specs.declared.statistics.Statistic.{Statistic}
 use Rattle.vx_layout.specs.Kept.{KeptFields, all}
 use Rattle.vx_layout.specs.Nodes.{Node}
 use Rattle.vx_layout.specs.Rows.{struct_members}
-use Rattle.vx_layout.specs.Shape.{IsGoodTree}
+use Rattle.vx_layout.specs.Shape.{IsGoodTree, IsLater}
 use Rattle.vx_rows.specs.TypeForms.{IsStruct}
 use Rattle.vx_rows.specs.Heads.{Head}
 use Rattle.vx_rows.specs.Zones.{Zones, zones_of}
@@ -38,7 +38,7 @@ validity_of nodes (Some n) = valid_by (subtree nodes n)
 
 -- these are later nodes of the tree
 abbrev pub AreLater : List Node → ℕ → List ℕ → Type 0
-AreLater nodes n ns = All (λ child. (n < child) × (child < length nodes)) ns
+AreLater nodes n ns = All (IsLater nodes n) ns
 
 -- the node stands for the tree, whose parts are those of these later nodes
 pub record IsOver (nodes : List Node) (n : ℕ) (t : Tree) (ns : List ℕ) : Type 0 where

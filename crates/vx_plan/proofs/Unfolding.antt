@@ -6,11 +6,12 @@ use Rattle.std.proofs.lemmas.List.Elements.{All-head, All-tail}
 use Rattle.vx_plan.specs.Nodes.{Node}
 use Rattle.vx_plan.specs.declared.nodes.PlanKind.{PlanKind}
 use Rattle.vx_plan.specs.Plans.{Plan, head_at, plan_grown_as, plan_grown, plan_grow, plan_at}
-use Rattle.vx_plan.specs.Tables.{HasEarlierChildren, IsGoodNode, IsGoodTable}
+use Rattle.vx_plan.specs.Tables.{IsGoodNode, IsGoodTable}
 use Rattle.vx_rows.proofs.Each.{if_some_weaker}
 
+-- the children of each plan have lesser numbers than the plan
 abbrev pub HaveEarlier : List Node → Type 0
-HaveEarlier nodes = (n : ℕ) → HasEarlierChildren nodes n
+HaveEarlier nodes = (n : ℕ) → IfSome (slice_get nodes n) (λ node. All (λ child. child < n) node.children)
 
 abbrev Same : (ℕ → Plan) → (ℕ → Plan) → List ℕ → Type 0
 Same f g ns = All (λ n. f n ≡ g n) ns

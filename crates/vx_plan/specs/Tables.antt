@@ -24,10 +24,6 @@ pub record IsAdded (old new : List Node) (node : Node) (number : ℕ) : Type 0 w
   pub kept : KeepsRules node (nodes_at old node.children)
   pub good : IsGoodTable new
 
--- the children have lesser numbers than the plan
-abbrev pub HasEarlierChildren : List Node → ℕ → Type 0
-HasEarlierChildren nodes number = IfSome (slice_get nodes number) (λ node. All (λ child. child < number) node.children)
-
 -- the child of the plan at the place is that number, and lower than the plan's
 pub record IsChildAt (nodes : List Node) (number place child : ℕ) : Type 0 where
   pub at : slice_get (node_at nodes number).children place ≡ Some child

@@ -20,7 +20,7 @@ use Rattle.vx_plan.specs.Nodes.{Node, absent}
 use Rattle.vx_plan.specs.Refs.{number_of}
 use Rattle.vx_rows.specs.Heads.{Head}
 use Rattle.vx_rows.specs.Zones.{zones_of}
-use Rattle.vx_plan.specs.Plans.{Plan, PlanValidity, plan_head, head_at, plan_at, plans_from, field_plans, last_validity, eval_plan, filter_plan, pack_plan, take_plan, share_plan, list_plan, row_idx_plan, scan_plan, zoned_plan}
+use Rattle.vx_plan.specs.Plans.{Plan, plan_head, head_at, plan_at, plans_from, field_plans, last_validity, eval_plan, filter_plan, pack_plan, take_plan, share_plan, row_idx_plan, scan_plan, zoned_plan}
 use Rattle.vx_plan.specs.Rules.{field_count, node_at, nodes_at, PackFits, ValidityFits, IsMadeAs, TypesFit, IsBoundOver, HasUnsignedCodes, HasLeafType}
 use Rattle.vx_plan.specs.Shapes.{HasShape, IsOver, zoned_kind}
 use Rattle.vx_plan.specs.Tables.{IsGoodNode, IsGoodTable}
@@ -214,20 +214,13 @@ over_plan nodes good n child known has =
     let w = shape_there nodes n (shapes.Over child) known has in
     record { expression = w.expression; plan = eval_plan_at nodes good n child w.expression known has w.over.kind_is }
 
--- ---- row numbers and lists
+-- ---- row numbers
 
 pub numbers_law : (nodes : List Node) (n : ℕ) → n < length nodes → HasShape nodes n shapes.RowNumbers → plan_at nodes n ≡ row_idx_plan (head_of nodes n)
 numbers_law nodes n known has = (shape_there nodes n shapes.RowNumbers known has).law
 
 pub numbers_type : (nodes : List Node) (n : ℕ) → n < length nodes → HasShape nodes n shapes.RowNumbers → (node_at nodes n).dtype ≡ row_number_type
 numbers_type nodes n known has = (made_of nodes n (node_at nodes n) _ kinds.RowIdx [] (shape_there nodes n shapes.RowNumbers known has)).0
-
--- a list, whatever stands below it
-pub record IsListPlan (nodes : List Node) (n : ℕ) : Type 0 where
-  pub elements : Plan
-  pub offsets : Plan
-  pub validity : PlanValidity
-  pub law : plan_at nodes n ≡ list_plan (head_of nodes n) elements offsets validity
 
 -- ---- structs
 

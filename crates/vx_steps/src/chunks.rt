@@ -46,7 +46,8 @@ fn is_place_of(offsets: &[u64], place: usize, row: u64) -> bool
     next == offsets.len() || row < offsets[next]
 }
 
-/// The last place whose offset isn't past the row. It is searched for, unless it is the one that is tried.
+/// The last place whose offset isn't past the row. It is searched for, unless it is the one that is tried: rows are mostly
+/// gone through in order.
 fn place_near(offsets: &[u64], tried: usize, row: u64) -> usize
     requires { HoldsPlace offsets.now row 0 (length offsets.now) }
     ensures { HoldsPlace offsets.now row result (result + 1) }
