@@ -18,7 +18,8 @@ abbrev pub have_sources : Option ℕ → ℕ → Bool
 have_sources None count = true
 have_sources (Some workers) count = nat_le workers count
 
--- how many workers serve: so many as are said, else four, or as many as there are sources where those are fewer
+-- how many workers serve: so many as are said, else as many as a scan has pieces in hand where nothing is said of it, or
+-- as many as there are sources where those are fewer
 abbrev pub workers_of : Option ℕ → ℕ → ℕ
 workers_of None count = min default_concurrency count
 workers_of (Some workers) count = workers
