@@ -31,10 +31,15 @@ pub enum ColumnError {
 }
 
 /// A dtype and values that it takes, one for each row.
-#[derive(Drop)]
 pub struct Column {
     dtype: DType,
     rows: Rows,
+}
+
+impl Drop for Column {
+    fn drop(self) {
+        let Column { dtype: _, rows: _ } = self;
+    }
 }
 
 impl Model for Column {
@@ -122,7 +127,9 @@ impl Column {
         ensures values { IfOk result (λ part. part.values ≡ self.values) }
         ensures column { IfOk result (λ part. IsColumn self.dtype part) }
     {
-        let part = self.rows.into_shared(alloc)?;
+        let Column { dtype, rows } = self;
+        drop(dtype);
+        let part = rows.into_shared(alloc)?;
         Ok(part)
     }
 

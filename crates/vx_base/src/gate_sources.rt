@@ -1,7 +1,7 @@
 //! A source of segments over a file that lies in memory, whose reads wait at a gate: until so many requests were made of
 //! all sources that share it. It shows, in tests, which workers run side by side.
 
-ghost use Rattle.std.specs.Prelude.{◌≡◌, ◌^◌, ◌-◌, [], Some, None, IsSome, IfSome, IfOk, false};
+ghost use Rattle.std.specs.Prelude.{◌≡◌, ◌^◌, ◌+◌, ◌-◌, [], Some, None, IsSome, IfSome, IfOk, OnErr, false};
 ghost use Rattle.std.specs.Arc.{arc_value};
 ghost use Rattle.vx_base.specs.GateSources.{AddsOf, gate_adds, gate_state, gate_tickets, gate_wanted, IfItWaits, gate_waits};
 ghost use Rattle.vx_base.specs.Sources.{RequestGives, PollGives, Cleared, location_of, bytes_at};
@@ -121,6 +121,10 @@ impl SegmentSource for GateSource {
     fn request(&mut self, id: u32, at: SegmentLocation) -> Result<u64, SourceError>
         ensures gives { RequestGives result at (gate_state self.old) (gate_state self.new) }
         ensures no_ticket_left { FailsWhere result (gate_tickets self.old ≡ 2 ^ 64 - 1) }
+        ensures ticket { IfOk result (λ ticket. ticket ≡ gate_tickets self.old) }
+        ensures counted { IfOk result (λ _. gate_tickets self.new ≡ gate_tickets self.old + 1) }
+        ensures not_counted { OnErr result (gate_tickets self.new ≡ gate_tickets self.old) }
+        ensures not_asked { OnErr result ((gate_state self.new).asked ≡ (gate_state self.old).asked) }
         ensures faults { CountsFaults result (gate_state self.old).faults (gate_state self.new).faults }
         ensures adds { AddsOf result (gate_adds self.old) (gate_adds self.new) }
         ensures waits { gate_waits self.new ≡ gate_waits self.old }
@@ -147,6 +151,7 @@ impl SegmentSource for GateSource {
             (λ at. IfSome (gate_state self.old).file (λ file. FailsWhere result (bytes_at file at ≡ None))) }
         ensures faults { CountsFaults result (gate_state self.old).faults (gate_state self.new).faults }
         ensures idle { CountsIdle result (gate_state self.old).idle (gate_state self.new).idle }
+        ensures tickets { gate_tickets self.new ≡ gate_tickets self.old }
         ensures adds { gate_adds self.new ≡ gate_adds self.old }
         ensures waits { gate_waits self.new ≡ gate_waits self.old }
     {

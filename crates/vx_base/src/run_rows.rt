@@ -17,11 +17,20 @@ use vx_words::Mask;
 const PIECE: u64 = 65536;
 
 /// Values that each fill the rows from the end before them to their own, and which rows have a value.
-#[derive(Drop)]
 pub(crate) struct Runs {
     validity: Mask,
     values: Part,
     ends: Vec<u64>,
+}
+
+impl Drop for Runs {
+    fn drop(self) {
+        let Runs {
+            validity: _,
+            values: _,
+            ends: _,
+        } = self;
+    }
 }
 
 impl Model for Runs {

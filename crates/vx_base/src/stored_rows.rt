@@ -21,7 +21,6 @@ use vx_types::Value;
 use vx_words::Mask;
 
 /// The rows of a column.
-#[derive(Drop)]
 pub(crate) enum Rows {
     /// Packed, and this column's alone.
     Plain(Part),
@@ -29,6 +28,16 @@ pub(crate) enum Rows {
     Shared(SharedPart),
     /// In runs.
     Runs(Runs),
+}
+
+impl Drop for Rows {
+    fn drop(self) {
+        match self {
+            Rows::Plain(_) => {}
+            Rows::Shared(_) => {}
+            Rows::Runs(_) => {}
+        }
+    }
 }
 
 /// How rows lie, whoever has them: packed, or in runs.

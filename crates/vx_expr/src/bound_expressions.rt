@@ -31,13 +31,24 @@ use vx_base::{DType, Field, Fields, Nullability, Text};
 const DEEPEST: u64 = 64;
 
 /// An expression that is bound to the dtype of its root.
-#[derive(Debug, Drop)]
+#[derive(Debug)]
 pub struct BoundExpression {
     expr: Expr,
     root: DType,
     dtype: DType,
     /// The places of the fields that it gets and the kinds of the numbers that it joins.
     found: Vec<Found>,
+}
+
+impl Drop for BoundExpression {
+    fn drop(self) {
+        let BoundExpression {
+            expr: _,
+            root: _,
+            dtype: _,
+            found: _,
+        } = self;
+    }
 }
 
 impl Model for BoundExpression {

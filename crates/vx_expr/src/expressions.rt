@@ -13,7 +13,7 @@ use vx_operators::{ArithOp, CompareOp};
 
 /// What is computed of a row: of its root value, its number and a bound.
 #[cycle(expressions)]
-#[derive(Debug, Drop)]
+#[derive(Debug)]
 pub enum Expr {
     /// The root value itself.
     Root,
@@ -41,6 +41,27 @@ pub enum Expr {
     RowIdx,
     /// Whether a number is at most the bound.
     AtMostBound(Operand),
+}
+
+impl Drop for Expr {
+    #[cycle(expressions_let_go)]
+    fn drop(self) {
+        match self {
+            Expr::Root => {}
+            Expr::Lit(_, _) => {}
+            Expr::GetField(_, _) => {}
+            Expr::Pack(_) => {}
+            Expr::Not(_) => {}
+            Expr::And(_, _) => {}
+            Expr::Or(_, _) => {}
+            Expr::Compare(_, _, _) => {}
+            Expr::IsNull(_) => {}
+            Expr::IsNotNull(_) => {}
+            Expr::Arith(_, _, _) => {}
+            Expr::RowIdx => {}
+            Expr::AtMostBound(_) => {}
+        }
+    }
 }
 
 /// An expression inside another one, seen as that expression.

@@ -17,7 +17,6 @@ use vx_types::IntKind;
 use vx_words::Mask;
 
 /// Whole numbers of a kind, in order.
-#[derive(Drop)]
 pub enum Numbers {
     U8(Primitive<u8>),
     U16(Primitive<u16>),
@@ -27,6 +26,21 @@ pub enum Numbers {
     I16(Primitive<i16>),
     I32(Primitive<i32>),
     I64(Primitive<i64>),
+}
+
+impl Drop for Numbers {
+    fn drop(self) {
+        match self {
+            Numbers::U8(_) => {}
+            Numbers::U16(_) => {}
+            Numbers::U32(_) => {}
+            Numbers::U64(_) => {}
+            Numbers::I8(_) => {}
+            Numbers::I16(_) => {}
+            Numbers::I32(_) => {}
+            Numbers::I64(_) => {}
+        }
+    }
 }
 
 /// What an expression gives for the numbers of whichever kind.

@@ -58,10 +58,19 @@ impl Model for Parts {
 
 /// Which rows are valid, and what all rows hold.
 #[cycle(parts)]
-#[derive(Drop)]
 pub struct Part {
     validity: Mask,
     slots: Slots,
+}
+
+impl Drop for Part {
+    #[cycle(parts_let_go)]
+    fn drop(self) {
+        let Part {
+            validity: _,
+            slots: _,
+        } = self;
+    }
 }
 
 impl Model for Part {
