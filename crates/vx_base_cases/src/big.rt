@@ -1,6 +1,6 @@
 //! Columns of many rows, which are built here and told by their count and their last row.
 
-ghost use Rattle.std.specs.Prelude.{◌≡◌, IfOk, IsTrue, map};
+ghost use Rattle.std.specs.Prelude.{◌≡◌, ◌≤◌, IfOk, IsTrue, length, map};
 ghost use Rattle.std.specs.List.{AllByRecursion};
 ghost use Rattle.vx_base.specs.Data.{utf8_type};
 ghost use Rattle.vx_base.specs.declared.dtypes.Nullability.TheVariants.{Nullable};
@@ -8,8 +8,10 @@ ghost use Rattle.vx_base.specs.Segment.{IsShort};
 ghost use Rattle.vx_base.specs.ValueViews.{datum};
 
 use crate::built::texts_or_nulls;
+use crate::column_calls::runs;
 use crate::fields::number_of;
 use std::alloc::{AllocError, Global};
+use std::ops::Range;
 use vx_base::{Column, Text, Value, decode, encode};
 use vx_notation::write_value;
 
@@ -142,10 +144,80 @@ fn write_coded(alloc: Global, column: &Column, out: &mut String) -> Result<(), A
     write_read(alloc, column, bytes.as_slice(), out)
 }
 
-/// The answer to `big joined COUNT` and `big coded COUNT`.
+/// Appends how many rows there are, the last one, and how they lie.
+fn write_lying(
+    alloc: Global,
+    what: &str,
+    column: &Column,
+    out: &mut String,
+) -> Result<(), AllocError> {
+    let lying = if column.part().is_some() {
+        ", packed one by one"
+    } else {
+        ", in runs"
+    };
+    out.push_str(what)
+        .and(write_told(alloc, column, out))
+        .and(out.push_str(lying))
+}
+
+/// Appends it of the rows of a range.
+fn write_range(
+    alloc: Global,
+    column: &Column,
+    rows: Range<u64>,
+    out: &mut String,
+) -> Result<(), AllocError>
+    requires forwards { rows.start ≤ rows.end }
+    requires inside { rows.end ≤ length column.now.values }
+{
+    let range = column.slice(alloc, rows)?;
+    let written = write_lying(alloc, "; of a range ", &range, out);
+    drop(range);
+    written
+}
+
+/// Appends it of the rows that aren't null.
+fn write_filled(alloc: Global, column: &Column, out: &mut String) -> Result<(), AllocError> {
+    let filled = column.filter(alloc, column.validity())?;
+    let written = write_lying(alloc, "; without nulls ", &filled, out);
+    drop(filled);
+    written
+}
+
+/// Appends it of the rows of a range that aren't null.
+fn write_filled_range(
+    alloc: Global,
+    column: &Column,
+    rows: Range<u64>,
+    out: &mut String,
+) -> Result<(), AllocError>
+    requires forwards { rows.start ≤ rows.end }
+    requires inside { rows.end ≤ length column.now.values }
+{
+    let mask = column.validity().slice(alloc, rows.start..rows.end)?;
+    let filled = column.filter_range(alloc, rows, &mask)?;
+    let written = write_lying(alloc, "; of the range without nulls ", &filled, out);
+    drop(filled);
+    written
+}
+
+/// Appends what is told of a column of runs, of its rows but the first and the last, and of those that aren't null.
+fn write_runs(alloc: Global, column: &Column, out: &mut String) -> Result<(), AllocError> {
+    write_lying(alloc, "", column, out)?;
+    let rows = column.len();
+    if rows < 2 {
+        return Ok(());
+    }
+    write_range(alloc, column, 1..rows - 1, out)
+        .and(write_filled(alloc, column, out))
+        .and(write_filled_range(alloc, column, 1..rows - 1, out))
+}
+
+/// The answer to `big joined COUNT`, `big coded COUNT` and `big runs DTYPE | VALUES | ENDS`.
 pub(crate) fn write_big(alloc: Global, rest: &str, out: &mut String) -> Result<(), AllocError> {
-    let (word, count) = rest.split_once(' ').unwrap_or((rest, ""));
-    let count = number_of(count);
+    let (word, told) = rest.split_once(' ').unwrap_or((rest, ""));
+    let count = number_of(told);
     match word {
         "joined" => {
             let joined = joined_column(alloc, count)?;
@@ -157,6 +229,14 @@ pub(crate) fn write_big(alloc: Global, rest: &str, out: &mut String) -> Result<(
             let texts = texts_of(alloc, 0, count)?;
             let written = write_coded(alloc, &texts, out);
             drop(texts);
+            written
+        }
+        "runs" => {
+            let Some(column) = runs(alloc, told, out) else {
+                return Ok(());
+            };
+            let written = write_runs(alloc, &column, out);
+            drop(column);
             written
         }
         _ => Ok(()),
