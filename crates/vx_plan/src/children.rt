@@ -23,16 +23,21 @@ impl PlanRef {
 }
 
 /// How children are kept: an only child takes no memory of its own.
-#[derive(Debug, Drop)]
+#[derive(Drop)]
 enum ChildPlans {
     One(PlanRef),
     Many(Vec<PlanRef>),
 }
 
 /// The children of a plan, in order, seen as their numbers.
-#[derive(Debug, Drop)]
 pub struct PlanChildren {
     plans: ChildPlans,
+}
+
+impl Drop for PlanChildren {
+    fn drop(self) {
+        let PlanChildren { plans: _ } = self;
+    }
 }
 
 impl Model for PlanChildren {
@@ -72,7 +77,8 @@ impl PlanChildren {
     fn into_vec(self, alloc: Global) -> Result<Vec<PlanRef>, AllocError>
         ensures { IfOk result (λ plans. map number_of plans.items ≡ self) }
     {
-        match self.plans {
+        let PlanChildren { plans } = self;
+        match plans {
             ChildPlans::One(plan) => {
                 let mut plans = Vec::with_capacity(alloc, 2)?;
                 plans.push(plan)?;

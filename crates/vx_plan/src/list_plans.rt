@@ -1,6 +1,9 @@
 //! Plans of lists.
 
 ghost use Rattle.std.specs.Prelude.{◌≡◌, ◌<◌, ◌↔◌, ◌∷◌, length, IfErr, IfOk, IfSome, IsSome, IsTrue, OnErr, option_map};
+ghost use Rattle.std.specs.Arc.{arc_value};
+ghost use Rattle.vx_base.specs.Data.{list_type};
+ghost use Rattle.vx_base.specs.Views.{data_type};
 ghost use Rattle.vx_plan.specs.Kinds.{has_validity_of, validity_of, HasKind, IsListPack};
 ghost use Rattle.vx_plan.specs.Limits.{most_plans};
 ghost use Rattle.vx_plan.specs.Refs.{number_of};
@@ -12,9 +15,22 @@ use crate::errors::PlanError;
 use crate::nodes::{PlanKind, PlanNode};
 use crate::plan_types::ListPackPlan;
 use crate::tables::PlanTable;
-use std::alloc::Global;
+use std::alloc::{AllocError, Global};
 use std::sync::Arc;
 use vx_base::{DType, Element, Nullability};
+
+/// The dtype of lists of the elements, behind a handle.
+fn lists_of(
+    alloc: Global,
+    elements: &DType,
+    nullability: Nullability,
+) -> Result<Arc<DType, Global>, AllocError>
+    ensures { IfOk result (λ dtype. data_type (arc_value dtype) ≡ list_type (data_type elements.now) nullability) }
+{
+    let element = Element::of(alloc, elements.copy(alloc)?)?;
+    let dtype = Arc::new(alloc, DType::List(element, nullability))?;
+    Ok(dtype)
+}
 
 impl ListPackPlan {
     /// A plan of lists of the elements, cut at the offsets, null where the validity is false: rules 1, 2 and 5.
@@ -36,8 +52,7 @@ impl ListPackPlan {
         ensures refused { IfErr result (RefusedBy (list_node table.old nullability row_count (number_of elements) (number_of offsets) (option_map number_of validity)) (nodes_at table.old (number_of elements ∷ number_of offsets ∷ given_validity (option_map number_of validity)))) }
     {
         let has_validity = validity.is_some();
-        let element = Element::of(alloc, table.dtype(elements).copy(alloc)?)?;
-        let dtype = Arc::new(alloc, DType::List(element, nullability))?;
+        let dtype = lists_of(alloc, table.dtype(elements), nullability)?;
         let children = with_validity(alloc, two_children(alloc, elements, offsets)?, validity)?;
         let node = PlanNode {
             kind: PlanKind::ListPack { has_validity },

@@ -13,9 +13,14 @@ use vx_expr::{BoundExpression, Statistics};
 
 /// An expression in memory of its own, seen as that expression: few plans have one, and no other plan has to have room
 /// for it.
-#[derive(Debug, Drop)]
 pub struct EvalExpression {
     bound: Box<BoundExpression>,
+}
+
+impl Drop for EvalExpression {
+    fn drop(self) {
+        let EvalExpression { bound: _ } = self;
+    }
 }
 
 impl Model for EvalExpression {
@@ -46,7 +51,7 @@ impl EvalExpression {
 }
 
 /// What a plan does, and what its children are, in order.
-#[derive(Debug, Drop)]
+#[derive(Drop)]
 pub enum PlanKind {
     /// The rows of its children, one child after another.
     Concat,
@@ -75,13 +80,24 @@ pub enum PlanKind {
 
 /// A plan: its kind, the dtype and the number of its rows, its children, and of a concat the row at which each child
 /// starts. A plan that has the dtype of a child shares it.
-#[derive(Drop)]
 pub struct PlanNode {
     pub kind: PlanKind,
     pub dtype: Arc<DType, Global>,
     pub row_count: u64,
     pub children: PlanChildren,
     pub row_offsets: Vec<u64>,
+}
+
+impl Drop for PlanNode {
+    fn drop(self) {
+        let PlanNode {
+            kind: _,
+            dtype: _,
+            row_count: _,
+            children: _,
+            row_offsets: _,
+        } = self;
+    }
 }
 
 impl PlanNode {

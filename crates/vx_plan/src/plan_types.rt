@@ -5,7 +5,7 @@ ghost use Rattle.std.specs.Prelude.{◌≡◌};
 use crate::children::PlanRef;
 
 /// The rows of its children, one child after another.
-#[derive(Clone, Copy, Debug, PartialEq, Eq)]
+#[derive(Clone, Copy)]
 pub struct ConcatPlan {
     pub(crate) plan: PlanRef,
 }
@@ -20,7 +20,7 @@ impl ConcatPlan {
 }
 
 /// The expression at each row of its child.
-#[derive(Clone, Copy, Debug, PartialEq, Eq)]
+#[derive(Clone, Copy)]
 pub struct EvalPlan {
     pub(crate) plan: PlanRef,
 }
@@ -35,7 +35,7 @@ impl EvalPlan {
 }
 
 /// The rows of its child.
-#[derive(Clone, Copy, Debug, PartialEq, Eq)]
+#[derive(Clone, Copy)]
 pub struct FilterPlan {
     pub(crate) plan: PlanRef,
 }
@@ -50,7 +50,7 @@ impl FilterPlan {
 }
 
 /// Structs of one field for each child.
-#[derive(Clone, Copy, Debug, PartialEq, Eq)]
+#[derive(Clone, Copy)]
 pub struct PackPlan {
     pub(crate) plan: PlanRef,
 }
@@ -65,7 +65,7 @@ impl PackPlan {
 }
 
 /// The values at the codes.
-#[derive(Clone, Copy, Debug, PartialEq, Eq)]
+#[derive(Clone, Copy)]
 pub struct TakePlan {
     pub(crate) plan: PlanRef,
 }
@@ -80,7 +80,7 @@ impl TakePlan {
 }
 
 /// The rows of its child, which is read whole.
-#[derive(Clone, Copy, Debug, PartialEq, Eq)]
+#[derive(Clone, Copy)]
 pub struct SharePlan {
     pub(crate) plan: PlanRef,
 }
@@ -95,7 +95,7 @@ impl SharePlan {
 }
 
 /// Lists of elements, cut at offsets.
-#[derive(Clone, Copy, Debug, PartialEq, Eq)]
+#[derive(Clone, Copy)]
 pub struct ListPackPlan {
     pub(crate) plan: PlanRef,
 }
@@ -110,7 +110,7 @@ impl ListPackPlan {
 }
 
 /// The numbers of the rows.
-#[derive(Clone, Copy, Debug, PartialEq, Eq)]
+#[derive(Clone, Copy)]
 pub struct RowIdxPlan {
     pub(crate) plan: PlanRef,
 }
@@ -125,7 +125,7 @@ impl RowIdxPlan {
 }
 
 /// The rows of a segment.
-#[derive(Clone, Copy, Debug, PartialEq, Eq)]
+#[derive(Clone, Copy)]
 pub struct SegmentScanPlan {
     pub(crate) plan: PlanRef,
 }
@@ -140,7 +140,7 @@ impl SegmentScanPlan {
 }
 
 /// The rows of its data, which stand in zones.
-#[derive(Clone, Copy, Debug, PartialEq, Eq)]
+#[derive(Clone, Copy)]
 pub struct ZonedPlan {
     pub(crate) plan: PlanRef,
 }
@@ -155,7 +155,7 @@ impl ZonedPlan {
 }
 
 /// The rows of its data, which stand in zones of an older form.
-#[derive(Clone, Copy, Debug, PartialEq, Eq)]
+#[derive(Clone, Copy)]
 pub struct LegacyStatsPlan {
     pub(crate) plan: PlanRef,
 }

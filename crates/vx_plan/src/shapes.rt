@@ -10,7 +10,7 @@ use crate::nodes::PlanKind;
 use crate::tables::PlanTable;
 
 /// What a plan is over, by the numbers of its children.
-#[derive(Clone, Copy, Debug, PartialEq, Eq)]
+#[derive(Clone, Copy)]
 pub enum Shape {
     /// A segment.
     Leaf(u32),

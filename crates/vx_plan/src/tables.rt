@@ -21,9 +21,14 @@ use std::sync::Arc;
 use vx_base::DType;
 
 /// A table of plans: nodes that keep the rules of their kinds, with children below their parents.
-#[derive(Drop)]
 pub struct PlanTable {
     nodes: Vec<PlanNode>,
+}
+
+impl Drop for PlanTable {
+    fn drop(self) {
+        let PlanTable { nodes: _ } = self;
+    }
 }
 
 impl Model for PlanTable {
