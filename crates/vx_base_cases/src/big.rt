@@ -214,6 +214,16 @@ fn write_runs(alloc: Global, column: &Column, out: &mut String) -> Result<(), Al
         .and(write_filled_range(alloc, column, 1..rows - 1, out))
 }
 
+/// The answer to `big runs DTYPE | VALUES | ENDS`.
+fn write_big_runs(alloc: Global, rest: &str, out: &mut String) -> Result<(), AllocError> {
+    let Some(column) = runs(alloc, rest, out) else {
+        return Ok(());
+    };
+    let written = write_runs(alloc, &column, out);
+    drop(column);
+    written
+}
+
 /// The answer to `big joined COUNT`, `big coded COUNT` and `big runs DTYPE | VALUES | ENDS`.
 pub(crate) fn write_big(alloc: Global, rest: &str, out: &mut String) -> Result<(), AllocError> {
     let (word, told) = rest.split_once(' ').unwrap_or((rest, ""));
@@ -231,14 +241,7 @@ pub(crate) fn write_big(alloc: Global, rest: &str, out: &mut String) -> Result<(
             drop(texts);
             written
         }
-        "runs" => {
-            let Some(column) = runs(alloc, told, out) else {
-                return Ok(());
-            };
-            let written = write_runs(alloc, &column, out);
-            drop(column);
-            written
-        }
+        "runs" => write_big_runs(alloc, told, out),
         _ => Ok(()),
     }
 }
