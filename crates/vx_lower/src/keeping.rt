@@ -19,12 +19,22 @@ use vx_layout::kept_flags;
 
 /// The fields that are kept of the root: their names, which of its fields they are, the dtype of structs of them,
 /// and the expression that packs them.
-#[derive(Drop)]
 pub(crate) struct Keeping<'a> {
     pub(crate) names: &'a [Text],
     pub(crate) flags: Vec<bool>,
     pub(crate) dtype: Arc<DType, Global>,
     pub(crate) pack: BoundExpression,
+}
+
+impl<'a> Drop for Keeping<'a> {
+    fn drop(self) {
+        let Keeping {
+            names: _,
+            flags: _,
+            dtype: _,
+            pack: _,
+        } = self;
+    }
 }
 
 /// The fields of a struct dtype.

@@ -1,6 +1,6 @@
 //! What a line of a plan's text says behind the plan's name: a summary of the plan, and what callers have to say.
 
-ghost use Rattle.std.specs.Prelude.{◌≡◌, ◌<◌, ◌++◌, length, map, OnOk};
+ghost use Rattle.std.specs.Prelude.{◌≡◌, ◌<◌, ◌++◌, length, map, OnErr, OnOk};
 ghost use Rattle.vx_lower.specs.PlanText.{all_headers, dtype_part, expression_text, headers_text, rows_part, summary_text, Header};
 ghost use Rattle.vx_plan.specs.Refs.{number_of};
 ghost use Rattle.vx_plan.specs.Rules.{node_at};
@@ -12,7 +12,8 @@ use vx_plan::{PlanRef, PlanTable};
 pub trait PlanTreeExtractor: Drop {
     ghost header: { Self → Header };
 
-    /// Appends what there is to say of a plan to its line, and nothing else.
+    /// Appends what there is to say of a plan to its line, and nothing else. Where memory runs out, the line is as it
+    /// was.
     fn write_header(
         &self,
         alloc: Global,
@@ -21,7 +22,8 @@ pub trait PlanTreeExtractor: Drop {
         out: &mut Vec<u8>,
     ) -> Result<(), AllocError>
         requires { number_of plan < length table.now }
-        ensures { OnOk result (out.new.items ≡ out.old.items ++ header self.now table.now (number_of plan)) };
+        ensures said { OnOk result (out.new.items ≡ out.old.items ++ header self.now table.now (number_of plan)) }
+        ensures unchanged { OnErr result (out.new.items ≡ out.old.items) };
 }
 
 /// Says of a plan which kind it is of, its dtype and its number of rows, and its expression where it has one: a space,
@@ -79,6 +81,24 @@ fn write_expression(
     }
 }
 
+/// Appends the summary of a plan.
+fn write_summary(
+    alloc: Global,
+    table: &PlanTable,
+    plan: PlanRef,
+    out: &mut Vec<u8>,
+) -> Result<(), AllocError>
+    requires { number_of plan < length table.now }
+    ensures { OnOk result (out.new.items ≡ out.old.items ++ summary_text table.now (number_of plan)) }
+{
+    let id = table.id(plan);
+    out.push(b' ')?;
+    out.extend_from_slice(id.text().as_bytes())?;
+    write_dtype(alloc, table, plan, out)?;
+    write_rows(alloc, table, plan, out)?;
+    write_expression(alloc, table, plan, out)
+}
+
 impl PlanTreeExtractor for PlanSummaryExtractor {
     ghost header = { λ _. summary_text };
 
@@ -89,12 +109,10 @@ impl PlanTreeExtractor for PlanSummaryExtractor {
         plan: PlanRef,
         out: &mut Vec<u8>,
     ) -> Result<(), AllocError> {
-        let id = table.id(plan);
-        out.push(b' ')?;
-        out.extend_from_slice(id.text().as_bytes())?;
-        write_dtype(alloc, table, plan, out)?;
-        write_rows(alloc, table, plan, out)?;
-        write_expression(alloc, table, plan, out)
+        // In memory of its own first, so that the line gets all of it or nothing.
+        let mut text = Vec::new(alloc);
+        write_summary(alloc, table, plan, &mut text)?;
+        out.extend_from_slice(&text)
     }
 }
 
@@ -146,9 +164,11 @@ impl PlanTreeExtractor for AllHeaders {
         plan: PlanRef,
         out: &mut Vec<u8>,
     ) -> Result<(), AllocError> {
+        let mut text = Vec::new(alloc);
         if self.has_summary {
-            PlanSummaryExtractor.write_header(alloc, table, plan, out)?;
+            write_summary(alloc, table, plan, &mut text)?;
         }
-        write_each(alloc, &self.extractors, table, plan, out)
+        write_each(alloc, &self.extractors, table, plan, &mut text)?;
+        out.extend_from_slice(&text)
     }
 }

@@ -105,9 +105,10 @@ fn field(alloc: Global, name: &str, dtype: DType) -> Result<Field, AllocError>
 fn numbered_fields(alloc: Global, dtype: &DType) -> Result<Fields, AllocError>
     ensures { IfOk result (λ fields. fields ≡ numbered_members (data_type dtype.now)) }
 {
-    let row_idx = field(alloc, "row_idx", row_idx_dtype())?;
-    let child = field(alloc, "child", dtype.copy(alloc)?)?;
-    Ok(Fields::from_vec(vec![in alloc; row_idx, child]?))
+    let mut fields = Vec::with_capacity(alloc, 2)?;
+    fields.push(field(alloc, "row_idx", row_idx_dtype())?)?;
+    fields.push(field(alloc, "child", dtype.copy(alloc)?)?)?;
+    Ok(Fields::from_vec(fields))
 }
 
 /// Adds the plan of structs of a row's number and a row of the child.

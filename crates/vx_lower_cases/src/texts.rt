@@ -23,9 +23,7 @@ impl PlanTreeExtractor for Letter {
         _plan: PlanRef,
         out: &mut Vec<u8>,
     ) -> Result<(), AllocError> {
-        out.push(b' ')?;
-        out.push(self.letter)?;
-        Ok(())
+        out.extend_from_slice(&[b' ', self.letter])
     }
 }
 
