@@ -1,16 +1,29 @@
 -- What each way through a run that draws a plan ends in.
-use Rattle.std.proofs.Common.{◌≡◌, ℕ, suc, ◌<◌, ◌≤◌, ◌⊎◌, List, length, Option, Some, None, refl, inl, inr, arith}
+use Rattle.std.proofs.Common.{◌≡◌, ℕ, suc, ◌<◌, ◌≤◌, ◌⊎◌, List, length, Option, Some, None, refl, sym, subst, inl, inr, arith}
 use Rattle.std.specs.Prelude.{IfSome}
 use Rattle.vx_base.specs.Sources.{Rose}
 use Rattle.scan_commands.specs.declared.endings.Ending.{Ending}
 use Rattle.scan_commands.specs.declared.endings.Ending.TheVariants.{Done, RequestTooLarge, BadRequest, BadLayout, BadProjection, ScanFailed, WriteFault, RequestFault, OutOfMemory}
+use Rattle.scan_commands.specs.declared.request_errors.RequestError.{RequestError}
+use Rattle.scan_commands.specs.declared.request_errors.RequestError.TheVariants as requests
 use Rattle.scan_commands.specs.Desks.{Desk}
-use Rattle.scan_commands.specs.Endings.{status_of}
+use Rattle.scan_commands.specs.Endings.{refused_ending, status_of}
 use Rattle.scan_commands.specs.PlanRuns.{Draws, IsPlanComplete, ServesPlan}
-use Rattle.scan_commands.specs.Reading.{most_bytes, ReadsPieces}
-use Rattle.scan_commands.specs.RequestForms.{Asked, requested, IsRequest, HasBadLayout, HasBadProjection}
+use Rattle.scan_commands.specs.Reading.{most_bytes, ReadsAll, ReadsPieces}
+use Rattle.scan_commands.specs.RequestForms.{Asked, requested, IsRequest, HasBadLayout, HasBadProjection, RefusedBy}
 use Rattle.scan_commands.proofs.OneRequest.{has_good_layout, has_good_projection}
+use Rattle.scan_commands.proofs.Pieces.{few_in_all}
 use Rattle.scan_commands.proofs.Serving.{large_told, not_both, told_bytes, well_known}
+
+-- the request is refused
+pub request_refused : (ending : Ending) (error : RequestError) (bytes : List ℕ) (before after : Desk) → ending ≡ refused_ending error → ReadsAll bytes before.request after.request → RefusedBy bytes error → after.sink ≡ before.sink → Draws ending before after
+request_refused ending error bytes before after ends reads refused same = subst (λ (e : Ending). Draws e before after) (sym ends) (by error refused)
+  where
+    by : (error : RequestError) → RefusedBy bytes error → Draws (refused_ending error) before after
+    by requests.BadRequest refused = record { reads = record { bytes = bytes; reads = reads; are = refused }; sink = same }
+    by (requests.BadLayout node rule) refused = record { reads = record { bytes = bytes; reads = reads; are = refused }; sink = same }
+    by (requests.BadProjection error) refused = record { error = error; reads = record { bytes = bytes; reads = reads; are = refused }; sink = same }
+    by requests.Memory refused = inl (record { few = few_in_all bytes before.request after.request reads; faults = reads.faults; sink = same })
 
 -- ---- completeness
 

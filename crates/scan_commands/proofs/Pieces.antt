@@ -1,11 +1,15 @@
 -- Reading a request piece by piece.
-use Rattle.std.proofs.Common.{◌≡◌, ℕ, ◌+◌, ◌<◌, ◌≤◌, List, [], ◌∷◌, ◌++◌, length, sum, take, drop, All, Option, Some, None, option_map, refl, sym, ap, ◌∙◌, inl, append_assoc, length-append, arith}
+use Rattle.std.proofs.Common.{◌≡◌, ℕ, ◌+◌, ◌<◌, ◌≤◌, List, [], ◌∷◌, ◌++◌, length, sum, take, drop, All, Option, Some, None, option_map, Result, Ok, Err, refl, sym, ap, subst, ◌∙◌, inl, append_assoc, length-append, arith}
 use Rattle.std.specs.Prelude.{IfSome}
+use Rattle.std.specs.Global.{Vec}
+use Rattle.std.specs.Result.{IsErrAnd}
 use Rattle.std.proofs.lemmas.List.{take-append-drop, append-nil}
 use Rattle.std.proofs.lemmas.List.Elements.{All-push}
 use Rattle.std.proofs.lemmas.List.Sums.{sum_by_push}
-use Rattle.vx_base.specs.Streams.{ReadState, Gave}
-use Rattle.scan_commands.specs.Reading.{most_bytes, most_piece, IsFull, ReadsPieces, ReadsTooMany}
+use Rattle.vx_base.specs.Streams.{ReadState, Gave, GaveNothing}
+use Rattle.scan_commands.specs.Reading.{most_bytes, most_piece, IsFull, ReadingGives, ReadsAll, ReadsFew, ReadsPieces, ReadsTooMany}
+use Rattle.scan_commands.specs.declared.requests.ReadingError.{ReadingError}
+use Rattle.scan_commands.specs.declared.requests.ReadingError.TheVariants.{Memory}
 
 -- the source told all of its bytes as what was read so far and a rest
 abbrev pub TellsRest : List ℕ → Option (List ℕ) → Option (List ℕ) → Type 0
@@ -64,13 +68,46 @@ pieces_of turn bytes piece old mid new so_far gave some = record {
   count = omega (arith, so_far.count, so_far.turns, so_far.size, length-append so_far.full (length piece ∷ []));
 }
 
+-- ---- how many bytes they have together
+
+-- nothing was read
+pub none_read : (old : ReadState) → ReadsFew old old
+none_read old = record { sizes = []; pieces = sym (append-nil old.pieces); few = omega arith }
+
+-- no further piece was given
+pub few_so_far : (turn : ℕ) (bytes : List ℕ) (old mid new : ReadState) → ReadsSoFar turn bytes old mid → GaveNothing mid new → ReadsFew old new
+few_so_far turn bytes old mid new so_far gave = record { sizes = so_far.full; pieces = gave.pieces ∙ so_far.pieces; few = omega (arith, so_far.total, so_far.size) }
+
+-- one more piece fits
+pub few_with_piece : (turn : ℕ) (bytes piece : List ℕ) (old mid new : ReadState) → ReadsSoFar turn bytes old mid → Gave most_piece piece mid new → length piece + length bytes ≤ most_bytes → ReadsFew old new
+few_with_piece turn bytes piece old mid new so_far gave fits = record {
+  sizes = so_far.full ++ length piece ∷ [];
+  pieces = gave.pieces ∙ ap (λ (x : List ℕ). x ++ length piece ∷ []) so_far.pieces ∙ append_assoc old.pieces so_far.full (length piece ∷ []);
+  few = omega (arith, fits, so_far.total, sum_by_push (λ (n : ℕ). n) so_far.full (length piece));
+}
+
+-- memory ran out behind few bytes
+pub ran_out : (result : Result (Vec ℕ) ReadingError) (old new : ReadState) → IsErrAnd result (λ error. error ≡ Memory) → new.faults ≡ old.faults → ReadsFew old new → ReadingGives result old new
+ran_out (Ok bytes) old new is same few = absurd is
+ran_out (Err error) old new is same few = subst (λ (e : ReadingError). ReadingGives (Err e) old new) (sym is) (same, few)
+
+-- all bytes were read
+pub few_in_all : (bytes : List ℕ) (old new : ReadState) → ReadsAll bytes old new → ReadsFew old new
+few_in_all bytes old new reads = record {
+  sizes = reads.last_piece.0 ++ 0 ∷ [];
+  pieces = reads.last_piece.3 ∙ append_assoc old.pieces reads.last_piece.0 (0 ∷ []);
+  few = omega (arith, reads.size, reads.last_piece.2, sum_by_push (λ (n : ℕ). n) reads.last_piece.0 0);
+}
+
 -- the pieces where they have too many bytes together
 pub too_many : (turn : ℕ) (bytes piece : List ℕ) (old mid new : ReadState) → ReadsSoFar turn bytes old mid → Gave most_piece piece mid new → 0 < length piece → most_bytes < length piece + length bytes → ReadsTooMany old new
 too_many turn bytes piece old mid new so_far gave some more = record {
-  full = so_far.full ++ length piece ∷ [];
+  full = so_far.full;
+  last = length piece;
   pieces = gave.pieces ∙ ap (λ (x : List ℕ). x ++ length piece ∷ []) so_far.pieces ∙ append_assoc old.pieces so_far.full (length piece ∷ []);
   each = All-push IsFull so_far.full (length piece) so_far.each (some, gave.size);
-  more = omega (arith, more, so_far.total, sum_by_push (λ (n : ℕ). n) so_far.full (length piece));
+  few = omega (arith, so_far.total, so_far.size);
+  more = omega (arith, more, so_far.total);
   told = tells_enough bytes piece old.rest mid.rest so_far.rest gave.next more;
   faults = gave.faults ∙ so_far.faults;
 }

@@ -15,6 +15,7 @@ use Rattle.scan_commands.specs.PlanRuns.{ServesPlan}
 use Rattle.scan_commands.specs.Reading.{ReadsPieces}
 use Rattle.scan_commands.specs.Runs.{Ends, Serves, World, without_sources}
 use Rattle.scan_commands.proofs.Drawing.{draws_complete}
+use Rattle.scan_commands.proofs.Pieces.{none_read}
 use Rattle.scan_commands.proofs.Serving.{ends_alike, first_back, first_whole, rest_same, serves_complete, serves_so, world}
 
 no_pieces : (old : ReadState) → ReadsPieces old old
@@ -22,10 +23,10 @@ no_pieces old = record { full = []; last = []; pieces = sym (append-nil (old.pie
 
 -- nothing was served
 pub serves_nothing : (limit : ℕ) (before : World) → Serves limit 70 before before
-serves_nothing limit before = record { ending = OutOfMemory; is = refl; ends = inl (record { faults = refl; sink = refl }, refl); pieces = no_pieces before.request }
+serves_nothing limit before = record { ending = OutOfMemory; is = refl; ends = inl (record { few = none_read before.request; faults = refl; sink = refl }, refl); pieces = no_pieces before.request }
 
 pub draws_nothing : (before : Desk) → ServesPlan 70 before before
-draws_nothing before = record { ending = OutOfMemory; is = refl; draws = inl (record { faults = refl; sink = refl }); pieces = no_pieces before.request }
+draws_nothing before = record { ending = OutOfMemory; is = refl; draws = inl (record { few = none_read before.request; faults = refl; sink = refl }); pieces = no_pieces before.request }
 
 scans_nothing : (workers limit : ℕ) (before : World) → ScansBy workers limit 70 before before
 scans_nothing workers limit before = record {

@@ -1,6 +1,6 @@
 -- From what a builder's scan gives to what the scan of a request gives.
-use Rattle.std.proofs.Common.{◌≡◌, ℕ, List, [], ◌∷◌, ◌++◌, map, flat_map, Result, Ok, Err, refl, sym, ap, ◌∙◌}
-use Rattle.std.specs.Prelude.{IfOk, IfErr}
+use Rattle.std.proofs.Common.{◌≡◌, ℕ, List, [], ◌∷◌, ◌++◌, map, flat_map, ◌⊎◌, Result, Ok, Err, refl, sym, ap, ◌∙◌, inr}
+use Rattle.std.specs.Prelude.{IfOk}
 use Rattle.std.specs.Global.{Vec}
 use Rattle.std.specs.List.{AllByRecursion}
 use Rattle.vx_base.specs.Columns.{ColumnData}
@@ -38,13 +38,10 @@ text_of limit scan (Ok batches) befores afters answer gives = λ file told. (
 )
 text_of limit scan (Err error) befores afters answer gives = tt
 
-pub refused_untouched : (scan : FileScan) (result : Result (Vec ColumnData) ScanError) (befores afters : List SourceState) → ((error : ScanError) → Refuses scan error → afters ≡ befores) → IfErr result (λ error. Refuses scan error → afters ≡ befores)
-refused_untouched scan (Ok batches) befores afters untouched = tt
-refused_untouched scan (Err error) befores afters untouched = untouched error
-
-pub scan_gives : (limit : ℕ) → (scan : FileScan) (result : Result (Vec ColumnData) ScanError) (befores afters : List SourceState) → PiecesAnswer → AnswersScan scan limit result befores afters → IfErr result (λ error. Refuses scan error → afters ≡ befores) → ScanGives limit scan result befores afters
-scan_gives limit scan result befores afters answer gives untouched = record { answers = gives; text = text_of limit scan result befores afters answer gives; untouched = untouched }
+pub scan_gives : (limit : ℕ) → (scan : FileScan) (result : Result (Vec ColumnData) ScanError) (befores afters : List SourceState) → PiecesAnswer → AnswersScan scan limit result befores afters
+    → ((error : ScanError) → Refuses scan error → ((result ≡ Err error) ⊎ (result ≡ Err Memory)) × (afters ≡ befores)) → ScanGives limit scan result befores afters
+scan_gives limit scan result befores afters answer gives refused = record { answers = gives; text = text_of limit scan result befores afters answer gives; refused = refused }
 
 -- want of memory before the scan
 pub lacks_memory : (limit : ℕ) (scan : FileScan) (sources : List SourceState) → ScanGives limit scan (Err Memory) sources sources
-lacks_memory limit scan sources = record { answers = memory_answers scan limit Memory sources refl; text = tt; untouched = λ refuses. refl }
+lacks_memory limit scan sources = record { answers = memory_answers scan limit Memory sources refl; text = tt; refused = λ error refuses. (inr refl, refl) }

@@ -20,15 +20,18 @@ use Rattle.vx_scan.specs.Valid.{IsValidScan}
 use Rattle.vx_scan.proofs.ScanValid.{no_lowest, valid_begins}
 use Rattle.scan_commands.specs.declared.endings.Ending.{Ending}
 use Rattle.scan_commands.specs.declared.endings.Ending.TheVariants.{Done, RequestTooLarge, BadRequest, BadLayout, BadProjection, ScanFailed, WriteFault, RequestFault, OutOfMemory}
+use Rattle.scan_commands.specs.declared.request_errors.RequestError.{RequestError}
+use Rattle.scan_commands.specs.declared.request_errors.RequestError.TheVariants as requests
 use Rattle.scan_commands.specs.Desks.{ReadsBytes, ReadsRequest}
-use Rattle.scan_commands.specs.Endings.{scan_ending, status_of}
+use Rattle.scan_commands.specs.Endings.{refused_ending, scan_ending, status_of}
 use Rattle.scan_commands.specs.Reading.{most_bytes, ReadsAll, ReadsPieces}
-use Rattle.scan_commands.specs.RequestForms.{Asked, requested, IsRequest, HasBadLayout, HasBadProjection}
+use Rattle.scan_commands.specs.RequestForms.{Asked, requested, IsRequest, HasBadLayout, HasBadProjection, RefusedBy}
 use Rattle.scan_commands.specs.RowWriting.{batch_lines}
-use Rattle.scan_commands.specs.Runs.{World, Asks, WritesFront, Ends, Serves, RefusesScan, FailsToScan, ScanFails, IsValid, IsComplete}
+use Rattle.scan_commands.specs.Runs.{World, Asks, WritesFront, Ends, Serves, IsRefused, RefusesScan, FailsToScan, ScanFails, IsValid, IsComplete}
 use Rattle.scan_commands.specs.Scans.{scan_of, ScanGives}
 use Rattle.scan_commands.specs.Writing.{WritingGives}
 use Rattle.scan_commands.proofs.OneRequest.{same_request, projection_is_bound, has_good_layout, has_good_projection}
+use Rattle.scan_commands.proofs.Pieces.{few_in_all}
 
 abbrev pub world : ReadState → List SourceState → WriteState → World
 world request sources sink = record { request = request; sources = sources; sink = sink }
@@ -48,18 +51,35 @@ cause_of limit asked error befores afters other (inr cause) = cause
 
 -- it was refused before it began
 begins_not : (limit : ℕ) → (error : ScanError) (asked : Asked) (old new : ReadState) (befores afters : List SourceState) (sink : WriteState) → (LowestCause (scan_of asked) limit error befores afters → ⊥) → ReadsRequest asked old new → ScanGives limit (scan_of asked) (Err error) befores afters → WhyScanFailed limit asked error befores afters → RefusesScan error (world old befores sink) (world new afters sink)
-begins_not limit error asked old new befores afters sink never reads gives (inl refused) = record { asked = asked; reads = reads; cause = refused; sources = gives.untouched refused; sink = refl }
+begins_not limit error asked old new befores afters sink never reads gives (inl refused) = record { asked = asked; reads = reads; cause = refused; sources = (gives.refused error refused).1; sink = refl }
 begins_not limit error asked old new befores afters sink never reads gives (inr lowest) = absurd (never lowest)
 
 lowest : (limit : ℕ) → (asked : Asked) (error : ScanError) (befores afters : List SourceState) → (Refuses (scan_of asked) error → ⊥) → WhyScanFailed limit asked error befores afters → LowestCause (scan_of asked) limit error befores afters
 lowest limit asked error befores afters never (inl refused) = absurd (never refused)
 lowest limit asked error befores afters never (inr cause) = cause
 
+-- a scan with another error isn't refused
+fails_begun : (limit : ℕ) (error : ScanError) (asked : Asked) (befores afters : List SourceState) → (error ≡ scan.Memory → ⊥) → (Refuses (scan_of asked) error → ⊥) → ScanGives limit (scan_of asked) (Err error) befores afters → ¬ (IsRefused asked)
+fails_begun limit error asked befores afters other never gives (cause, refuses) = by (Err error) refl (gives.refused cause refuses).0
+  where
+    by : (result : Result (Vec ColumnData) ScanError) → result ≡ Err error → (result ≡ Err cause) ⊎ (result ≡ Err scan.Memory) → ⊥
+    by result is (inl same) = let e : cause ≡ error = cc in never (subst (λ (e : ScanError). Refuses (scan_of asked) e) e refuses)
+    by result is (inr memory) = let e : error ≡ scan.Memory = cc in other e
+
+-- nor is one with batches
+gives_begun : (limit : ℕ) (asked : Asked) (batches : Vec ColumnData) (befores afters : List SourceState) → ScanGives limit (scan_of asked) (Ok batches) befores afters → ¬ (IsRefused asked)
+gives_begun limit asked batches befores afters gives (cause, refuses) = by (Ok batches) refl (gives.refused cause refuses).0
+  where
+    by : (result : Result (Vec ColumnData) ScanError) → result ≡ Ok batches → (result ≡ Err cause) ⊎ (result ≡ Err scan.Memory) → ⊥
+    by result is (inl refused) = absurd cc
+    by result is (inr memory) = absurd cc
+
 fails : (limit : ℕ) → (error : ScanError) (asked : Asked) (old new : ReadState) (befores afters : List SourceState) (sink : WriteState) → (error ≡ scan.Memory → ⊥) → (Refuses (scan_of asked) error → ⊥) → ReadsRequest asked old new → ScanGives limit (scan_of asked) (Err error) befores afters → FailsToScan limit error (world old befores sink) (world new afters sink)
 fails limit error asked old new befores afters sink other never reads gives = record {
   not_memory = other;
   asked = asked;
   reads = reads;
+  not_refused = fails_begun limit error asked befores afters other never gives;
   asks = asks_of limit asked (Err error) old new befores afters sink sink gives;
   cause = lowest limit asked error befores afters never (cause_of limit asked error befores afters other gives.answers.cause);
   invalid = λ file told valid quiet. other (gives.answers.complete file told valid quiet);
@@ -81,6 +101,7 @@ scan_failed limit scan.Memory asked old new befores afters sink reads gives = in
   asked,
   record {
     reads = reads;
+    refused = λ refused. ((gives.refused refused.0 refused.1).1, refl);
     asks = asks_of limit asked (Err scan.Memory) old new befores afters sink sink gives;
     written = inl refl;
     faults = refl;
@@ -99,6 +120,7 @@ pub all_written : (limit : ℕ) → (asked : Asked) (batches : Vec ColumnData) (
 all_written limit asked batches old new befores afters sink sink_after reads gives written = record {
   asked = asked;
   reads = reads;
+  not_refused = gives_begun limit asked batches befores afters gives;
   asks = asks_of limit asked (Ok batches) old new befores afters sink sink_after gives;
   writes = record { text = λ file told. (batch_lines batches.items, gives.text file told, written.0); faults = written.1 };
 }
@@ -107,6 +129,7 @@ pub not_written : (limit : ℕ) → (asked : Asked) (batches : Vec ColumnData) (
 not_written limit asked batches old new befores afters sink sink_after reads gives ((count, is), rose) = record {
   asked = asked;
   reads = reads;
+  not_refused = gives_begun limit asked batches befores afters gives;
   asks = asks_of limit asked (Ok batches) old new befores afters sink sink_after gives;
   front = front_of limit asked batches old new befores afters sink sink_after gives count is;
   rose = rose;
@@ -117,6 +140,7 @@ lacks_writing limit asked batches old new befores afters sink sink_after reads g
   asked,
   record {
     reads = reads;
+    refused = λ refused. absurd (gives_begun limit asked batches befores afters gives refused);
     asks = asks_of limit asked (Ok batches) old new befores afters sink sink_after gives;
     written = inr (front_of limit asked batches old new befores afters sink sink_after gives count is);
     faults = same;
@@ -124,6 +148,18 @@ lacks_writing limit asked batches old new befores afters sink sink_after reads g
 )
 
 -- ---- over the bytes that were read
+
+-- the request is refused
+pub request_refused : (limit : ℕ) (ending : Ending) (error : RequestError) (bytes : List ℕ) (old new : ReadState) (sink : WriteState) (sources : List SourceState) → ending ≡ refused_ending error → ReadsAll bytes old new → RefusedBy bytes error
+    → Ends limit ending (world old sources sink) (world new sources sink)
+request_refused limit ending error bytes old new sink sources ends reads refused =
+    subst (λ (e : Ending). Ends limit e (world old sources sink) (world new sources sink)) (sym ends) (by error refused)
+  where
+    by : (error : RequestError) → RefusedBy bytes error → Ends limit (refused_ending error) (world old sources sink) (world new sources sink)
+    by requests.BadRequest refused = (record { reads = record { bytes = bytes; reads = reads; are = refused }; sink = refl }, refl)
+    by (requests.BadLayout node rule) refused = (record { reads = record { bytes = bytes; reads = reads; are = refused }; sink = refl }, refl)
+    by (requests.BadProjection error) refused = (record { error = error; reads = record { bytes = bytes; reads = reads; are = refused }; sink = refl }, refl)
+    by requests.Memory refused = inl (record { few = few_in_all bytes old new reads; faults = reads.faults; sink = refl }, refl)
 
 pub scan_fails : (limit : ℕ) → (ending : Ending) (error : ScanError) (asked : Asked) (bytes : List ℕ) (old new : ReadState) (sink : WriteState) (befores afters : List SourceState) → ending ≡ scan_ending error → ReadsAll bytes old new → IsRequest bytes asked → ScanGives limit (scan_of asked) (Err error) befores afters
     → Ends limit ending (world old befores sink) (world new afters sink)

@@ -3,7 +3,7 @@ use Rattle.std.specs.Prelude.{◌≡◌, ℕ, List, None}
 use Rattle.vx_base.specs.Sources.{Rose}
 use Rattle.vx_base.specs.Streams.{ReadState, WriteState}
 use Rattle.vx_expr.specs.declared.binding.BindError.{BindError}
-use Rattle.scan_commands.specs.Reading.{ReadsAll, ReadsTooMany}
+use Rattle.scan_commands.specs.Reading.{ReadsAll, ReadsFew, ReadsTooMany}
 use Rattle.scan_commands.specs.RequestForms.{Asked, requested, IsRequest, HasBadLayout, HasBadProjection}
 
 -- What a run reads its request from, and what it writes to.
@@ -46,12 +46,14 @@ pub record IsBadProjection (before after : Desk) : Type 0 where
   pub reads : ReadsBytes (λ bytes. HasBadProjection bytes error) before.request after.request
   pub sink : after.sink ≡ before.sink
 
--- a read of the request failed
+-- a read of the request failed, behind pieces that don't have too many bytes together
 pub record FailsToRead (before after : Desk) : Type 0 where
+  pub few : ReadsFew before.request after.request
   pub rose : Rose before.request.faults after.request.faults
   pub sink : after.sink ≡ before.sink
 
--- memory ran out, and no read of the request failed
+-- memory ran out, no read of the request failed, and the pieces that were read don't have too many bytes together
 pub record RunsOutAtOnce (before after : Desk) : Type 0 where
+  pub few : ReadsFew before.request after.request
   pub faults : after.request.faults ≡ before.request.faults
   pub sink : after.sink ≡ before.sink

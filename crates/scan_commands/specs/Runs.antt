@@ -57,14 +57,20 @@ WritesFront asked before after = WhereAllTell before.sources (λ file. (text : L
 
 -- ---- by the ending
 
--- all rows were printed
+-- The request's scan is refused before it begins: a selected row of its range lies past the last one, or the number of a
+-- row could pass 2^64-1. That shows of the request alone, whatever the sources tell.
+abbrev pub IsRefused : Asked → Type 0
+IsRefused asked = (error : ScanError) × Refuses (scan_of asked) error
+
+-- all rows were printed, of a scan that isn't refused
 pub record IsDone (before after : World) : Type 0 where
   pub asked : Asked
   pub reads : ReadsRequest asked before.request after.request
+  pub not_refused : ¬ (IsRefused asked)
   pub asks : Asks asked before after
   pub writes : Writes asked before after
 
--- the scan was refused before it began, for that cause; nothing was asked or written
+-- the scan is refused before it begins, for that cause; nothing was asked or written
 pub record RefusesScan (error : ScanError) (before after : World) : Type 0 where
   pub asked : Asked
   pub reads : ReadsRequest asked before.request after.request
@@ -72,27 +78,32 @@ pub record RefusesScan (error : ScanError) (before after : World) : Type 0 where
   pub sources : after.sources ≡ before.sources
   pub sink : after.sink ≡ before.sink
 
--- the scan failed, for its cause, which no valid scan has without a fault or a stall of a source; nothing was written
+-- The scan isn't refused, and failed for its cause, which no valid scan has without a fault or a stall of a source. Nothing
+-- was written.
 pub record FailsToScan (limit : ℕ) (error : ScanError) (before after : World) : Type 0 where
   pub not_memory : error ≢ Memory
   pub asked : Asked
   pub reads : ReadsRequest asked before.request after.request
+  pub not_refused : ¬ (IsRefused asked)
   pub asks : Asks asked before after
   pub cause : LowestCause (scan_of asked) limit error before.sources after.sources
   pub invalid : WhereAllTell before.sources (λ file. IsValidScan (file_leaves file asked.locations) (scan_of asked) → EachSource (IsQuiet limit) before.sources after.sources → ⊥)
   pub sink : after.sink ≡ before.sink
 
--- the sink failed behind a front of the text
+-- the sink failed behind a front of the text of a scan that isn't refused
 pub record FailsToWrite (before after : World) : Type 0 where
   pub asked : Asked
   pub reads : ReadsRequest asked before.request after.request
+  pub not_refused : ¬ (IsRefused asked)
   pub asks : Asks asked before after
   pub front : WritesFront asked before after
   pub rose : Rose before.sink.faults after.sink.faults
 
--- memory ran out behind the request, when at most a front of the text was written
+-- Memory ran out behind the request, when at most a front of the text was written. Where the scan is refused, nothing was
+-- asked or written before.
 pub record LacksMemory (asked : Asked) (before after : World) : Type 0 where
   pub reads : ReadsRequest asked before.request after.request
+  pub refused : IsRefused asked → (after.sources ≡ before.sources) × (after.sink ≡ before.sink)
   pub asks : Asks asked before after
   pub written : (after.sink ≡ before.sink) ⊎ WritesFront asked before after
   pub faults : after.sink.faults ≡ before.sink.faults

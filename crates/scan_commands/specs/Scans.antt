@@ -1,5 +1,5 @@
 -- The scan that a request asks for.
-use Rattle.std.specs.Prelude.{◌≡◌, ℕ, if◌then◌else◌, List, Result, IfOk, IfErr}
+use Rattle.std.specs.Prelude.{◌≡◌, ℕ, ◌⊎◌, if◌then◌else◌, List, Result, Err, IfOk}
 use Rattle.std.specs.Global.{Vec}
 use Rattle.vx_base.specs.Columns.{ColumnData}
 use Rattle.vx_base.specs.Data.{Datum}
@@ -12,6 +12,7 @@ use Rattle.vx_scan.specs.Beginning.{Refuses}
 use Rattle.vx_scan.specs.Lent.{WhereAllTell}
 use Rattle.vx_scan.specs.Scanned.{AnswersScan}
 use Rattle.vx_scan.specs.declared.errors.ScanError.{ScanError}
+use Rattle.vx_scan.specs.declared.errors.ScanError.TheVariants.{Memory}
 use Rattle.scan_commands.specs.RequestForms.{Asked}
 use Rattle.scan_commands.specs.RowText.{lines}
 use Rattle.scan_commands.specs.RowWriting.{batch_lines}
@@ -33,9 +34,9 @@ abbrev pub IsText : FileScan → List ℕ → List ℕ → Type 0
 IsText scan file text =
     (values : List Datum) × IsAnswer (file_leaves file scan.locations) scan.projection (scan_rows scan) values × (text ≡ lines scan.projection.expression.dtype values)
 
--- What scanning the sources gives; the lines of the batches are the answer's. A scan that is refused before it begins leaves
--- the sources alone.
+-- What scanning the sources gives; the lines of the batches are the answer's. A scan that is refused before it begins is
+-- answered with the cause of that, or memory runs out before, and it leaves the sources alone.
 pub record ScanGives (limit : ℕ) (scan : FileScan) (result : Result (Vec ColumnData) ScanError) (befores afters : List SourceState) : Type 0 where
   pub answers : AnswersScan scan limit result befores afters
   pub text : IfOk result (λ batches. WhereAllTell befores (λ file. IsText scan file (batch_lines batches.items)))
-  pub untouched : IfErr result (λ error. Refuses scan error → afters ≡ befores)
+  pub refused : (error : ScanError) → Refuses scan error → ((result ≡ Err error) ⊎ (result ≡ Err Memory)) × (afters ≡ befores)

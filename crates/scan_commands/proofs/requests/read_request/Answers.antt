@@ -1,6 +1,6 @@
-use Rattle.std.proofs.Common.{◌≡◌, ◌+◌, ◌<◌, ◌≤◌, ◌++◌, length, arith, sym, subst, List, ℕ}
+use Rattle.std.proofs.Common.{◌≡◌, ◌+◌, ◌<◌, ◌≤◌, ◌++◌, ◌∙◌, length, arith, sym, subst, List, ℕ}
 use Rattle.std.proofs.lemmas.Grind.{common_steps}
-use Rattle.scan_commands.proofs.Pieces.{pieces_of, reads_more, too_many, ReadsSoFar}
+use Rattle.scan_commands.proofs.Pieces.{few_with_piece, pieces_of, ran_out, reads_more, too_many, ReadsSoFar}
 use Rattle.scan_commands.proofs.requests.read_request.Goals as goal
 
 pub returns-then-len-clause-bytes : goal.returns-then-len-clause-bytes
@@ -16,6 +16,13 @@ returns-then-len-clause-pieces g c =
     let len = c.in-Ok.piece.ok in
     let some : 0 < length c.in-Ok.piece.items = grind (arith, common_steps) in
     pieces_of _ _ _ _ _ _ c.loop-turn.invariant c.in-Ok.ensures some
+
+pub returns-in_err-extend_from_slice-clause-bytes : goal.returns-in_err-extend_from_slice-clause-bytes
+returns-in_err-extend_from_slice-clause-bytes g c =
+    let len = c.in-Ok.piece.ok in
+    let fits : length c.in-Ok.piece.items + length c.loop-turn.bytes.items ≤ 16777216 = grind (arith, common_steps) in
+    let few = few_with_piece _ _ _ _ _ _ c.loop-turn.invariant c.in-Ok.ensures fits in
+    ran_out _ _ _ c.from_residual.ensures.1 (c.in-Ok.ensures.faults ∙ c.loop-turn.invariant.faults) few
 
 pub returns-in_err-extend_from_slice-clause-pieces :
     goal.returns-in_err-extend_from_slice-clause-pieces
