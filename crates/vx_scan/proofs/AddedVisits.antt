@@ -9,7 +9,7 @@ use Rattle.vx_base.specs.Data.{Datum}
 use Rattle.vx_base.specs.Sources.{SourceState}
 use Rattle.vx_rows.specs.Derivations.{Derivation, packed, Leaves}
 use Rattle.vx_rows.specs.Given.{GivenValues, AreCertified, EachCertified}
-use Rattle.vx_rows.specs.Reads.{directly}
+use Rattle.vx_rows.specs.Reads.{directly, IsIn}
 use Rattle.vx_rows.specs.SegmentLeaves.{Bytes, leaves_of}
 use Rattle.vx_plan.specs.declared.nodes.PlanKind.{PlanKind}
 use Rattle.vx_plan.specs.declared.nodes.PlanKind.TheVariants as kinds
@@ -33,7 +33,7 @@ use Rattle.vx_steps.proofs.CertifiedCauses.{match_certified, valid_first}
 use Rattle.vx_scan.specs.declared.errors.ScanError.{ScanError}
 use Rattle.vx_scan.specs.declared.errors.ScanError.TheVariants.{BadProjection, OffsetOverflow, OutOfRange, Unsupported, NoLocation, ReadFault, Stalled, BadSegment, BadCode, EvalFault, Memory}
 use Rattle.vx_scan.specs.declared.plans.ScanPlans.{ScanPlans}
-use Rattle.vx_scan.specs.ChunkRows.{ChunkFaultsAt, ChunkReadsBadCode, ChunkReadsList, ChunkReadsTorn, IsPiece}
+use Rattle.vx_scan.specs.ChunkRows.{ChunkFaultsAt, ChunkReadsBadCode, ChunkReadsList, ChunkReadsSegment, ChunkReadsTorn, IsPiece}
 use Rattle.vx_scan.specs.Outcomes.{Causes, Claims, GivesPiece}
 use Rattle.vx_scan.specs.Plans.{projection_plan}
 use Rattle.vx_scan.proofs.AddedValues.{AllStand, Stands, added, bad_code_added, no_code_added}
@@ -141,7 +141,7 @@ StaysSeen leaves f h g offset P = (p : Plan) (row : ℕ) → AreCertified leaves
 abbrev LacksToo : GivenValues → GivenValues → Type 0
 LacksToo f g = (n : ℕ) → g n ≡ None → f n ≡ None
 
-lacks_as : (given more all : Option (List Datum)) → Stands given more all → all ≡ None → given ≡ None
+pub lacks_as : (given more all : Option (List Datum)) → Stands given more all → all ≡ None → given ≡ None
 lacks_as given more all (inl same) none = sym same ∙ none
 lacks_as given more all (inr (lacks, same)) none = lacks
 
@@ -221,6 +221,10 @@ module _ (plans : ScanPlans) (chosen : SelectedRows) (given more all : List Kept
   list_added list (place, at, any) =
       (place, at, no_code_added (IsRowOf list) (λ code is. is) (given_for plans.table given) (given_for plans.table more) (given_for plans.table all) stand (plan_derivation plans.row_offset (projection_plan plans) (chosen.scope.rows.start + place)) directly any)
 
+  segment_added : (segment : ℕ) → ChunkReadsSegment plans all chosen segment → ChunkReadsSegment plans given chosen segment
+  segment_added segment (place, at, any) =
+      (place, at, no_code_added (IsIn segment) (λ code is. is) (given_for plans.table given) (given_for plans.table more) (given_for plans.table all) stand (plan_derivation plans.row_offset (projection_plan plans) (chosen.scope.rows.start + place)) directly any)
+
   torn_added : (bytes : Bytes) (segment : ℕ) → ChunkReadsTorn bytes plans all chosen segment → ChunkReadsTorn bytes plans given chosen segment
   torn_added bytes segment (place, at, any) =
       (place, at, no_code_added (IsTornIn bytes segment) (λ code is. is) (given_for plans.table given) (given_for plans.table more) (given_for plans.table all) stand (plan_derivation plans.row_offset (projection_plan plans) (chosen.scope.rows.start + place)) directly any)
@@ -260,7 +264,7 @@ module _ (plans : ScanPlans) (chosen : SelectedRows) (given more all : List Kept
   cause_added Told OffsetOverflow before after claim cause = absurd cause
   cause_added Told OutOfRange before after claim cause = absurd cause
   cause_added Told (Unsupported list) before after claim cause = list_added (number_of list) cause
-  cause_added Told (NoLocation segment) before after claim cause = cause
+  cause_added Told (NoLocation segment) before after claim cause = (segment_added segment cause.0, cause.1)
   cause_added Told ReadFault before after claim cause = cause
   cause_added Told Stalled before after claim cause = cause
   cause_added Told (BadSegment segment) before after claim cause =

@@ -11,6 +11,7 @@ use Rattle.vx_base.specs.declared.locations.SegmentLocation.{SegmentLocation}
 use Rattle.vx_plan.specs.Nodes.{Node}
 use Rattle.vx_rows.specs.SegmentLeaves.{Bytes, leaves_of}
 use Rattle.vx_splits.specs.declared.selected_rows.SelectedRows.{SelectedRows}
+use Rattle.vx_steps.specs.declared.errors.StepError.{StepError}
 use Rattle.vx_steps.specs.declared.errors.StepError.TheVariants as step_errors
 use Rattle.vx_steps.specs.declared.jobs.Job.{Job}
 use Rattle.vx_steps.specs.declared.leaf_reads.LeafRead.{LeafRead}
@@ -18,14 +19,15 @@ use Rattle.vx_steps.specs.declared.splits.Split.{Split}
 use Rattle.vx_steps.specs.Below.{HasNoEvalBelowTake, HasNoShare}
 use Rattle.vx_steps.specs.Given.{given_for}
 use Rattle.vx_steps.specs.Held.{AreMade, AreTyped, HaveLeaves}
-use Rattle.vx_steps.specs.Kept.{kept_at, IsKept}
+use Rattle.vx_steps.specs.Jobs.{IsAskedFor}
+use Rattle.vx_steps.specs.Kept.{kept_at, AreApart, IsKept}
 use Rattle.vx_steps.specs.KeptData.{Kept}
 use Rattle.vx_steps.specs.Leavings.{IsReadBehind}
 use Rattle.vx_steps.specs.Offers.{IsForPlan, Keeps}
 use Rattle.vx_steps.specs.Rows.{AreOf, rows_of}
 use Rattle.vx_steps.specs.ScanData.{ScanData, IsScanOf}
 use Rattle.vx_steps.specs.Visits.{IsLeafRead}
-use Rattle.vx_steps.specs.Wholes.{IsThere, UsesGiven}
+use Rattle.vx_steps.specs.Wholes.{AddsOnly, IsThere, UsesGiven}
 use Rattle.vx_steps.proofs.Standing.{fault_outside}
 use Rattle.vx_steps.proofs.SplitTakes.{none_selected}
 use Rattle.vx_scan.specs.declared.errors.ScanError.{ScanError}
@@ -41,8 +43,8 @@ use Rattle.vx_scan.specs.Outcomes.{AreUsedOrMade, Causes, ChunkAsks, Claims, Giv
 use Rattle.vx_scan.specs.Pieces.{PieceOf}
 use Rattle.vx_scan.specs.Plans.{bytes_of, projection_plan}
 use Rattle.vx_scan.specs.Runs.{LeavesFault, RunAnswer, row_fault}
-use Rattle.vx_scan.proofs.ChunkViews.{Claimable, asked_there, asks_wanted, chunk_cause, fault_left, gives_piece, read_there}
-use Rattle.vx_scan.proofs.Fitting.{no_leaves, node_first, none_made, none_typed}
+use Rattle.vx_scan.proofs.ChunkViews.{Claimable, asked_there, asks_wanted, chunk_cause, fault_left, gives_piece, is_asked, read_there}
+use Rattle.vx_scan.proofs.Fitting.{fitting_typed, no_leaves, node_first, none_made, none_typed}
 use Rattle.vx_scan.proofs.Sessions.{asked_nothing}
 
 -- ---- chunks of which no row is selected
@@ -151,6 +153,18 @@ used_or_made : (given used made : List Kept) (n : ℕ) (scan : ScanData) → use
 used_or_made given used made n scan same_used same_made (inl (is, there)) = inl (is, subst (λ (ks : List Kept). IsKept ks n) (sym same_used) there)
 used_or_made given used made n scan same_used same_made (inr (none, there)) = inr (none, subst (λ (ks : List Kept). IsKept ks n) (sym same_made) there)
 
+-- no plan stands twice among none
+none_apart : AreApart []
+none_apart p q k l at other same = absurd cc
+
+-- none are kept among none
+pub none_kept : (kept : List Kept) (n : ℕ) → kept ≡ [] → IsKept kept n → ⊥
+none_kept kept n none (column, at) = let both : None ≡ Some column = subst (λ (ks : List Kept). kept_at ks n ≡ Some column) none at in cc
+
+-- what was added to none is so
+all_added : (P : ℕ → Type 0) (old new : List Kept) (n : ℕ) → old ≡ [] → AddsOnly P old new → IsKept new n → P n
+all_added P old new n none adds kept = ⊎_elim (λ (before : IsKept old n). absurd (none_kept old n none before)) (λ (is : P n). is) (adds n kept)
+
 pub there_as : {X : Type 0} (piece : Result X ScanError) (P Q : X → Type 0) → ((x : X) → P x → Q x) → IfOk piece P → IfOk piece Q
 there_as (Ok x) P Q f holds = f x holds
 there_as (Err error) P Q f holds = tt
@@ -168,6 +182,25 @@ faulted plans chosen given start scan before output piece is same left row fault
     absurd (fault_outside (leaves_of (bytes_of plans file)) (given_for plans.table given) plans.row_offset (projection_plan plans) chosen.scope.rows.start chosen.mask row none evals (inside file told)))
     (fault_left (told_by plans before) plans chosen given [] [] start scan before (step_errors.EvalFault row) is (claim_told plans chosen given start before is) fault)
 
+-- what a fault of rows leaves of whole values
+fault_keeps : (plans : ScanPlans) (chosen : SelectedRows) (given used made : List Kept) (start scan : ScanData) (before : SourceState) (error : ScanError) → IsChunkScan plans chosen given [] [] start → used ≡ scan.progress.wholes.used → made ≡ scan.progress.wholes.made →
+    IfSome (row_fault error) (LeavesFault plans.locations.items start scan before) →
+    IfSome (row_fault error) (λ fault. ((n : ℕ) → ChunkAsks plans given chosen n → AreUsedOrMade given used made n) ⊎ told_by plans before (λ bytes. ChunkFailsInside (leaves_of bytes) plans given chosen fault))
+fault_keeps plans chosen given used made start scan before error is same_used same_made = of_fault (row_fault error)
+  where
+    of_fault : (fault : Option StepError) → IfSome fault (LeavesFault plans.locations.items start scan before) →
+        IfSome fault (λ one. ((n : ℕ) → ChunkAsks plans given chosen n → AreUsedOrMade given used made n) ⊎ told_by plans before (λ bytes. ChunkFailsInside (leaves_of bytes) plans given chosen one))
+    of_fault None left = tt
+    of_fault (Some fault) left =
+        ⊎_elim
+        (λ (there : (n : ℕ) → ChunkAsks plans given chosen n → IsThere given scan.progress.wholes n). inl (λ n asks. used_or_made given used made n scan same_used same_made (there n asks)))
+        (λ (inside : told_by plans before (λ bytes. ChunkFailsInside (leaves_of bytes) plans given chosen fault)). inr inside)
+        (fault_left (told_by plans before) plans chosen given [] [] start scan before fault is (claim_told plans chosen given start before is) left)
+
+fault_as : {X : Type 0} (piece : Result X ScanError) (P Q : ScanError → Type 0) → ((error : ScanError) → P error → Q error) → IfErr piece P → IfErr piece Q
+fault_as (Ok x) P Q f holds = tt
+fault_as (Err error) P Q f holds = f error holds
+
 -- ---- the outcomes
 
 pub runs_chunk : (plans : ScanPlans) (chosen : SelectedRows) (given fitting : List Kept) (start : ScanData) (finished : Finished) (outcome : ChunkOutcome) (before after : SourceState) → Keeps (IsForPlan plans.table) given fitting → IsChunkScan plans chosen fitting [] [] start →
@@ -183,12 +216,23 @@ runs_chunk plans chosen given fitting start finished outcome before after fits i
       content = chunk_content (told_by plans before) plans chosen fitting [] [] start scan before after finished.output outcome.piece is (claim_told plans chosen fitting start before is) gives.answer piece;
       values = record {
         used = λ n column at. used_given fitting (data_of outcome.used.items) n column (uses used done.kept.uses gives.job) at;
+        apart_used = (uses used done.kept.uses gives.job).apart none_apart;
+        apart_made = subst AreApart (sym made) done.kept.apart_made;
+        asked_used = λ n kept. is_asked plans chosen fitting [] [] start n is
+            (all_added (IsAskedFor start.nodes start.job) start.progress.wholes.used scan.progress.wholes.used n is.unstarted.used gives.wholes.used_only (subst (λ (ks : List Kept). IsKept ks n) used kept));
+        asked_made = λ n kept. is_asked plans chosen fitting [] [] start n is
+            (all_added (IsAskedFor start.nodes start.job) start.progress.wholes.made scan.progress.wholes.made n is.made_are gives.wholes.made_only (subst (λ (ks : List Kept). IsKept ks n) made kept));
         made = λ file told. made_in plans chosen fitting [] [] (data_of outcome.made.items) start scan (bytes_of plans file) is gives.nodes gives.job made
             (gives.told file told (is.told (bytes_of plans file) (record { leaves_are = no_leaves plans.table (leaves_of (bytes_of plans file)); made_are = none_made plans.table plans.row_offset (leaves_of (bytes_of plans file)) })));
         typed = typed_in plans chosen fitting [] [] scan.progress.wholes.made (data_of outcome.made.items) start scan is gives.nodes made done.kept.typed_made;
+        typed_used = λ n column at. fitting_typed plans.table given fitting fits n column (used_given fitting (data_of outcome.used.items) n column (uses used done.kept.uses gives.job) at);
         there = there_as outcome.piece (λ column. (n : ℕ) → ChunkAsks plans fitting chosen n → IsThere fitting scan.progress.wholes n) (λ column. (n : ℕ) → ChunkAsks plans fitting chosen n → AreUsedOrMade fitting (data_of outcome.used.items) (data_of outcome.made.items) n)
             (λ column there n asks. used_or_made fitting (data_of outcome.used.items) (data_of outcome.made.items) n scan used made (there n asks))
             (chunk_there plans chosen fitting [] [] start scan before after finished.output outcome.piece is gives.answer piece);
+        left = fault_as outcome.piece (λ error. IfSome (row_fault error) (LeavesFault plans.locations.items start scan before))
+            (λ error. IfSome (row_fault error) (λ fault. ((n : ℕ) → ChunkAsks plans fitting chosen n → AreUsedOrMade fitting (data_of outcome.used.items) (data_of outcome.made.items) n) ⊎ told_by plans before (λ bytes. ChunkFailsInside (leaves_of bytes) plans fitting chosen fault)))
+            (λ error. fault_keeps plans chosen fitting (data_of outcome.used.items) (data_of outcome.made.items) start scan before error is used made)
+            (chunk_error (λ error. IfSome (row_fault error) (LeavesFault plans.locations.items start scan before)) plans finished.output outcome.piece tt piece gives.left);
         faults = λ row fault_is none evals file told n asks. used_or_made fitting (data_of outcome.used.items) (data_of outcome.made.items) n scan used made
             (faulted plans chosen fitting start scan before finished.output outcome.piece is piece gives.left row fault_is none evals file told n asks);
       };
@@ -223,9 +267,15 @@ lacks_chunk plans chosen given outcome before after lacks none_used none_made_it
       content = rw lacks tt;
       values = record {
         used = λ n column at. subst (λ (ks : List Kept). kept_at ks n ≡ Some column) used at;
+        apart_used = subst AreApart (sym used) none_apart;
+        apart_made = subst AreApart (sym made) none_apart;
+        asked_used = λ n kept. absurd (none_kept (data_of outcome.used.items) n used kept);
+        asked_made = λ n kept. absurd (none_kept (data_of outcome.made.items) n made kept);
         made = λ file told. subst (λ (ks : List Kept). AreMade plans.table plans.row_offset ks (leaves_of (bytes_of plans file))) (sym made) (none_made plans.table plans.row_offset (leaves_of (bytes_of plans file)));
         typed = subst (AreTyped plans.table) (sym made) (none_typed plans.table);
+        typed_used = subst (AreTyped plans.table) (sym used) (none_typed plans.table);
         there = rw lacks tt;
+        left = rw lacks tt;
         faults = λ row fault_is. absurd (let both : ◌≡◌ {A = Result ColumnData ScanError} (Err Memory) (Err (EvalFault row)) = sym lacks ∙ fault_is in cc);
       };
       cause = rw lacks tt;

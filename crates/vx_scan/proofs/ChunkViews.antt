@@ -16,6 +16,7 @@ use Rattle.vx_steps.specs.declared.errors.StepError.{StepError}
 use Rattle.vx_steps.specs.declared.leaf_reads.LeafRead.{LeafRead}
 use Rattle.vx_steps.specs.declared.splits.Split.{Split}
 use Rattle.vx_steps.specs.Given.{handed_by, row_value}
+use Rattle.vx_steps.specs.Jobs.{IsAskedFor}
 use Rattle.vx_steps.specs.Kept.{kept_at, IsKept}
 use Rattle.vx_steps.specs.KeptData.{Kept}
 use Rattle.vx_steps.specs.Laws.{IsBadCodeAt, IsRowOf, SomeRead}
@@ -24,16 +25,16 @@ use Rattle.vx_steps.specs.ScanData.{ScanData, IsScanOf}
 use Rattle.vx_steps.specs.ScanLaws.{IsTornIn}
 use Rattle.vx_steps.specs.Visits.{HasEvalFault, IsLeafRead, IsWholeRead, SomeVisit, Test}
 use Rattle.vx_steps.specs.Wholes.{HasInsideCause, IsThere}
-use Rattle.vx_steps.proofs.ReadVisits.{selected_read}
+use Rattle.vx_steps.proofs.ReadVisits.{selected_leaf, selected_read}
 use Rattle.vx_steps.proofs.SplitTakes.{only_one}
 use Rattle.vx_scan.specs.declared.errors.ScanError.{ScanError}
 use Rattle.vx_scan.specs.declared.errors.ScanError.TheVariants as errors
 use Rattle.vx_scan.specs.declared.plans.ScanPlans.{ScanPlans}
 use Rattle.vx_scan.specs.Asks.{AsksOnly}
-use Rattle.vx_scan.specs.ChunkRows.{ChunkFailsInside, ChunkVisits, IsPiece}
+use Rattle.vx_scan.specs.ChunkRows.{given_to, ChunkFailsInside, ChunkReadsSegment, ChunkVisits, IsPiece}
 use Rattle.vx_scan.specs.ChunkScans.{IsChunkScan}
 use Rattle.vx_scan.specs.Outcomes.{Causes, ChunkAsks, Claims, GivesPiece, IsWanted}
-use Rattle.vx_scan.specs.Plans.{bytes_of}
+use Rattle.vx_scan.specs.Plans.{bytes_of, projection_plan}
 use Rattle.vx_scan.specs.Runs.{GivesSplit, IsReadByStart, LeavesFault, LeavesRead, RunCause}
 use Rattle.vx_scan.specs.Starts.{split_of}
 
@@ -110,6 +111,14 @@ pub fault_reads : (plans : ScanPlans) (chosen : SelectedRows) (given leaves made
 fault_reads plans chosen given leaves made start scan fault is have read visits =
     have read (subst (ViewVisits (IsLeafRead read)) (sym (view_same plans chosen given leaves made start is)) visits)
 
+-- what some selected row of the scan's splits asks for, some selected row of the chunk asks for
+pub is_asked : (plans : ScanPlans) (chosen : SelectedRows) (given leaves made : List Kept) (start : ScanData) (n : ℕ) → IsChunkScan plans chosen given leaves made start → IsAskedFor start.nodes start.job n → ChunkAsks plans given chosen n
+is_asked plans chosen given leaves made start n is asked =
+    let split : asked.split ≡ split_of start = only_one start.job.splits.items (split_of start) asked.split asked.number is.unread.splits asked.at in
+    let here : ViewVisits (IsWholeRead n) (view_of start) =
+    subst (λ (s : Split). SomeVisit (IsWholeRead n) (handed_by start.nodes (Some start.job.given)) (plan_at start.nodes start.job.plan) s.rows.start s.mask) split asked.asks in
+    subst (ViewVisits (IsWholeRead n)) (view_same plans chosen given leaves made start is) here
+
 -- ---- what is wanted
 
 pub is_wanted : (plans : ScanPlans) (chosen : SelectedRows) (given leaves made : List Kept) (start : ScanData) (segment : ℕ) → IsChunkScan plans chosen given leaves made start → IsReadByStart start segment → IsWanted plans given leaves chosen segment
@@ -126,6 +135,11 @@ is_wanted plans chosen given leaves made start segment is read =
           (selected_read (handed_by plans.table (Some given)) plans.row_offset (plan_at plans.table (number_of plans.projection)) chosen.scope.rows.start chosen.mask read.read one);
     }
 
+-- a segment that is wanted is read, with the given values in place of the whole ones
+wanted_read : (plans : ScanPlans) (chosen : SelectedRows) (given leaves : List Kept) (segment : ℕ) → IsWanted plans given leaves chosen segment → ChunkReadsSegment plans given chosen segment
+wanted_read plans chosen given leaves segment wanted =
+    selected_leaf (given_to plans given) plans.row_offset (projection_plan plans) chosen.scope.rows.start chosen.mask (record { leaf = wanted.leaf; segment = segment }) wanted.visited
+
 pub asks_wanted : (plans : ScanPlans) (chosen : SelectedRows) (given leaves made : List Kept) (start : ScanData) (before after : SourceState) → IsChunkScan plans chosen given leaves made start → AsksOnly (IsReadByStart start) plans.locations.items before after →
     AsksOnly (IsWanted plans given leaves chosen) plans.locations.items before after
 asks_wanted plans chosen given leaves made start before after is asks = record {
@@ -141,7 +155,7 @@ pub chunk_cause : (Told : Claims) (plans : ScanPlans) (chosen : SelectedRows) (g
 chunk_cause Told plans chosen given leaves made start (errors.Unsupported list) before after is claim cause =
     subst (ViewFinds (IsRowOf (number_of list))) (view_same plans chosen given leaves made start is) cause
 chunk_cause Told plans chosen given leaves made start (errors.NoLocation segment) before after is claim (read, lacks) =
-    ((is_wanted plans chosen given leaves made start segment is read).reached, lacks)
+    (wanted_read plans chosen given leaves segment (is_wanted plans chosen given leaves made start segment is read), lacks)
 chunk_cause Told plans chosen given leaves made start errors.ReadFault before after is claim cause = cause
 chunk_cause Told plans chosen given leaves made start errors.Stalled before after is claim cause = cause
 chunk_cause Told plans chosen given leaves made start (errors.BadSegment segment) before after is claim cause =

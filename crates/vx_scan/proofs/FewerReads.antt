@@ -4,7 +4,7 @@ use Rattle.std.specs.List.{slice_get}
 use Rattle.vx_base.specs.Data.{Datum}
 use Rattle.vx_rows.specs.Derivations.{Derivation, nothing, cell, list_row, given, packed, valid_where, looked_up, worked_out, read_whole, Derivations, no_more, also}
 use Rattle.vx_rows.specs.Given.{GivenValues, values_with, share_with, with_given, each_with_given}
-use Rattle.vx_rows.specs.Reads.{Way, directly, inside, CodeRow, code_row, Found, a_code, Read, reads_of, reads_of_each, Finds}
+use Rattle.vx_rows.specs.Reads.{Way, directly, inside, CodeRow, code_row, Found, a_code, Read, reads_of, reads_of_each, Finds, IsIn}
 use Rattle.vx_rows.proofs.ReadRows.{any_either, any_left, any_right}
 use Rattle.vx_plan.specs.PlanRows.{plan_derivation}
 use Rattle.vx_rows.specs.SegmentLeaves.{Bytes}
@@ -16,7 +16,7 @@ use Rattle.vx_steps.specs.ScanLaws.{IsTornIn}
 use Rattle.vx_steps.proofs.ReadVisits.{no_columns, nothing_in, nothing_at}
 use Rattle.vx_steps.proofs.VisitedReads.{none_served}
 use Rattle.vx_scan.specs.declared.plans.ScanPlans.{ScanPlans}
-use Rattle.vx_scan.specs.ChunkRows.{given_to, ChunkFinds, ChunkReadsList, ChunkReadsTorn}
+use Rattle.vx_scan.specs.ChunkRows.{given_to, ChunkFinds, ChunkReadsList, ChunkReadsSegment, ChunkReadsTorn}
 use Rattle.vx_scan.specs.Plans.{projection_plan}
 
 -- ---- of a row
@@ -71,6 +71,9 @@ finds_free P out plans borrowed chunk (place, at, any) =
 
 pub list_free : (plans : ScanPlans) (borrowed : List Kept) (chunk : SelectedRows) (list : ℕ) → ChunkReadsList plans borrowed chunk list → ChunkReadsList plans [] chunk list
 list_free plans borrowed chunk list = finds_free (IsRowOf list) (λ code is. is) plans borrowed chunk
+
+pub segment_free : (plans : ScanPlans) (borrowed : List Kept) (chunk : SelectedRows) (segment : ℕ) → ChunkReadsSegment plans borrowed chunk segment → ChunkReadsSegment plans [] chunk segment
+segment_free plans borrowed chunk segment = finds_free (IsIn segment) (λ code is. is) plans borrowed chunk
 
 pub torn_free : (bytes : Bytes) (plans : ScanPlans) (borrowed : List Kept) (chunk : SelectedRows) (segment : ℕ) → ChunkReadsTorn bytes plans borrowed chunk segment → ChunkReadsTorn bytes plans [] chunk segment
 torn_free bytes plans borrowed chunk segment = finds_free (IsTornIn bytes segment) (λ code is. is) plans borrowed chunk

@@ -9,6 +9,9 @@ mod BeginningRows
 mod Borrowed
 mod Certifying
 mod CertifyingEach
+mod CarriedVisits
+mod ChunkCauses
+mod ChunkLaws
 mod ChunkOutcomes
 mod ChunkPieces
 mod ChunkScanning

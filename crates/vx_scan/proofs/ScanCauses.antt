@@ -30,8 +30,8 @@ use Rattle.vx_scan.specs.declared.errors.ScanError.TheVariants.{BadProjection, O
 use Rattle.vx_scan.specs.declared.plans.ScanPlans.{ScanPlans}
 use Rattle.vx_scan.specs.Answer.{FileScan, row_count, IsAnswer, ArePieces}
 use Rattle.vx_scan.specs.Batches.{AreBatches, HasPiece}
-use Rattle.vx_scan.specs.Causes.{ScanFinds, ScanReaches, ReadsTorn, ReadsBadCode, IsFaultAt, FaultsAt}
-use Rattle.vx_scan.specs.ChunkRows.{given_to, ChunkFinds, ChunkReaches, IsPiece}
+use Rattle.vx_scan.specs.Causes.{ScanFinds, ReadsTorn, ReadsBadCode, IsFaultAt, FaultsAt}
+use Rattle.vx_scan.specs.ChunkRows.{given_to, ChunkFinds, IsPiece}
 use Rattle.vx_scan.specs.Lent.{AllTell}
 use Rattle.vx_scan.specs.Outcomes.{told_by, told_by_all, Causes}
 use Rattle.vx_scan.specs.Plans.{bytes_of, projection_plan}
@@ -66,13 +66,6 @@ finds_of scan limit plans are P Q moved chunk inside some =
     some_mapped (λ row. Finds P (row_reads (given_to plans []) plans.row_offset q row)) (λ row. Finds P (plan_reads plans.row_offset q row)) (same_reads plans P plans.row_offset q) chunk.scope.rows.start chunk.mask some in
     chunk_finds scan.projection q are.plan P Q moved (row_count scan) chunk inside
     (subst (λ (offset : ℕ). SomeRow (λ row. Finds P (plan_reads offset q row)) chunk.scope.rows.start chunk.mask) are.offset same)
-
-pub reaches_of : (scan : FileScan) (limit : ℕ) (plans : ScanPlans) → ArePlansOf scan limit plans → (chunk : SelectedRows) → LiesInside (row_count scan) chunk → (segment : ℕ) → ChunkReaches plans chunk segment → ScanReaches scan.projection (chosen_rows chunk) segment
-reaches_of scan limit plans are chunk inside segment read =
-    let q : Plan = projection_plan plans in
-    let some : SomeRow (λ row. Finds (IsIn segment) (plan_reads plans.row_offset q row)) chunk.scope.rows.start chunk.mask = (read.row, read.chosen, read.read) in
-    chunk_finds scan.projection q are.plan (IsIn segment) (IsIn segment) (in_moved (node_of scan.projection) segment) (row_count scan) chunk inside
-    (subst (λ (offset : ℕ). SomeRow (λ row. Finds (IsIn segment) (plan_reads offset q row)) chunk.scope.rows.start chunk.mask) are.offset some)
 
 -- ---- values
 
@@ -140,7 +133,7 @@ cause_in T scan limit plans are chunk inside (Unsupported list) before after cau
     finds_of scan limit plans are (IsRowOf (number_of list)) (IsRowOf (node_of scan.projection (number_of list))) (row_moved (node_of scan.projection) (number_of list)) chunk inside cause
 cause_in T scan limit plans are chunk inside (NoLocation segment) before after cause =
     let count : length plans.locations.items ≡ length scan.locations = ap length are.locations in
-    (reaches_of scan limit plans are chunk inside segment cause.0, λ below. let lacks = cause.1 in omega (arith, count, below, lacks))
+    (finds_of scan limit plans are (IsIn segment) (IsIn segment) (in_moved (node_of scan.projection) segment) chunk inside cause.0, λ below. let lacks = cause.1 in omega (arith, count, below, lacks))
 cause_in T scan limit plans are chunk inside ReadFault before after cause = cause
 cause_in T scan limit plans are chunk inside Stalled before after cause = subst (λ (n : ℕ). RoseBy n before.idle after.idle) are.limit_is cause
 cause_in T scan limit plans are chunk inside (BadSegment segment) before after cause = λ file told.

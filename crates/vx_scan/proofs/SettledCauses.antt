@@ -42,7 +42,7 @@ use Rattle.vx_scan.specs.declared.errors.ScanError.{ScanError}
 use Rattle.vx_scan.specs.declared.errors.ScanError.TheVariants.{BadProjection, OffsetOverflow, OutOfRange, Unsupported, NoLocation, ReadFault, Stalled, BadSegment, BadCode, EvalFault, Memory}
 use Rattle.vx_scan.specs.declared.plans.ScanPlans.{ScanPlans}
 use Rattle.vx_scan.specs.Asks.{Lasts}
-use Rattle.vx_scan.specs.ChunkRows.{given_to, ChunkFaultsAt, ChunkFinds, ChunkReaches, ChunkReadsBadCode, IsPiece}
+use Rattle.vx_scan.specs.ChunkRows.{given_to, ChunkFaultsAt, ChunkFinds, ChunkReadsBadCode, IsPiece}
 use Rattle.vx_scan.specs.Loans.{IsResultBy, RestsOnValues}
 use Rattle.vx_scan.specs.Outcomes.{Causes, ChunkAsks, Claims}
 use Rattle.vx_scan.specs.Plans.{projection_node, projection_plan, with_projection}
@@ -51,7 +51,7 @@ use Rattle.vx_scan.proofs.ChunkScanning.{IsGoodChunk}
 use Rattle.vx_scan.proofs.Fitting.{fitting_typed, none_made, none_typed}
 use Rattle.vx_scan.proofs.WholeReads.{whole_found}
 use Rattle.vx_scan.proofs.Lasting.{rose_from}
-use Rattle.vx_scan.proofs.FewerReads.{finds_free, NoCode}
+use Rattle.vx_scan.proofs.FewerReads.{finds_free, segment_free, NoCode}
 
 -- ---- what is read with none given
 
@@ -167,7 +167,7 @@ cause_free Told Other plans chosen columns BadProjection before now after carrie
 cause_free Told Other plans chosen columns OffsetOverflow before now after carries is typed lasts cause = absurd cause
 cause_free Told Other plans chosen columns OutOfRange before now after carries is typed lasts cause = absurd cause
 cause_free Told Other plans chosen columns (Unsupported list) before now after carries is typed lasts cause = finds_free (IsRowOf (number_of list)) (no_code_list (number_of list)) plans columns chosen cause
-cause_free Told Other plans chosen columns (NoLocation segment) before now after carries is typed lasts cause = cause
+cause_free Told Other plans chosen columns (NoLocation segment) before now after carries is typed lasts cause = (segment_free plans columns chosen segment cause.0, cause.1)
 cause_free Told Other plans chosen columns ReadFault before now after carries is typed lasts cause = rose_from 1 before.faults now.faults after.faults lasts.faults cause
 cause_free Told Other plans chosen columns Stalled before now after carries is typed lasts cause = rose_from plans.idle_limit before.idle now.idle after.idle lasts.idle cause
 cause_free Told Other plans chosen columns (BadSegment segment) before now after carries is typed lasts cause =
@@ -203,13 +203,6 @@ chunk_finds_asked Q plans node chosen is there (row, bit, v) (place, at, any) = 
       (finds_asked Q plans node (chosen.scope.rows.start + row) is.good is.known there v place at (plain_reads Q plans (plan_at plans.table (number_of node)) (0 + place) any)),
 )
 
-chunk_reaches_asked : (plans : ScanPlans) (node : PlanRef) (chosen : SelectedRows) (segment : ℕ) → IsGoodChunk plans chosen → number_of node < length plans.table → ChunkAsks plans [] chosen (number_of node) → ChunkReaches (with_projection plans node) (all_rows plans node) segment → ChunkReaches plans chosen segment
-chunk_reaches_asked plans node chosen segment is there (row, bit, v) by = record {
-  row = row;
-  chosen = bit;
-  read = finds_asked (IsIn segment) plans node (chosen.scope.rows.start + row) is.good is.known there v by.row by.chosen by.read;
-}
-
 -- why all rows of a plan can't be read is why the chunk has no piece
 pub cause_asked : (Told Other : Claims) (Sound : Bytes → Type 0) (plans : ScanPlans) (node : PlanRef) (chosen : SelectedRows) (error : ScanError) (before now after : SourceState) → Carries Told Other Sound → IsGoodChunk plans chosen → number_of node < length plans.table → ChunkAsks plans [] chosen (number_of node) → Lasts before now →
     Causes Told (with_projection plans node) [] (all_rows plans node) error now after → Causes Other plans [] chosen error before after
@@ -217,7 +210,7 @@ cause_asked Told Other Sound plans node chosen BadProjection before now after ca
 cause_asked Told Other Sound plans node chosen OffsetOverflow before now after carries is there asks lasts cause = absurd cause
 cause_asked Told Other Sound plans node chosen OutOfRange before now after carries is there asks lasts cause = absurd cause
 cause_asked Told Other Sound plans node chosen (Unsupported list) before now after carries is there asks lasts cause = chunk_finds_asked (IsRowOf (number_of list)) plans node chosen is there asks cause
-cause_asked Told Other Sound plans node chosen (NoLocation segment) before now after carries is there asks lasts cause = (chunk_reaches_asked plans node chosen segment is there asks cause.0, cause.1)
+cause_asked Told Other Sound plans node chosen (NoLocation segment) before now after carries is there asks lasts cause = (chunk_finds_asked (IsIn segment) plans node chosen is there asks cause.0, cause.1)
 cause_asked Told Other Sound plans node chosen ReadFault before now after carries is there asks lasts cause = rose_from 1 before.faults now.faults after.faults lasts.faults cause
 cause_asked Told Other Sound plans node chosen Stalled before now after carries is there asks lasts cause = rose_from plans.idle_limit before.idle now.idle after.idle lasts.idle cause
 cause_asked Told Other Sound plans node chosen (BadSegment segment) before now after carries is there asks lasts cause =

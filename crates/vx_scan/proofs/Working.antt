@@ -30,7 +30,7 @@ use Rattle.vx_scan.specs.Runs.{row_fault}
 use Rattle.vx_scan.specs.Workers.{AsksReached, Fails, RunsSource}
 use Rattle.vx_scan.proofs.ChunkOutcomes.{error_of}
 use Rattle.vx_scan.proofs.Distinct.{distinct_none}
-use Rattle.vx_scan.proofs.FewerReads.{list_free, torn_free}
+use Rattle.vx_scan.proofs.FewerReads.{list_free, segment_free, torn_free}
 use Rattle.vx_scan.proofs.Higher.{ascend_none, ascend_push}
 use Rattle.vx_scan.proofs.Lasting.{lasts_same, lasts_then, rose_from}
 use Rattle.vx_scan.proofs.NewReasons.{ArePast, AreTaken, HandsLeaves, HasAsked, HasMade, NewReasons, RunsNext, asks_more, lies_behind, new_reasons, past_more, taken_more}
@@ -192,7 +192,7 @@ cause_before plans handed given chunk BadProjection before now after lasts is su
 cause_before plans handed given chunk OffsetOverflow before now after lasts is sure cause = absurd cause
 cause_before plans handed given chunk OutOfRange before now after lasts is sure cause = absurd cause
 cause_before plans handed given chunk (Unsupported list) before now after lasts is sure cause = list_free plans given chunk (number_of list) cause
-cause_before plans handed given chunk (NoLocation segment) before now after lasts is sure cause = cause
+cause_before plans handed given chunk (NoLocation segment) before now after lasts is sure cause = (segment_free plans given chunk segment cause.0, cause.1)
 cause_before plans handed given chunk ReadFault before now after lasts is sure cause = rose_from 1 before.faults now.faults after.faults lasts.faults cause
 cause_before plans handed given chunk Stalled before now after lasts is sure cause = rose_from plans.idle_limit before.idle now.idle after.idle lasts.idle cause
 cause_before plans handed given chunk (BadSegment segment) before now after lasts is sure cause = λ file told. torn_free (bytes_of plans file) plans given chunk segment (cause file (lasts.file ∙ told) (is file told))

@@ -2,8 +2,9 @@
 use Rattle.std.specs.Prelude.{ℕ, List, Some}
 use Rattle.vx_base.specs.Columns.{ColumnData}
 use Rattle.vx_plan.specs.Laws.{IsReadBy}
+use Rattle.vx_plan.specs.PlanRows.{plan_value}
 use Rattle.vx_rows.specs.Derivations.{Leaves}
-use Rattle.vx_rows.specs.Reads.{Found}
+use Rattle.vx_rows.specs.Reads.{Found, IsIn}
 use Rattle.vx_rows.specs.SegmentLeaves.{Bytes}
 use Rattle.vx_splits.specs.declared.selected_rows.SelectedRows.{SelectedRows}
 use Rattle.vx_steps.specs.declared.errors.StepError.{StepError}
@@ -41,6 +42,10 @@ ChunkReaches plans chosen segment = IsReadBy plans.row_offset segment (projectio
 abbrev pub ChunkReadsList : ScanPlans → List Kept → SelectedRows → ℕ → Type 0
 ChunkReadsList plans given chosen list = ChunkFinds (IsRowOf list) plans given chosen
 
+-- some selected row reads a leaf of the segment
+abbrev pub ChunkReadsSegment : ScanPlans → List Kept → SelectedRows → ℕ → Type 0
+ChunkReadsSegment plans given chosen segment = ChunkFinds (IsIn segment) plans given chosen
+
 -- some selected row reads a leaf of the segment, whose bytes spell no values for it
 abbrev pub ChunkReadsTorn : Bytes → ScanPlans → List Kept → SelectedRows → ℕ → Type 0
 ChunkReadsTorn bytes plans given chosen segment = ChunkFinds (IsTornIn bytes segment) plans given chosen
@@ -63,3 +68,8 @@ ChunkFailsInside leaves plans given chosen fault = HasInsideCause leaves (given_
 abbrev pub IsPiece : Leaves → ScanPlans → List Kept → SelectedRows → ColumnData → Type 0
 IsPiece leaves plans given chosen column =
     AreOf (row_value leaves (given_to plans given) plans.row_offset (projection_plan plans)) (rows_of chosen.scope.rows.start chosen.mask) column.values
+
+-- these are the values that the plan itself has at the selected rows, in order, none of which is a fault
+abbrev pub IsPlanPiece : Leaves → ScanPlans → SelectedRows → ColumnData → Type 0
+IsPlanPiece leaves plans chosen column =
+    AreOf (plan_value leaves plans.row_offset (projection_plan plans)) (rows_of chosen.scope.rows.start chosen.mask) column.values

@@ -10,6 +10,7 @@ pub mod Borrowing
 pub mod Builders
 pub mod Causes
 pub mod Certified
+pub mod ChunkLaws
 pub mod ChunkRows
 pub mod ChunkScans
 pub mod Computes

@@ -21,7 +21,7 @@ use Rattle.vx_scan.specs.declared.outcomes.HandedOn.{HandedOn}
 use Rattle.vx_scan.specs.declared.outcomes.Ran.{Ran}
 use Rattle.vx_scan.specs.declared.plans.ScanPlans.{ScanPlans}
 use Rattle.vx_scan.specs.Asks.{AsksOnly, Lasts, TellsFaults}
-use Rattle.vx_scan.specs.ChunkRows.{ChunkFailsInside, ChunkReaches, ChunkVisits, ChunkFaultsAt, IsPiece, ChunkReadsBadCode, ChunkReadsList, ChunkReadsTorn}
+use Rattle.vx_scan.specs.ChunkRows.{ChunkFailsInside, ChunkReaches, ChunkVisits, ChunkFaultsAt, IsPiece, ChunkReadsBadCode, ChunkReadsList, ChunkReadsSegment, ChunkReadsTorn}
 use Rattle.vx_scan.specs.LeafRows.{IsReadAt, row_behind}
 use Rattle.vx_scan.specs.Lent.{WhereAllTell}
 use Rattle.vx_scan.specs.Plans.{bytes_of, projection_node, projection_plan}
@@ -57,7 +57,7 @@ pub record GivesPiece (Told : Claims) (plans : ScanPlans) (given : List Kept) (c
 -- why a chunk has no piece
 abbrev pub Causes : Claims → ScanPlans → List Kept → SelectedRows → ScanError → SourceState → SourceState → Type 0
 Causes Told plans given chosen (Unsupported list) before after = ChunkReadsList plans given chosen (number_of list)
-Causes Told plans given chosen (NoLocation segment) before after = ChunkReaches plans chosen segment × (length plans.locations.items ≤ segment)
+Causes Told plans given chosen (NoLocation segment) before after = ChunkReadsSegment plans given chosen segment × (length plans.locations.items ≤ segment)
 Causes Told plans given chosen ReadFault before after = Rose before.faults after.faults
 Causes Told plans given chosen Stalled before after = RoseBy plans.idle_limit before.idle after.idle
 Causes Told plans given chosen (BadSegment segment) before after = Told (λ bytes. ChunkReadsTorn bytes plans given chosen segment)
@@ -91,14 +91,22 @@ AreUsedOrMade given used made n = (IsKept given n × IsKept used n) ⊎ ((kept_a
 abbrev pub AreAllUsedOrMade : ScanPlans → List Kept → SelectedRows → ChunkOutcome → Type 0
 AreAllUsedOrMade plans given chosen outcome = (n : ℕ) → ChunkAsks plans given chosen n → AreUsedOrMade given (data_of outcome.used.items) (data_of outcome.made.items) n
 
--- Only given values were used. Those that were made are whole by the file. Those that the selected rows of a piece ask
--- for were used where they are given, and else made. So were those that rows with a fault of an expression ask for, where
--- no share stands in the projection's plan and no expression below a take.
+-- Only given values were used, and what was used or made is what the selected rows ask for, each once. Those that were
+-- made are whole by the file. Those that the selected rows of a piece ask for were used where they are given, and else
+-- made. So were those that rows with a fault ask for, or the fault is one inside whole values; an expression's is none
+-- such, where no share stands in the projection's plan and no expression below a take.
 pub record KeepsValues (plans : ScanPlans) (given : List Kept) (chosen : SelectedRows) (outcome : ChunkOutcome) (before : SourceState) : Type 0 where
   pub used : (n : ℕ) (column : ColumnData) → kept_at (data_of outcome.used.items) n ≡ Some column → kept_at given n ≡ Some column
+  pub apart_used : AreApart (data_of outcome.used.items)
+  pub apart_made : AreApart (data_of outcome.made.items)
+  pub asked_used : (n : ℕ) → IsKept (data_of outcome.used.items) n → ChunkAsks plans given chosen n
+  pub asked_made : (n : ℕ) → IsKept (data_of outcome.made.items) n → ChunkAsks plans given chosen n
   pub made : told_by plans before (λ bytes. AreMade plans.table plans.row_offset (data_of outcome.made.items) (leaves_of bytes))
   pub typed : AreTyped plans.table (data_of outcome.made.items)
+  pub typed_used : AreTyped plans.table (data_of outcome.used.items)
   pub there : IfOk outcome.piece (λ column. AreAllUsedOrMade plans given chosen outcome)
+  pub left : IfErr outcome.piece (λ error. IfSome (row_fault error) (λ fault.
+      AreAllUsedOrMade plans given chosen outcome ⊎ told_by plans before (λ bytes. ChunkFailsInside (leaves_of bytes) plans given chosen fault)))
   pub faults : (row : ℕ) → outcome.piece ≡ Err (EvalFault row) → HasNoShare (projection_plan plans) → HasNoEvalBelowTake (projection_plan plans) → told_by plans before (λ bytes. AreAllUsedOrMade plans given chosen outcome)
 
 pub record RunsChunk (plans : ScanPlans) (chosen : SelectedRows) (given : List Kept) (outcome : ChunkOutcome) (before after : SourceState) : Type 0 where
@@ -125,6 +133,10 @@ pub record CanHandOn (plans : ScanPlans) (handed : HandedOn) : Type 0 where
   pub leaves : AreTyped plans.table (data_of handed.leaves.items)
   pub made : AreTyped plans.table (data_of handed.made.items)
   pub apart : AreApart (data_of handed.made.items)
+
+-- where a chunk has no rows, no leaves are lent to it
+abbrev pub LendsLeaves : SelectedRows → HandedOn → Type 0
+LendsLeaves chosen handed = chosen.scope.rows.end ≤ chosen.scope.rows.start → data_of handed.leaves.items ≡ []
 
 -- what is handed on is so by the bytes
 abbrev pub IsHandedBy : ScanPlans → HandedOn → Bytes → Type 0

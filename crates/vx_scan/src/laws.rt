@@ -1,5 +1,6 @@
 //! The laws of what scans answer. Each is the contract of a function that does nothing.
 
+ghost use Rattle.vx_scan.specs.ChunkLaws.{UsedGivePiece, UsedHaveCause, WholeGivePiece, WholeHaveCause};
 ghost use Rattle.vx_scan.specs.Counts.{AllSourcesAreCounted, AsksAgainAreCounted, AsksAreCounted, OneSourceIsCounted};
 ghost use Rattle.vx_scan.specs.Laws.{AnswerIsOne, ValidScanIsAnswered, ValidScanBegins, FaultyReadIsNoAnswer, FaultIsNoAnswer, PiecesJoin, PiecesAnswer, PlanTextIsOne};
 ghost use Rattle.vx_scan.specs.SourceCounts.{FirstIsCountedAgain, SourceIsCounted, SourceIsCountedByChunks};
@@ -18,6 +19,17 @@ pub fn scans_have_answers()
 pub fn pieces_are_the_answer()
     ensures rows { PiecesJoin }
     ensures answer { PiecesAnswer }
+{}
+
+/// The piece that [`run_chunk`](crate::run_chunk) gives is that with the values in place of whole ones that it used,
+/// whatever else it was given, and an error has its cause with these. So where each of them is the whole values of its
+/// plan by the file, the piece has the values that the plan itself has at the chunk's selected rows, and an error has its
+/// cause with none.
+pub fn used_values_serve_chunks()
+    ensures pieces { UsedGivePiece }
+    ensures whole_pieces { WholeGivePiece }
+    ensures causes { UsedHaveCause }
+    ensures whole_causes { WholeHaveCause }
 {}
 
 /// The plan of a projection has one text, whatever table it stands in.

@@ -10,7 +10,8 @@
 //! - Whole values by plan: [`Book`], and [`ValueCache`], which keeps one under a lock.
 //! - The plan of a projection as a text: [`plan_text`].
 //! - Why there are no rows: [`ScanError`].
-//! - The laws of answers: [`scans_have_answers`], [`pieces_are_the_answer`]; of asks: [`asks_are_counted`],
+//! - The laws of answers: [`scans_have_answers`], [`pieces_are_the_answer`]; of values that were used:
+//!   [`used_values_serve_chunks`]; of asks: [`asks_are_counted`],
 //!   [`claimed_asks_are_counted`]; of texts: [`plans_have_one_text`]; by hand: [`answers_by_hand`], [`faults_by_hand`],
 //!   [`pieces_by_hand`].
 #![tactic(auto)]
@@ -59,7 +60,7 @@ pub use files::ScanFile;
 pub use lanes::{ChunkError, Piece};
 pub use laws::{
     asks_are_counted, claimed_asks_are_counted, pieces_are_the_answer, plans_have_one_text,
-    scans_have_answers,
+    scans_have_answers, used_values_serve_chunks,
 };
 pub use outcomes::{ChunkOutcome, Outcome, Rerun};
 pub use plan_texts::plan_text;
