@@ -21,7 +21,9 @@ use Rattle.vx_rows.specs.Derivations.{Leaves}
 use Rattle.vx_rows.specs.Renumbered.{read_renumbered}
 use Rattle.vx_rows.specs.Whole.{GiveFitting}
 use Rattle.vx_splits.specs.declared.selected_rows.SelectedRows.{SelectedRows}
-use Rattle.vx_splits.specs.Trimmed.{chosen_rows}
+use Rattle.vx_splits.specs.declared.selected_rows.WorkScope.{WorkScope}
+use Rattle.vx_splits.specs.declared.selections.Selection.{Selection}
+use Rattle.vx_splits.specs.Trimmed.{chosen_rows, IsTrimmed}
 use Rattle.vx_steps.specs.Below.{StandsIn}
 use Rattle.vx_steps.specs.Given.{Handed}
 use Rattle.vx_steps.specs.Laws.{HandsNone}
@@ -101,8 +103,13 @@ pub record LiesInside (count : ℕ) (chunk : SelectedRows) : Type 0 where
   pub below : chunk.scope.rows.end ≤ count
   pub mask : length chunk.mask ≡ chunk.scope.rows.end - chunk.scope.rows.start
 
+-- The chunk is a scope of the file's rows, cut down to its first and its last row that is selected.
+abbrev pub IsCutBy : Selection → SelectedRows → Type 0
+IsCutBy selection chunk = (scope : WorkScope) × (scope.file_ordinal ≡ 0) × IsTrimmed selection scope chunk
+
 -- The chunks have the pieces of the scan's rows, in order.
 pub record AreChunksOf (scan : FileScan) (chunks : List SelectedRows) : Type 0 where
   pub pieces : map chosen_rows chunks ≡ scan_pieces scan
   pub inside : AllByRecursion (LiesInside (row_count scan)) chunks
   pub ordered : AreInOrder chunks
+  pub trimmed : AllByRecursion (IsCutBy scan.selection) chunks

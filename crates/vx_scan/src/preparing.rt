@@ -17,7 +17,7 @@ ghost use Rattle.vx_scan.specs.Beginning.{BeginsOver};
 ghost use Rattle.vx_scan.specs.Builders.{counted_from as offset_of};
 ghost use Rattle.vx_scan.specs.PlanTexts.{projection_of};
 ghost use Rattle.vx_scan.specs.Plans.{AreInOrder};
-ghost use Rattle.vx_scan.specs.Preparing.{AreChunksOf, ArePlansOf, IsPlannedFor, IsProjectedIn, LiesInside};
+ghost use Rattle.vx_scan.specs.Preparing.{AreChunksOf, ArePlansOf, IsCutBy, IsPlannedFor, IsProjectedIn, LiesInside};
 ghost use Rattle.vx_scan.specs.Settings.{scan_by};
 ghost use Rattle.vx_scan.specs.Valid.{IsBound};
 
@@ -48,6 +48,7 @@ fn cut_chunks(
     ensures pieces { IfOk result (λ chunks. map chosen_rows chunks.items ≡ pieces_of size (selected_rows selection.now rows.start rows.end)) }
     ensures inside { IfOk result (λ chunks. AllByRecursion (LiesInside rows.end) chunks.items) }
     ensures ordered { IfOk result (λ chunks. AreInOrder chunks.items) }
+    ensures trimmed { IfOk result (λ chunks. AllByRecursion (IsCutBy selection.now) chunks.items) }
 {
     let ranges = row_chunks(alloc, rows, size)?;
     let mut chunks = Vec::with_capacity(alloc, ranges.len())?;

@@ -25,7 +25,7 @@ loop-rows-preserved-in-Continue-branch-5 c =
     let trimmed : IsTrimmed c.args.selection.now (record { file_ordinal = 0; rows = c.in-Some.rows }) c.in-Some-2.chunk = subst (λ (o : Option SelectedRows). IfSome o (λ chunk. IsTrimmed c.args.selection.now (record { file_ordinal = 0; rows = c.in-Some.rows }) chunk)) c.in-Some-2.is (c.in_ok-chunk.ensures {u = tt}).trimmed in
     let some : selected_rows c.args.selection.now c.in-Some.rows.start c.in-Some.rows.end ≡ [] → ⊥ = λ empty. not_none c.in_ok-chunk.field-0 c.in-Some-2.chunk c.in-Some-2.is ((c.in_ok-chunk.ensures {u = tt}).none.1 empty) in (
       subst (Cutting c.args.selection.now c.args.rows.start end (c.loop-rows.yielded ++ c.in-Some.rows ∷ [])) (sym (c.in_ok-push.ensures {u = tt}).items)
-          (cut_more c.args.selection.now c.args.rows.start end c.loop-rows.yielded c.in-Some.rows c.loop-rows.chunks.items (record { file_ordinal = 0; rows = c.in-Some.rows }) c.in-Some-2.chunk c.loop-rows.invariant.0 next refl below trimmed some),
+          (cut_more c.args.selection.now c.args.rows.start end c.loop-rows.yielded c.in-Some.rows c.loop-rows.chunks.items (record { file_ordinal = 0; rows = c.in-Some.rows }) c.in-Some-2.chunk c.loop-rows.invariant.0 next refl refl below trimmed some),
       next_joined c.loop-rows.yielded c.in-Some.rows left rest _ c.loop-rows.invariant.1 steps,
     )
 
@@ -46,3 +46,6 @@ returns-clause-inside c = c.loop-rows.invariant.0.inside
 
 pub returns-clause-ordered : goal.returns-clause-ordered
 returns-clause-ordered c = c.loop-rows.invariant.0.ordered
+
+pub returns-clause-trimmed : goal.returns-clause-trimmed
+returns-clause-trimmed c = c.loop-rows.invariant.0.trimmed
