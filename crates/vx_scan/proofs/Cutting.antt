@@ -15,7 +15,7 @@ use Rattle.vx_splits.specs.Trimmed.{selection_mask, chosen_rows, IsTrimmed}
 use Rattle.vx_splits.proofs.ChunkRows.{joins, row_chunks-tile}
 use Rattle.vx_scan.specs.Answer.{pieces_of}
 use Rattle.vx_scan.specs.Plans.{AreInOrder}
-use Rattle.vx_scan.specs.Preparing.{LiesInside}
+use Rattle.vx_scan.specs.Preparing.{IsCutBy, LiesInside}
 use Rattle.vx_scan.proofs.Pieces.{nonempty}
 use Rattle.vx_scan.proofs.ChunkPieces.{selected_of, chunk_pieces}
 use Rattle.vx_scan.proofs.NewReasons.{end_of, end_next, follow_more}
@@ -30,9 +30,10 @@ pub record Cutting (selection : Selection) (start end : ℕ) (done : List (Range
   pub inside : AllByRecursion (LiesInside end) chunks
   pub ordered : AreInOrder chunks
   pub behind : end_of 0 chunks ≤ reach start done
+  pub trimmed : AllByRecursion (IsCutBy selection) chunks
 
 pub cut_none : (selection : Selection) (start end : ℕ) (chunks : List SelectedRows) → chunks ≡ [] → Cutting selection start end [] chunks
-cut_none selection start end chunks empty = rw empty (record { pieces = refl; inside = tt; ordered = tt; behind = omega arith })
+cut_none selection start end chunks empty = rw empty (record { pieces = refl; inside = tt; ordered = tt; behind = omega arith; trimmed = tt })
 
 reach_more : (row : ℕ) (done : List (Range ℕ)) (range : Range ℕ) → reach row (done ++ range ∷ []) ≡ range.end
 reach_more row [] range = refl
@@ -75,6 +76,7 @@ cut_skip selection start end done range chunks so_far next none = record {
   inside = so_far.inside;
   ordered = so_far.ordered;
   behind = let low = so_far.behind in let last = reach_more start done range in let from = next.0 in let some = next.1 in omega (arith, low, last, from, some);
+  trimmed = so_far.trimmed;
 }
 
 some_piece : (rows : List ℕ) → (rows ≡ [] → ⊥) → nonempty (rows ∷ []) ≡ rows ∷ []
@@ -99,19 +101,19 @@ lies_inside selection end scope chunk is below =
     let ends : chunk.scope.rows.end ≤ scope.rows.end = is.ends in
     record { forwards = omega (arith, count, some); below = omega (arith, below, ends); mask = count }
 
-has_rows : (selection : Selection) (scope : WorkScope) (chunk : SelectedRows) → IsTrimmed selection scope chunk → chunk.scope.rows.start < chunk.scope.rows.end
-has_rows selection scope chunk is =
+pub cut_has_rows : (selection : Selection) (scope : WorkScope) (chunk : SelectedRows) → IsTrimmed selection scope chunk → chunk.scope.rows.start < chunk.scope.rows.end
+cut_has_rows selection scope chunk is =
     let count : length chunk.mask ≡ chunk.scope.rows.end - chunk.scope.rows.start = ap length is.mask ∙ mask_length selection chunk.scope.rows.start chunk.scope.rows.end in
     let some : 0 < length chunk.mask = first_there chunk.mask is.begins_with_true in
     omega (arith, count, some)
 
 -- a chunk of the range is left
-pub cut_more : (selection : Selection) (start end : ℕ) (done : List (Range ℕ)) (range : Range ℕ) (chunks : List SelectedRows) (scope : WorkScope) (chunk : SelectedRows) → Cutting selection start end done chunks → (reach start done ≡ range.start) × (range.start < range.end) → scope.rows ≡ range → range.end ≤ end → IsTrimmed selection scope chunk →
+pub cut_more : (selection : Selection) (start end : ℕ) (done : List (Range ℕ)) (range : Range ℕ) (chunks : List SelectedRows) (scope : WorkScope) (chunk : SelectedRows) → Cutting selection start end done chunks → (reach start done ≡ range.start) × (range.start < range.end) → scope.file_ordinal ≡ 0 → scope.rows ≡ range → range.end ≤ end → IsTrimmed selection scope chunk →
     (selected_rows selection range.start range.end ≡ [] → ⊥) → Cutting selection start end (done ++ range ∷ []) (chunks ++ chunk ∷ [])
-cut_more selection start end done range chunks scope chunk so_far next same below is some =
+cut_more selection start end done range chunks scope chunk so_far next first_file same below is some =
     let keeps : chosen_rows chunk ≡ selected_rows selection range.start range.end = is.keeps ∙ ap (λ (r : Range ℕ). selected_rows selection r.start r.end) same in
     let ends : scope.rows.end ≤ end = subst (λ (r : Range ℕ). r.end ≤ end) (sym same) below in
-    let has : chunk.scope.rows.start < chunk.scope.rows.end = has_rows selection scope chunk is in
+    let has : chunk.scope.rows.start < chunk.scope.rows.end = cut_has_rows selection scope chunk is in
     let first : range.start ≤ chunk.scope.rows.start = subst (λ (r : Range ℕ). r.start ≤ chunk.scope.rows.start) same is.starts in
     let last : chunk.scope.rows.end ≤ range.end = subst (λ (r : Range ℕ). chunk.scope.rows.end ≤ r.end) same is.ends in
     record {
@@ -121,8 +123,9 @@ cut_more selection start end done range chunks scope chunk so_far next same belo
           ∙ (ap (λ (pieces : List (List ℕ)). nonempty (map (selected_of (selects selection)) done) ++ pieces) (sym (some_piece (selected_rows selection range.start range.end) some))
           ∙ sym (one_more selection done range))));
       inside = each_more (LiesInside end) chunks chunk so_far.inside (lies_inside selection end scope chunk is ends);
-      ordered = follow_more 0 chunks chunk (record { before = so_far.ordered; behind = let low = so_far.behind in let from = next.0 in omega (arith, low, from, first); some = has });
+      ordered = follow_more 0 chunks chunk (record { before = so_far.ordered; behind = let low = so_far.behind in let from = next.0 in omega (arith, low, from, first); forwards = omega (arith, has) });
       behind = let here = end_next 0 chunks chunk in let there = reach_more start done range in omega (arith, here, there, last);
+      trimmed = each_more (IsCutBy selection) chunks chunk so_far.trimmed (scope, first_file, is);
     }
 
 -- ---- the ranges

@@ -1,7 +1,9 @@
 -- The outcome of a chunk among those of one source, from the run of its scan.
-use Rattle.std.proofs.Common.{◌≡◌, ℕ, ◌+◌, ◌<◌, ◌⊎◌, inl, inr, ⊎_elim, List, [], ◌∷◌, ◌++◌, Option, Some, None, Ok, Err, length, refl, sym, ap, ◌∙◌, subst, arith}
-use Rattle.std.specs.Prelude.{IfErr, IfSome, Result}
+use Rattle.std.proofs.Common.{◌≡◌, ℕ, ◌+◌, ◌<◌, ◌≤◌, ◌⊎◌, inl, inr, ⊎_elim, Bool, true, List, [], ◌∷◌, ◌++◌, Option, Some, None, Ok, Err, length, refl, sym, ap, ◌∙◌, subst, arith}
+use Rattle.std.specs.Prelude.{if◌then◌else◌, max, IfErr, IfSome, Result}
+use Rattle.std.proofs.lemmas.Bool.{cases_lt, lt-ltb}
 use Rattle.std.proofs.lemmas.List.Elements.{All-weaker}
+use Rattle.std.proofs.lemmas.Option.{slice_get_within}
 use Rattle.vx_base.specs.Columns.{ColumnData}
 use Rattle.vx_base.specs.Sources.{SourceState, Cleared}
 use Rattle.vx_plan.specs.Nodes.{Node}
@@ -34,12 +36,12 @@ use Rattle.vx_scan.specs.ChunkRows.{given_to, ChunkFailsInside, ChunkVisits}
 use Rattle.vx_scan.specs.ChunkScans.{IsChunkScan}
 use Rattle.vx_scan.specs.Finished.{Finishes}
 use Rattle.vx_scan.specs.LeafRows.{IsReadAt, row_behind, split_in}
-use Rattle.vx_scan.specs.Outcomes.{AreAllThere, AreOwn, CanHandOn, Causes, ChunkAsks, Claims, GivesPiece, HandsLeavesRead, IsGivenOrMade, IsHandedBy, IsWanted, RunsOn, RunsOnly, data_of, told_on}
+use Rattle.vx_scan.specs.Outcomes.{AreAllThere, AreOwn, CanHandOn, Causes, ChunkAsks, Claims, GivesPiece, HandsLeavesRead, IsGivenOrMade, IsHandedBy, IsWanted, LendsLeaves, RunsOn, RunsOnly, data_of, told_on}
 use Rattle.vx_scan.specs.Pieces.{PieceOf}
 use Rattle.vx_scan.specs.Plans.{bytes_of, projection_plan, IsChunkOf}
 use Rattle.vx_scan.specs.Runs.{LeavesFault, LeavesRead, row_fault}
 use Rattle.vx_scan.proofs.AddedVisits.{AreBehind, KeepsBoth, are_behind, cause_added, gives_added, keeps_both, kept_behind, kept_in_either, kept_in_front}
-use Rattle.vx_scan.proofs.ChunkOutcomes.{asks_nothing, chunk_causes, chunk_content, chunk_error, chunk_faults, chunk_leaves, chunk_there, lasts_cleared, leaves_in, made_in, there_as, typed_in}
+use Rattle.vx_scan.proofs.ChunkOutcomes.{asks_nothing, chunk_causes, chunk_content, chunk_error, chunk_faults, chunk_leaves, chunk_there, lasts_cleared, leaves_in, made_in, none_kept, there_as, typed_in}
 use Rattle.vx_scan.proofs.ChunkScanning.{IsGoodChunk, good_chunk}
 use Rattle.vx_scan.proofs.ChunkViews.{Claimable, asks_wanted, fault_left, fault_reads}
 use Rattle.vx_scan.proofs.Fitting.{kept_among, kept_first, leaves_fitting, made_fitting, stays_fitting}
@@ -58,16 +60,20 @@ claim_on plans chosen handed given leaves made start before can fits_leaves fits
 
 -- ---- the leaves of a chunk among those of one source
 
--- what the row behind the chunk reads, the row behind the scan's split reads
-read_behind : (plans : ScanPlans) (chosen : SelectedRows) (given leaves made : List Kept) (start scan : ScanData) (leaf : ℕ) → IsChunkScan plans chosen given leaves made start → scan.nodes ≡ start.nodes → scan.job ≡ start.job → IsReadAt plans (row_behind chosen) leaf → IsReadBehind scan.nodes scan.job leaf
-read_behind plans chosen given leaves made start scan leaf is same_nodes same_job read =
+-- the row behind a chunk that has rows
+behind_it : (chunk : SelectedRows) → chunk.scope.rows.start < chunk.scope.rows.end → row_behind chunk ≡ behind_all (split_in chunk ∷ [])
+behind_it chunk some = sym (ap (λ (b : Bool). max (if b then chunk.scope.rows.end else 0) 0) (lt-ltb chunk.scope.rows.start chunk.scope.rows.end some) ∙ omega arith)
+
+-- what it reads, the row behind the scan's split reads
+read_behind : (plans : ScanPlans) (chosen : SelectedRows) (given leaves made : List Kept) (start scan : ScanData) (leaf : ℕ) → chosen.scope.rows.start < chosen.scope.rows.end → IsChunkScan plans chosen given leaves made start → scan.nodes ≡ start.nodes → scan.job ≡ start.job → IsReadAt plans (row_behind chosen) leaf → IsReadBehind scan.nodes scan.job leaf
+read_behind plans chosen given leaves made start scan leaf some is same_nodes same_job read =
     let nodes : scan.nodes ≡ plans.table = same_nodes ∙ is.nodes in
     let plan : scan.job.plan ≡ number_of plans.projection = ap (λ (j : Job). j.plan) same_job ∙ is.plan in
     let splits : scan.job.splits.items ≡ split_in chosen ∷ [] = ap (λ (j : Job). j.splits.items) same_job ∙ is.unread.splits ∙ ap (λ (s : Split). s ∷ []) is.split in
     let R : List Node → ℕ → List Split → Type 0 = λ ns n ss. (behind_all ss < (node_at ns n).rows) × RowReads ns n (behind_all ss) leaf in
     subst (λ (ns : List Node). R ns scan.job.plan scan.job.splits.items) (sym nodes)
     (subst (λ (n : ℕ). R plans.table n scan.job.splits.items) (sym plan)
-    (subst (λ (ss : List Split). R plans.table (number_of plans.projection) ss) (sym splits) read))
+    (subst (λ (ss : List Split). R plans.table (number_of plans.projection) ss) (sym splits) (subst (λ (row : ℕ). IsReadAt plans row leaf) (behind_it chosen some) read)))
 
 -- and its column is handed on
 leaf_on : (scan : ScanData) (after : List Kept) (leaf : ℕ) → Keeps (λ one. IsReadBehind scan.nodes scan.job one.node) scan.progress.leaves after → IsReadBehind scan.nodes scan.job leaf → IsKept scan.progress.leaves leaf → IsKept after leaf
@@ -146,10 +152,17 @@ made_claim : (plans : ScanPlans) (chosen : SelectedRows) (handed : HandedOn) (ow
 made_claim plans chosen handed own more before can are fits P Q to claim file told by =
     to (bytes_of plans file) (made_fitting plans.table plans.row_offset own more (leaves_of (bytes_of plans file)) (own_typed plans chosen (data_of handed.made.items) own are can.made) fits (λ n column at. by.made_are n column (are.from n column at))) (claim file told by)
 
-pub runs_on : (plans : ScanPlans) (chosen : SelectedRows) (handed : HandedOn) (given own all leaves made : List Kept) (start : ScanData) (finished : Finished) (ran : Ran) (before after : SourceState) → IsChunkOf plans chosen → CanHandOn plans handed → AreOwn plans chosen (data_of handed.made.items) own → Keeps (IsForPlan plans.table) (given ++ own) all
+-- a chunk of which a row reads a leaf has rows
+some_row : (plans : ScanPlans) (chosen : SelectedRows) (given : List Kept) (read : LeafRead) → IsChunkOf plans chosen → ChunkVisits (IsLeafRead read) plans given chosen → chosen.scope.rows.start < chosen.scope.rows.end
+some_row plans chosen given read is visits =
+    let less : visits.0 < length chosen.mask = slice_get_within chosen.mask visits.0 true visits.1 in
+    let size = is.mask in
+    omega (arith, less, size)
+
+pub runs_on : (plans : ScanPlans) (chosen : SelectedRows) (handed : HandedOn) (given own all leaves made : List Kept) (start : ScanData) (finished : Finished) (ran : Ran) (before after : SourceState) → IsChunkOf plans chosen → LendsLeaves chosen handed → CanHandOn plans handed → AreOwn plans chosen (data_of handed.made.items) own → Keeps (IsForPlan plans.table) (given ++ own) all
     → Keeps (IsForLeaf plans.table) (data_of handed.leaves.items) leaves → Keeps (IsForPlan plans.table) (data_of handed.made.items) made → IsChunkScan plans chosen all leaves made start → Finishes plans.locations.items plans.idle_limit start finished before after → PieceOf plans finished.output ran.piece
     → ran.handed.leaves ≡ finished.kept.leaves → ran.handed.made ≡ finished.kept.made → AreApart (data_of ran.handed.made.items) → RunsOnly plans chosen handed given ran before after
-runs_on plans chosen handed given own all leaves made start finished ran before after chunk can are fits_all fits_leaves fits_made is done piece same_leaves same_made apart =
+runs_on plans chosen handed given own all leaves made start finished ran before after chunk lends can are fits_all fits_leaves fits_made is done piece same_leaves same_made apart =
     let scan : ScanData = done.scan in
     let gives = done.gives in
     let kept_leaves : data_of ran.handed.leaves.items ≡ data_of finished.kept.leaves.items = λ i. data_of (same_leaves i).items in
@@ -165,6 +178,8 @@ runs_on plans chosen handed given own all leaves made start finished ran before 
     let inside : IsGoodChunk plans chosen = good_chunk plans chosen good there chunk in
     let Told : Claims = told_on plans handed before in
     let claim_made = made_claim plans chosen handed own more before can are both.keeps_back in
+    let on : chosen.scope.rows.start < chosen.scope.rows.end → (leaf : ℕ) → IsReadAt plans (row_behind chosen) leaf → IsKept scan.progress.leaves leaf → IsKept (data_of ran.handed.leaves.items) leaf = λ some leaf read kept.
+    leaf_on scan (data_of ran.handed.leaves.items) leaf keeps (read_behind plans chosen all leaves made start scan leaf some is gives.nodes gives.job read) kept in
     record {
       runs = record {
         fitting = fitting;
@@ -202,15 +217,18 @@ runs_on plans chosen handed given own all leaves made start finished ran before 
                 (λ error. fault_leaves plans chosen handed all leaves made (data_of ran.handed.made.items) start scan before error is claim kept_made)
                 (chunk_error (λ error. IfSome (row_fault error) (LeavesFault plans.locations.items start scan before)) plans finished.output ran.piece tt piece gives.left);
             leaves_stay = λ leaf read kept.
-                leaf_on scan (data_of ran.handed.leaves.items) leaf keeps (read_behind plans chosen all leaves made start scan leaf is gives.nodes gives.job read)
+                ⊎_elim
+                (λ (some : chosen.scope.rows.start < chosen.scope.rows.end). on some leaf read
                 (stay_on leaf start.progress.leaves scan.progress.leaves gives.leaves
-                (subst (λ (ks : List Kept). IsKept ks leaf) (sym is.leaves_are) (leaf_in plans leaves handed can fits_leaves good there leaf (row_behind chosen) read.1 kept)));
+                (subst (λ (ks : List Kept). IsKept ks leaf) (sym is.leaves_are) (leaf_in plans leaves handed can fits_leaves good there leaf (row_behind chosen) read.1 kept))))
+                (λ (none : chosen.scope.rows.end ≤ chosen.scope.rows.start). absurd (none_kept (data_of handed.leaves.items) leaf (lends none) kept))
+                (cases_lt chosen.scope.rows.start chosen.scope.rows.end);
             leaves_there = there_as ran.piece (λ column. (read : LeafRead) → ChunkVisits (IsLeafRead read) plans all chosen → IsKept scan.progress.leaves read.leaf) (λ column. HandsLeavesRead plans chosen all (data_of ran.handed.leaves.items))
-                (λ column have read past visits. leaf_on scan (data_of ran.handed.leaves.items) read.leaf keeps (read_behind plans chosen all leaves made start scan read.leaf is gives.nodes gives.job past) (have read visits))
+                (λ column have read past visits. on (some_row plans chosen all read chunk visits) read.leaf past (have read visits))
                 (chunk_leaves plans chosen all leaves made start scan before after finished.output ran.piece is gives.answer piece);
             leaves_left = error_as ran.piece (λ error. IfSome (row_fault error) (LeavesRead start scan)) (λ error. IfSome (row_fault error) (λ fault. HandsLeavesRead plans chosen all (data_of ran.handed.leaves.items)))
                 (λ error. some_as (row_fault error) (LeavesRead start scan) (λ fault. HandsLeavesRead plans chosen all (data_of ran.handed.leaves.items))
-                (λ fault have read past visits. leaf_on scan (data_of ran.handed.leaves.items) read.leaf keeps (read_behind plans chosen all leaves made start scan read.leaf is gives.nodes gives.job past) (fault_reads plans chosen all leaves made start scan fault is have read visits)))
+                (λ fault have read past visits. on (some_row plans chosen all read chunk visits) read.leaf past (fault_reads plans chosen all leaves made start scan fault is have read visits)))
                 (chunk_error (λ error. IfSome (row_fault error) (LeavesRead start scan)) plans finished.output ran.piece tt piece gives.left_leaves);
           };
           faults = chunk_faults plans before after finished.output ran.piece piece gives.faults;

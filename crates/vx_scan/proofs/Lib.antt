@@ -26,6 +26,7 @@ mod Crossing
 mod Cutting
 mod DictionaryReasons
 mod Distinct
+mod EmptyChunks
 mod Executing
 mod FewApart
 mod FewerReads

@@ -1,8 +1,6 @@
 -- The reasons for which a chunk asks, behind those of the chunks that ran before it, whatever whole values it is given.
-use Rattle.std.proofs.Common.{◌≡◌, ◌≢◌, ℕ, zero, suc, ◌+◌, ◌<◌, ◌≤◌, inl, inr, ⊎_elim, Bool, true, List, [], ◌∷◌, ◌++◌, Option, Some, None, length, map, refl, sym, ap, ◌∙◌, subst, arith}
-use Rattle.std.specs.Prelude.{if◌then◌else◌, max}
+use Rattle.std.proofs.Common.{◌≡◌, ◌≢◌, ℕ, zero, suc, ◌+◌, ◌<◌, ◌≤◌, inl, inr, ⊎_elim, true, List, [], ◌∷◌, ◌++◌, Option, Some, None, length, map, refl, sym, ap, ◌∙◌, subst, arith}
 use Rattle.std.specs.List.{slice_get, flat_map, All, AllByRecursion}
-use Rattle.std.proofs.lemmas.Bool.{lt-ltb}
 use Rattle.std.proofs.lemmas.Grind.{flat_map-append}
 use Rattle.std.proofs.lemmas.List.{map-append}
 use Rattle.std.proofs.lemmas.List.Elements.{All-append, All-head, All-tail}
@@ -51,16 +49,16 @@ abbrev pub end_of : ℕ → List SelectedRows → ℕ
 end_of row [] = row
 end_of row (chunk ∷ chunks) = end_of chunk.scope.rows.end chunks
 
--- the chunk comes behind those, and has rows
+-- the chunk comes behind those
 pub record ComesNext (row : ℕ) (done : List SelectedRows) (chunk : SelectedRows) : Type 0 where
   pub before : FollowFrom row done
   pub behind : end_of row done ≤ chunk.scope.rows.start
-  pub some : chunk.scope.rows.start < chunk.scope.rows.end
+  pub forwards : chunk.scope.rows.start ≤ chunk.scope.rows.end
 
 pub follow_more : (row : ℕ) (done : List SelectedRows) (chunk : SelectedRows) → ComesNext row done chunk → FollowFrom row (done ++ chunk ∷ [])
-follow_more row [] chunk next = (next.behind, next.some, tt)
+follow_more row [] chunk next = (next.behind, next.forwards, tt)
 follow_more row (one ∷ done) chunk next =
-    (next.before.0, next.before.1, follow_more one.scope.rows.end done chunk (record { before = next.before.2; behind = next.behind; some = next.some }))
+    (next.before.0, next.before.1, follow_more one.scope.rows.end done chunk (record { before = next.before.2; behind = next.behind; forwards = next.forwards }))
 
 pub end_next : (row : ℕ) (done : List SelectedRows) (chunk : SelectedRows) → end_of row (done ++ chunk ∷ []) ≡ chunk.scope.rows.end
 end_next row [] chunk = refl
@@ -72,13 +70,8 @@ starts_behind row (one ∷ chunks) zero chunk follow at = let same : one ≡ chu
 starts_behind row (one ∷ chunks) (suc n) chunk follow at =
     let rest = starts_behind one.scope.rows.end chunks n chunk follow.2 at in
     let from = follow.0 in
-    let some = follow.1 in
-    omega (arith, rest, from, some)
-
-pub has_rows : (row : ℕ) (chunks : List SelectedRows) (n : ℕ) (chunk : SelectedRows) → FollowFrom row chunks → slice_get chunks n ≡ Some chunk → chunk.scope.rows.start < chunk.scope.rows.end
-has_rows row [] n chunk follow at = absurd cc
-has_rows row (one ∷ chunks) zero chunk follow at = let same : one ≡ chunk = cc in subst (λ (c : SelectedRows). c.scope.rows.start < c.scope.rows.end) same follow.1
-has_rows row (one ∷ chunks) (suc n) chunk follow at = has_rows one.scope.rows.end chunks n chunk follow.2 at
+    let forwards = follow.1 in
+    omega (arith, rest, from, forwards)
 
 -- a chunk of a greater number lies behind
 pub lies_behind : (row : ℕ) (chunks : List SelectedRows) (n m : ℕ) (one other : SelectedRows) → FollowFrom row chunks → slice_get chunks n ≡ Some one → slice_get chunks m ≡ Some other → n < m → one.scope.rows.end ≤ other.scope.rows.start
@@ -87,10 +80,6 @@ lies_behind row (first ∷ chunks) n zero one other follow here there less = abs
 lies_behind row (first ∷ chunks) zero (suc m) one other follow here there less =
     let same : first ≡ one = cc in subst (λ (c : SelectedRows). c.scope.rows.end ≤ other.scope.rows.start) same (starts_behind first.scope.rows.end chunks m other follow.2 there)
 lies_behind row (first ∷ chunks) (suc n) (suc m) one other follow here there less = lies_behind first.scope.rows.end chunks n m one other follow.2 here there (omega (arith, less))
-
-behind_it : (chunk : SelectedRows) → chunk.scope.rows.start < chunk.scope.rows.end → row_behind chunk ≡ chunk.scope.rows.end
-behind_it chunk some =
-    ap (λ (b : Bool). max (if b then chunk.scope.rows.end else 0) 0) (lt-ltb chunk.scope.rows.start chunk.scope.rows.end some) ∙ omega arith
 
 -- ---- numbers of chunks
 
@@ -320,34 +309,34 @@ pub record HandsLeaves (plans : ScanPlans) (chunk : SelectedRows) (given handed 
   pub stay : (leaf : ℕ) → IsReadAt plans (row_behind chunk) leaf → IsKept handed leaf → IsKept more leaf
   pub there : HandsLeavesRead plans chunk given more
 
-old_leaf : (plans : ScanPlans) (row : ℕ) (given handed more : List Kept) (chunk : SelectedRows) → IsChunkOf plans chunk → row ≤ chunk.scope.rows.start → chunk.scope.rows.start < chunk.scope.rows.end → LeavesLieTogether (projection_plan plans) → HandsLeaves plans chunk given handed more →
+old_leaf : (plans : ScanPlans) (row : ℕ) (given handed more : List Kept) (chunk : SelectedRows) → IsChunkOf plans chunk → row ≤ chunk.scope.rows.start → LeavesLieTogether (projection_plan plans) → HandsLeaves plans chunk given handed more →
     (leaf : ℕ) → IsPast plans row handed leaf → IsPast plans chunk.scope.rows.end more leaf
-old_leaf plans row given handed more chunk is behind some together hands leaf past =
+old_leaf plans row given handed more chunk is behind together hands leaf past =
     let low = past.before in
+    let forwards = is.forwards in
     record {
       at = past.at;
-      before = omega (arith, low, behind, some);
+      before = omega (arith, low, behind, forwards);
       reads = past.reads;
       stays = λ read.
           let end = read.0 in
-          let here : RowReads plans.table (number_of plans.projection) row leaf = together.between leaf past.at row chunk.scope.rows.end (omega (arith, low)) (omega (arith, behind, some)) past.reads read.1 in
-          hands.stay leaf (subst (λ (r : ℕ). IsReadAt plans r leaf) (sym (behind_it chunk some)) read) (past.stays (omega (arith, end, behind, some), here));
+          let here : RowReads plans.table (number_of plans.projection) row leaf = together.between leaf past.at row chunk.scope.rows.end (omega (arith, low)) (omega (arith, behind, forwards)) past.reads read.1 in
+          hands.stay leaf read (past.stays (omega (arith, end, behind, forwards), here));
     }
 
-new_leaf : (plans : ScanPlans) (given handed more : List Kept) (chunk : SelectedRows) → IsChunkOf plans chunk → chunk.scope.rows.start < chunk.scope.rows.end → HandsLeaves plans chunk given handed more → (read : LeafRead) → ChunkVisits (IsLeafRead read) plans given chunk → IsPast plans chunk.scope.rows.end more read.leaf
-new_leaf plans given handed more chunk is some hands read visits =
+new_leaf : (plans : ScanPlans) (given handed more : List Kept) (chunk : SelectedRows) → IsChunkOf plans chunk → HandsLeaves plans chunk given handed more → (read : LeafRead) → ChunkVisits (IsLeafRead read) plans given chunk → IsPast plans chunk.scope.rows.end more read.leaf
+new_leaf plans given handed more chunk is hands read visits =
     let inside : ReadsInside plans chunk read.leaf = reads_inside plans given chunk read is visits in
     record {
       at = inside.row;
       before = inside.before;
       reads = inside.reads;
-      stays = λ later. hands.there read (subst (λ (r : ℕ). IsReadAt plans r read.leaf) (sym (behind_it chunk some)) later) visits;
+      stays = λ later. hands.there read later visits;
     }
 
 pub past_more : (plans : ScanPlans) (chunks : List SelectedRows) (numbers : List ℕ) (row number : ℕ) (chunk : SelectedRows) (given handed more : List Kept) (segments : List ℕ) (reasons : List Reason) → RunsNext plans chunks numbers row number chunk
     → HandsLeaves plans chunk given handed more → (fresh : NewReasons plans number given handed chunk segments) → AreInOrder chunks → LeavesLieTogether (projection_plan plans) → ArePast plans row handed reasons → ArePast plans chunk.scope.rows.end more (reasons ++ fresh.reasons)
 past_more plans chunks numbers row number chunk given handed more segments reasons next hands fresh order together past =
-    let some = has_rows 0 chunks number chunk order next.here in
     all-append (IsPastReason plans chunk.scope.rows.end more) reasons fresh.reasons
-    (each_weaker (IsPastReason plans row handed) (IsPastReason plans chunk.scope.rows.end more) (λ reason old. old_leaf plans row given handed more chunk next.is (next.behind order) some together hands reason.leaf old) reasons past)
-    (each_weaker (IsNewReason plans number given handed chunk) (IsPastReason plans chunk.scope.rows.end more) (λ reason new. new_leaf plans given handed more chunk next.is some hands (read_for reason) new.reads) fresh.reasons fresh.each)
+    (each_weaker (IsPastReason plans row handed) (IsPastReason plans chunk.scope.rows.end more) (λ reason old. old_leaf plans row given handed more chunk next.is (next.behind order) together hands reason.leaf old) reasons past)
+    (each_weaker (IsNewReason plans number given handed chunk) (IsPastReason plans chunk.scope.rows.end more) (λ reason new. new_leaf plans given handed more chunk next.is hands (read_for reason) new.reads) fresh.reasons fresh.each)

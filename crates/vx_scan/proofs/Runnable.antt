@@ -16,6 +16,7 @@ use Rattle.vx_plan.specs.Refs.{number_of}
 use Rattle.vx_plan.specs.Rules.{node_at}
 use Rattle.vx_plan.proofs.Adding.{head_in_table}
 use Rattle.vx_splits.specs.declared.selected_rows.SelectedRows.{SelectedRows}
+use Rattle.vx_splits.specs.declared.selections.Selection.{Selection}
 use Rattle.vx_splits.specs.Trimmed.{chosen_rows}
 use Rattle.vx_steps.specs.Held.{FitsOffset}
 use Rattle.vx_scan.specs.declared.files.ScanFile.{ScanFile}
@@ -24,14 +25,16 @@ use Rattle.vx_scan.specs.declared.settings.Settings.{Settings}
 use Rattle.vx_scan.specs.Answer.{FileScan, row_count}
 use Rattle.vx_scan.specs.Beginning.{BeginsOver, Overflows}
 use Rattle.vx_scan.specs.Executes.{CanRun}
-use Rattle.vx_scan.specs.Plans.{projection_node, ArePlans, FollowFrom, IsChunkOf}
+use Rattle.vx_scan.specs.Plans.{projection_node, projection_plan, ArePlans, FollowFrom, IsChunkOf}
 use Rattle.vx_scan.specs.Prepared.{IsPreparedFor}
-use Rattle.vx_scan.specs.Preparing.{ArePlansOf, AreChunksOf, LiesInside}
+use Rattle.vx_scan.specs.Preparing.{ArePlansOf, AreChunksOf, IsCutBy, LiesInside}
 use Rattle.vx_scan.specs.Settings.{scan_by}
 use Rattle.vx_scan.specs.Valid.{HasRows}
 use Rattle.vx_scan.proofs.BeginningRows.{no_pieces, no_rows}
+use Rattle.vx_scan.proofs.Cutting.{cut_has_rows}
 use Rattle.vx_scan.proofs.FilePreparing.{root_head}
 use Rattle.vx_scan.proofs.ScanAsks.{lie_together}
+use Rattle.vx_scan.proofs.UnsharedPlans.{none_below, none_shared}
 use Rattle.vx_base.specs.Limits.{most_segments}
 
 -- ---- the plans
@@ -60,6 +63,11 @@ are_plans file settings plans few fits are =
     (λ n has below. fits_by (uses_row_number scan.projection.expression.term) scan plans.row_offset (node_at plans.table n).rows refl
     (λ unused. are.offset ∙ ap (λ (b : Bool). if b then settings.row_offset else 0) unused) are.offset fits (are.numbers n has) below)
 
+-- rows whose numbers aren't used are counted from 0
+from_none : (uses : Bool) (offset : ℕ) → (uses ≡ true → ⊥) → (if uses then offset else 0) ≡ 0
+from_none true offset never = absurd (never refl)
+from_none false offset never = refl
+
 -- ---- the chunks
 
 pub are_chunks : (scan : FileScan) (limit : ℕ) (plans : ScanPlans) → ArePlansOf scan limit plans → (chunks : List SelectedRows) → AllByRecursion (LiesInside (row_count scan)) chunks → AllByRecursion (IsChunkOf plans) chunks
@@ -71,10 +79,11 @@ are_chunks scan limit plans are (chunk ∷ chunks) inside =
     )
 
 -- chunks with a row each, one behind the other, are no more than their rows
-few_behind : (row count : ℕ) → row ≤ count → (chunks : List SelectedRows) → FollowFrom row chunks → AllByRecursion (LiesInside count) chunks → row + length chunks ≤ count
-few_behind row count below [] follow inside = omega (arith, below)
-few_behind row count below (chunk ∷ chunks) (from, some, behind) inside =
-    let rest = few_behind chunk.scope.rows.end count inside.0.below chunks behind inside.1 in
+few_behind : (selection : Selection) (row count : ℕ) → row ≤ count → (chunks : List SelectedRows) → FollowFrom row chunks → AllByRecursion (LiesInside count) chunks → AllByRecursion (IsCutBy selection) chunks → row + length chunks ≤ count
+few_behind selection row count below [] follow inside cut = omega (arith, below)
+few_behind selection row count below (chunk ∷ chunks) (from, forwards, behind) inside cut =
+    let some = cut_has_rows selection (cut.0).0 chunk (cut.0).2 in
+    let rest = few_behind selection chunk.scope.rows.end count inside.0.below chunks behind inside.1 cut.1 in
     omega (arith, from, some, rest)
 
 -- a file has few rows
@@ -85,7 +94,7 @@ can_run : (scan : FileScan) (limit : ℕ) (plans : ScanPlans) → ArePlansOf sca
 can_run scan limit plans are chunks of_scan rows = record {
   each = are_chunks scan limit plans are chunks of_scan.inside;
   ordered = of_scan.ordered;
-  few = let count = few_behind 0 (row_count scan) (omega arith) chunks of_scan.ordered of_scan.inside in omega (arith, rows, count);
+  few = let count = few_behind scan.selection 0 (row_count scan) (omega arith) chunks of_scan.ordered of_scan.inside of_scan.trimmed in omega (arith, rows, count);
 }
 
 -- ---- what is prepared
@@ -95,10 +104,14 @@ pub rows_prepared : (file : ScanFile) (settings : Settings) (rows : Range ℕ) (
 rows_prepared file settings rows plans chunks few good begins are of_scan = record {
   plans = are_plans file settings plans few begins.fits are;
   together = lie_together (scan_by file settings) settings.idle_limit plans are;
+  unshared = none_shared (scan_by file settings).projection (projection_plan plans) are.plan_is;
+  no_eval_below = none_below (scan_by file settings).projection (projection_plan plans) are.plan_is;
   chunks = can_run (scan_by file settings) settings.idle_limit plans are chunks.items of_scan (few_rows file.layout good);
+  trimmed = of_scan.trimmed;
   pieces = of_scan.pieces;
   plan = λ some. are;
   inside = λ some. of_scan;
+  uncounted = λ never. are.offset ∙ from_none (uses_row_number settings.projection.term) settings.row_offset (λ uses. never (uses, begins.work.some));
   limit_is = are.limit_is;
   order_is = refl;
 }
@@ -110,10 +123,14 @@ nothing_prepared file settings plans chunks few none empty are =
     record {
       plans = plans_with file settings plans 0 few are (λ n has below. omega (arith, below));
       together = lie_together scan settings.idle_limit plans are;
+      unshared = none_shared scan.projection (projection_plan plans) are.plan_is;
+      no_eval_below = none_below scan.projection (projection_plan plans) are.plan_is;
       chunks = rw empty (record { each = tt; ordered = tt; few = omega arith });
+      trimmed = rw empty tt;
       pieces = ap (map chosen_rows) empty ∙ sym (no_pieces scan (no_rows settings.selection settings.range (row_count scan) none));
       plan = λ some. absurd (none some);
       inside = λ some. absurd (none some);
+      uncounted = λ never. refl;
       limit_is = are.limit_is;
       order_is = refl;
     }

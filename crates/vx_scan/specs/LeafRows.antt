@@ -1,5 +1,5 @@
 -- Which rows of a projection's plan read a leaf.
-use Rattle.std.specs.Prelude.{◌≡◌, ℕ, ◌<◌, ◌≤◌, List, [], ◌∷◌, None}
+use Rattle.std.specs.Prelude.{◌≡◌, ℕ, ◌<◌, ◌≤◌, List, None}
 use Rattle.vx_lower.specs.Projected.{Projection}
 use Rattle.vx_plan.specs.Plans.{Plan}
 use Rattle.vx_plan.specs.Refs.{number_of}
@@ -7,7 +7,7 @@ use Rattle.vx_rows.specs.Reads.{Way, through, AnyOf}
 use Rattle.vx_splits.specs.declared.selected_rows.SelectedRows.{SelectedRows}
 use Rattle.vx_steps.specs.declared.leaf_reads.LeafRead.{LeafRead}
 use Rattle.vx_steps.specs.declared.splits.Split.{Split}
-use Rattle.vx_steps.specs.Leavings.{behind_all, IsLeafOf, RowReads}
+use Rattle.vx_steps.specs.Leavings.{IsLeafOf, RowReads}
 use Rattle.vx_steps.specs.Visits.{Visits, IsLeafRead}
 use Rattle.vx_scan.specs.declared.plans.ScanPlans.{ScanPlans}
 use Rattle.vx_scan.specs.PlanTexts.{held_tree}
@@ -45,4 +45,4 @@ split_in chosen = record { rows = chosen.scope.rows; mask = chosen.mask }
 
 -- the row behind those of a chunk, selected or not
 abbrev pub row_behind : SelectedRows → ℕ
-row_behind chosen = behind_all (split_in chosen ∷ [])
+row_behind chosen = chosen.scope.rows.end

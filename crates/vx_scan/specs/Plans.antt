@@ -39,10 +39,10 @@ pub record IsChunkOf (plans : ScanPlans) (chosen : SelectedRows) : Type 0 where
   pub inside : chosen.scope.rows.end ≤ (projection_node plans).rows
   pub mask : length chosen.mask ≡ chosen.scope.rows.end - chosen.scope.rows.start
 
--- each of the chunks has rows, the first from that row on, and each other behind the rows of the one before
+-- the first of the chunks lies behind that row, and each other behind the rows of the one before; a chunk may have no rows
 abbrev pub FollowFrom : ℕ → List SelectedRows → Type 0
 FollowFrom row [] = Unit {0}
-FollowFrom row (chunk ∷ chunks) = (row ≤ chunk.scope.rows.start) × (chunk.scope.rows.start < chunk.scope.rows.end) × FollowFrom chunk.scope.rows.end chunks
+FollowFrom row (chunk ∷ chunks) = (row ≤ chunk.scope.rows.start) × (chunk.scope.rows.start ≤ chunk.scope.rows.end) × FollowFrom chunk.scope.rows.end chunks
 
 abbrev pub AreInOrder : List SelectedRows → Type 0
 AreInOrder chunks = FollowFrom 0 chunks

@@ -3,7 +3,7 @@
 ghost use Rattle.std.specs.Prelude.{◌<◌, [], length, IfOk};
 ghost use Rattle.vx_plan.specs.Refs.{number_of};
 ghost use Rattle.vx_scan.specs.ChunkScans.{IsChunkScan};
-ghost use Rattle.vx_scan.specs.Outcomes.{data_of, AreOwn, CanHandOn, HasOwn, RunsChunk, RunsOnly};
+ghost use Rattle.vx_scan.specs.Outcomes.{data_of, AreOwn, CanHandOn, HasOwn, LendsLeaves, RunsChunk, RunsOnly};
 ghost use Rattle.vx_scan.specs.Pieces.{PieceOf};
 ghost use Rattle.vx_scan.specs.Plans.{with_projection, ArePlans, IsChunkOf};
 
@@ -136,11 +136,11 @@ fn given_and_made(
     Ok(all)
 }
 
-/// Runs a chunk with what earlier chunks of the worker handed on, and hands on what the later ones can use. The given
-/// values stand in place of the whole values of their plans, as in `run_chunk`, and are not handed on. Behind them so do
-/// the values that the worker made and the chunk asks for, so that no leaf is read for these again. Whatever it answers,
-/// nothing is in flight at the source afterwards.
-pub(crate) fn run_on<S: SegmentSource>(
+/// Runs a chunk with what was lent to it, and hands on what the later ones can use: the leaves that the row behind the
+/// chunk reads, if it has rows. The given values stand in place of the whole values of their plans, as in `run_chunk`,
+/// and are not handed on. Behind them so do the values that the worker made and the chunk asks for, so that no leaf is
+/// read for these again. Whatever it answers, nothing is in flight at the source afterwards.
+fn run_lent<S: SegmentSource>(
     alloc: Global,
     plans: &ScanPlans,
     chosen: &SelectedRows,
@@ -151,6 +151,7 @@ pub(crate) fn run_on<S: SegmentSource>(
     requires plans { ArePlans plans.now }
     requires chunk { IsChunkOf plans.now chosen.now }
     requires handed { CanHandOn plans.now handed }
+    requires lends { LendsLeaves chosen.now handed }
     ensures { RunsOnly plans.now chosen.now handed (data_of given.items) result (S.state source.old) (S.state source.new) }
 {
     let Ok(given) = given_and_made(alloc, plans, chosen, given, handed.made.as_slice()) else {
@@ -178,4 +179,33 @@ pub(crate) fn run_on<S: SegmentSource>(
         piece: piece_of(alloc, plans, plans.projection, output),
         handed: HandedOn { leaves, made },
     }
+}
+
+/// Runs a chunk with what earlier chunks of the worker handed on, and hands on what the later ones can use. A chunk
+/// without rows reads no leaf, so those that were handed on to it are handed on by it.
+pub(crate) fn run_on<S: SegmentSource>(
+    alloc: Global,
+    plans: &ScanPlans,
+    chosen: &SelectedRows,
+    source: &mut S,
+    handed: HandedOn,
+    given: Vec<KeptValue>,
+) -> Ran
+    requires plans { ArePlans plans.now }
+    requires chunk { IsChunkOf plans.now chosen.now }
+    requires handed { CanHandOn plans.now handed }
+    ensures { RunsOnly plans.now chosen.now handed (data_of given.items) result (S.state source.old) (S.state source.new) }
+{
+    if chosen.scope.rows.start < chosen.scope.rows.end {
+        return run_lent(alloc, plans, chosen, source, handed, given);
+    }
+    let HandedOn { leaves, made } = handed;
+    let lent = HandedOn {
+        leaves: Vec::new(alloc),
+        made,
+    };
+    let Ran { piece, handed } = run_lent(alloc, plans, chosen, source, lent, given);
+    let HandedOn { made, .. } = handed;
+    let handed = HandedOn { leaves, made };
+    Ran { piece, handed }
 }
