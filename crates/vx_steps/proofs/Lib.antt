@@ -46,6 +46,7 @@ pub mod UsedValues
 pub mod VisitedParts
 pub mod VisitedReads
 pub mod Visiting
+pub mod Waiting
 pub mod WantedReads
 pub mod WholeAsking
 pub mod WholeCauses

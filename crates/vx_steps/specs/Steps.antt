@@ -22,7 +22,7 @@ use Rattle.vx_steps.specs.Kept.{kept_at}
 use Rattle.vx_steps.specs.KeptData.{Kept}
 use Rattle.vx_steps.specs.Needs.{Among}
 use Rattle.vx_steps.specs.ReadTable.{StandsAt}
-use Rattle.vx_steps.specs.ReadTableData.{Wanted}
+use Rattle.vx_steps.specs.ReadTableData.{Wanted, ReadsData}
 use Rattle.vx_steps.specs.Turns.{AreLeavesKept, HasRowCause, IsOutput, LeavesLeaves, LeavesWholes, ReadsFor}
 
 -- the column of a split, by whatever lies outside of which the scan is
@@ -91,12 +91,23 @@ pub record GivesOutput (nodes : List Node) (job : Job) (old new : Progress) (num
   pub leaves : AreLeavesKept nodes job split new.leaves
   pub handed : new.reads.handed ≡ old.reads.handed
 
--- Nothing can be done: no split can be started, all wanted segments were handed out, and some split is active, each
--- for want of a segment that did not come.
-pub record IsWaiting (job : Job) (old new : Progress) : Type 0 where
+-- a read of the segment was handed out
+abbrev pub IsHandedOut : ReadsData → ℕ → Type 0
+IsHandedOut reads segment = (place : ℕ) × (place < reads.handed) × StandsAt reads.wanted segment place
+
+-- For each leaf that a selected row of an active split reads, and of which no column is kept, a read of its segment was
+-- handed out.
+abbrev pub AreHandedOut : List Node → Job → List Kept → Progress → Type 0
+AreHandedOut nodes job leaves progress =
+    (number : ℕ) (split : Split) (read : LeafRead) → Among number (active_of progress) → slice_get job.splits.items number ≡ Some split → ReadsFor nodes job split read → kept_at leaves read.leaf ≡ None → IsHandedOut progress.reads read.segment
+
+-- Nothing can be done: no split can be started, all that the active splits read was handed out, and some split is
+-- active, each for want of a segment that did not come.
+pub record IsWaiting (nodes : List Node) (job : Job) (old new : Progress) : Type 0 where
   pub left : left_of job new ≡ left_of job old
   pub handed : new.reads.handed ≡ old.reads.handed
   pub none_to_start : CanStart job new → ⊥
+  pub are_handed : AreHandedOut nodes job old.leaves new
   pub all_handed : new.reads.handed ≡ length new.reads.wanted
   pub some : length new.active.items ≡ 0 → ⊥
   pub held : (active : ActiveSplit) → Among active new.active.items → IsHeldUp old.leaves new.reads.wanted active
@@ -110,7 +121,7 @@ pub record IsDone (job : Job) (old new : Progress) : Type 0 where
 abbrev pub TakesTurn : List Node → Job → Progress → Progress → Turn → Type 0
 TakesTurn nodes job old new (Read request) = HandsRead job old new request
 TakesTurn nodes job old new (Output number column) = GivesOutput nodes job old new number column
-TakesTurn nodes job old new Waiting = IsWaiting job old new
+TakesTurn nodes job old new Waiting = IsWaiting nodes job old new
 TakesTurn nodes job old new Done = IsDone job old new
 
 -- the splits that were active in a turn: those that still are, and that whose column it gives

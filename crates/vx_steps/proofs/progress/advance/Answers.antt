@@ -9,9 +9,10 @@ use Rattle.vx_steps.specs.Jobs.{active_of, IsGood}
 use Rattle.vx_steps.specs.KeptData.{Kept}
 use Rattle.vx_steps.specs.Needs.{Among}
 use Rattle.vx_steps.specs.OpenSegments.{AreCounted}
-use Rattle.vx_steps.specs.Steps.{IsHeldUp}
+use Rattle.vx_steps.specs.Steps.{AreHandedOut, IsHeldUp}
 use Rattle.vx_steps.proofs.Finishing.{starts_reads, told_reads, gives_later, hands_read, leaves_for, refusal_before, same_among, wants_for, wholes_for}
 use Rattle.vx_steps.proofs.Starting.{good_wanted}
+use Rattle.vx_steps.proofs.Waiting.{are_handed_out}
 use Rattle.vx_steps.proofs.progress.advance.Goals as goal
 
 pub returns-in-Some-clause-told : goal.returns-in-Some-clause-told
@@ -53,7 +54,11 @@ returns-in-Ok-None-clause-turn c =
     let same = c.in_default.ensures.turn.1 in
     let tried = c.finish_some.new.progress.reads in
     let handed : tried.handed ≡ c.args.progress.now.reads.handed = c.in-Ok-None.ensures.handed ∙ (ap (λ r. r.handed) same ∙ c.in_ok-start_splits.ensures.starts.handed) in
-    let all_handed : tried.handed ≡ length tried.wanted = c.in-Ok-None.ensures.handed ∙ (ap (λ r. r.handed) same ∙ (c.in_default.ensures.turn.0 ∙ ap length (sym (c.in-Ok-None.ensures.wanted ∙ ap (λ r. r.wanted) same)))) in
+    let wanted = c.in-Ok-None.ensures.wanted ∙ ap (λ r. r.wanted) same in
+    let all_handed : tried.handed ≡ length tried.wanted = c.in-Ok-None.ensures.handed ∙ (ap (λ r. r.handed) same ∙ (c.in_default.ensures.turn.0 ∙ ap length (sym wanted))) in
+    let H : List Kept → Type 0 = λ leaves. AreHandedOut c.args.table.now c.args.job.now leaves c.finish_some.new.progress in
+    let out = are_handed_out c.args.table.now c.args.job.now c.start_splits.new.progress c.finish_some.new.progress c.in_ok-start_splits.ensures.good holds.active wanted all_handed in
+    let are_handed : H c.args.progress.now.leaves = subst H c.in_ok-start_splits.ensures.leaves out in
     search rules
 
 pub returns-in-Some-clause-wants : goal.returns-in-Some-clause-wants
