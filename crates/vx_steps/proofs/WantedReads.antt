@@ -1,5 +1,5 @@
 -- The wanted segments: each stands at one place, which the map of places has.
-use Rattle.std.proofs.Common.{◌≡◌, ℕ, zero, suc, ◌+◌, ◌<◌, ◌≤◌, ◌==◌, ◌⊎◌, inl, inr, ⊎_elim, Bool, true, false, cond, List, [], ◌∷◌, ◌++◌, Option, Some, None, length, map, get_or, set, refl, sym, ap, ◌∙◌, subst, arith}
+use Rattle.std.proofs.Common.{◌≡◌, Global, Vec, ℕ, zero, suc, ◌+◌, ◌<◌, ◌≤◌, ◌==◌, ◌⊎◌, inl, inr, ⊎_elim, Bool, true, false, cond, List, [], ◌∷◌, ◌++◌, Option, Some, None, length, map, get_or, set, refl, sym, ap, ◌∙◌, subst, arith}
 use Rattle.std.specs.Prelude.{IsSomeAnd, if◌then◌else◌}
 use Rattle.std.specs.List.{slice_get}
 use Rattle.std.specs.Option.{option_map, is_some}
@@ -326,3 +326,9 @@ pushed_gone old more kept segment (i, s, at, is, gone) = ⊎_elim (λ (e : slice
   where
     true_false : true ≡ false → ⊥
     true_false h = cc
+
+-- what is stored of a segment stays when its bytes come
+pub came_stored : (ws : List WantedSegment) (place : ℕ) (w : WantedSegment) (bytes : Vec ℕ Global) → slice_get ws place ≡ Some w → bytes_in w.bytes ≡ None →
+    map stored_data (set ws place (record { segment = w.segment; bytes = Came bytes; last = w.last })) ≡ map stored_data ws
+came_stored ws place w bytes at none =
+    same_set stored_data ws place (record { segment = w.segment; bytes = Came bytes; last = w.last }) w at (ap (λ (b : Bool). record { segment = w.segment; gone = b; last = w.last }) (sym (none_gone w.bytes none)))

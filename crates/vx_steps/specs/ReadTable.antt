@@ -35,13 +35,15 @@ pub record HandsOut (old new : ReadsData) (request : ReadRequest) : Type 0 where
 abbrev pub IsOutstanding : ReadsData → ReadId → Type 0
 IsOutstanding reads read = (read.0 < reads.handed) × IsSomeAnd (slice_get reads.wanted read.0) (λ w. w.bytes ≡ None)
 
--- the bytes came for the read's segment
+-- The bytes came for the read's segment, and nothing else changed.
 pub record Delivers (read : ReadId) (bytes : List ℕ) (old new : ReadsData) : Type 0 where
   pub outstanding : IsOutstanding old read
   pub segment : ℕ
   pub at : slice_get old.wanted read.0 ≡ Some (record { segment = segment; bytes = None })
   pub taken : new.wanted ≡ slice_set old.wanted read.0 (record { segment = segment; bytes = Some bytes })
   pub handed : new.handed ≡ old.handed
+  pub stored : new.stored ≡ old.stored
+  pub passed : new.passed ≡ old.passed
 
 -- the bytes of a segment, where they came
 abbrev pub bytes_of : List Wanted → ℕ → Option (List ℕ)

@@ -47,9 +47,11 @@ pub record IsNew (nodes : List Node) (plan : ℕ) (splits : List Split) (scan : 
   pub refused : scan.refused ≡ false
   pub told : (outside : Bytes) → IsScanOf scan outside
 
--- The bytes of the read came. Where they are those of its segment outside, the scan stays what it is there.
+-- The bytes of the read came, and all else is as it was. Where they are those of its segment outside, the scan stays what
+-- it is there.
 pub record TakesBytes (read : ReadId) (bytes : List ℕ) (old new : ScanData) : Type 0 where
   pub delivers : Delivers read bytes old.progress.reads new.progress.reads
+  pub same : new ≡ record old { progress = record old.progress { reads = new.progress.reads } }
   pub nodes : new.nodes ≡ old.nodes
   pub job : new.job ≡ old.job
   pub left : left_of new.job new.progress ≡ left_of old.job old.progress

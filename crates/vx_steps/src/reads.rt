@@ -117,6 +117,13 @@ impl ReadTable {
         }
     }
 
+    /// Whether no segment is wanted.
+    pub(crate) fn wants_none(&self) -> bool
+        ensures { MatchBool result (self.now.wanted ≡ []) (self.now.wanted ≡ [] → ⊥) }
+    {
+        self.wanted.is_empty()
+    }
+
     /// Wants a segment, unless it is wanted already, for a need at the place among a split's.
     pub(crate) fn want(&mut self, segment: u32, need: usize) -> Result<(), AllocError>
         ensures wanted { OnOk result (IsWanted segment self.old.wanted self.new.wanted) }
@@ -165,8 +172,7 @@ impl ReadTable {
     /// Takes the bytes of an outstanding read, and says whether the read was outstanding. It takes no
     /// memory.
     pub(crate) fn deliver(&mut self, read: ReadId, bytes: Vec<u8>) -> bool
-        ensures turn { MatchBool result (Delivers read bytes.items self.old self.new) ((IsOutstanding self.old read → ⊥) × (self.new ≡ self.old)) }
-        ensures stored { KeepsStored self.old self.new }
+        ensures { MatchBool result (Delivers read bytes.items self.old self.new) ((IsOutstanding self.old read → ⊥) × (self.new ≡ self.old)) }
     {
         let place = read.0 as usize;
         if place >= self.handed || self.wanted[place].bytes.came() {
