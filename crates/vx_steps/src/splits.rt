@@ -18,13 +18,13 @@ pub struct Split {
 }
 
 impl Split {
-    /// The split that selects all rows of a range, which isn't reversed.
+    /// The split that selects all rows of a range. A reversed range has no rows, so that its mask has none; it stays
+    /// reversed, and `Scan::try_new` refuses the split.
     pub fn all(alloc: Global, rows: Range<u64>) -> Result<Split, AllocError>
-        requires { rows.start ≤ rows.end }
         ensures rows { IfOk result (λ split. split.rows ≡ rows) }
         ensures mask { IfOk result (λ split. split.mask ≡ replicate (rows.end - rows.start) true) }
     {
-        let mask = Mask::new_true(alloc, rows.end - rows.start)?;
+        let mask = Mask::new_true(alloc, rows.end.saturating_sub(rows.start))?;
         Ok(Split { rows, mask })
     }
 }

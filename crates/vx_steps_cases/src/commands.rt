@@ -6,6 +6,7 @@ ghost use Rattle.vx_plan.specs.Refs.{number_of};
 
 use crate::answers::{write_columns, write_error};
 use crate::scans::write_scan;
+use crate::splits::write_splits;
 use std::alloc::{AllocError, Global};
 use std::mem::replace;
 use vx_expr::{BoundExpression, bind};
@@ -174,6 +175,7 @@ fn write_answer(
             Ok(())
         }
         "leaves" => write_columns(alloc, "leaf", &desk.leaves, out),
+        "splits" => write_splits(alloc, words, out),
         "error" => write_error(words, out),
         _ => write_on_plans(alloc, desk, command, words, out),
     }

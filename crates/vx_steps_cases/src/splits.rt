@@ -2,15 +2,15 @@
 
 use std::alloc::{AllocError, Global};
 use vx_base::Mask;
-use vx_notation::bits_of;
+use vx_notation::{bits_of, bits_text};
 use vx_steps::Split;
 
-/// The split that is written so. A reversed one without a mask has one of no rows.
+/// The split that is written so.
 fn split_of(alloc: Global, word: &str) -> Result<Split, AllocError> {
     let (rows, signs) = word.split_once(':').unwrap_or((word, ""));
     let (start, end) = rows.split_once("..").unwrap_or((rows, ""));
     let rows = start.parse::<u64>().unwrap_or(0)..end.parse::<u64>().unwrap_or(0);
-    if signs.is_empty() && rows.start <= rows.end {
+    if signs.is_empty() {
         return Split::all(alloc, rows);
     }
     let bits = bits_of(alloc, signs).unwrap_or(Vec::new(alloc));
@@ -37,4 +37,20 @@ pub(crate) fn splits_of(alloc: Global, words: &str) -> Vec<Split> {
         let _pushed = push_splits(alloc, words, &mut splits).ok();
     }
     splits
+}
+
+/// Appends the splits that the words write: the rows of each, and its mask.
+pub(crate) fn write_splits(alloc: Global, words: &str, out: &mut String) -> Result<(), AllocError> {
+    let splits = splits_of(alloc, words);
+    for split in &splits {
+        let bits = bits_text(alloc, &split.mask).unwrap_or(String::new(alloc));
+        write!(
+            out,
+            " {}..{}:{};",
+            split.rows.start,
+            split.rows.end,
+            bits.as_str()
+        )?;
+    }
+    Ok(())
 }
