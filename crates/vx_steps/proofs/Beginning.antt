@@ -1,6 +1,7 @@
 -- What is true of a scan before its first step.
-use Rattle.std.proofs.Common.{◌≡◌, ℕ, ◌<◌, inl, ⊎_elim, List, [], Some, length, sym, subst}
+use Rattle.std.proofs.Common.{◌≡◌, ℕ, ◌<◌, inl, ⊎_elim, List, [], Some, length, refl, sym, subst}
 use Rattle.std.specs.List.{AllByRecursion}
+use Rattle.vx_base.specs.Columns.{ColumnData}
 use Rattle.vx_plan.specs.Nodes.{Node}
 use Rattle.vx_plan.specs.Rules.{node_at}
 use Rattle.vx_steps.specs.declared.jobs.ActiveSplit.{ActiveSplit}
@@ -12,6 +13,7 @@ use Rattle.vx_steps.specs.KeptData.{Kept}
 use Rattle.vx_steps.specs.Kept.{kept_at, AreApart}
 use Rattle.vx_steps.specs.Needs.{Among}
 use Rattle.vx_steps.specs.Releasing.{ServesAll}
+use Rattle.vx_steps.specs.ScanData.{ScanData, StaysTold}
 use Rattle.vx_steps.specs.Splits.{IsInside}
 use Rattle.vx_steps.specs.Wholes.{UsesGiven}
 use Rattle.vx_steps.proofs.Apart.{apart_empty}
@@ -51,9 +53,35 @@ good_with_given nodes job new progress given unstarted good typed is =
     subst (λ (j : Job). IsGood nodes j progress) (sym is)
     (good_unstarted nodes (record { plan = job.plan; splits = job.splits; given = given; max_active = job.max_active; offset = job.offset }) progress unstarted good.known good.inside good.fits typed good.typed_leaves good.typed_made good.apart_made (record { gone_late = good.serves.gone_late; passed_late = good.serves.passed_late; served = good.serves.served; active_after = good.serves.active_after; gone_after = good.serves.gone_after }))
 
-pub good_with_offset : (nodes : List Node) (job : Job) (progress : Progress) (offset : ℕ) → IsUnstarted progress → FitsOffset nodes offset → IsGood nodes job progress → IsGood nodes (record { plan = job.plan; splits = job.splits; given = job.given; max_active = job.max_active; offset = offset }) progress
-good_with_offset nodes job progress offset unstarted fits good =
-    good_unstarted nodes (record { plan = job.plan; splits = job.splits; given = job.given; max_active = job.max_active; offset = offset }) progress unstarted good.known good.inside fits good.typed_given good.typed_leaves good.typed_made good.apart_made (record { gone_late = good.serves.gone_late; passed_late = good.serves.passed_late; served = good.serves.served; active_after = good.serves.active_after; gone_after = good.serves.gone_after })
+made_none : (nodes : List Node) → AreTyped nodes []
+made_none nodes n column at = absurd cc
+
+-- With another offset, and none of the whole values that were made, a scan stays good.
+pub good_with_offset : (nodes : List Node) (job : Job) (progress new : Progress) (offset : ℕ) → FitsOffset nodes offset → IsGood nodes job progress → new ≡ record progress { wholes = record progress.wholes { made = [] } } → IsGood nodes (record job { offset = offset }) new
+good_with_offset nodes job progress new offset fits good is =
+    subst (λ (p : Progress). IsGood nodes (record job { offset = offset }) p) (sym is) (record {
+      known = good.known;
+      inside = good.inside;
+      fits = fits;
+      typed_given = good.typed_given;
+      typed_leaves = good.typed_leaves;
+      typed_made = made_none nodes;
+      apart_made = apart_empty [] refl;
+      apart_used = good.apart_used;
+      uses = good.uses;
+      actives = λ a m.
+          let active = good.actives a m in
+          record { split = active.split; at = active.at; needs = active.needs; are_leaves = active.are_leaves; asked = active.asked };
+      serves = record { gone_late = good.serves.gone_late; passed_late = good.serves.passed_late; served = good.serves.served; active_after = good.serves.active_after; gone_after = good.serves.gone_after };
+    })
+
+-- And it is of each outside of which it was.
+pub told_with_offset : (scan new : ScanData) (offset : ℕ) → new ≡ record scan { job = record scan.job { offset = offset }; progress = record scan.progress { wholes = record scan.progress.wholes { made = [] } } } → StaysTold scan new
+told_with_offset scan new offset is =
+    subst (StaysTold scan) (sym is) (λ outside told. record { bytes = told.bytes; leaves_are = told.leaves_are; made_are = λ n column at. absurd (none_kept n column at) })
+  where
+    none_kept : (n : ℕ) (column : ColumnData) → kept_at [] n ≡ Some column → ⊥
+    none_kept n column at = cc
 
 pub good_with_leaves : (nodes : List Node) (job : Job) (progress new : Progress) (leaves : List Kept) → IsUnstarted progress → IsGood nodes job progress → AreTyped nodes leaves → new ≡ record { next = progress.next; active = progress.active; reads = progress.reads; leaves = leaves; wholes = progress.wholes } → IsGood nodes job new
 good_with_leaves nodes job progress new leaves unstarted good typed is =

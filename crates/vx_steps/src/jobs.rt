@@ -1,6 +1,8 @@
 //! What a scan is to do, and how far it is.
 
 ghost use Rattle.std.specs.Prelude.{◌≡◌, []};
+ghost use Rattle.std.specs.Bool.{MatchBool};
+ghost use Rattle.vx_steps.specs.Jobs.{IsUnstarted};
 ghost use Rattle.vx_steps.specs.OpenSegments.{AreCounted};
 
 use crate::kept::KeptColumns;
@@ -91,6 +93,16 @@ impl Progress {
                 used: KeptColumns::new(alloc),
             },
         }
+    }
+
+    /// Whether no split was started, no segment is wanted, and no value that was handed in was used.
+    pub(crate) fn is_unstarted(&self) -> bool
+        ensures { MatchBool result (IsUnstarted self.now) (IsUnstarted self.now → ⊥) }
+    {
+        self.next == 0
+            && self.active.is_empty()
+            && self.reads.wants_none()
+            && self.wholes.used.is_empty()
     }
 
     /// Puts these columns of leaves in place of those that are kept.

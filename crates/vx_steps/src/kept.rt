@@ -1,6 +1,7 @@
 //! Whole columns that are kept, each for a plan.
 
 ghost use Rattle.std.specs.Prelude.{◌≡◌, ◌+◌, ◌<◌, length, take, [], ◌∷◌, ◌++◌, None, map, IfOk, MatchResult, OnOk, OnErr, option_copied};
+ghost use Rattle.std.specs.Bool.{MatchBool};
 ghost use Rattle.vx_steps.specs.Kept.{kept_at, kept_data, ArePlaces};
 
 use crate::places::PlaceTable;
@@ -78,6 +79,13 @@ impl KeptColumns {
             indexed: 0,
             places: PlaceTable::new(alloc),
         }
+    }
+
+    /// Whether there are none.
+    pub(crate) fn is_empty(&self) -> bool
+        ensures { MatchBool result (self.now ≡ []) (self.now ≡ [] → ⊥) }
+    {
+        self.columns.is_empty()
     }
 
     /// The first column of a plan, where one is kept.

@@ -93,41 +93,50 @@ impl<'a> Scan<'a> {
         self
     }
 
-    /// The scan, with the offset added to the numbers of rows. It is called before the first step, as all calls that
-    /// hand in: values that were made under another offset would be wrong.
+    /// The scan, with the offset added to the numbers of rows. Whole values that were made, or handed in by `with_made`,
+    /// are dropped, since they are of the former offset: so it is called before `with_made`. It takes no memory.
     pub fn with_row_offset(mut self, offset: u64) -> Scan<'a>
-        requires unstarted { IsUnstarted self.progress }
-        requires fits { FitsOffset self.nodes offset }
-        ensures scan { result ≡ record self.entry { job = record self.entry.job { offset = offset } } }
-        ensures told { IsOfHanded result }
+        requires { FitsOffset self.nodes offset }
+        ensures scan { result ≡ record self.entry { job = record self.entry.job { offset = offset }; progress = record self.entry.progress { wholes = record self.entry.progress.wholes { made = [] } } } }
+        ensures told { StaysTold self.entry result }
     {
         self.job.offset = offset;
+        let made = KeptColumns::new(self.alloc);
+        self.progress.hand_in_made(made);
         self
     }
 
     /// The scan, with whole values in place of those that a take or a share would read. One of another dtype or length
-    /// than its plan's is dropped; of two for one plan the first stands. It takes no memory, and is called before the
-    /// first step.
+    /// than its plan's is dropped; of two for one plan the first stands. Once the scan was started all of them are
+    /// dropped, and it stays as it is. It takes no memory.
     pub fn with_value_cache(mut self, given: Vec<KeptValue>) -> Scan<'a>
-        requires { IsUnstarted self.progress }
-        ensures given { Keeps (IsForPlan self.entry.nodes) (map kept_data given.items) result.job.given }
+        ensures given { IsUnstarted self.entry.progress → Keeps (IsForPlan self.entry.nodes) (map kept_data given.items) result.job.given }
+        ensures started { (IsUnstarted self.entry.progress → ⊥) → result ≡ self.entry }
         ensures others { result ≡ record self.entry { job = record self.entry.job { given = result.job.given } } }
         ensures told { StaysTold self.entry result }
     {
+        if !self.progress.is_unstarted() {
+            drop(given);
+            return self;
+        }
         let given = KeptColumns::of(self.alloc, for_plans(self.table, given));
         self.job.hand_in(given);
         self
     }
 
     /// The scan, with whole columns of leaves. One that is for no leaf, or of another dtype or length than its leaf's,
-    /// is dropped; of two for one leaf the first stands. It takes no memory, and is called before the first step.
+    /// is dropped; of two for one leaf the first stands. Once the scan was started all of them are dropped, and it stays
+    /// as it is. It takes no memory.
     pub fn with_leaves(mut self, leaves: Vec<KeptValue>) -> Scan<'a>
-        requires { IsUnstarted self.progress }
-        ensures leaves { Keeps (IsForLeaf self.entry.nodes) (map kept_data leaves.items) result.progress.leaves }
+        ensures leaves { IsUnstarted self.entry.progress → Keeps (IsForLeaf self.entry.nodes) (map kept_data leaves.items) result.progress.leaves }
+        ensures started { (IsUnstarted self.entry.progress → ⊥) → result ≡ self.entry }
         ensures others { result ≡ record self.entry { progress = record self.entry.progress { leaves = result.progress.leaves } } }
-        ensures unstarted { IsUnstarted result.progress }
-        ensures told { IsOfHanded result }
+        ensures told { IsUnstarted self.entry.progress → IsOfHanded result }
     {
+        if !self.progress.is_unstarted() {
+            drop(leaves);
+            return self;
+        }
         let leaves = KeptColumns::of(self.alloc, for_leaves(self.table, leaves));
         self.progress.hand_in(leaves);
         self.segments = OpenSegments::new(self.alloc);
@@ -136,22 +145,25 @@ impl<'a> Scan<'a> {
 
     /// The scan, with whole values that an earlier scan made over the same table and with the same offset. They are not
     /// made again, and stand among those that were made; where a value was handed in by `with_value_cache` for one of
-    /// their plans, that one is used. One of another dtype or length than its plan's is dropped. It takes no memory,
-    /// and is called before the first step.
+    /// their plans, that one is used. One of another dtype or length than its plan's is dropped. Once the scan was started
+    /// all of them are dropped, and it stays as it is. It takes no memory.
     ///
     /// A value that was handed in by `with_value_cache` may be anybody's, so that it is listed in `used` once it was
     /// used, by a copy. These are the caller's own: `used` lists none of them, and no copy is taken. No plan stands twice
     /// among them, as in what `made` lists: to drop a second column without memory, the list would have to be searched for
     /// each. A plan may stand twice in what the other calls are handed; the first counts.
     pub fn with_made(mut self, made: Vec<KeptValue>) -> Scan<'a>
-        requires unstarted { IsUnstarted self.progress }
-        requires apart { AreApart (map kept_data made.items) }
-        ensures made { Keeps (IsForPlan self.entry.nodes) (map kept_data made.items) result.progress.wholes.made }
+        requires { AreApart (map kept_data made.items) }
+        ensures made { IsUnstarted self.entry.progress → Keeps (IsForPlan self.entry.nodes) (map kept_data made.items) result.progress.wholes.made }
+        ensures started { (IsUnstarted self.entry.progress → ⊥) → result ≡ self.entry }
         ensures others { result ≡ record self.entry { progress = record self.entry.progress { wholes = record self.entry.progress.wholes { made = result.progress.wholes.made } } } }
         ensures apart { AreApart result.progress.wholes.made }
-        ensures unstarted { IsUnstarted result.progress }
-        ensures told { IsOfHanded result }
+        ensures told { IsUnstarted self.entry.progress → IsOfHanded result }
     {
+        if !self.progress.is_unstarted() {
+            drop(made);
+            return self;
+        }
         let made = KeptColumns::of(self.alloc, for_plans(self.table, made));
         self.progress.hand_in_made(made);
         self

@@ -31,6 +31,8 @@ pub(crate) struct Options {
     pub(crate) late: Vec<u64>,
     /// Whether it is told how many bytes of segments the scan holds.
     pub(crate) tells_held: bool,
+    /// Whether the first turn is taken before anything is handed in.
+    pub(crate) started: bool,
     pub(crate) given: Vec<KeptValue>,
     pub(crate) leaves: Vec<KeptValue>,
 }
@@ -79,6 +81,7 @@ fn set_option(alloc: Global, options: &mut Options, text: &str) -> Result<(), Al
         "order" => return set_order(options, words),
         "late" => return push_numbers(words, &mut options.late),
         "held" => options.tells_held = true,
+        "started" => options.started = true,
         "given" => return push_column(alloc, words, &mut options.given),
         _ => return push_column(alloc, words, &mut options.leaves),
     }
@@ -104,6 +107,7 @@ pub(crate) fn options_of(alloc: Global, text: &str, leaves: Vec<KeptValue>) -> O
         queue: Vec::new(alloc),
         late: Vec::new(alloc),
         tells_held: false,
+        started: false,
         given: Vec::new(alloc),
         leaves,
     };

@@ -124,7 +124,11 @@ fn take_turn(
 }
 
 /// Takes a step, and says whether there is another. There is one after a refusal.
-fn take_step(alloc: Global, run: &mut Run<'_>, out: &mut String) -> Result<bool, AllocError> {
+pub(crate) fn take_step(
+    alloc: Global,
+    run: &mut Run<'_>,
+    out: &mut String,
+) -> Result<bool, AllocError> {
     let turn = run.scan.step();
     let more = match &turn {
         Ok(turn) => take_turn(alloc, run, turn, out),

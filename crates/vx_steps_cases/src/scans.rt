@@ -3,11 +3,10 @@
 ghost use Rattle.std.specs.Prelude.{◌≡◌, ◌<◌, length, IsTrue};
 ghost use Rattle.vx_plan.specs.Refs.{number_of};
 ghost use Rattle.vx_steps.specs.Held.{FitsOffset};
-ghost use Rattle.vx_steps.specs.Jobs.{IsUnstarted};
 
 use crate::commands::Segment;
 use crate::options::{Options, options_of};
-use crate::runs::{Run, write_run};
+use crate::runs::{Run, take_step, write_run};
 use crate::splits::splits_of;
 use std::alloc::{AllocError, Global};
 use std::mem::replace;
@@ -29,14 +28,32 @@ fn fits(table: &PlanTable, offset: u64) -> bool
 
 /// The scan with the offset, where it can be added to the rows of each plan.
 fn with_offset<'a>(scan: Scan<'a>, table: &PlanTable, offset: u64) -> Scan<'a>
-    requires unstarted { IsUnstarted scan.progress }
-    requires nodes { scan.nodes ≡ table.now }
-    ensures unstarted { IsUnstarted result.progress }
+    requires { scan.nodes ≡ table.now }
 {
     if fits(table, offset) {
         scan.with_row_offset(offset)
     } else {
         scan
+    }
+}
+
+/// The run, whose scan is handed these values and leaves.
+fn handed<'a>(run: Run<'a>, given: Vec<KeptValue>, leaves: Vec<KeptValue>) -> Run<'a> {
+    let Run {
+        file,
+        scan,
+        order,
+        reads,
+        queue,
+        tells_held,
+    } = run;
+    Run {
+        file,
+        scan: scan.with_value_cache(given).with_leaves(leaves),
+        order,
+        reads,
+        queue,
+        tells_held,
     }
 }
 
@@ -48,31 +65,30 @@ fn write_turns<'a>(
     options: Options,
     kept: &mut Vec<KeptValue>,
     out: &mut String,
-) -> Result<(), AllocError>
-    requires { IsUnstarted scan.progress }
-{
+) -> Result<(), AllocError> {
     let Options {
         active,
         order,
         queue,
         late,
         tells_held,
+        started,
         given,
         leaves,
         ..
     } = options;
-    let scan = scan
-        .with_max_active(active)
-        .with_value_cache(given)
-        .with_leaves(leaves);
     let mut run = Run {
         file,
-        scan,
+        scan: scan.with_max_active(active),
         order,
         reads: Vec::new(alloc),
         queue,
         tells_held,
     };
+    if started {
+        let _more = take_step(alloc, &mut run, out).ok();
+    }
+    let mut run = handed(run, given, leaves);
     let written = write_run(alloc, &mut run, &late, out);
     let Run { scan, .. } = run;
     drop(replace(kept, scan.into_leaves()));
@@ -89,8 +105,7 @@ fn write_asked<'a>(
     leaves: &mut Vec<KeptValue>,
     out: &mut String,
 ) -> Result<(), AllocError>
-    requires unstarted { IsUnstarted scan.progress }
-    requires nodes { scan.nodes ≡ table.now }
+    requires { scan.nodes ≡ table.now }
 {
     if !text.ends_with("kept") {
         leaves.clear();
