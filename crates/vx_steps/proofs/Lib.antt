@@ -19,6 +19,7 @@ pub mod Finishing
 pub mod FreeVisits
 pub mod HandedRows
 pub mod HeldBytes
+pub mod HinderedRows
 pub mod Indexing
 pub mod Keeping
 pub mod LeavingRows

@@ -9,6 +9,7 @@ pub mod Delivered
 pub mod Given
 pub mod GivenLaws
 pub mod Held
+pub mod Hindrances
 pub mod Jobs
 pub mod Kept
 pub mod KeptData

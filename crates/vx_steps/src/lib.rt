@@ -7,6 +7,7 @@ mod by_hand;
 mod chunks;
 mod computing;
 mod errors;
+mod hindrances;
 mod jobs;
 mod kept;
 mod laws;
@@ -29,6 +30,7 @@ mod wholes;
 pub use asked::asked_wholes;
 pub use by_hand::{columns_by_hand, kept_columns_by_hand, reads_by_hand, splits_by_hand};
 pub use errors::{DeliverError, StepError};
+pub use hindrances::{Hindrance, first_hindrance};
 pub use kept::KeptValue;
 pub use laws::{
     bad_codes_are_read, causes_are_free, causes_are_read, outermost_takes_are_asked,

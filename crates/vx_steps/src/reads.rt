@@ -227,6 +227,13 @@ impl ReadTable {
         }
     }
 
+    /// How many reads were handed out.
+    pub(crate) fn handed_out(&self) -> u64
+        ensures { result ≡ self.now.handed }
+    {
+        self.handed as u64
+    }
+
     /// How many bytes of segments are in memory; at most the greatest number that there is.
     pub(crate) fn held_bytes(&self) -> u64
         ensures { result ≡ min (held_bytes self.now.wanted self.now.stored) (2 ^ 64 - 1) }

@@ -179,6 +179,13 @@ impl<'a> Scan<'a> {
         Ok(())
     }
 
+    /// How many reads were handed out, which is the number of the next one. It takes no memory.
+    pub fn reads_handed_out(&self) -> u64
+        ensures { result ≡ self.now.progress.reads.handed }
+    {
+        self.progress.reads.handed_out()
+    }
+
     /// How many bytes of segments the scan holds: those that were delivered and not let go yet. Columns don't count. It
     /// takes no memory, and goes over the segments that are wanted.
     pub fn held_bytes(&self) -> u64
