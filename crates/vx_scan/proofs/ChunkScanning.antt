@@ -9,7 +9,7 @@ use Rattle.vx_rows.specs.SegmentLeaves.{leaves_of}
 use Rattle.vx_splits.specs.declared.selected_rows.SelectedRows.{SelectedRows}
 use Rattle.vx_steps.specs.declared.splits.Split.{Split}
 use Rattle.vx_steps.specs.Held.{AreMade, AreTyped, HaveLeaves}
-use Rattle.vx_steps.specs.Jobs.{numbers_from}
+use Rattle.vx_steps.specs.Jobs.{numbers_from, IsUnstarted}
 use Rattle.vx_steps.specs.KeptData.{Kept}
 use Rattle.vx_steps.specs.Offers.{IsForPlan, Keeps}
 use Rattle.vx_steps.specs.Splits.{IsInside}
@@ -39,7 +39,7 @@ pub inside_one : (plans : ScanPlans) (chosen : SelectedRows) (splits : List Spli
 inside_one plans chosen splits is one = subst (AllByRecursion (IsInside (projection_node plans).rows)) (sym one) ((is.forwards, is.inside, is.mask), tt)
 
 begins_literal : (plans : ScanPlans) (chosen : SelectedRows) (splits : List Split) (scan : ScanData) → ArePlans plans → IsGoodTable plans.table → splits ≡ split_in chosen ∷ [] → IsNew plans.table (number_of plans.projection) splits scan →
-    IsOfHanded (record scan { job = record scan.job { offset = plans.row_offset } }) → IsChunkScan plans chosen [] [] [] (record scan { job = record scan.job { offset = plans.row_offset } })
+    StaysTold scan (record scan { job = record scan.job { offset = plans.row_offset }; progress = record scan.progress { wholes = record scan.progress.wholes { made = [] } } }) → IsChunkScan plans chosen [] [] [] (record scan { job = record scan.job { offset = plans.row_offset }; progress = record scan.progress { wholes = record scan.progress.wholes { made = [] } } })
 begins_literal plans chosen splits scan are good one new told =
     let items : scan.job.splits.items ≡ split_in chosen ∷ [] = new.splits_are ∙ one in
     let split : split_of scan ≡ split_in chosen = ap (λ (ss : List Split). slice_index_or ss 0 no_rows) items in
@@ -50,10 +50,8 @@ begins_literal plans chosen splits scan are good one new told =
       given_is = new.given;
       split = split;
       leaves_are = new.leaves;
-      made_are = new.made;
-      told = λ bytes is. told bytes
-          (subst (λ (ns : List Node). HaveLeaves ns scan.progress.leaves (leaves_of bytes)) (sym new.nodes_are) (subst (λ (ks : List Kept). HaveLeaves plans.table ks (leaves_of bytes)) (sym new.leaves) is.leaves_are))
-          (subst (λ (ns : List Node). AreMade ns plans.row_offset scan.progress.wholes.made (leaves_of bytes)) (sym new.nodes_are) (subst (λ (ks : List Kept). AreMade plans.table plans.row_offset ks (leaves_of bytes)) (sym new.made) is.made_are));
+      made_are = refl;
+      told = λ bytes is. told bytes (new.told bytes);
       unread = record {
         good = subst IsGoodTable (sym new.nodes_are) good;
         known = let plan = new.plan_is in let nodes = ap length new.nodes_are in let known = are.known in omega (arith, plan, nodes, known);
@@ -63,15 +61,15 @@ begins_literal plans chosen splits scan are good one new told =
         wanted = new.unstarted.wanted;
         refused = new.refused;
       };
-      unstarted = new.unstarted;
+      unstarted = record { next = new.unstarted.next; active = new.unstarted.active; wanted = new.unstarted.wanted; used = new.unstarted.used };
       handed = new.handed;
     }
 
 -- the scan of a chunk is new, with the offset of the plans
 pub begins : (plans : ScanPlans) (chosen : SelectedRows) (splits : List Split) (scan made : ScanData) → ArePlans plans → IsGoodTable plans.table → splits ≡ split_in chosen ∷ [] → IsNew plans.table (number_of plans.projection) splits scan →
-    made ≡ record scan { job = record scan.job { offset = plans.row_offset } } → IsOfHanded made → IsChunkScan plans chosen [] [] [] made
+    made ≡ record scan { job = record scan.job { offset = plans.row_offset }; progress = record scan.progress { wholes = record scan.progress.wholes { made = [] } } } → StaysTold scan made → IsChunkScan plans chosen [] [] [] made
 begins plans chosen splits scan made are good one new is told =
-    subst (IsChunkScan plans chosen [] [] []) (sym is) (begins_literal plans chosen splits scan are good one new (subst IsOfHanded is told))
+    subst (IsChunkScan plans chosen [] [] []) (sym is) (begins_literal plans chosen splits scan are good one new (subst (StaysTold scan) is told))
 
 -- ---- with what is handed in
 
@@ -128,6 +126,11 @@ handed_literal plans chosen leaves made scan is told = record {
   unstarted = record { next = is.unstarted.next; active = is.unstarted.active; wanted = is.unstarted.wanted; used = is.unstarted.used };
   handed = is.handed;
 }
+
+-- a scan that was handed leaves was not started by that
+pub leaves_unstarted : (leaves : List Kept) (scan first : ScanData) → IsUnstarted scan.progress → first ≡ record scan { progress = record scan.progress { leaves = leaves } } → IsUnstarted first.progress
+leaves_unstarted leaves scan first is one =
+    subst (λ (s : ScanData). IsUnstarted s.progress) (sym one) (record { next = is.next; active = is.active; wanted = is.wanted; used = is.used })
 
 pub with_handed : (plans : ScanPlans) (chosen : SelectedRows) (leaves made : List Kept) (scan first second : ScanData) → IsChunkScan plans chosen [] [] [] scan → first ≡ record scan { progress = record scan.progress { leaves = leaves } } →
     second ≡ record first { progress = record first.progress { wholes = record first.progress.wholes { made = made } } } → IsOfHanded second → IsChunkScan plans chosen [] leaves made second

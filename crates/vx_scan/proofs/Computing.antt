@@ -233,7 +233,7 @@ some_of : {A : Type 0} (P : A → Type 0) (ones : List A) → (length ones ≡ 0
 some_of P [] some all = absurd (some refl)
 some_of P (one ∷ ones) some all = (one, all one (inl refl))
 
-some_outstanding : (locations : List SegmentLocation) (asked : ℕ) (held : Option (ℕ × ColumnData)) (state : State) (middle new : ScanData) → AreAsked locations asked new.progress.reads → IsWaiting middle.job middle.progress new.progress → SomeOutstanding (stepped new asked held state)
+some_outstanding : (locations : List SegmentLocation) (asked : ℕ) (held : Option (ℕ × ColumnData)) (state : State) (middle new : ScanData) → AreAsked locations asked new.progress.reads → IsWaiting middle.nodes middle.job middle.progress new.progress → SomeOutstanding (stepped new asked held state)
 some_outstanding locations asked held state middle new are_asked waits =
     let up = (some_of (IsHeldUp middle.progress.leaves new.progress.reads.wanted) new.progress.active.items waits.some waits.held).1 in
     let place = up.3.0 in
@@ -243,11 +243,11 @@ some_outstanding locations asked held state middle new are_asked waits =
     let all = are_asked.all in
     (place, (omega (arith, within, every, all), (omega (arith, within, every), subst (λ (w : Option Wanted). IsSomeAnd w (λ v. v.bytes ≡ None)) (sym here) refl)))
 
-waiting_of : (old new : ScanData) → TookTurn turns.Waiting old new → IsWaiting old.job old.progress new.progress
+waiting_of : (old new : ScanData) → TookTurn turns.Waiting old new → IsWaiting old.nodes old.job old.progress new.progress
 waiting_of old new (inl (refused, done, same)) = absurd cc
 waiting_of old new (inr (going, takes)) = takes
 
-awaits_bytes : (old new : ScanData) → Continues old new → IsWaiting old.job old.progress new.progress → AwaitsBytes new
+awaits_bytes : (old new : ScanData) → Continues old new → IsWaiting old.nodes old.job old.progress new.progress → AwaitsBytes new
 awaits_bytes old new goes waits = record { none_to_start = subst (λ job. CanStart job new.progress → ⊥) (sym goes.keeps.job) waits.none_to_start; all_handed = waits.all_handed }
 
 computes_waiting : (locations : List SegmentLocation) (batch : Vec IoRequest) (step : AdaptorStep) (old : AdaptorData) (middle new : ScanData) (asked : ℕ) (held : Option (ℕ × ColumnData)) (state : State) → old.held ≡ None → Stepped locations batch.items old middle new asked → GivesTurn turns.Waiting middle new →
@@ -257,7 +257,7 @@ computes_waiting locations batch step old middle new asked held state empty all 
 computes_waiting locations batch step old middle new asked held state empty all gives (inl (none, is, kept, at)) =
     let stays = none_done locations batch.items old middle new asked all none (idle_left turns.Waiting middle new (inl refl) gives) in
     subst (λ (s : AdaptorStep). Computes locations (Ok s) old (stepped new asked held state)) (sym is) (subst (λ (h : Option (ℕ × ColumnData)). Computes locations (Ok Yield) old (stepped new asked h state)) (sym kept) (record {
-      waits = λ is. subst (λ (scan : ScanData). IsWaiting scan.job scan.progress new.progress) (all.gathered.none (none_gathered locations batch.items old middle new asked all none)) (waiting_of middle new gives.takes);
+      waits = λ is. subst (λ (scan : ScanData). IsWaiting scan.nodes scan.job scan.progress new.progress) (all.gathered.none (none_gathered locations batch.items old middle new asked all none)) (waiting_of middle new gives.takes);
       why = inl (at, some_outstanding locations asked None state middle new all.are_asked (waiting_of middle new gives.takes));
       scan = all.scan;
       left = stays.0;

@@ -82,7 +82,7 @@ WhyYields old new =
 -- The scan waits, or it is done.
 pub record Yields (old new : AdaptorData) : Type 0 where
   pub why : WhyYields old new
-  pub waits : new.state ≡ Waiting → IsWaiting old.scan.job old.scan.progress new.scan.progress
+  pub waits : new.state ≡ Waiting → IsWaiting old.scan.nodes old.scan.job old.scan.progress new.scan.progress
   pub scan : Continues old.scan new.scan
   pub left : splits_left new.scan ≡ splits_left old.scan
   pub asks : AsksNothing old new
