@@ -4,6 +4,7 @@ mod Answered
 mod ApartDictionaries
 mod ApartTakes
 mod Ascending
+mod AskedDictionaries
 mod AskingAgain
 mod BeginningRows
 mod Borrowed
@@ -39,6 +40,8 @@ mod Growing
 mod HandedRuns
 mod HandingOut
 mod Higher
+mod HinderedChunks
+mod HinderedScans
 mod JoinedLanes
 mod Joining
 mod LaneCrossing
@@ -51,6 +54,7 @@ mod LeafShapes
 pub mod LentSources
 mod Loaning
 mod LowestCauses
+mod NamedPlans
 mod NewReasons
 mod OneText
 mod OutsideReads
@@ -59,6 +63,8 @@ mod Pieces
 mod PlainPlans
 mod ProjectedPlans
 mod Resulting
+mod RefusedRuns
+mod RowCauses
 mod RunEnds
 mod Runnable
 mod Running
