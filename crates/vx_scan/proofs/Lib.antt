@@ -7,6 +7,7 @@ mod Ascending
 mod AskedDictionaries
 mod AskingAgain
 mod BeginningRows
+mod Behind
 mod Borrowed
 mod Certifying
 mod CertifyingEach
