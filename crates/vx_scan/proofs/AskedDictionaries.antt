@@ -1,5 +1,5 @@
 -- A row that asks for whole values reads a code of an outermost dictionary.
-use Rattle.std.proofs.Common.{◌≡◌, ℕ, ◌+◌, ◌-◌, inl, inr, Bool, true, false, List, [], ◌∷◌, Some, None, map, refl, ap, subst}
+use Rattle.std.proofs.Common.{◌≡◌, ℕ, ◌+◌, ◌-◌, inl, inr, Bool, true, false, List, [], ◌∷◌, Some, map, refl, ap, subst}
 use Rattle.std.specs.Prelude.{if◌then◌else◌, nat_lt}
 use Rattle.std.specs.Bool.{MatchBool}
 use Rattle.vx_rows.specs.Derivations.{Derivation, packed, Derivations, each_row}
@@ -12,9 +12,9 @@ use Rattle.vx_plan.specs.Plans.{Plan, no_plan, concat_plan, eval_plan, filter_pl
 use Rattle.vx_plan.specs.PlanRows.{plan_derivation, plan_derivation_in, plan_derivations, plan_where_valid, plan_reads}
 use Rattle.vx_splits.specs.declared.selected_rows.SelectedRows.{SelectedRows}
 use Rattle.vx_splits.specs.Trimmed.{chosen_rows}
-use Rattle.vx_steps.specs.Below.{StandsAmong, StandsInValidity, IsSharePlan, HasNoShare}
+use Rattle.vx_steps.specs.Below.{StandsAmong, IsSharePlan, HasNoShare}
 use Rattle.vx_steps.specs.Given.{given_for}
-use Rattle.vx_steps.specs.Visits.{Visits, VisitsIn, VisitsField, VisitsValidity, IsWholeRead}
+use Rattle.vx_steps.specs.Visits.{Visits, VisitsIn, VisitsField, IsWholeRead}
 use Rattle.vx_scan.specs.declared.plans.ScanPlans.{ScanPlans}
 use Rattle.vx_scan.specs.Answer.{FileScan, row_count}
 use Rattle.vx_scan.specs.Causes.{ReadsDictionary}

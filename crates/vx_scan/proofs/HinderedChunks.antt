@@ -1,23 +1,21 @@
 -- What the first hindrance of a plan's rows is to a chunk.
-use Rattle.std.proofs.Common.{◌≡◌, ℕ, ◌+◌, ◌<◌, ◌≤◌, ◌⊎◌, inl, inr, true, List, [], Some, None, length, refl, ap, sym, ◌∙◌, subst, arith}
+use Rattle.std.proofs.Common.{◌≡◌, ℕ, ◌+◌, ◌<◌, ◌≤◌, ◌⊎◌, inl, inr, true, [], Some, None, length, refl, ap, sym, ◌∙◌, subst, arith}
 use Rattle.std.specs.List.{slice_get}
 use Rattle.std.proofs.lemmas.Bool.{cases_lt}
 use Rattle.std.proofs.lemmas.Option.{slice_get_within}
-use Rattle.vx_plan.specs.Laws.{IsReadBy}
-use Rattle.vx_plan.specs.Plans.{Plan, no_plan, concat_plan, eval_plan, filter_plan, pack_plan, take_plan, share_plan, list_plan, row_idx_plan, scan_plan, zoned_plan, plan_head, plan_at}
-use Rattle.vx_plan.specs.PlanRows.{plan_derivation, plan_reads}
+use Rattle.vx_plan.specs.Plans.{Plan, no_plan, concat_plan, eval_plan, filter_plan, pack_plan, take_plan, share_plan, list_plan, row_idx_plan, scan_plan, zoned_plan, plan_head}
+use Rattle.vx_plan.specs.PlanRows.{plan_derivation}
 use Rattle.vx_plan.specs.Refs.{number_of}
 use Rattle.vx_plan.specs.Tables.{IsGoodTable}
 use Rattle.vx_plan.proofs.Adding.{head_in_table}
 use Rattle.vx_plan.proofs.FittingPlans.{rows_fit}
 use Rattle.vx_rows.specs.Derivations.{Derivation}
 use Rattle.vx_rows.specs.Heads.{Head}
-use Rattle.vx_rows.specs.Reads.{directly, Found, reads_of, Finds, IsIn}
+use Rattle.vx_rows.specs.Reads.{directly, Found, reads_of, Finds}
 use Rattle.vx_splits.specs.declared.selected_rows.SelectedRows.{SelectedRows}
 use Rattle.vx_steps.specs.declared.hindrances.Hindrance.{Hindrance}
 use Rattle.vx_steps.specs.declared.hindrances.Hindrance.TheVariants as hindrances
-use Rattle.vx_steps.specs.declared.leaf_reads.LeafRead.{LeafRead}
-use Rattle.vx_steps.specs.Given.{no_given, values_for}
+use Rattle.vx_steps.specs.Given.{values_for}
 use Rattle.vx_steps.specs.Hindrances.{IsHindrance, IsOne}
 use Rattle.vx_steps.specs.Laws.{HandsNone, IsRowOf, row_reads}
 use Rattle.vx_steps.specs.Visits.{Test, SomeVisit, Visits, IsLeafRead, IsListRead}

@@ -1,12 +1,11 @@
 -- Rows of a scan that nothing hinders in its plan are hindered by nothing in its tree.
-use Rattle.std.proofs.Common.{◌≡◌, ℕ, zero, suc, ◌+◌, ◌<◌, ◌≤◌, inl, inr, Bool, true, false, List, [], ◌∷◌, Some, length, map, take, refl, sym, ap, ◌∙◌, subst, arith}
+use Rattle.std.proofs.Common.{ℕ, zero, suc, ◌+◌, ◌<◌, inl, inr, Bool, true, false, List, [], ◌∷◌, length, map, take, refl, sym, ap, subst, arith}
 use Rattle.std.specs.Prelude.{IsSomeAnd}
 use Rattle.std.specs.List.{slice_get, AllByRecursion}
 use Rattle.vx_rows.specs.Derivations.{Derivation}
 use Rattle.vx_rows.specs.Reads.{directly, Found, a_cell, a_code, a_list_row, Read, reads_of, AnyOf, Finds, IsIn}
 use Rattle.vx_rows.specs.Renumbered.{found_renumbered, read_renumbered}
 use Rattle.vx_lower.specs.Projected.{scan_reads}
-use Rattle.vx_plan.specs.Plans.{Plan}
 use Rattle.vx_plan.specs.PlanRows.{plan_derivation, plan_reads}
 use Rattle.vx_splits.specs.declared.selected_rows.SelectedRows.{SelectedRows}
 use Rattle.vx_splits.specs.Trimmed.{chosen_rows}

@@ -1,5 +1,5 @@
 -- Chunks with rows that have no value, whatever bytes come.
-use Rattle.std.specs.Prelude.{◌≡◌, ◌≤◌, ◌⊎◌, Bool, List, [], length, Option, Some, None, Err}
+use Rattle.std.specs.Prelude.{◌≡◌, ◌≤◌, ◌⊎◌, Bool, [], length, Option, Some, None, Err}
 use Rattle.vx_base.specs.Sources.{SourceState}
 use Rattle.vx_plan.specs.Refs.{number_of}
 use Rattle.vx_splits.specs.declared.selected_rows.SelectedRows.{SelectedRows}

@@ -1,5 +1,5 @@
 -- Why a scan has no batches, by all of its rows, and by what its sources counted before the call and after it.
-use Rattle.std.specs.Prelude.{◌≡◌, ℕ, List, Result, IfErr}
+use Rattle.std.specs.Prelude.{ℕ, List, Result, IfErr}
 use Rattle.std.specs.Global.{Vec}
 use Rattle.vx_base.specs.Columns.{ColumnData}
 use Rattle.vx_base.specs.Sources.{SourceState, Rose, RoseBy}

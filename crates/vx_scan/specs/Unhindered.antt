@@ -1,7 +1,6 @@
 -- Chunks whose rows nothing hinders from having values, but what bytes come.
-use Rattle.std.specs.Prelude.{ℕ, ◌<◌, ◌⊎◌, List, [], length, IsSomeAnd}
+use Rattle.std.specs.Prelude.{ℕ, ◌<◌, List, [], length, IsSomeAnd}
 use Rattle.std.specs.List.{slice_get}
-use Rattle.vx_rows.specs.Reads.{IsAmong}
 use Rattle.vx_splits.specs.declared.selected_rows.SelectedRows.{SelectedRows}
 use Rattle.vx_scan.specs.declared.plans.ScanPlans.{ScanPlans}
 use Rattle.vx_scan.specs.ChunkRows.{ChunkReaches, ChunkReadsList}
