@@ -1,8 +1,9 @@
 -- The step that a gathered batch and the turn behind it make.
-use Rattle.std.proofs.Common.{◌≡◌, ℕ, ◌+◌, ◌-◌, ◌^◌, ◌<◌, ◌≤◌, ◌⊎◌, inl, inr, List, [], ◌∷◌, ◌++◌, Option, Some, None, Ok, Err, length, map, take, true, false, refl, sym, ap, ◌∙◌, subst, arith, append-nil}
+use Rattle.std.proofs.Common.{◌≡◌, ℕ, ◌+◌, ◌-◌, ◌^◌, ◌<◌, ◌≤◌, ◌⊎◌, inl, inr, ⊎_elim, List, [], ◌∷◌, ◌++◌, Option, Some, None, Ok, Err, length, map, take, drop, true, false, refl, sym, ap, ◌∙◌, subst, arith, append-nil}
 use Rattle.std.specs.List.{All, slice_get, remove}
 use Rattle.std.specs.Global.{Vec}
 use Rattle.std.specs.Prelude.{IsSomeAnd}
+use Rattle.std.proofs.lemmas.Bool.{cases_lt}
 use Rattle.std.proofs.lemmas.List.Elements.{All-weaker}
 use Rattle.std.proofs.lemmas.Option.{slice_get_within}
 use Rattle.vx_base.specs.Columns.{ColumnData}
@@ -23,11 +24,12 @@ use Rattle.vx_scan.specs.declared.adaptors.State.{State}
 use Rattle.vx_scan.specs.declared.adaptors.State.TheVariants.{NeedsCompute, Waiting, Done}
 use Rattle.vx_scan.specs.declared.adaptors.AdaptorStep.{AdaptorStep}
 use Rattle.vx_scan.specs.declared.adaptors.AdaptorStep.TheVariants.{Yield, NeedsIo, Piece}
-use Rattle.vx_scan.specs.AdaptorData.{AdaptorData, AreAsked, SomeOutstanding, count_of, reads_of}
+use Rattle.vx_scan.specs.AdaptorData.{AdaptorData, AreAsked, SomeOutstanding, SomeEarlierOutstanding, count_of, reads_of}
 use Rattle.vx_scan.specs.Computes.{AsksNothing, AwaitsBytes, Computes, Stops}
 use Rattle.vx_scan.specs.Continues.{ComesOut, Continues, MayBeRead, splits_left}
 use Rattle.vx_scan.specs.Fetched.{AreApart, AllLocated, fetches_from, segments_in, unread}
-use Rattle.vx_scan.specs.Gathered.{BatchOr, Gathered, GatherGives, GivesTurn, IsLive, IsNoRead, StepOf, handed_reads, work_in}
+use Rattle.vx_scan.specs.Gathered.{BatchOr, Gathered, GatherGives, GivesTurn, IsLive, IsNoRead, StepOf, count_behind, reads_behind, work_in}
+use Rattle.vx_scan.proofs.Behind.{grows_behind}
 use Rattle.vx_scan.proofs.Continuing.{continues_then}
 use Rattle.vx_scan.proofs.HandingOut.{few_asked}
 use Rattle.vx_scan.proofs.Growing.{length_grown, take_grown}
@@ -48,17 +50,21 @@ none_handed turns.Waiting old new plain (inr (going, takes)) = takes.handed
 none_handed turns.Done old new plain (inr (going, takes)) = takes.handed
 
 -- so the reads stay
-turn_reads : (turn : Turn) (locations : List SegmentLocation) (old new : ScanData) → IsNoRead turn → GivesTurn turn old new → AreAsked locations old.progress.reads.handed old.progress.reads → handed_reads new.progress.reads ≡ handed_reads old.progress.reads
-turn_reads turn locations old new plain gives asked =
-    ap (λ (n : ℕ). take n new.progress.reads.wanted) (none_handed turn old new plain gives.takes)
-    ∙ take_grown old.progress.reads.wanted new.progress.reads.wanted old.progress.reads.handed gives.scan.keeps.grows asked.wanted
+turn_reads : (turn : Turn) (locations : List SegmentLocation) (first : ℕ) (old new : ScanData) → IsNoRead turn → GivesTurn turn old new → AreAsked locations first (count_behind first old.progress.reads) old.progress.reads → reads_behind first new.progress.reads ≡ reads_behind first old.progress.reads
+turn_reads turn locations first old new plain gives asked =
+    ap (λ (n : ℕ). take (n - first) (drop first new.progress.reads.wanted)) (none_handed turn old new plain gives.takes)
+    ∙ take_grown (drop first old.progress.reads.wanted) (drop first new.progress.reads.wanted) (count_behind first old.progress.reads) (grows_behind old.progress.reads.wanted new.progress.reads.wanted first gives.scan.keeps.grows) asked.wanted
 
-turn_asked : (turn : Turn) (locations : List SegmentLocation) (old new : ScanData) → IsNoRead turn → GivesTurn turn old new → AreAsked locations old.progress.reads.handed old.progress.reads → AreAsked locations new.progress.reads.handed new.progress.reads
-turn_asked turn locations old new plain gives asked =
-    let same = turn_reads turn locations old new plain gives asked in
+turn_asked : (turn : Turn) (locations : List SegmentLocation) (first : ℕ) (old new : ScanData) → IsNoRead turn → GivesTurn turn old new → AreAsked locations first (count_behind first old.progress.reads) old.progress.reads → AreAsked locations first (count_behind first new.progress.reads) new.progress.reads
+turn_asked turn locations first old new plain gives asked =
+    let same = turn_reads turn locations first old new plain gives asked in
+    let none = none_handed turn old new plain gives.takes in
+    let all = asked.all in
+    let few = asked.wanted in
+    let more = length_grown (drop first old.progress.reads.wanted) (drop first new.progress.reads.wanted) (grows_behind old.progress.reads.wanted new.progress.reads.wanted first gives.scan.keeps.grows) in
     record {
-      all = refl;
-      wanted = let few = asked.wanted in let more = length_grown old.progress.reads.wanted new.progress.reads.wanted gives.scan.keeps.grows in let none = none_handed turn old new plain gives.takes in omega (arith, few, more, none);
+      all = omega (arith, all, none);
+      wanted = omega (arith, few, more, none);
       apart = subst (λ (rs : List Wanted). AreApart (segments_in rs)) (sym same) asked.apart;
       located = subst (λ (rs : List Wanted). AllLocated locations (segments_in rs)) (sym same) asked.located;
     }
@@ -69,35 +75,37 @@ pub length_fetches : (locations : List SegmentLocation) (number : ℕ) (segments
 length_fetches locations number [] = refl
 length_fetches locations number (segment ∷ segments) = let rest = length_fetches locations (number + 1) segments in omega (arith, rest)
 
--- the adaptor behind a computation: its scan, its number of fetches, what it holds and its state
-abbrev pub stepped : ScanData → ℕ → Option (ℕ × ColumnData) → State → AdaptorData
-stepped scan asked held state = record { scan = scan; asked = asked; held = held; state = state }
+-- the adaptor behind a computation: the number of the reads before it, its scan, its number of fetches, what it holds and its
+-- state
+abbrev pub stepped : ℕ → ScanData → ℕ → Option (ℕ × ColumnData) → State → AdaptorData
+stepped first scan asked held state = record { scan = scan; first = first; asked = asked; held = held; state = state }
 
 -- What is the same for each turn behind the reads.
 pub record Stepped (locations : List SegmentLocation) (batch : List IoRequest) (old : AdaptorData) (middle new : ScanData) (asked : ℕ) : Type 0 where
-  pub gathered : Gathered locations batch old.scan middle
+  pub gathered : Gathered locations old.first batch old.scan middle
   pub counted : asked ≡ old.asked + length gathered.segments
   pub batch_is : batch ≡ fetches_from locations old.asked gathered.segments
-  pub reads : take asked new.progress.reads.wanted ≡ reads_of old ++ map unread gathered.segments
-  pub are_asked : AreAsked locations asked new.progress.reads
+  pub reads : take asked (drop old.first new.progress.reads.wanted) ≡ reads_of old ++ map unread gathered.segments
+  pub are_asked : AreAsked locations old.first asked new.progress.reads
   pub wanted : All (MayBeRead old.scan) gathered.segments
   pub scan : Continues old.scan new
 
-all_stepped : (locations : List SegmentLocation) (batch : List IoRequest) (turn : Turn) (old : AdaptorData) (middle new : ScanData) (asked : ℕ) → AreAsked locations old.asked old.scan.progress.reads → asked ≡ old.asked + length batch → Gathered locations batch old.scan middle → GivesTurn turn middle new → IsNoRead turn →
+all_stepped : (locations : List SegmentLocation) (batch : List IoRequest) (turn : Turn) (old : AdaptorData) (middle new : ScanData) (asked : ℕ) → AreAsked locations old.first old.asked old.scan.progress.reads → asked ≡ old.asked + length batch → Gathered locations old.first batch old.scan middle → GivesTurn turn middle new → IsNoRead turn →
     Stepped locations batch old middle new asked
 all_stepped locations batch turn old middle new asked were counted gathered gives plain =
-    let size = ap length gathered.batch_is ∙ length_fetches locations old.scan.progress.reads.handed gathered.segments in
+    let size = ap length gathered.batch_is ∙ length_fetches locations (count_behind old.first old.scan.progress.reads) gathered.segments in
     let none = none_handed turn middle new plain gives.takes in
     let before = were.all in
     let more = gathered.handed in
-    let all : asked ≡ new.progress.reads.handed = omega (arith, counted, size, none, before, more) in
+    let back : old.scan.progress.reads.handed - old.first ≡ old.asked = omega (arith, before) in
+    let all : asked ≡ new.progress.reads.handed - old.first = omega (arith, counted, size, none, before, more) in
     record {
       gathered = gathered;
       counted = omega (arith, counted, size);
-      batch_is = gathered.batch_is ∙ ap (λ (n : ℕ). fetches_from locations n gathered.segments) (sym were.all);
-      reads = ap (λ (n : ℕ). take n new.progress.reads.wanted) all ∙ turn_reads turn locations middle new plain gives gathered.asked ∙ gathered.reads
-          ∙ ap (λ (n : ℕ). take n old.scan.progress.reads.wanted ++ map unread gathered.segments) (sym were.all);
-      are_asked = subst (λ (n : ℕ). AreAsked locations n new.progress.reads) (sym all) (turn_asked turn locations middle new plain gives gathered.asked);
+      batch_is = gathered.batch_is ∙ ap (λ (n : ℕ). fetches_from locations n gathered.segments) back;
+      reads = ap (λ (n : ℕ). take n (drop old.first new.progress.reads.wanted)) all ∙ turn_reads turn locations old.first middle new plain gives gathered.asked ∙ gathered.reads
+          ∙ ap (λ (n : ℕ). take n (drop old.first old.scan.progress.reads.wanted) ++ map unread gathered.segments) back;
+      are_asked = subst (λ (n : ℕ). AreAsked locations old.first n new.progress.reads) (sym all) (turn_asked turn locations old.first middle new plain gives gathered.asked);
       wanted = All-weaker (IsAsked middle.progress.reads.wanted) (MayBeRead old.scan) gathered.scan.wants gathered.segments gathered.stand;
       scan = continues_then old.scan middle new gathered.scan gives.scan;
     }
@@ -110,10 +118,11 @@ none_gathered : (locations : List SegmentLocation) (batch : List IoRequest) (old
 none_gathered locations batch old middle new asked all none = no_segments locations old.asked all.gathered.segments (sym none ∙ all.batch_is)
 
 -- where the batch is empty, nothing is asked for
-asks_nothing : (locations : List SegmentLocation) (batch : List IoRequest) (old : AdaptorData) (middle new : ScanData) (asked : ℕ) (held : Option (ℕ × ColumnData)) (state : State) → Stepped locations batch old middle new asked → batch ≡ [] → AsksNothing old (stepped new asked held state)
+asks_nothing : (locations : List SegmentLocation) (batch : List IoRequest) (old : AdaptorData) (middle new : ScanData) (asked : ℕ) (held : Option (ℕ × ColumnData)) (state : State) → Stepped locations batch old middle new asked → batch ≡ [] → AsksNothing old (stepped old.first new asked held state)
 asks_nothing locations batch old middle new asked held state all none =
     let nothing = none_gathered locations batch old middle new asked all none in
     record {
+      first = refl;
       asked = let size = ap length nothing in let counted = all.counted in omega (arith, size, counted);
       reads = all.reads ∙ ap (λ (segments : List ℕ). reads_of old ++ map unread segments) nothing ∙ append-nil (reads_of old);
     }
@@ -121,8 +130,8 @@ asks_nothing locations batch old middle new asked held state all none =
 -- ---- an output
 
 -- the output that came behind the reads is the next one of the scan before them
-comes_out : (locations : List SegmentLocation) (batch : List IoRequest) (old middle new : ScanData) (number : ℕ) (column : ColumnData) → Gathered locations batch old middle → Continues middle new → GivesOutput middle.nodes middle.job middle.progress new.progress number column → ComesOut number column old new
-comes_out locations batch old middle new number column gathered more gives = record {
+comes_out : (locations : List SegmentLocation) (first : ℕ) (batch : List IoRequest) (old middle new : ScanData) (number : ℕ) (column : ColumnData) → Gathered locations first batch old middle → Continues middle new → GivesOutput middle.nodes middle.job middle.progress new.progress number column → ComesOut number column old new
+comes_out locations first batch old middle new number column gathered more gives = record {
   place = gives.place;
   at = subst (λ (left : List ℕ). slice_get left gives.place ≡ Some number) gathered.left gives.at;
   left = ap (λ job. left_of job new.progress) more.keeps.job ∙ gives.left ∙ ap (λ (left : List ℕ). remove left gives.place) gathered.left;
@@ -138,13 +147,13 @@ output_of number column old new (inl (refused, done, same)) = absurd cc
 output_of number column old new (inr (going, takes)) = takes
 
 computes_output : (locations : List SegmentLocation) (batch : Vec IoRequest) (number : ℕ) (column : ColumnData) (step : AdaptorStep) (old : AdaptorData) (middle new : ScanData) (asked : ℕ) (held : Option (ℕ × ColumnData)) (state : State) → old.held ≡ None → Stepped locations batch.items old middle new asked → GivesTurn (turns.Output number column) middle new →
-    BatchOr batch step (Some (number, column)) (Piece column) held state NeedsCompute → Computes locations (Ok step) old (stepped new asked held state)
+    BatchOr batch step (Some (number, column)) (Piece column) held state NeedsCompute → Computes locations (Ok step) old (stepped old.first new asked held state)
 computes_output locations batch number column step old middle new asked held state empty all gives (inl (none, is, kept, at)) =
     let fewer = gives.fewer tt in
     let before = all.gathered.fewer in
-    subst (λ (s : AdaptorStep). Computes locations (Ok s) old (stepped new asked held state)) (sym is) (subst (λ (h : Option (ℕ × ColumnData)). Computes locations (Ok (Piece column)) old (stepped new asked h state)) (sym kept) (record {
+    subst (λ (s : AdaptorStep). Computes locations (Ok s) old (stepped old.first new asked held state)) (sym is) (subst (λ (h : Option (ℕ × ColumnData)). Computes locations (Ok (Piece column)) old (stepped old.first new asked h state)) (sym kept) (record {
       number = number;
-      output = inr (empty, comes_out locations batch.items old.scan middle new number column all.gathered gives.scan (output_of number column middle new gives.takes));
+      output = inr (empty, comes_out locations old.first batch.items old.scan middle new number column all.gathered gives.scan (output_of number column middle new gives.takes));
       scan = all.scan;
       asks = asks_nothing locations batch.items old middle new asked None state all none;
       held = refl;
@@ -155,10 +164,11 @@ computes_output locations batch number column step old middle new asked held sta
     let fewer = gives.fewer tt in
     let before = all.gathered.fewer in
     let size = ap length all.batch_is ∙ length_fetches locations old.asked all.gathered.segments in
-    subst (λ (s : AdaptorStep). Computes locations (Ok s) old (stepped new asked held state)) (sym is) (subst (λ (h : Option (ℕ × ColumnData)). Computes locations (Ok (NeedsIo batch)) old (stepped new asked h state)) (sym kept) (record {
+    subst (λ (s : AdaptorStep). Computes locations (Ok s) old (stepped old.first new asked held state)) (sym is) (subst (λ (h : Option (ℕ × ColumnData)). Computes locations (Ok (NeedsIo batch)) old (stepped old.first new asked h state)) (sym kept) (record {
       segments = all.gathered.segments;
       some = omega (arith, size, some);
       batch_is = all.batch_is;
+      first = refl;
       asked = all.counted;
       reads = all.reads;
       apart = all.are_asked.apart;
@@ -167,7 +177,7 @@ computes_output locations batch number column step old middle new asked held sta
       scan = all.scan;
       held = empty;
       behind = λ none. absurd (let both : Some (number, column) ≡ None = none in cc);
-      holds = inr (number, column, refl, comes_out locations batch.items old.scan middle new number column all.gathered gives.scan (output_of number column middle new gives.takes));
+      holds = inr (number, column, refl, comes_out locations old.first batch.items old.scan middle new number column all.gathered gives.scan (output_of number column middle new gives.takes));
       state = at;
       fewer = omega (arith, fewer, before);
     }))
@@ -196,15 +206,16 @@ idle_left turn old new idle gives = by_turn turn idle gives.takes
     by_turn (turns.Output number column) (inr is) (inr (going, takes)) = absurd cc
 
 computes_batch : (locations : List SegmentLocation) (batch : Vec IoRequest) (step : AdaptorStep) (old : AdaptorData) (middle new : ScanData) (asked : ℕ) (held : Option (ℕ × ColumnData)) (state : State) → old.held ≡ None → Stepped locations batch.items old middle new asked → StaysLeft middle new → AwaitsBytes new →
-    0 < length batch.items → step ≡ NeedsIo batch → held ≡ None → state ≡ NeedsCompute → Computes locations (Ok step) old (stepped new asked held state)
+    0 < length batch.items → step ≡ NeedsIo batch → held ≡ None → state ≡ NeedsCompute → Computes locations (Ok step) old (stepped old.first new asked held state)
 computes_batch locations batch step old middle new asked held state empty all stays awaits some is kept at =
     let same = stays.1 in
     let before = all.gathered.fewer in
     let size = ap length all.batch_is ∙ length_fetches locations old.asked all.gathered.segments in
-    subst (λ (s : AdaptorStep). Computes locations (Ok s) old (stepped new asked held state)) (sym is) (subst (λ (h : Option (ℕ × ColumnData)). Computes locations (Ok (NeedsIo batch)) old (stepped new asked h state)) (sym kept) (record {
+    subst (λ (s : AdaptorStep). Computes locations (Ok s) old (stepped old.first new asked held state)) (sym is) (subst (λ (h : Option (ℕ × ColumnData)). Computes locations (Ok (NeedsIo batch)) old (stepped old.first new asked h state)) (sym kept) (record {
       segments = all.gathered.segments;
       some = omega (arith, size, some);
       batch_is = all.batch_is;
+      first = refl;
       asked = all.counted;
       reads = all.reads;
       apart = all.are_asked.apart;
@@ -233,15 +244,25 @@ some_of : {A : Type 0} (P : A → Type 0) (ones : List A) → (length ones ≡ 0
 some_of P [] some all = absurd (some refl)
 some_of P (one ∷ ones) some all = (one, all one (inl refl))
 
-some_outstanding : (locations : List SegmentLocation) (asked : ℕ) (held : Option (ℕ × ColumnData)) (state : State) (middle new : ScanData) → AreAsked locations asked new.progress.reads → IsWaiting middle.nodes middle.job middle.progress new.progress → SomeOutstanding (stepped new asked held state)
-some_outstanding locations asked held state middle new are_asked waits =
+-- for a read of the adaptor's, or for an earlier one
+some_outstanding : (locations : List SegmentLocation) (first asked : ℕ) (held : Option (ℕ × ColumnData)) (state : State) (middle new : ScanData) → AreAsked locations first asked new.progress.reads → IsWaiting middle.nodes middle.job middle.progress new.progress →
+    SomeOutstanding (stepped first new asked held state) ⊎ SomeEarlierOutstanding (stepped first new asked held state)
+some_outstanding locations first asked held state middle new are_asked waits =
     let up = (some_of (IsHeldUp middle.progress.leaves new.progress.reads.wanted) new.progress.active.items waits.some waits.held).1 in
     let place = up.3.0 in
     let here = up.3.1 in
     let within = slice_get_within new.progress.reads.wanted place (unread up.0.segment) here in
     let every = waits.all_handed in
     let all = are_asked.all in
-    (place, (omega (arith, within, every, all), (omega (arith, within, every), subst (λ (w : Option Wanted). IsSomeAnd w (λ v. v.bytes ≡ None)) (sym here) refl)))
+    ⊎_elim
+    (λ (earlier : place < first). inr (place, earlier, (omega (arith, within, every), nothing_came place up.0.segment here)))
+    (λ (own : first ≤ place).
+    let same : first + (place - first) ≡ place = omega (arith, own) in
+    inl (place - first, (omega (arith, within, every, all, own), (omega (arith, within, every, same), nothing_came (first + (place - first)) up.0.segment (ap (slice_get new.progress.reads.wanted) same ∙ here)))))
+    (cases_lt place first)
+  where
+    nothing_came : (n segment : ℕ) → slice_get new.progress.reads.wanted n ≡ Some (unread segment) → IsSomeAnd (slice_get new.progress.reads.wanted n) (λ v. v.bytes ≡ None)
+    nothing_came n segment at = subst (λ (w : Option Wanted). IsSomeAnd w (λ v. v.bytes ≡ None)) (sym at) refl
 
 waiting_of : (old new : ScanData) → TookTurn turns.Waiting old new → IsWaiting old.nodes old.job old.progress new.progress
 waiting_of old new (inl (refused, done, same)) = absurd cc
@@ -251,14 +272,14 @@ awaits_bytes : (old new : ScanData) → Continues old new → IsWaiting old.node
 awaits_bytes old new goes waits = record { none_to_start = subst (λ job. CanStart job new.progress → ⊥) (sym goes.keeps.job) waits.none_to_start; all_handed = waits.all_handed }
 
 computes_waiting : (locations : List SegmentLocation) (batch : Vec IoRequest) (step : AdaptorStep) (old : AdaptorData) (middle new : ScanData) (asked : ℕ) (held : Option (ℕ × ColumnData)) (state : State) → old.held ≡ None → Stepped locations batch.items old middle new asked → GivesTurn turns.Waiting middle new →
-    BatchOr batch step None Yield held state Waiting → Computes locations (Ok step) old (stepped new asked held state)
+    BatchOr batch step None Yield held state Waiting → Computes locations (Ok step) old (stepped old.first new asked held state)
 computes_waiting locations batch step old middle new asked held state empty all gives (inr (some, is, kept, at)) =
     computes_batch locations batch step old middle new asked held state empty all (idle_left turns.Waiting middle new (inl refl) gives) (awaits_bytes middle new gives.scan (waiting_of middle new gives.takes)) some is kept at
 computes_waiting locations batch step old middle new asked held state empty all gives (inl (none, is, kept, at)) =
     let stays = none_done locations batch.items old middle new asked all none (idle_left turns.Waiting middle new (inl refl) gives) in
-    subst (λ (s : AdaptorStep). Computes locations (Ok s) old (stepped new asked held state)) (sym is) (subst (λ (h : Option (ℕ × ColumnData)). Computes locations (Ok Yield) old (stepped new asked h state)) (sym kept) (record {
+    subst (λ (s : AdaptorStep). Computes locations (Ok s) old (stepped old.first new asked held state)) (sym is) (subst (λ (h : Option (ℕ × ColumnData)). Computes locations (Ok Yield) old (stepped old.first new asked h state)) (sym kept) (record {
       waits = λ is. subst (λ (scan : ScanData). IsWaiting scan.nodes scan.job scan.progress new.progress) (all.gathered.none (none_gathered locations batch.items old middle new asked all none)) (waiting_of middle new gives.takes);
-      why = inl (at, some_outstanding locations asked None state middle new all.are_asked (waiting_of middle new gives.takes));
+      why = inl (at, some_outstanding locations old.first asked None state middle new all.are_asked (waiting_of middle new gives.takes));
       scan = all.scan;
       left = stays.0;
       asks = asks_nothing locations batch.items old middle new asked None state all none;
@@ -269,9 +290,9 @@ computes_waiting locations batch step old middle new asked held state empty all 
 
 -- ---- the scan is done
 
-why_done : (locations : List SegmentLocation) (batch : List IoRequest) (old middle new : ScanData) → Gathered locations batch old middle → TookTurn turns.Done middle new → (splits_left old ≡ []) ⊎ (old.refused ≡ true)
-why_done locations batch old middle new gathered (inl (refused, done, same)) = inr (sym gathered.scan.refused ∙ refused)
-why_done locations batch old middle new gathered (inr (going, takes)) = inl (sym gathered.left ∙ takes.none_left)
+why_done : (locations : List SegmentLocation) (first : ℕ) (batch : List IoRequest) (old middle new : ScanData) → Gathered locations first batch old middle → TookTurn turns.Done middle new → (splits_left old ≡ []) ⊎ (old.refused ≡ true)
+why_done locations first batch old middle new gathered (inl (refused, done, same)) = inr (sym gathered.scan.refused ∙ refused)
+why_done locations first batch old middle new gathered (inr (going, takes)) = inl (sym gathered.left ∙ takes.none_left)
 
 -- a scan that handed reads out is not done behind them
 not_done : (old new : ScanData) → IsLive old → TookTurn turns.Done old new → ⊥
@@ -279,15 +300,15 @@ not_done old new live (inl (refused, done, same)) = let both : false ≡ true = 
 not_done old new live (inr (going, takes)) = live.1 takes.none_left
 
 computes_done : (locations : List SegmentLocation) (batch : Vec IoRequest) (step : AdaptorStep) (old : AdaptorData) (middle new : ScanData) (asked : ℕ) (held : Option (ℕ × ColumnData)) (state : State) → old.held ≡ None → Stepped locations batch.items old middle new asked → GivesTurn turns.Done middle new →
-    BatchOr batch step None Yield held state Done → Computes locations (Ok step) old (stepped new asked held state)
+    BatchOr batch step None Yield held state Done → Computes locations (Ok step) old (stepped old.first new asked held state)
 computes_done locations batch step old middle new asked held state empty all gives (inr (some, is, kept, at)) =
     let size = ap length all.batch_is ∙ length_fetches locations old.asked all.gathered.segments in
     absurd (not_done middle new (all.gathered.live (omega (arith, size, some))) gives.takes)
 computes_done locations batch step old middle new asked held state empty all gives (inl (none, is, kept, at)) =
     let stays = none_done locations batch.items old middle new asked all none (idle_left turns.Done middle new (inr refl) gives) in
-    subst (λ (s : AdaptorStep). Computes locations (Ok s) old (stepped new asked held state)) (sym is) (subst (λ (h : Option (ℕ × ColumnData)). Computes locations (Ok Yield) old (stepped new asked h state)) (sym kept) (record {
+    subst (λ (s : AdaptorStep). Computes locations (Ok s) old (stepped old.first new asked held state)) (sym is) (subst (λ (h : Option (ℕ × ColumnData)). Computes locations (Ok Yield) old (stepped old.first new asked h state)) (sym kept) (record {
       waits = λ is. absurd (let both : Waiting ≡ Done = sym is ∙ at in cc);
-      why = inr (at, why_done locations batch.items old.scan middle new all.gathered gives.takes);
+      why = inr (at, why_done locations old.first batch.items old.scan middle new all.gathered gives.takes);
       scan = all.scan;
       left = stays.0;
       asks = asks_nothing locations batch.items old middle new asked None state all none;
@@ -299,39 +320,49 @@ computes_done locations batch step old middle new asked held state empty all giv
 -- ---- any of them
 
 by_turn : (locations : List SegmentLocation) (batch : Vec IoRequest) (turn : Turn) (step : AdaptorStep) (old : AdaptorData) (middle new : ScanData) (asked : ℕ) (held : Option (ℕ × ColumnData)) (state : State) → old.held ≡ None → Stepped locations batch.items old middle new asked → GivesTurn turn middle new → StepOf batch turn step held state →
-    Computes locations (Ok step) old (stepped new asked held state)
+    Computes locations (Ok step) old (stepped old.first new asked held state)
 by_turn locations batch (turns.Read request) step old middle new asked held state empty all gives is = absurd is
 by_turn locations batch (turns.Output number column) step old middle new asked held state empty all gives is = computes_output locations batch number column step old middle new asked held state empty all gives is
 by_turn locations batch turns.Waiting step old middle new asked held state empty all gives is = computes_waiting locations batch step old middle new asked held state empty all gives is
 by_turn locations batch turns.Done step old middle new asked held state empty all gives is = computes_done locations batch step old middle new asked held state empty all gives is
 
 -- the step that a gathered batch and the turn behind it make
-pub computes : (locations : List SegmentLocation) (batch : Vec IoRequest) (turn : Turn) (step : AdaptorStep) (old : AdaptorData) (new : ScanData) (asked : ℕ) (held : Option (ℕ × ColumnData)) (state : State) → old.held ≡ None → AreAsked locations old.asked old.scan.progress.reads → asked ≡ old.asked + length batch.items →
-    GatherGives locations (Ok turn) batch.items old.scan new → StepOf batch turn step held state → Computes locations (Ok step) old (stepped new asked held state)
+pub computes : (locations : List SegmentLocation) (batch : Vec IoRequest) (turn : Turn) (step : AdaptorStep) (old : AdaptorData) (new : ScanData) (asked : ℕ) (held : Option (ℕ × ColumnData)) (state : State) → old.held ≡ None → AreAsked locations old.first old.asked old.scan.progress.reads → asked ≡ old.asked + length batch.items →
+    GatherGives locations old.first (Ok turn) batch.items old.scan new → StepOf batch turn step held state → Computes locations (Ok step) old (stepped old.first new asked held state)
 computes locations batch turn step old new asked held state empty were counted (middle, gathered, gives, plain) is =
     by_turn locations batch turn step old middle new asked held state empty (all_stepped locations batch.items turn old middle new asked were counted gathered gives plain) gives is
 
 -- what the adaptor holds of its reads behind it
-pub computed_asked : (locations : List SegmentLocation) (batch : List IoRequest) (turn : Turn) (old : AdaptorData) (new : ScanData) (asked : ℕ) → AreAsked locations old.asked old.scan.progress.reads → asked ≡ old.asked + length batch → GatherGives locations (Ok turn) batch old.scan new → AreAsked locations asked new.progress.reads
+pub computed_asked : (locations : List SegmentLocation) (batch : List IoRequest) (turn : Turn) (old : AdaptorData) (new : ScanData) (asked : ℕ) → AreAsked locations old.first old.asked old.scan.progress.reads → asked ≡ old.asked + length batch → GatherGives locations old.first (Ok turn) batch old.scan new → AreAsked locations old.first asked new.progress.reads
 computed_asked locations batch turn old new asked were counted (middle, gathered, gives, plain) = (all_stepped locations batch turn old middle new asked were counted gathered gives plain).are_asked
 
 -- and that the number of its fetches fits
-pub computed_few : (locations : List SegmentLocation) (batch : List IoRequest) (turn : Turn) (old : AdaptorData) (new : ScanData) → AreAsked locations old.asked old.scan.progress.reads → GatherGives locations (Ok turn) batch old.scan new → old.asked + length batch ≤ length locations
+pub computed_few : (locations : List SegmentLocation) (batch : List IoRequest) (turn : Turn) (old : AdaptorData) (new : ScanData) → AreAsked locations old.first old.asked old.scan.progress.reads → GatherGives locations old.first (Ok turn) batch old.scan new → old.asked + length batch ≤ length locations
 computed_few locations batch turn old new were (middle, gathered, gives, plain) =
-    let few = few_asked locations middle gathered.asked in
-    let size = ap length gathered.batch_is ∙ length_fetches locations old.scan.progress.reads.handed gathered.segments in
+    let few = few_asked locations old.first (count_behind old.first middle.progress.reads) middle gathered.asked in
+    let size = ap length gathered.batch_is ∙ length_fetches locations (count_behind old.first old.scan.progress.reads) gathered.segments in
     let more = gathered.handed in
     let all = were.all in
     omega (arith, few, size, more, all)
 
+-- as does the number of the reads before it
+pub computed_fits : (locations : List SegmentLocation) (batch : List IoRequest) (turn : Turn) (old : AdaptorData) (new : ScanData) (asked : ℕ) → AreAsked locations old.first old.asked old.scan.progress.reads → asked ≡ old.asked + length batch → GatherGives locations old.first (Ok turn) batch old.scan new → old.first + old.asked < 2 ^ 64 →
+    old.first + asked < 2 ^ 64
+computed_fits locations batch turn old new asked were counted (middle, gathered, gives, plain) fits =
+    let size = ap length gathered.batch_is ∙ length_fetches locations (count_behind old.first old.scan.progress.reads) gathered.segments in
+    let more = gathered.handed in
+    let all = were.all in
+    let fit = gathered.fits (omega (arith, all, fits)) in
+    omega (arith, counted, size, more, all, fit)
+
 -- ---- a refusal
 
-pub stops : (locations : List SegmentLocation) (batch : List IoRequest) (error : AdaptorError) (old : AdaptorData) (new : ScanData) (held : Option (ℕ × ColumnData)) → old.held ≡ None → held ≡ None → AreAsked locations old.asked old.scan.progress.reads → GatherGives locations (Err error) batch old.scan new →
-    Stops locations error old (stepped new old.asked held Done)
+pub stops : (locations : List SegmentLocation) (batch : List IoRequest) (error : AdaptorError) (old : AdaptorData) (new : ScanData) (held : Option (ℕ × ColumnData)) → old.held ≡ None → held ≡ None → AreAsked locations old.first old.asked old.scan.progress.reads → GatherGives locations old.first (Err error) batch old.scan new →
+    Stops locations error old (stepped old.first new old.asked held Done)
 stops locations batch error old new held empty none were (keeps, cause) = record {
   cause = cause;
   scan = keeps;
-  asks = record { asked = refl; reads = take_grown old.scan.progress.reads.wanted new.progress.reads.wanted old.asked keeps.grows were.wanted };
+  asks = record { first = refl; asked = refl; reads = take_grown (drop old.first old.scan.progress.reads.wanted) (drop old.first new.progress.reads.wanted) old.asked (grows_behind old.scan.progress.reads.wanted new.progress.reads.wanted old.first keeps.grows) were.wanted };
   held = empty;
   none = none;
   state = refl;

@@ -1,21 +1,26 @@
 -- What all workers gave together, and what came of the chunks that ran with borrowed values, is what the whole run gives.
-use Rattle.std.proofs.Common.{◌≡◌, ◌≢◌, ℕ, ◌<◌, ◌≤◌, ◌⊎◌, inl, inr, true, List, [], ◌∷◌, Some, None, length, map, refl, sym, ap, ◌∙◌, subst, arith}
+use Rattle.std.proofs.Common.{◌≡◌, ◌≢◌, ℕ, ◌<◌, ◌≤◌, ◌⊎◌, inl, inr, List, [], ◌∷◌, Some, None, length, map, refl, sym, ap, ◌∙◌, subst, arith}
 use Rattle.std.specs.Prelude.{Option, IfSome, IsSomeAnd, nat_lt, slice_index_or, slice_set}
-use Rattle.std.specs.List.{All, AllByRecursion}
+use native.Mathlib.Decide.{ℕ_discrete}
+use mathlib.Core.Logic.{dite}
+use Rattle.std.specs.List.{slice_get, All, AllByRecursion}
 use Rattle.std.specs.List.Sorted.{IsNonDecreasingBy}
 use Rattle.std.proofs.lemmas.Bool.{cases_lt, lt-ltb}
 use Rattle.std.proofs.lemmas.List.{length-map, get_or-map}
+use Rattle.std.proofs.lemmas.List.Elements.{All-head, All-tail}
 use Rattle.std.proofs.lemmas.Option.{slice_get_within}
 use Rattle.vx_base.specs.Masks.{Ascend}
 use Rattle.vx_base.specs.Sources.{SourceState}
 use Rattle.vx_claims.specs.Apart.{times, times_over, AreApart, AreWhole}
-use Rattle.vx_claims.proofs.Numbers.{once_yes}
+use Rattle.vx_claims.proofs.Numbers.{once_yes, times_other}
 use Rattle.vx_plan.specs.Plans.{plan_at}
 use Rattle.vx_plan.specs.Refs.{number_of}
 use Rattle.vx_rows.specs.SegmentLeaves.{Bytes, leaves_of}
 use Rattle.vx_splits.specs.declared.selected_rows.SelectedRows.{SelectedRows}
 use Rattle.vx_steps.specs.Given.{whole_value}
+use Rattle.vx_steps.specs.Kept.{kept_data}
 use Rattle.vx_steps.specs.KeptData.{Kept}
+use Rattle.vx_steps.specs.declared.kept.KeptValue.{KeptValue}
 use Rattle.vx_scan.specs.declared.errors.ScanError.{ScanError}
 use Rattle.vx_scan.specs.declared.errors.ScanError.TheVariants.{BadProjection, OffsetOverflow, OutOfRange, Unsupported, NoLocation, ReadFault, Stalled, BadSegment, BadCode, EvalFault, Memory}
 use Rattle.vx_scan.specs.declared.joins.Joined.{Joined}
@@ -26,24 +31,22 @@ use Rattle.vx_scan.specs.declared.outcomes.Outcome.{Outcome}
 use Rattle.vx_scan.specs.declared.outcomes.Rerun.{Rerun}
 use Rattle.vx_scan.specs.declared.plans.ScanPlans.{ScanPlans}
 use Rattle.vx_scan.specs.Asks.{KeepsFaults}
-use Rattle.vx_scan.specs.Executes.{FailsLowest, FaultsAtLast, StopsAtLast, Executed}
+use Rattle.vx_scan.specs.Executes.{FailsLowest, FaultsAtLast, MayHaveBorrowed, StopsAtLast, Executed}
 use Rattle.vx_scan.specs.Gathers.{IsAtMost, IsBelow, no_memory}
 use Rattle.vx_scan.specs.Joins.{run_times, FailsFirst, FaultsWhereNotRan, JoinedAll, RanOrLast}
 use Rattle.vx_scan.specs.Lent.{EachSourceBy, SomeSourceBy, AllTell}
-use Rattle.vx_scan.specs.Loans.{loaned_of}
-use Rattle.vx_scan.specs.Outcomes.{told_by_all, Causes, Claims}
+use Rattle.vx_scan.specs.Loans.{loaned_of, AsksForWholes, IsAsking, IsLoan}
+use Rattle.vx_scan.specs.Outcomes.{data_of, told_by_all, Causes, ChunkAsks, Claims}
 use Rattle.vx_scan.specs.Settling.{FailsSettled, IsRerun, Settles, told_right}
+use Rattle.vx_scan.specs.Unhindered.{IsUnhindered}
 use Rattle.vx_scan.specs.Workers.{IsPieceOf, numbers_of, IsLast, FailsLast, RunsSource}
 use Rattle.vx_scan.proofs.Ascending.{in_order_once}
 use Rattle.vx_scan.proofs.LentSources.{each_by, each_first}
 use Rattle.vx_scan.proofs.Certifying.{each_weaker}
 use Rattle.vx_scan.proofs.JoinedLanes.{not_lacking}
+use Rattle.vx_scan.proofs.Loaning.{of_chunk}
 
 -- ---- lists
-
-all_so : {X : Type 0} (Q : X → Type 0) → ((x : X) → Q x) → (xs : List X) → AllByRecursion Q xs
-all_so Q so [] = tt
-all_so Q so (x ∷ xs) = (so x, all_so Q so xs)
 
 numbers_in_order : (pieces : List Piece) → IsNonDecreasingBy (λ piece. piece.chunk) pieces → (i j : ℕ) (d : ℕ) → i ≤ j → j < length (numbers_of pieces) → slice_index_or (numbers_of pieces) i d ≤ slice_index_or (numbers_of pieces) j d
 numbers_in_order [] sorted i j d le lt = absurd (omega (arith, lt))
@@ -53,6 +56,24 @@ numbers_in_order (piece ∷ pieces) sorted i j d le lt =
     let one = get_or-map (λ (other : Piece). other.chunk) (piece ∷ pieces) i piece d (omega (arith, le, lt, size)) in
     let two = get_or-map (λ (other : Piece). other.chunk) (piece ∷ pieces) j piece d (omega (arith, lt, size)) in
     omega (arith, lower, one, two)
+
+-- ---- chunks that ran with borrowed values ask for whole ones
+
+first_asks : (plans : ScanPlans) (chosen : SelectedRows) (borrowed : List KeptValue) → borrowed ≢ [] → AllByRecursion (λ (one : Kept). ChunkAsks plans [] chosen one.node) (data_of borrowed) → AsksForWholes plans chosen
+first_asks plans chosen [] some each = absurd (some refl)
+first_asks plans chosen (one ∷ borrowed) some each = ((kept_data one).node, each.0)
+
+loan_asks : (plans : ScanPlans) (chunks : List SelectedRows) (loan : Loan) → IsLoan plans chunks loan → IsAsking plans chunks loan.chunk
+loan_asks plans chunks loan is =
+    of_chunk (λ chunk. AsksForWholes plans chunk × IsUnhindered plans chunk) (slice_get chunks loan.chunk) is.chunk is.here (first_asks plans is.chunk loan.borrowed.items is.some is.borrowed.asked, is.unhindered)
+
+has_loaned : (plans : ScanPlans) (chunks : List SelectedRows) (x : ℕ) (loans : List Loan) → 1 ≤ times x (loaned_of loans) → All (IsLoan plans chunks) loans → IsAsking plans chunks x
+has_loaned plans chunks x [] some are = absurd (omega (arith, some))
+has_loaned plans chunks x (loan ∷ loans) some are = dite (ℕ_discrete loan.chunk x)
+    (λ same. subst (IsAsking plans chunks) same (loan_asks plans chunks loan (All-head (IsLoan plans chunks) loan loans are)))
+    (λ differs.
+    let other = times_other x loan.chunk (loaned_of loans) differs in
+    has_loaned plans chunks x loans (omega (arith, other, some)) (All-tail (IsLoan plans chunks) loan loans are))
 
 -- ---- errors
 
@@ -135,15 +156,14 @@ module _ (plans : ScanPlans) (chunks : List SelectedRows) (joined : Joined) (out
       piece_below x (below_error error is x less)
       ∙ ran_below error (slice_get_within chunks error.chunk fails.chunk fails.here) joined.error refl (subst (λ (one : Option ChunkError). IsAtMost one joined.error) is settles.lowest) x less
 
-  -- a chunk that had borrowed failed: so its worker isn't alone
-  settled_more : (error : ChunkError) → FailsSettled plans chunks joined error first after → 1 < length befores
-  settled_more error fails = by_order (cases_lt 1 (length befores))
+  -- a chunk had borrowed: so its worker isn't alone
+  loaned_more : (x : ℕ) → 1 ≤ times x (loaned_of joined.loans.items) → 1 < length befores
+  loaned_more x loaned = by_order (cases_lt 1 (length befores))
     where
       by_order : (1 < length befores) ⊎ (length befores ≤ 1) → 1 < length befores
       by_order (inl more) = more
       by_order (inr most) =
-          let none : times error.chunk (loaned_of joined.loans.items) ≡ 0 = ap (λ (loans : List Loan). times error.chunk (loaned_of loans)) (gives.alone (omega (arith, some, most))) in
-          let loaned = fails.loaned in
+          let none : times x (loaned_of joined.loans.items) ≡ 0 = ap (λ (loans : List Loan). times x (loaned_of loans)) (gives.alone (omega (arith, some, most))) in
           absurd (omega (arith, none, loaned))
 
   -- ---- why there are no batches
@@ -165,10 +185,15 @@ module _ (plans : ScanPlans) (chunks : List SelectedRows) (joined : Joined) (out
       let same = over error.chunk in
       inr record {
         fails = inr (
-          settled_more error fails,
+          loaned_more error.chunk fails.loaned,
           omega (arith, loaned, most, same),
           (
-            record { chunk = fails.chunk; here = fails.here; cause = causes_from (told_right plans chunks joined first) (told_by_all plans befores) by_all plans [] fails.chunk error.error first after fails.cause },
+            record {
+              chunk = fails.chunk;
+              here = fails.here;
+              asks = (subst (λ (got : Option SelectedRows). IsSomeAnd got (λ chunk. AsksForWholes plans chunk × IsUnhindered plans chunk)) fails.here (has_loaned plans chunks error.chunk joined.loans.items fails.loaned gives.loans)).0;
+              cause = causes_from (told_right plans chunks joined first) (told_by_all plans befores) by_all plans [] fails.chunk error.error first after fails.cause;
+            },
             refl,
           ),
         );
@@ -181,69 +206,59 @@ module _ (plans : ScanPlans) (chunks : List SelectedRows) (joined : Joined) (out
 
   -- ---- where the workers stopped
 
+  abbrev Stop : ℕ → List ℕ → Type 0
+  Stop x numbers = (times x (numbers_of outcome.pieces.items) ≡ 1) ⊎ (IsLast x numbers ⊎ MayHaveBorrowed plans chunks (nat_lt 1 (length befores)) outcome.error x)
+
   abbrev Stops : List ℕ → Type 0
-  Stops numbers = StopsAtLast (nat_lt 1 (length befores)) outcome.error outcome.pieces.items numbers
+  Stops numbers = StopsAtLast plans chunks (nat_lt 1 (length befores)) outcome.error outcome.pieces.items numbers
 
-  -- values are shared, or the worker is alone
-  shares_or_alone : (nat_lt 1 (length befores) ≡ true) ⊎ (length befores ≡ 1)
-  shares_or_alone = by_order (cases_lt 1 (length befores))
+  -- what ran has its piece, or had borrowed
+  piece_or_loan : outcome.error ≢ Some no_memory → (x : ℕ) → run_times x joined ≡ 1 → (times x (numbers_of outcome.pieces.items) ≡ 1) ⊎ (1 ≤ times x (loaned_of joined.loans.items))
+  piece_or_loan enough x ran = by_order (cases_lt 0 (times x (loaned_of joined.loans.items)))
     where
-      by_order : (1 < length befores) ⊎ (length befores ≤ 1) → (nat_lt 1 (length befores) ≡ true) ⊎ (length befores ≡ 1)
-      by_order (inl more) = inl (lt-ltb 1 (length befores) more)
-      by_order (inr most) = inr (omega (arith, some, most))
+      by_order : (0 < times x (loaned_of joined.loans.items)) ⊎ (times x (loaned_of joined.loans.items) ≤ 0) → (times x (numbers_of outcome.pieces.items) ≡ 1) ⊎ (1 ≤ times x (loaned_of joined.loans.items))
+      by_order (inl some_loans) = inr (omega (arith, some_loans))
+      by_order (inr none) = let least = settles.old_pieces enough x in let most = settles.some_pieces x in inl (omega (arith, none, least, most, ran))
 
-  -- where a worker is alone, what ran has its piece
-  alone_piece : outcome.error ≢ Some no_memory → length befores ≡ 1 → (x : ℕ) → run_times x joined ≡ 1 → times x (numbers_of outcome.pieces.items) ≡ 1
-  alone_piece enough alone x ran =
-      let none : times x (loaned_of joined.loans.items) ≡ 0 = ap (λ (loans : List Loan). times x (loaned_of loans)) (gives.alone alone) in
-      let least = settles.old_pieces enough x in
-      let most = settles.some_pieces x in
-      omega (arith, none, least, most, ran)
+  -- and then lies no lower than the chunk that failed
+  ran_over : (error : ChunkError) → outcome.error ≡ Some error → (x : ℕ) (numbers : List ℕ) → run_times x joined ≡ 1 → (x < error.chunk) ⊎ (error.chunk ≤ x) → (times x (numbers_of outcome.pieces.items) ≡ 1) ⊎ (1 ≤ times x (loaned_of joined.loans.items)) → Stop x numbers
+  ran_over error is x numbers ran (inl less) which = inl (piece_below x (below_error error is x less) ∙ ran)
+  ran_over error is x numbers ran (inr least) (inl piece) = inl piece
+  ran_over error is x numbers ran (inr least) (inr loaned) = inr (inr (
+    lt-ltb 1 (length befores) (loaned_more x loaned),
+    subst (λ (one : Option ChunkError). IsSomeAnd one (λ failed. failed.chunk ≤ x)) (sym is) least,
+    has_loaned plans chunks x joined.loans.items loaned gives.loans,
+  ))
 
-  -- what ran has its piece, or lies no lower than the chunk that failed
-  ran_stops : (error : ChunkError) → outcome.error ≡ Some error → outcome.error ≢ Some no_memory → (x : ℕ) (numbers : List ℕ) → run_times x joined ≡ 1
-      → (times x (numbers_of outcome.pieces.items) ≡ 1) ⊎ (IsLast x numbers ⊎ ((nat_lt 1 (length befores) ≡ true) × IsSomeAnd outcome.error (λ one. one.chunk ≤ x)))
-  ran_stops error is enough x numbers ran = by_order shares_or_alone (cases_lt x error.chunk)
+  ran_stops : outcome.error ≢ Some no_memory → (x : ℕ) (numbers : List ℕ) → run_times x joined ≡ 1 → Stop x numbers
+  ran_stops enough x numbers ran = by_error outcome.error refl
     where
-      by_order : (nat_lt 1 (length befores) ≡ true) ⊎ (length befores ≡ 1) → (x < error.chunk) ⊎ (error.chunk ≤ x)
-          → (times x (numbers_of outcome.pieces.items) ≡ 1) ⊎ (IsLast x numbers ⊎ ((nat_lt 1 (length befores) ≡ true) × IsSomeAnd outcome.error (λ one. one.chunk ≤ x)))
-      by_order (inr alone) order = inl (alone_piece enough alone x ran)
-      by_order (inl shares) (inl less) = inl (piece_below x (below_error error is x less) ∙ ran)
-      by_order (inl shares) (inr least) = inr (inr (shares, subst (λ (one : Option ChunkError). IsSomeAnd one (λ failed. failed.chunk ≤ x)) (sym is) least))
+      by_error : (error : Option ChunkError) → outcome.error ≡ error → Stop x numbers
+      by_error None is = inl (piece_before is x ∙ ran)
+      by_error (Some error) is = ran_over error is x numbers ran (cases_lt x error.chunk) (piece_or_loan enough x ran)
 
-  old_stops : (error : ChunkError) → outcome.error ≡ Some error → outcome.error ≢ Some no_memory → (numbers : List ℕ) → RanOrLast joined numbers → Stops numbers
-  old_stops error is enough numbers stops x among = by_case (stops x among)
+  all_stop : outcome.error ≢ Some no_memory → (numbers : List ℕ) → RanOrLast joined numbers → Stops numbers
+  all_stop enough numbers stops x among = by_case (stops x among)
     where
-      by_case : (run_times x joined ≡ 1) ⊎ IsLast x numbers → (times x (numbers_of outcome.pieces.items) ≡ 1) ⊎ (IsLast x numbers ⊎ ((nat_lt 1 (length befores) ≡ true) × IsSomeAnd outcome.error (λ one. one.chunk ≤ x)))
-      by_case (inl ran) = ran_stops error is enough x numbers ran
+      by_case : (run_times x joined ≡ 1) ⊎ IsLast x numbers → Stop x numbers
+      by_case (inl ran) = ran_stops enough x numbers ran
       by_case (inr last) = inr (inl last)
 
-  -- a chunk that had borrowed failed: so values are shared
-  settled_shares : (error : ChunkError) → FailsSettled plans chunks joined error first after → nat_lt 1 (length befores) ≡ true
-  settled_shares error fails = lt-ltb 1 (length befores) (settled_more error fails)
-
-  settled_stops : (error : ChunkError) → outcome.error ≡ Some error → FailsSettled plans chunks joined error first after → (numbers : List ℕ) → Stops numbers
-  settled_stops error is fails numbers x among = by_order (cases_lt x error.chunk)
+  -- memory did not lack before: no chunk lies below want of memory
+  had_enough : outcome.error ≢ Some no_memory → joined.error ≢ Some no_memory
+  had_enough enough lacks = by_error outcome.error refl
     where
-      by_order : (x < error.chunk) ⊎ (error.chunk ≤ x) → (times x (numbers_of outcome.pieces.items) ≡ 1) ⊎ (IsLast x numbers ⊎ ((nat_lt 1 (length befores) ≡ true) × IsSomeAnd outcome.error (λ one. one.chunk ≤ x)))
-      by_order (inl less) = inl (settled_below error is fails x less)
-      by_order (inr least) = inr (inr (settled_shares error fails, subst (λ (one : Option ChunkError). IsSomeAnd one (λ failed. failed.chunk ≤ x)) (sym is) least))
+      by_cause : (error : ChunkError) → outcome.error ≡ Some error → (error ≡ no_memory) ⊎ ((joined.error ≡ Some error) ⊎ FailsSettled plans chunks joined error first after) → ⊥
+      by_cause error is (inl memory) = enough (is ∙ ap Some memory)
+      by_cause error is (inr (inl old)) = enough (is ∙ sym old ∙ lacks)
+      by_cause error is (inr (inr fails)) = let below : error.chunk < 0 = subst (λ (e : Option ChunkError). IsBelow e error.chunk) lacks fails.below in omega (arith, below)
 
-  done_stops : outcome.error ≡ None → (numbers : List ℕ) → RanOrLast joined numbers → Stops numbers
-  done_stops none numbers stops x among = by_case (stops x among)
-    where
-      by_case : (run_times x joined ≡ 1) ⊎ IsLast x numbers → (times x (numbers_of outcome.pieces.items) ≡ 1) ⊎ (IsLast x numbers ⊎ ((nat_lt 1 (length befores) ≡ true) × IsSomeAnd outcome.error (λ one. one.chunk ≤ x)))
-      by_case (inl ran) = inl (piece_before none x ∙ ran)
-      by_case (inr last) = inr (inl last)
+      by_error : (error : Option ChunkError) → outcome.error ≡ error → ⊥
+      by_error None is = let both : None ≡ Some no_memory = sym (none_joined is) ∙ lacks in cc
+      by_error (Some error) is = by_cause error is (subst (λ (e : Option ChunkError). IfSome e (λ one. (one ≡ no_memory) ⊎ ((joined.error ≡ Some one) ⊎ FailsSettled plans chunks joined one first after))) is settles.cause)
 
-  stops_of : (error : Option ChunkError) → outcome.error ≡ error → outcome.error ≢ Some no_memory → AllByRecursion Stops joined.claimed.items
-  stops_of None is enough = each_weaker (RanOrLast joined) Stops (done_stops is) joined.claimed.items (gives.stops (λ lacks. let both : None ≡ Some no_memory = sym (none_joined is) ∙ lacks in absurd cc))
-  stops_of (Some error) is enough = by_cause (subst (λ (e : Option ChunkError). IfSome e (λ one. (one ≡ no_memory) ⊎ ((joined.error ≡ Some one) ⊎ FailsSettled plans chunks joined one first after))) is settles.cause)
-    where
-      by_cause : (error ≡ no_memory) ⊎ ((joined.error ≡ Some error) ⊎ FailsSettled plans chunks joined error first after) → AllByRecursion Stops joined.claimed.items
-      by_cause (inl memory) = absurd (enough (is ∙ ap Some memory))
-      by_cause (inr (inl old)) = each_weaker (RanOrLast joined) Stops (old_stops error is enough) joined.claimed.items (gives.stops (λ lacks. enough (is ∙ sym old ∙ lacks)))
-      by_cause (inr (inr fails)) = all_so Stops (settled_stops error is fails) joined.claimed.items
+  stops_of : outcome.error ≢ Some no_memory → AllByRecursion Stops joined.claimed.items
+  stops_of enough = each_weaker (RanOrLast joined) Stops (all_stop enough) joined.claimed.items (gives.stops (had_enough enough))
 
   faults_last : (numbers : List ℕ) (before now : SourceState) → FaultsWhereNotRan joined numbers before now → FaultsAtLast outcome.pieces.items numbers before now
   faults_last numbers before now (inl same) = inl same
@@ -275,7 +290,7 @@ module _ (plans : ScanPlans) (chunks : List SelectedRows) (joined : Joined) (out
     rows = settles.rows gives.rows;
     middles = first ∷ others;
     cause = cause_of outcome.error refl;
-    stops = λ enough. subst (AllByRecursion Stops) (sym settles.lists) (stops_of outcome.error refl enough);
+    stops = λ enough. subst (AllByRecursion Stops) (sym settles.lists) (stops_of enough);
     faults = subst (λ (lists : List (List ℕ)). EachSourceBy (FaultsAtLast outcome.pieces.items) lists befores (first ∷ others)) (sym settles.lists)
         (each_by (FaultsWhereNotRan joined) (FaultsAtLast outcome.pieces.items) faults_last joined.claimed.items befores (first ∷ others) gives.faults);
     quiet = λ none. each_first KeepsFaults KeepsFaults (λ before now last one two. two ∙ one) befores (first ∷ others) (after ∷ others) (gives.quiet (none_joined none)) (none_fails none, refl);

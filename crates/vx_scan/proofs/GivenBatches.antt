@@ -27,15 +27,17 @@ use Rattle.vx_scan.specs.declared.outcomes.Outcome.{Outcome}
 use Rattle.vx_scan.specs.declared.plans.ScanPlans.{ScanPlans}
 use Rattle.vx_scan.specs.Asks.{IsLeftClear, Lasts}
 use Rattle.vx_scan.specs.BatchColumns.{Told, TakesBatches}
-use Rattle.vx_scan.specs.Batches.{AreBatches, FaultsFrom, HasPiece, HavePiecesButLast, Share, reasons_in, AsksOver, LowestFailure, GivesBatches}
+use Rattle.vx_scan.specs.Batches.{AreBatches, AreUnhinderedButLast, FaultsFrom, HasPiece, HavePiecesButLast, Share, reasons_in, AsksOver, LowestFailure, GivesBatches}
 use Rattle.vx_scan.specs.ChunkRows.{IsPiece}
 use Rattle.vx_scan.specs.Fetched.{AreDistinct}
-use Rattle.vx_scan.specs.Executes.{stretch, AskedAgain, FailsAgain, FailsLowest, FaultsAtLast, StopsAtLast, Executed, Executes}
+use Rattle.vx_scan.specs.Executes.{stretch, AskedAgain, FailsAgain, FailsLowest, FaultsAtLast, MayHaveBorrowed, StopsAtLast, Executed, Executes}
 use Rattle.vx_scan.specs.Gathers.{no_memory}
 use Rattle.vx_scan.specs.Lent.{EachSource, EachSourceBy, FirstSource, SomeSourceBy}
+use Rattle.vx_scan.specs.Loans.{AsksForWholes, IsAsking}
 use Rattle.vx_scan.specs.Plans.{bytes_of, projection_node}
 use Rattle.vx_scan.specs.Reasons.{Reason, chunk_and_segment}
 use Rattle.vx_scan.specs.Settling.{rerun_chunks, AsksAgain}
+use Rattle.vx_scan.specs.Unhindered.{IsUnhindered, IsUnhinderedAt}
 use Rattle.vx_scan.specs.Workers.{HasDtype, HasItsRows, IsPieceOf, numbers_of, IsLast, AsksReached, RunsSource, FailsLast}
 use Rattle.vx_scan.proofs.Distinct.{distinct_none, distinct_then, apart_from}
 use Rattle.vx_scan.proofs.LaneEnds.{among_stands}
@@ -46,7 +48,7 @@ use Rattle.vx_scan.proofs.Certifying.{each_weaker}
 
 -- ---- the batches
 
-module _ (all : List SelectedRows) where
+module _ (plans : ScanPlans) (all : List SelectedRows) where
   -- these chunks are those from that place on
   abbrev StandFrom : ℕ → List SelectedRows → Type 0
   StandFrom first chunks = (i : ℕ) (chunk : SelectedRows) → slice_get chunks i ≡ Some chunk → slice_get all (first + i) ≡ Some chunk
@@ -57,11 +59,11 @@ module _ (all : List SelectedRows) where
   stand_next : (first : ℕ) (chunk : SelectedRows) (chunks : List SelectedRows) → StandFrom first (chunk ∷ chunks) → StandFrom (suc first) chunks
   stand_next first chunk chunks stand i other got = let next : suc first + i ≡ first + suc i = omega arith in ap (slice_get all) next ∙ stand (suc i) other got
 
-  rows_at : (number : ℕ) (chunk : SelectedRows) (piece : Piece) → piece.chunk ≡ number → slice_get all number ≡ Some chunk → HasItsRows all piece → length piece.column.values ≡ true_count chunk.mask
+  rows_at : (number : ℕ) (chunk : SelectedRows) (piece : Piece) → piece.chunk ≡ number → slice_get all number ≡ Some chunk → HasItsRows plans all piece → (length piece.column.values ≡ true_count chunk.mask) × IsUnhindered plans chunk
   rows_at number chunk piece same here has =
-      subst (λ (one : Option SelectedRows). IsSomeAnd one (λ other. length piece.column.values ≡ true_count other.mask)) (ap (slice_get all) same ∙ here) has
+      subst (λ (one : Option SelectedRows). IsSomeAnd one (λ other. (length piece.column.values ≡ true_count other.mask) × IsUnhindered plans other)) (ap (slice_get all) same ∙ here) has
 
-  rows_from : (first : ℕ) (chunks : List SelectedRows) (pieces : List Piece) → StandFrom first chunks → numbers_of pieces ≡ stretch first (length chunks) → All (HasItsRows all) pieces
+  rows_from : (first : ℕ) (chunks : List SelectedRows) (pieces : List Piece) → StandFrom first chunks → numbers_of pieces ≡ stretch first (length chunks) → All (HasItsRows plans all) pieces
       → map (λ (batch : ColumnData). length batch.values) (map (λ (piece : Piece). piece.column) pieces) ≡ map (λ (chunk : SelectedRows). true_count chunk.mask) chunks
   rows_from first [] [] stand numbers have = refl
   rows_from first [] (piece ∷ pieces) stand numbers have = absurd cc
@@ -69,16 +71,53 @@ module _ (all : List SelectedRows) where
   rows_from first (chunk ∷ chunks) (piece ∷ pieces) stand numbers have =
       let same : piece.chunk ≡ first = cc in
       let next : numbers_of pieces ≡ stretch (suc first) (length chunks) = cc in
-      let one = rows_at first chunk piece same (stand_here first chunk chunks stand) (All-head (HasItsRows all) piece pieces have) in
-      let rest = rows_from (suc first) chunks pieces (stand_next first chunk chunks stand) next (All-tail (HasItsRows all) piece pieces have) in
+      let one = (rows_at first chunk piece same (stand_here first chunk chunks stand) (All-head (HasItsRows plans all) piece pieces have)).0 in
+      let rest = rows_from (suc first) chunks pieces (stand_next first chunk chunks stand) next (All-tail (HasItsRows plans all) piece pieces have) in
       (λ k. one k ∷ rest k)
+
+  -- none of the chunks that have pieces is hindered
+  unhindered_from : (first : ℕ) (chunks : List SelectedRows) (pieces : List Piece) → StandFrom first chunks → numbers_of pieces ≡ stretch first (length chunks) → All (HasItsRows plans all) pieces → AllByRecursion (IsUnhindered plans) chunks
+  unhindered_from first [] pieces stand numbers have = tt
+  unhindered_from first (chunk ∷ chunks) [] stand numbers have = absurd cc
+  unhindered_from first (chunk ∷ chunks) (piece ∷ pieces) stand numbers have =
+      let same : piece.chunk ≡ first = cc in
+      let next : numbers_of pieces ≡ stretch (suc first) (length chunks) = cc in (
+        (rows_at first chunk piece same (stand_here first chunk chunks stand) (All-head (HasItsRows plans all) piece pieces have)).1,
+        unhindered_from (suc first) chunks pieces (stand_next first chunk chunks stand) next (All-tail (HasItsRows plans all) piece pieces have),
+      )
+
+  its_unhindered : (piece : Piece) (got : Option SelectedRows) → IsSomeAnd got (λ chunk. (length piece.column.values ≡ true_count chunk.mask) × IsUnhindered plans chunk) → IsSomeAnd got (IsUnhindered plans)
+  its_unhindered piece None has = absurd has
+  its_unhindered piece (Some chunk) has = has.1
+
+  -- nor is one whose number stands among those of the pieces
+  piece_unhindered : (number : ℕ) (pieces : List Piece) → 1 ≤ times number (numbers_of pieces) → All (HasItsRows plans all) pieces → IsUnhinderedAt plans all number
+  piece_unhindered number [] some have = absurd (omega (arith, some))
+  piece_unhindered number (piece ∷ pieces) some have = dite (ℕ_discrete piece.chunk number)
+      (λ same. subst (IsUnhinderedAt plans all) same (its_unhindered piece (slice_get all piece.chunk) (All-head (HasItsRows plans all) piece pieces have)))
+      (λ differs.
+      let other = times_other number piece.chunk (numbers_of pieces) differs in
+      piece_unhindered number pieces (omega (arith, other, some)) (All-tail (HasItsRows plans all) piece pieces have))
+
+  asking_unhindered : (got : Option SelectedRows) → IsSomeAnd got (λ chunk. AsksForWholes plans chunk × IsUnhindered plans chunk) → IsSomeAnd got (IsUnhindered plans)
+  asking_unhindered None asks = absurd asks
+  asking_unhindered (Some chunk) asks = asks.1
+
+  unhindered_but_last : (shares : Bool) (error : Option ChunkError) (pieces : List Piece) → All (HasItsRows plans all) pieces → (lists : List (List ℕ)) → AllByRecursion (StopsAtLast plans all shares error pieces) lists → AllByRecursion (AreUnhinderedButLast plans all) lists
+  unhindered_but_last shares error pieces have lists stop =
+      each_weaker (StopsAtLast plans all shares error pieces) (AreUnhinderedButLast plans all) (λ numbers stops x among. by_case x numbers (stops x among)) lists stop
+    where
+      by_case : (x : ℕ) (numbers : List ℕ) → (times x (numbers_of pieces) ≡ 1) ⊎ (IsLast x numbers ⊎ MayHaveBorrowed plans all shares error x) → IsUnhinderedAt plans all x ⊎ IsLast x numbers
+      by_case x numbers (inl one) = inl (piece_unhindered x pieces (omega (arith, one)) have)
+      by_case x numbers (inr (inl last)) = inr last
+      by_case x numbers (inr (inr (shared, least, asks))) = inl (asking_unhindered (slice_get all x) asks)
 
 module _ (leaves : Leaves) (plans : ScanPlans) (all : List SelectedRows) where
   piece_at : (number : ℕ) (chunk : SelectedRows) (piece : Piece) → piece.chunk ≡ number → slice_get all number ≡ Some chunk → IsPieceOf leaves plans all piece → IsPiece leaves plans [] chunk piece.column
   piece_at number chunk piece same here is =
       subst (λ (one : Option SelectedRows). IsSomeAnd one (λ other. IsPiece leaves plans [] other piece.column)) (ap (slice_get all) same ∙ here) is
 
-  batches_from : (first : ℕ) (chunks : List SelectedRows) (pieces : List Piece) → StandFrom all first chunks → numbers_of pieces ≡ stretch first (length chunks) → All (IsPieceOf leaves plans all) pieces
+  batches_from : (first : ℕ) (chunks : List SelectedRows) (pieces : List Piece) → StandFrom plans all first chunks → numbers_of pieces ≡ stretch first (length chunks) → All (IsPieceOf leaves plans all) pieces
       → AreBatches leaves plans chunks (map (λ (piece : Piece). piece.column) pieces)
   batches_from first [] [] stand numbers are = tt
   batches_from first [] (piece ∷ pieces) stand numbers are = absurd cc
@@ -86,8 +125,8 @@ module _ (leaves : Leaves) (plans : ScanPlans) (all : List SelectedRows) where
   batches_from first (chunk ∷ chunks) (piece ∷ pieces) stand numbers are =
       let same : piece.chunk ≡ first = cc in
       let rest : numbers_of pieces ≡ stretch (suc first) (length chunks) = cc in (
-        piece_at first chunk piece same (stand_here all first chunk chunks stand) (All-head (IsPieceOf leaves plans all) piece pieces are),
-        batches_from (suc first) chunks pieces (stand_next all first chunk chunks stand) rest (All-tail (IsPieceOf leaves plans all) piece pieces are),
+        piece_at first chunk piece same (stand_here plans all first chunk chunks stand) (All-head (IsPieceOf leaves plans all) piece pieces are),
+        batches_from (suc first) chunks pieces (stand_next plans all first chunk chunks stand) rest (All-tail (IsPieceOf leaves plans all) piece pieces are),
       )
 
   its_piece : (piece : Piece) (got : Option SelectedRows) → IsSomeAnd got (λ chunk. IsPiece leaves plans [] chunk piece.column) → IsSomeAnd got (HasPiece leaves plans)
@@ -107,11 +146,11 @@ module _ (leaves : Leaves) (plans : ScanPlans) (all : List SelectedRows) where
   chunk_piece : (number : ℕ) (chunk : SelectedRows) (pieces : List Piece) → slice_get all number ≡ Some chunk → 1 ≤ times number (numbers_of pieces) → All (IsPieceOf leaves plans all) pieces → HasPiece leaves plans chunk
   chunk_piece number chunk pieces here some are = subst (λ (got : Option SelectedRows). IsSomeAnd got (HasPiece leaves plans)) here (has_piece number pieces some are)
 
-  pieces_but_last : (shares : Bool) (failed : ChunkError) (pieces : List Piece) → All (IsPieceOf leaves plans all) pieces → (lists : List (List ℕ)) → AllByRecursion (StopsAtLast shares (Some failed) pieces) lists → AllByRecursion (HavePiecesButLast leaves plans all shares failed.chunk) lists
+  pieces_but_last : (shares : Bool) (failed : ChunkError) (pieces : List Piece) → All (IsPieceOf leaves plans all) pieces → (lists : List (List ℕ)) → AllByRecursion (StopsAtLast plans all shares (Some failed) pieces) lists → AllByRecursion (HavePiecesButLast leaves plans all shares failed.chunk) lists
   pieces_but_last shares failed pieces are lists stop =
-      each_weaker (StopsAtLast shares (Some failed) pieces) (HavePiecesButLast leaves plans all shares failed.chunk) (λ numbers stops x among. by_case x numbers (stops x among)) lists stop
+      each_weaker (StopsAtLast plans all shares (Some failed) pieces) (HavePiecesButLast leaves plans all shares failed.chunk) (λ numbers stops x among. by_case x numbers (stops x among)) lists stop
     where
-      by_case : (x : ℕ) (numbers : List ℕ) → (times x (numbers_of pieces) ≡ 1) ⊎ (IsLast x numbers ⊎ ((shares ≡ true) × (failed.chunk ≤ x))) → IsSomeAnd (slice_get all x) (HasPiece leaves plans) ⊎ (IsLast x numbers ⊎ ((shares ≡ true) × (failed.chunk ≤ x)))
+      by_case : (x : ℕ) (numbers : List ℕ) → (times x (numbers_of pieces) ≡ 1) ⊎ (IsLast x numbers ⊎ MayHaveBorrowed plans all shares (Some failed) x) → IsSomeAnd (slice_get all x) (HasPiece leaves plans) ⊎ (IsLast x numbers ⊎ ((shares ≡ true) × (failed.chunk ≤ x) × IsAsking plans all x))
       by_case x numbers (inl one) = inl (has_piece x pieces (omega (arith, one)) are)
       by_case x numbers (inr last) = inr last
 
@@ -274,7 +313,11 @@ module _ (plans : ScanPlans) (chunks : List SelectedRows) where
               chunk_piece (leaves_of (bytes_of plans file)) plans chunks i chunk outcome.pieces.items here (omega (arith, one)) (executed.content file tell));
           stops = λ file tell.
               pieces_but_last (leaves_of (bytes_of plans file)) plans chunks (nat_lt 1 (length befores)) told.failed outcome.pieces.items (executed.content file tell) outcome.claimed.items
-              (subst (λ (one : Option ChunkError). AllByRecursion (StopsAtLast (nat_lt 1 (length befores)) one outcome.pieces.items) outcome.claimed.items) told.is (executed.stops enough));
+              (subst (λ (one : Option ChunkError). AllByRecursion (StopsAtLast plans chunks (nat_lt 1 (length befores)) one outcome.pieces.items) outcome.claimed.items) told.is (executed.stops enough));
+          unhindered = all_taken (IsUnhindered plans) told.failed.chunk chunks (λ i chunk less here.
+              let one = fails.lower i less in
+              subst (λ (got : Option SelectedRows). IsSomeAnd got (IsUnhindered plans)) here (piece_unhindered plans chunks i outcome.pieces.items (omega (arith, one)) executed.rows));
+          ran_unhindered = unhindered_but_last plans chunks (nat_lt 1 (length befores)) outcome.error outcome.pieces.items executed.rows outcome.claimed.items (executed.stops enough);
         }
 
     cause_of : (error : ScanError) → TakesBatches outcome (Err error) → (error ≡ Memory) ⊎ LowestFailure plans chunks error befores afters
@@ -328,7 +371,8 @@ module _ (plans : ScanPlans) (chunks : List SelectedRows) where
           count = ap length takes.1 ∙ length-map outcome.pieces.items (λ (piece : Piece). piece.column) ∙ sym (length-map outcome.pieces.items (λ (piece : Piece). piece.chunk)) ∙ ap length numbers ∙ length_stretch 0 (length chunks);
           dtype = subst (AllByRecursion (λ (batch : ColumnData). batch.dtype ≡ (projection_node plans).dtype)) (sym takes.1) (all_dtypes plans outcome.pieces.items executed.dtype);
           rows = ap (map (λ (batch : ColumnData). length batch.values)) takes.1
-              ∙ rows_from chunks 0 chunks outcome.pieces.items (λ i chunk here. let at : 0 + i ≡ i = omega arith in ap (slice_get chunks) at ∙ here) numbers executed.rows;
+              ∙ rows_from plans chunks 0 chunks outcome.pieces.items (λ i chunk here. let at : 0 + i ≡ i = omega arith in ap (slice_get chunks) at ∙ here) numbers executed.rows;
+          unhindered = unhindered_from plans chunks 0 chunks outcome.pieces.items (λ i chunk here. let at : 0 + i ≡ i = omega arith in ap (slice_get chunks) at ∙ here) numbers executed.rows;
           faults = executed.quiet takes.0;
           asks = asks_of;
           cause = tt;
@@ -340,6 +384,7 @@ module _ (plans : ScanPlans) (chunks : List SelectedRows) where
       count = tt;
       dtype = tt;
       rows = tt;
+      unhindered = tt;
       faults = tt;
       asks = asks_of;
       cause = cause_of error takes;
@@ -399,6 +444,7 @@ module _ (plans : ScanPlans) (chunks : List SelectedRows) where
     count = tt;
     dtype = tt;
     rows = tt;
+    unhindered = tt;
     faults = tt;
     asks = record {
       shares = idle_shares sources;

@@ -183,7 +183,7 @@ module _ (shares : Bool) (claims : Claims) (plans : ScanPlans) (chunks : List Se
         ∙ all_below shares claims plans chunks x None lanes befores afters each tt (at_none none) ∙ whole none x;
     right = right_of lanes gathered befores afters each joins;
     dtype = of_lanes (λ (lane : Lane). lane.pieces.items) (HasDtype plans) lanes gathered.pieces.items joins.given (all_by (Worked shares claims plans chunks) (λ lane. All (HasDtype plans) lane.pieces.items) (λ lane before after worked. worked.dtype) lanes befores afters each);
-    rows = of_lanes (λ (lane : Lane). lane.pieces.items) (HasItsRows chunks) lanes gathered.pieces.items joins.given (all_by (Worked shares claims plans chunks) (λ lane. All (HasItsRows chunks) lane.pieces.items) (λ lane before after worked. worked.rows) lanes befores afters each);
+    rows = of_lanes (λ (lane : Lane). lane.pieces.items) (HasItsRows plans chunks) lanes gathered.pieces.items joins.given (all_by (Worked shares claims plans chunks) (λ lane. All (HasItsRows plans chunks) lane.pieces.items) (λ lane before after worked. worked.rows) lanes befores afters each);
     loans = of_lanes (λ (lane : Lane). lane.loans.items) (IsLoan plans chunks) lanes gathered.loans.items joins.given_loans (all_by (Worked shares claims plans chunks) (λ lane. All (IsLoan plans chunks) lane.loans.items) (λ lane before after worked. worked.loans) lanes befores afters each);
     typed = made_of_lanes (λ n column. (column.dtype ≡ (node_at plans.table n).dtype) × (length column.values ≡ (node_at plans.table n).rows)) lanes (data_of gathered.made.items) joins.made
         (all_by (Worked shares claims plans chunks) (λ lane. AreTyped plans.table (data_of lane.handed.made.items)) (λ lane before after worked. worked.made) lanes befores afters each);

@@ -24,6 +24,7 @@ use Rattle.vx_scan.specs.Gathers.{no_memory}
 use Rattle.vx_scan.specs.Loans.{loaned_of, RestsOnValues}
 use Rattle.vx_scan.specs.Outcomes.{data_of, AreAllThere, IsHandedBy}
 use Rattle.vx_scan.specs.Plans.{IsChunkOf}
+use Rattle.vx_scan.specs.Unhindered.{IsUnhindered}
 use Rattle.vx_scan.specs.Workers.{numbers_of, AreDone, Ends, Fails, IsFreshLane, Worked}
 use Rattle.vx_scan.proofs.Higher.{ascend_push}
 use Rattle.vx_scan.proofs.Loaning.{ListsSoFar, given_stand, had_there, lists_none, loan_listed, piece_listed, runs_alone, runs_sure, runs_with}
@@ -88,7 +89,17 @@ ok_any P (Ok one) column is = tt
 ok_any P (Err error) column is = absurd cc
 
 module _ (shares : Bool) (claims : Claims) (plans : ScanPlans) (chunks : List SelectedRows) (number : ℕ) (chunk : SelectedRows) (shared : Shared) (old lane next : Lane) (before now after : SourceState) (working : Working shares claims plans chunks old before now) (takes : TakesNumber claims number shared.ran.handed old lane)
-    (good : IsGoodPlans plans) (is : IsChunkOf plans chunk) (here : slice_get chunks number ≡ Some chunk) (later : above old.claimed.items ≤ number) (runs : RunsShared shares plans chunk old.handed shared now after) where
+    (good : IsGoodPlans plans) (is : IsChunkOf plans chunk) (here : slice_get chunks number ≡ Some chunk) (later : above old.claimed.items ≤ number) (runs : RunsShared shares plans chunk old.handed shared now after)
+    (which : IsUnhindered plans chunk ⊎ ((shared.borrowed.items ≡ []) × ((error : ScanError) × (shared.ran.piece ≡ Err error)))) where
+  -- behind a chunk that is hindered the worker doesn't go on
+  free_piece : (column : ColumnData) → shared.ran.piece ≡ Ok column → IsUnhindered plans chunk ⊎ ((shared.borrowed.items ≡ []) × ((error : ScanError) × (shared.ran.piece ≡ Err error))) → IsUnhindered plans chunk
+  free_piece column is (inl free) = free
+  free_piece column is (inr (none, (error, failed))) = let both : ◌≡◌ {A = Result ColumnData ScanError} (Ok column) (Err error) = sym is ∙ failed in absurd cc
+
+  free_loan : shared.borrowed.items ≢ [] → IsUnhindered plans chunk ⊎ ((shared.borrowed.items ≡ []) × ((error : ScanError) × (shared.ran.piece ≡ Err error))) → IsUnhindered plans chunk
+  free_loan some (inl free) = free
+  free_loan some (inr (none, failed)) = absurd (some none)
+
   piece_goes : (column : ColumnData) → shared.borrowed.items ≡ [] → shared.ran.piece ≡ Ok column → next ≡ record lane { pieces = next.pieces } → next.pieces.items ≡ lane.pieces.items ++ record { chunk = number; column = column } ∷ [] → Working shares claims plans chunks next before after
   piece_goes column none piece_is same more =
       let alone = runs_alone plans chunk old.handed (data_of shared.borrowed.items) shared.ran now after (ap data_of none) runs.runs in
@@ -101,7 +112,7 @@ module _ (shares : Bool) (claims : Claims) (plans : ScanPlans) (chunks : List Se
         alone = λ off. takes.loans ∙ working.alone off;
         error = takes.error;
         ran = rw (takes.numbers, takes.handed) (ran_more plans chunks old.claimed.items number chunk old.handed [] runs.runs.all shared.ran before now after good is here later working.ran runs.runs.stand.has_made alone (ok_any RestsOnValues shared.ran.piece column piece_is) (ok_any (λ error. AreAllThere plans runs.runs.all (data_of shared.ran.handed.made.items) chunk) shared.ran.piece column piece_is));
-        lists = rw (pieces, takes.loans) (piece_listed plans chunks number chunk old.handed runs.runs.all shared.ran column old.pieces.items old.loans.items before now after here working.ran.lasts working.ran.handed_is working.lists alone piece_is);
+        lists = rw (pieces, takes.loans) (piece_listed plans chunks number chunk old.handed runs.runs.all shared.ran column old.pieces.items old.loans.items before now after here working.ran.lasts working.ran.handed_is working.lists alone piece_is (free_piece column piece_is which));
       })
 
   loan_goes : shared.borrowed.items ≢ [] → IfErr shared.ran.piece RestsOnValues → next ≡ record lane { loans = next.loans } → next.loans.items ≡ lane.loans.items ++ record { chunk = number; borrowed = shared.borrowed; result = shared.ran.piece } ∷ [] → Working shares claims plans chunks next before after
@@ -118,7 +129,7 @@ module _ (shares : Bool) (claims : Claims) (plans : ScanPlans) (chunks : List Se
         error = takes.error;
         ran = rw (takes.numbers, takes.handed) (ran_more plans chunks old.claimed.items number chunk old.handed (data_of shared.borrowed.items) runs.runs.all shared.ran before now after good is here later working.ran runs.runs.stand.has_made given rests
             (had_there plans chunk (data_of shared.borrowed.items) runs.runs.all (data_of shared.ran.handed.made.items) shared.ran.piece (given_stand plans chunk old.handed (data_of shared.borrowed.items) shared.ran now after runs.borrowed.fit rests runs.runs) rests (runs.had some)));
-        lists = rw (takes.pieces, loans) (loan_listed plans chunks number chunk old.handed shared.borrowed runs.runs.all shared.ran old.pieces.items old.loans.items before now after here working.ran.lasts working.ran.handed_is working.lists runs.borrowed given rests);
+        lists = rw (takes.pieces, loans) (loan_listed plans chunks number chunk old.handed shared.borrowed runs.runs.all shared.ran old.pieces.items old.loans.items before now after here working.ran.lasts working.ran.handed_is working.lists some runs.borrowed given rests (free_loan some which));
       })
 
   -- the worker goes on

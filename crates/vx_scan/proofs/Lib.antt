@@ -4,8 +4,10 @@ mod Answered
 mod ApartDictionaries
 mod ApartTakes
 mod Ascending
+mod AskedDictionaries
 mod AskingAgain
 mod BeginningRows
+mod Behind
 mod Borrowed
 mod Certifying
 mod CertifyingEach
@@ -39,6 +41,8 @@ mod Growing
 mod HandedRuns
 mod HandingOut
 mod Higher
+mod HinderedChunks
+mod HinderedScans
 mod JoinedLanes
 mod Joining
 mod LaneCrossing
@@ -51,6 +55,7 @@ mod LeafShapes
 pub mod LentSources
 mod Loaning
 mod LowestCauses
+mod NamedPlans
 mod NewReasons
 mod OneText
 mod OutsideReads
@@ -59,6 +64,8 @@ mod Pieces
 mod PlainPlans
 mod ProjectedPlans
 mod Resulting
+mod RefusedRuns
+mod RowCauses
 mod RunEnds
 mod Runnable
 mod Running

@@ -1,5 +1,5 @@
 -- The pieces of one worker, and its chunks that ran with borrowed values, with one chunk more.
-use Rattle.std.proofs.Common.{◌≡◌, ℕ, ◌⊎◌, inl, inr, ⊎_elim, List, [], ◌∷◌, ◌++◌, Some, None, Result, Ok, Err, length, sym, ◌∙◌, ap, subst}
+use Rattle.std.proofs.Common.{◌≡◌, ◌≢◌, ℕ, ◌⊎◌, inl, inr, ⊎_elim, List, [], ◌∷◌, ◌++◌, Some, None, Result, Ok, Err, length, sym, ◌∙◌, ap, subst}
 use Rattle.std.specs.Prelude.{IfErr, IfOk, IsSomeAnd, Option}
 use Rattle.std.specs.List.{slice_get, All, AllByRecursion}
 use Rattle.std.specs.Global.{Vec}
@@ -26,6 +26,7 @@ use Rattle.vx_scan.specs.ChunkRows.{ChunkFaultsAt, ChunkReadsBadCode, IsPiece}
 use Rattle.vx_scan.specs.Loans.{AreBorrowed, IsLoan, IsLoanBy, IsResultBy, RestsOnValues}
 use Rattle.vx_scan.specs.Outcomes.{data_of, told_by, told_on, AreAllThere, Causes, GivesPiece, RunsGiven, RunsOn}
 use Rattle.vx_scan.specs.Plans.{bytes_of, projection_node}
+use Rattle.vx_scan.specs.Unhindered.{IsUnhindered}
 use Rattle.vx_scan.specs.Workers.{HasDtype, HasItsRows, IsPieceOf}
 use Rattle.vx_scan.proofs.ChunkOutcomes.{there_as}
 use Rattle.vx_scan.proofs.TakenWholes.{asks_same}
@@ -78,7 +79,7 @@ runs_sure plans chunk handed borrowed ran error now after (inr not) runs = inr n
 pub record ListsSoFar (plans : ScanPlans) (chunks : List SelectedRows) (pieces : List Piece) (loans : List Loan) (before : SourceState) : Type 0 where
   pub content : told_by plans before (λ bytes. All (IsPieceOf (leaves_of bytes) plans chunks) pieces)
   pub dtype : All (HasDtype plans) pieces
-  pub rows : All (HasItsRows chunks) pieces
+  pub rows : All (HasItsRows plans chunks) pieces
   pub lent : All (IsLoan plans chunks) loans
   pub lent_by : told_by plans before (λ bytes. All (IsLoanBy bytes plans chunks) loans)
 
@@ -86,7 +87,7 @@ pub lists_none : (plans : ScanPlans) (chunks : List SelectedRows) (pieces : List
 lists_none plans chunks pieces loans source no_pieces no_loans = rw (no_pieces, no_loans) (record {
   content = λ file told. All-nil (IsPieceOf (leaves_of (bytes_of plans file)) plans chunks);
   dtype = All-nil (HasDtype plans);
-  rows = All-nil (HasItsRows chunks);
+  rows = All-nil (HasItsRows plans chunks);
   lent = All-nil (IsLoan plans chunks);
   lent_by = λ file told. All-nil (IsLoanBy (bytes_of plans file) plans chunks);
 })
@@ -104,8 +105,8 @@ piece_of P (Err error) column is holds = absurd cc
 
 -- with the piece of a chunk that was given no values
 pub piece_listed : (plans : ScanPlans) (chunks : List SelectedRows) (number : ℕ) (chunk : SelectedRows) (handed : HandedOn) (all : List Kept) (ran : Ran) (column : ColumnData) (pieces : List Piece) (loans : List Loan) (before now after : SourceState) → slice_get chunks number ≡ Some chunk
-    → Lasts before now → IsHanded plans handed before → ListsSoFar plans chunks pieces loans before → RunsGiven plans chunk handed [] all ran now after → ran.piece ≡ Ok column → ListsSoFar plans chunks (pieces ++ record { chunk = number; column = column } ∷ []) loans before
-piece_listed plans chunks number chunk handed all ran column pieces loans before now after here lasts is so_far runs piece_is =
+    → Lasts before now → IsHanded plans handed before → ListsSoFar plans chunks pieces loans before → RunsGiven plans chunk handed [] all ran now after → ran.piece ≡ Ok column → IsUnhindered plans chunk → ListsSoFar plans chunks (pieces ++ record { chunk = number; column = column } ∷ []) loans before
+piece_listed plans chunks number chunk handed all ran column pieces loans before now after here lasts is so_far runs piece_is free =
     let piece : GivesPiece (told_on plans handed now) plans [] chunk column = piece_of (GivesPiece (told_on plans handed now) plans [] chunk) ran.piece column piece_is runs.content in
     record {
       content = λ file told.
@@ -113,8 +114,8 @@ piece_listed plans chunks number chunk handed all ran column pieces loans before
           (of_chunk (λ chunk. IsPiece (leaves_of (bytes_of plans file)) plans [] chunk column) (slice_get chunks number) chunk here
           (told_before plans handed before now (λ bytes. IsPiece (leaves_of bytes) plans [] chunk column) lasts is piece.values file told));
       dtype = All-push (HasDtype plans) pieces (record { chunk = number; column = column }) so_far.dtype piece.dtype;
-      rows = All-push (HasItsRows chunks) pieces (record { chunk = number; column = column }) so_far.rows
-          (of_chunk (λ (one : SelectedRows). length column.values ≡ true_count one.mask) (slice_get chunks number) chunk here piece.count);
+      rows = All-push (HasItsRows plans chunks) pieces (record { chunk = number; column = column }) so_far.rows
+          (of_chunk (λ (one : SelectedRows). (length column.values ≡ true_count one.mask) × IsUnhindered plans one) (slice_get chunks number) chunk here (piece.count, free));
       lent = so_far.lent;
       lent_by = so_far.lent_by;
     }
@@ -138,8 +139,8 @@ result_by plans handed given chunk (Err (BadSegment segment)) before now after l
 result_by plans handed given chunk (Err Memory) before now after lasts is rests gives cause = absurd rests
 
 pub loan_listed : (plans : ScanPlans) (chunks : List SelectedRows) (number : ℕ) (chunk : SelectedRows) (handed : HandedOn) (borrowed : Vec KeptValue) (all : List Kept) (ran : Ran) (pieces : List Piece) (loans : List Loan) (before now after : SourceState) → slice_get chunks number ≡ Some chunk → Lasts before now → IsHanded plans handed before
-    → ListsSoFar plans chunks pieces loans before → AreBorrowed plans chunk (data_of borrowed.items) → RunsGiven plans chunk handed (data_of borrowed.items) all ran now after → IfErr ran.piece RestsOnValues → ListsSoFar plans chunks pieces (loans ++ record { chunk = number; borrowed = borrowed; result = ran.piece } ∷ []) before
-loan_listed plans chunks number chunk handed borrowed all ran pieces loans before now after here lasts is so_far are runs rests =
+    → ListsSoFar plans chunks pieces loans before → borrowed.items ≢ [] → AreBorrowed plans chunk (data_of borrowed.items) → RunsGiven plans chunk handed (data_of borrowed.items) all ran now after → IfErr ran.piece RestsOnValues → IsUnhindered plans chunk → ListsSoFar plans chunks pieces (loans ++ record { chunk = number; borrowed = borrowed; result = ran.piece } ∷ []) before
+loan_listed plans chunks number chunk handed borrowed all ran pieces loans before now after here lasts is so_far some are runs rests free =
     let loan : Loan = record { chunk = number; borrowed = borrowed; result = ran.piece } in
     let given : List Kept = data_of borrowed.items in
     let by = result_by plans handed given chunk ran.piece before now after lasts is rests runs.content runs.cause in
@@ -150,10 +151,12 @@ loan_listed plans chunks number chunk handed borrowed all ran pieces loans befor
       lent = All-push (IsLoan plans chunks) loans loan so_far.lent (record {
         chunk = chunk;
         here = here;
+        some = some;
         borrowed = are;
         dtype = there_as ran.piece (GivesPiece (told_on plans handed now) plans given chunk) (λ column. column.dtype ≡ (projection_node plans).dtype) (λ column gives. gives.dtype) runs.content;
         rows = there_as ran.piece (GivesPiece (told_on plans handed now) plans given chunk) (λ column. length column.values ≡ true_count chunk.mask) (λ column gives. gives.count) runs.content;
         rests = rests;
+        unhindered = free;
       });
       lent_by = λ file told.
           All-push (IsLoanBy (bytes_of plans file) plans chunks) loans loan (so_far.lent_by file told)

@@ -15,15 +15,20 @@ use Rattle.vx_scan.specs.declared.lanes.ChunkError.{ChunkError}
 use Rattle.vx_scan.specs.declared.plans.ScanPlans.{ScanPlans}
 use Rattle.vx_scan.specs.Answer.{FileScan, row_count, scan_pieces}
 use Rattle.vx_scan.specs.Asks.{KeepsFaults}
-use Rattle.vx_scan.specs.Batches.{HasPiece, HavePiecesButLast, LowestFailure}
+use Rattle.vx_scan.specs.Batches.{AreUnhinderedButLast, HasPiece, HavePiecesButLast, LowestFailure}
 use Rattle.vx_scan.specs.Executes.{AskedAgain, FailsAgain}
 use Rattle.vx_scan.specs.Gathers.{no_memory}
+use Rattle.vx_scan.specs.Causes.{ReadsDictionary}
 use Rattle.vx_scan.specs.Lent.{FirstSource, SomeSourceBy}
+use Rattle.vx_scan.specs.Loans.{AsksForWholes, IsAsking}
 use Rattle.vx_scan.specs.Outcomes.{Causes, told_by, told_by_all}
 use Rattle.vx_scan.specs.Plans.{bytes_of}
 use Rattle.vx_scan.specs.Preparing.{ArePlansOf, AreChunksOf, LiesInside}
-use Rattle.vx_scan.specs.Scanned.{FailsPiece, FailsPieceAgain, HasAnswer, HaveAnswersButLast, LowestCause, RunsAgain, RunsPieces}
+use Rattle.vx_scan.specs.Scanned.{AreUnhindered, FailsPiece, FailsPieceAgain, HasAnswer, HaveAnswersButLast, LowestCause, PieceReadsDictionary, PiecesUnhinderedButLast, RunsAgain, RunsPieces}
+use Rattle.vx_scan.specs.Unhindered.{IsUnhindered, IsUnhinderedAt}
 use Rattle.vx_scan.specs.Workers.{IsLast, FailsLast, RunsSource}
+use Rattle.vx_scan.proofs.AskedDictionaries.{asks_reads}
+use Rattle.vx_scan.proofs.HinderedScans.{first_unhindered, unhindered_there}
 use Rattle.vx_scan.proofs.LentSources.{each_by, first_by, some_by}
 use Rattle.vx_scan.proofs.ScanAsks.{gains_again, gains_of}
 use Rattle.vx_scan.proofs.ScanCauses.{cause_of, cause_of_all, have_answers, inside_at, piece_answers, same_bytes}
@@ -65,6 +70,7 @@ module _ (scan : FileScan) (limit : ℕ) (plans : ScanPlans) (are : ArePlansOf s
     fails_again other reruns sources (before ∷ middles) (after ∷ afters) fails again =
         let same = same_Some fails.0.chunk chunk (sym fails.0.here ∙ here) in (
           record {
+            reads = asks_reads scan limit plans are chunk (inside_at (row_count scan) chunks place chunk of_scan.inside here) (subst (AsksForWholes plans) same fails.0.asks);
             cause = cause_of_all scan limit plans are chunk (inside_at (row_count scan) chunks place chunk of_scan.inside here) error sources before after
                 (subst (λ (one : SelectedRows). Causes (told_by_all plans sources) plans [] one error before after) same fails.0.cause);
             faults = read_failed other before after again.0.faults;
@@ -87,12 +93,31 @@ module _ (scan : FileScan) (limit : ℕ) (plans : ScanPlans) (are : ArePlansOf s
   answer_there bytes (chunk ∷ others) inside zero has = (has.0.values, piece_answers scan limit plans are bytes chunk inside.0 has.0 has.1)
   answer_there bytes (chunk ∷ others) inside (suc x) has = answer_there bytes others inside.1 x has
 
+  -- a piece whose chunk asks for whole values reads a dictionary
+  asking_there : (others : List SelectedRows) → AllByRecursion (LiesInside (row_count scan)) others → (x : ℕ) → IsSomeAnd (slice_get others x) (λ chunk. AsksForWholes plans chunk × IsUnhindered plans chunk) → IsSomeAnd (slice_get (map chosen_rows others) x) (ReadsDictionary scan.projection)
+  asking_there [] inside x asks = absurd asks
+  asking_there (chunk ∷ others) inside zero asks = asks_reads scan limit plans are chunk inside.0 asks.0
+  asking_there (chunk ∷ others) inside (suc x) asks = asking_there others inside.1 x asks
+
   answers_but_last : (bytes : Bytes) (shares : Bool) (place : ℕ) (lists : List (List ℕ)) → AllByRecursion (HavePiecesButLast (leaves_of bytes) plans chunks shares place) lists → AllByRecursion (HaveAnswersButLast (leaves_of bytes) scan shares place) lists
   answers_but_last bytes shares place [] have = tt
   answers_but_last bytes shares place (list ∷ lists) have = ((λ x among. by_case x (have.0 x among)), answers_but_last bytes shares place lists have.1)
     where
-      by_case : (x : ℕ) → IsSomeAnd (slice_get chunks x) (HasPiece (leaves_of bytes) plans) ⊎ (IsLast x list ⊎ ((shares ≡ true) × (place ≤ x))) → IsSomeAnd (slice_get (scan_pieces scan) x) (HasAnswer (leaves_of bytes) scan.projection) ⊎ (IsLast x list ⊎ ((shares ≡ true) × (place ≤ x)))
+      by_case : (x : ℕ) → IsSomeAnd (slice_get chunks x) (HasPiece (leaves_of bytes) plans) ⊎ (IsLast x list ⊎ ((shares ≡ true) × (place ≤ x) × IsAsking plans chunks x)) → IsSomeAnd (slice_get (scan_pieces scan) x) (HasAnswer (leaves_of bytes) scan.projection) ⊎ (IsLast x list ⊎ ((shares ≡ true) × (place ≤ x) × PieceReadsDictionary scan x))
       by_case x (inl has) = inl (subst (λ (pieces : List (List ℕ)). IsSomeAnd (slice_get pieces x) (HasAnswer (leaves_of bytes) scan.projection)) of_scan.pieces (answer_there bytes chunks of_scan.inside x has))
+      by_case x (inr (inl last)) = inr (inl last)
+      by_case x (inr (inr (shared, least, asks))) = inr (inr (
+        shared,
+        least,
+        subst (λ (pieces : List (List ℕ)). IsSomeAnd (slice_get pieces x) (ReadsDictionary scan.projection)) of_scan.pieces (asking_there chunks of_scan.inside x asks),
+      ))
+
+  unhindered_but_last : (lists : List (List ℕ)) → AllByRecursion (AreUnhinderedButLast plans chunks) lists → AllByRecursion (PiecesUnhinderedButLast scan) lists
+  unhindered_but_last [] free = tt
+  unhindered_but_last (list ∷ lists) free = ((λ x among. by_case x (free.0 x among)), unhindered_but_last lists free.1)
+    where
+      by_case : (x : ℕ) → IsUnhinderedAt plans chunks x ⊎ IsLast x list → IsSomeAnd (slice_get (scan_pieces scan) x) (AreUnhindered scan) ⊎ IsLast x list
+      by_case x (inl is) = inl (subst (λ (pieces : List (List ℕ)). IsSomeAnd (slice_get pieces x) (AreUnhindered scan)) of_scan.pieces (unhindered_there scan limit plans are chunks of_scan.inside x is))
       by_case x (inr last) = inr last
 
   pub lowest_of : (error : ScanError) → error ≢ Memory → (befores afters : List SourceState) → LowestFailure plans chunks error befores afters → LowestCause scan limit error befores afters
@@ -119,4 +144,6 @@ module _ (scan : FileScan) (limit : ℕ) (plans : ScanPlans) (are : ArePlansOf s
     stops = λ file told.
         subst (λ (bytes : Bytes). AllByRecursion (HaveAnswersButLast (leaves_of bytes) scan (nat_lt 1 (length befores)) lowest.place) lowest.claims) (same_bytes scan limit plans are file)
         (answers_but_last (bytes_of plans file) (nat_lt 1 (length befores)) lowest.place lowest.claims (lowest.stops file told));
+    unhindered = subst (λ (pieces : List (List ℕ)). AllByRecursion (AreUnhindered scan) (take lowest.place pieces)) of_scan.pieces (first_unhindered scan limit plans are chunks of_scan.inside lowest.place lowest.unhindered);
+    ran_unhindered = unhindered_but_last lowest.claims lowest.ran_unhindered;
   }

@@ -1,5 +1,5 @@
 -- The bytes of an outstanding fetch come.
-use Rattle.std.proofs.Common.{◌≡◌, ℕ, zero, suc, ◌+◌, ◌-◌, ◌^◌, ◌<◌, List, [], ◌∷◌, Some, length, take, refl, sym, ap, ◌∙◌, subst, arith}
+use Rattle.std.proofs.Common.{◌≡◌, ℕ, zero, suc, ◌+◌, ◌-◌, ◌^◌, ◌<◌, List, [], ◌∷◌, Some, length, take, drop, refl, sym, ap, ◌∙◌, subst, arith}
 use Rattle.std.specs.Prelude.{slice_set}
 use Rattle.std.specs.List.{slice_get}
 use Rattle.vx_base.specs.declared.locations.SegmentLocation.{SegmentLocation}
@@ -11,6 +11,7 @@ use Rattle.vx_scan.specs.declared.adaptors.State.TheVariants.{Done}
 use Rattle.vx_scan.specs.AdaptorData.{AdaptorData, AreAsked, count_of, read_numbered}
 use Rattle.vx_scan.specs.Computes.{TakesResult, after_result}
 use Rattle.vx_scan.specs.Fetched.{AllLocated, AreApart, delivered, segments_in, unread}
+use Rattle.vx_scan.proofs.Behind.{got_behind, set_behind}
 use Rattle.vx_scan.proofs.Computing.{stepped}
 use Rattle.vx_scan.proofs.Growing.{got_front, take_set}
 
@@ -24,16 +25,20 @@ length_set [] i x = refl
 length_set (one ∷ xs) zero x = refl
 length_set (one ∷ xs) (suc i) x = let rest = length_set xs i x in omega (arith, rest)
 
-reads_set : (number : ℕ) (bytes : List ℕ) (asked : ℕ) (old new : ReadsData) → number < asked → (delivers : Delivers (read_numbered number) bytes old new) → take asked new.wanted ≡ slice_set (take asked old.wanted) number (delivered delivers.segment bytes)
-reads_set number bytes asked old new below delivers = ap (take asked) delivers.taken ∙ take_set old.wanted asked number (delivered delivers.segment bytes) below
+-- the wanted segments behind the first ones
+wanted_set : (first number : ℕ) (bytes : List ℕ) (old new : ReadsData) → (delivers : Delivers (read_numbered (first + number)) bytes old new) → drop first new.wanted ≡ slice_set (drop first old.wanted) number (delivered delivers.segment bytes)
+wanted_set first number bytes old new delivers = ap (drop first) delivers.taken ∙ set_behind old.wanted first number (delivered delivers.segment bytes)
 
-pub asked_delivered : (locations : List SegmentLocation) (number : ℕ) (bytes : List ℕ) (asked : ℕ) (old new : ReadsData) → number < asked → Delivers (read_numbered number) bytes old new → AreAsked locations asked old → AreAsked locations asked new
-asked_delivered locations number bytes asked old new below delivers were =
-    let here = got_front old.wanted asked number below ∙ delivers.at in
-    let same : segments_in (take asked new.wanted) ≡ segments_in (take asked old.wanted) = ap segments_in (reads_set number bytes asked old new below delivers) ∙ segments_set (take asked old.wanted) number delivers.segment bytes here in
+reads_set : (first number : ℕ) (bytes : List ℕ) (asked : ℕ) (old new : ReadsData) → number < asked → (delivers : Delivers (read_numbered (first + number)) bytes old new) → take asked (drop first new.wanted) ≡ slice_set (take asked (drop first old.wanted)) number (delivered delivers.segment bytes)
+reads_set first number bytes asked old new below delivers = ap (take asked) (wanted_set first number bytes old new delivers) ∙ take_set (drop first old.wanted) asked number (delivered delivers.segment bytes) below
+
+pub asked_delivered : (locations : List SegmentLocation) (first number : ℕ) (bytes : List ℕ) (asked : ℕ) (old new : ReadsData) → number < asked → Delivers (read_numbered (first + number)) bytes old new → AreAsked locations first asked old → AreAsked locations first asked new
+asked_delivered locations first number bytes asked old new below delivers were =
+    let here = got_front (drop first old.wanted) asked number below ∙ got_behind old.wanted first number ∙ delivers.at in
+    let same : segments_in (take asked (drop first new.wanted)) ≡ segments_in (take asked (drop first old.wanted)) = ap segments_in (reads_set first number bytes asked old new below delivers) ∙ segments_set (take asked (drop first old.wanted)) number delivers.segment bytes here in
     record {
       all = were.all ∙ sym delivers.handed;
-      wanted = let size = ap length delivers.taken ∙ length_set old.wanted number (delivered delivers.segment bytes) in let few = were.wanted in omega (arith, size, few);
+      wanted = let size = ap length (wanted_set first number bytes old new delivers) ∙ length_set (drop first old.wanted) number (delivered delivers.segment bytes) in let few = were.wanted in omega (arith, size, few);
       apart = subst AreApart (sym same) were.apart;
       located = subst (AllLocated locations) (sym same) were.located;
     }
@@ -42,12 +47,13 @@ asked_delivered locations number bytes asked old new below delivers were =
 pub done_after : (state : State) → state ≡ Done → after_result state ≡ Done
 done_after state done = ap after_result done
 
-pub takes_result : (number : ℕ) (bytes : List ℕ) (old : AdaptorData) (new : ScanData) (state : State) → number < old.asked → TakesBytes (read_numbered number) bytes old.scan new → state ≡ after_result old.state → TakesResult number bytes old (stepped new old.asked old.held state)
+pub takes_result : (number : ℕ) (bytes : List ℕ) (old : AdaptorData) (new : ScanData) (state : State) → number < old.asked → TakesBytes (read_numbered (old.first + number)) bytes old.scan new → state ≡ after_result old.state → TakesResult number bytes old (stepped old.first new old.asked old.held state)
 takes_result number bytes old new state below takes at = record {
   outstanding = (below, takes.delivers.outstanding);
   takes = takes;
+  first = refl;
   asked = refl;
-  reads = reads_set number bytes old.asked old.scan.progress.reads new.progress.reads below takes.delivers;
+  reads = reads_set old.first number bytes old.asked old.scan.progress.reads new.progress.reads below takes.delivers;
   held = refl;
   state = at;
   work = (λ i. ((2 ^ 64 - takes.delivers.handed i) + length (takes.left i)) + count_of old.held);

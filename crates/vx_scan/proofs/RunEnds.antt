@@ -45,6 +45,7 @@ use Rattle.vx_scan.specs.Fetched.{AreApart, location_of, segments_in}
 use Rattle.vx_scan.specs.Runs.{GivesOutput, IsListCause, IsReadByStart, IsStepCause, LeavesFault, LeavesRead, RunCause, RunGives, WhereScanned, row_fault, scan_error}
 use Rattle.vx_scan.specs.Starts.{IsUnread, split_of}
 use Rattle.vx_scan.specs.Waits.{SendGives, WaitFails}
+use Rattle.vx_scan.proofs.Behind.{asked_behind}
 use Rattle.vx_scan.proofs.Running.{KeptSoFar, ScanSoFar, all_taken, kept_then, so_far_then}
 use Rattle.vx_scan.proofs.SessionRuns.{OutputSoFar, Running, output_waits, segments_more}
 use Rattle.vx_scan.proofs.Sessions.{asked_then, fetches_places, fetches_taken}
@@ -52,7 +53,8 @@ use Rattle.vx_scan.proofs.Sessions.{asked_then, fetches_places, fetches_taken}
 -- ---- what was asked
 
 wanted_so_far : (locations : List SegmentLocation) (start : ScanData) (before : SourceState) (adaptor : AdaptorData) → ScanSoFar locations start before adaptor.scan → All (IsReadByStart start) (segments_in (reads_of adaptor))
-wanted_so_far locations start before adaptor scan = all_taken (IsReadByStart start) adaptor.asked adaptor.scan.progress.reads.wanted scan.wanted
+wanted_so_far locations start before adaptor scan =
+    all_taken (IsReadByStart start) adaptor.asked (drop adaptor.first adaptor.scan.progress.reads.wanted) (λ segment asked. scan.wanted segment (asked_behind adaptor.scan.progress.reads.wanted adaptor.first segment asked))
 
 asks_so_far : (locations : List SegmentLocation) (start : ScanData) (before : SourceState) (adaptor : AdaptorData) (output : Option ColumnData) (state : SessionState) (after : SourceState) → Running locations start before adaptor output state → after.asked ≡ state.source.asked → AsksOnly (IsReadByStart start) locations before after
 asks_so_far locations start before adaptor output state after run same = record {

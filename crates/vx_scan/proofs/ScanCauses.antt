@@ -18,6 +18,7 @@ use Rattle.vx_rows.specs.Whole.{GiveFitting}
 use Rattle.vx_rows.proofs.ByteLeaves.{give_fitting}
 use Rattle.vx_splits.specs.declared.selected_rows.SelectedRows.{SelectedRows}
 use Rattle.vx_splits.specs.Trimmed.{chosen_rows}
+use Rattle.vx_steps.specs.Below.{StandsIn}
 use Rattle.vx_steps.specs.Given.{values_for, row_value}
 use Rattle.vx_steps.specs.Laws.{HandsNone, IsRowOf, IsBadCodeAt, row_reads}
 use Rattle.vx_steps.specs.Rows.{rows_of, SomeRow}
@@ -30,13 +31,15 @@ use Rattle.vx_scan.specs.declared.errors.ScanError.TheVariants.{BadProjection, O
 use Rattle.vx_scan.specs.declared.plans.ScanPlans.{ScanPlans}
 use Rattle.vx_scan.specs.Answer.{FileScan, row_count, IsAnswer, ArePieces}
 use Rattle.vx_scan.specs.Batches.{AreBatches, HasPiece}
-use Rattle.vx_scan.specs.Causes.{ScanFinds, ReadsTorn, ReadsBadCode, IsFaultAt, FaultsAt}
+use Rattle.vx_scan.specs.Causes.{ScanFinds, ReadsTorn, IsFaultAt, FaultsAt}
 use Rattle.vx_scan.specs.ChunkRows.{given_to, ChunkFinds, IsPiece}
 use Rattle.vx_scan.specs.Lent.{AllTell}
 use Rattle.vx_scan.specs.Outcomes.{told_by, told_by_all, Causes}
+use Rattle.vx_scan.specs.PlanTexts.{held_tree}
 use Rattle.vx_scan.specs.Plans.{bytes_of, projection_plan}
-use Rattle.vx_scan.specs.Preparing.{node_of, ArePlansOf, LiesInside}
-use Rattle.vx_scan.specs.Scanned.{CausedBy, CausedByAll, CausedIn, HasAnswer}
+use Rattle.vx_scan.specs.Preparing.{node_of, ArePlansOf, IsTakeAs, LiesInside}
+use Rattle.vx_scan.specs.Scanned.{CausedBy, CausedByAll, CausedIn, HasAnswer, ReadsBadCodePlan}
+use Rattle.vx_scan.proofs.NamedPlans.{list_stands, take_stands}
 use Rattle.vx_scan.proofs.ScanReads.{chunk_rows, some_chosen, chunk_finds, in_moved, torn_moved, row_moved, code_moved}
 
 -- ---- nothing is given
@@ -123,14 +126,23 @@ faults_among leaves p at [] any = absurd any
 faults_among leaves p at (row ∷ rows) (inl here) = (inl here.0, subst (IsFaultAt leaves p) here.0 here.1)
 faults_among leaves p at (row ∷ rows) (inr later) = let rest = faults_among leaves p at rows later in (inr rest.0, rest.1)
 
+-- the take of a bad code stands in the plan of the tree
+code_named : (scan : FileScan) (limit : ℕ) (plans : ScanPlans) → ArePlansOf scan limit plans → (leaves : Leaves) (n at : ℕ) (chunk : SelectedRows) → ChunkFinds (IsBadCodeAt leaves n at) plans [] chunk → StandsIn (IsTakeAs n) (held_tree scan.projection)
+code_named scan limit plans are leaves n at chunk (place, bit, any) =
+    take_stands scan.projection (projection_plan plans) are.plan_is leaves n at plans.row_offset (chunk.scope.rows.start + place)
+    (same_reads plans (IsBadCodeAt leaves n at) plans.row_offset (projection_plan plans) (chunk.scope.rows.start + place) any)
+
 -- by any files of which it is told
 cause_in : (T : List ℕ → Type 0) (scan : FileScan) (limit : ℕ) (plans : ScanPlans) → ArePlansOf scan limit plans → (chunk : SelectedRows) → LiesInside (row_count scan) chunk → (error : ScanError) (before after : SourceState)
     → Causes (λ P. (file : List ℕ) → T file → P (bytes_of plans file)) plans [] chunk error before after → CausedIn (λ P. (file : List ℕ) → T file → P file) scan limit (chosen_rows chunk) error before after
 cause_in T scan limit plans are chunk inside BadProjection before after cause = cause
 cause_in T scan limit plans are chunk inside OffsetOverflow before after cause = cause
 cause_in T scan limit plans are chunk inside OutOfRange before after cause = cause
-cause_in T scan limit plans are chunk inside (Unsupported list) before after cause =
-    finds_of scan limit plans are (IsRowOf (number_of list)) (IsRowOf (node_of scan.projection (number_of list))) (row_moved (node_of scan.projection) (number_of list)) chunk inside cause
+cause_in T scan limit plans are chunk inside (Unsupported list) before after cause = (
+  list_stands scan.projection (projection_plan plans) are.plan_is (number_of list) plans.row_offset (chunk.scope.rows.start + cause.0)
+      (same_reads plans (IsRowOf (number_of list)) plans.row_offset (projection_plan plans) (chunk.scope.rows.start + cause.0) cause.2),
+  finds_of scan limit plans are (IsRowOf (number_of list)) (IsRowOf (node_of scan.projection (number_of list))) (row_moved (node_of scan.projection) (number_of list)) chunk inside cause,
+)
 cause_in T scan limit plans are chunk inside (NoLocation segment) before after cause =
     let count : length plans.locations.items ≡ length scan.locations = ap length are.locations in
     (finds_of scan limit plans are (IsIn segment) (IsIn segment) (in_moved (node_of scan.projection) segment) chunk inside cause.0, λ below. let lacks = cause.1 in omega (arith, count, below, lacks))
@@ -140,8 +152,8 @@ cause_in T scan limit plans are chunk inside (BadSegment segment) before after c
     subst (λ (bytes : Bytes). ReadsTorn bytes scan.projection (chosen_rows chunk) segment) (same_bytes scan limit plans are file)
     (finds_of scan limit plans are (IsTornIn (bytes_of plans file) segment) (IsTornIn (bytes_of plans file) segment) (torn_moved (node_of scan.projection) (bytes_of plans file) segment) chunk inside (cause file told))
 cause_in T scan limit plans are chunk inside (BadCode code_take row) before after cause = λ file told.
-    subst (λ (bytes : Bytes). ReadsBadCode (leaves_of bytes) scan.projection (chosen_rows chunk) (node_of scan.projection (number_of code_take)) row) (same_bytes scan limit plans are file)
-    (finds_of scan limit plans are (IsBadCodeAt (leaves_of (bytes_of plans file)) (number_of code_take) row) (IsBadCodeAt (leaves_of (bytes_of plans file)) (node_of scan.projection (number_of code_take)) row) (code_moved (node_of scan.projection) (leaves_of (bytes_of plans file)) (number_of code_take) row) chunk inside (cause file told))
+    subst (λ (bytes : Bytes). ReadsBadCodePlan (leaves_of bytes) scan.projection (chosen_rows chunk) (number_of code_take) row) (same_bytes scan limit plans are file)
+    (code_named scan limit plans are (leaves_of (bytes_of plans file)) (number_of code_take) row chunk (cause file told), finds_of scan limit plans are (IsBadCodeAt (leaves_of (bytes_of plans file)) (number_of code_take) row) (IsBadCodeAt (leaves_of (bytes_of plans file)) (node_of scan.projection (number_of code_take)) row) (code_moved (node_of scan.projection) (leaves_of (bytes_of plans file)) (number_of code_take) row) chunk inside (cause file told))
 cause_in T scan limit plans are chunk inside (EvalFault at) before after cause = λ file told.
     let leaves : Leaves = leaves_of (bytes_of plans file) in
     let some : AnyOf (λ row. (row ≡ at) × IsFaultAt leaves scan.projection row) (chosen_rows chunk) =

@@ -23,11 +23,11 @@ use Rattle.vx_scan.specs.declared.errors.ScanError.TheVariants.{BadProjection, O
 use Rattle.vx_scan.specs.Answer.{FileScan, scan_rows, scan_pieces, size_of}
 use Rattle.vx_scan.specs.Asks.{Lasts}
 use Rattle.vx_scan.specs.Beginning.{Refuses}
-use Rattle.vx_scan.specs.Causes.{ScanFinds, ReadsTorn, ReadsBadCode, IsFaultAt, FaultsAt}
+use Rattle.vx_scan.specs.Causes.{ScanFinds, ReadsTorn, IsFaultAt, FaultsAt}
 use Rattle.vx_scan.specs.Lent.{EachSource, EachSourceBy, FirstSource, SomeSourceBy, AllTell, WhereAllTell}
 use Rattle.vx_scan.specs.Plans.{WhereTold, IsQuiet}
 use Rattle.vx_scan.specs.Preparing.{node_of}
-use Rattle.vx_scan.specs.Scanned.{CausedIn, FailsPiece, FailsPieceAgain, FileClaims, LowestCause, RunsAgain, RunsPieces}
+use Rattle.vx_scan.specs.Scanned.{CausedIn, FailsPiece, FailsPieceAgain, FileClaims, LowestCause, ReadsBadCodePlan, RunsAgain, RunsPieces}
 use Rattle.vx_scan.specs.Valid.{IsValidScan}
 use Rattle.vx_scan.proofs.Answered.{pieces_join, fault_by}
 use Rattle.vx_scan.proofs.Lasting.{rose_from, rose_on}
@@ -126,7 +126,7 @@ only_memory Told file tells scan limit before after quiet rows fine answered Bad
 only_memory Told file tells scan limit before after quiet rows fine answered OffsetOverflow cause = absurd cause
 only_memory Told file tells scan limit before after quiet rows fine answered OutOfRange cause = absurd cause
 only_memory Told file tells scan limit before after quiet rows fine answered (Unsupported list) cause =
-    absurd (rows_fine (file_leaves file scan.locations) scan.projection (IsRowOf (node_of scan.projection (number_of list))) (row_amiss (file_leaves file scan.locations) (node_of scan.projection (number_of list))) rows fine cause)
+    absurd (rows_fine (file_leaves file scan.locations) scan.projection (IsRowOf (node_of scan.projection (number_of list))) (row_amiss (file_leaves file scan.locations) (node_of scan.projection (number_of list))) rows fine cause.1)
 only_memory Told file tells scan limit before after quiet rows fine answered (NoLocation segment) cause =
     absurd (rows_fine (file_leaves file scan.locations) scan.projection (IsIn segment) (unplaced_amiss file scan.locations segment cause.1) rows fine cause.0)
 only_memory Told file tells scan limit before after quiet rows fine answered ReadFault cause = absurd (quiet.faults cause)
@@ -136,7 +136,7 @@ only_memory Told file tells scan limit before after quiet rows fine answered (Ba
     (tells (λ one. ReadsTorn (segment_bytes one scan.locations) scan.projection rows segment) cause))
 only_memory Told file tells scan limit before after quiet rows fine answered (BadCode code_take row) cause =
     absurd (rows_fine (file_leaves file scan.locations) scan.projection (IsBadCodeAt (file_leaves file scan.locations) (node_of scan.projection (number_of code_take)) row) (code_amiss (file_leaves file scan.locations) (node_of scan.projection (number_of code_take)) row) rows fine
-    (tells (λ one. ReadsBadCode (file_leaves one scan.locations) scan.projection rows (node_of scan.projection (number_of code_take)) row) cause))
+    (tells (λ one. ReadsBadCodePlan (file_leaves one scan.locations) scan.projection rows (number_of code_take) row) cause).1)
 only_memory Told file tells scan limit before after quiet rows fine answered (EvalFault at) cause =
     let fault : FaultsAt (file_leaves file scan.locations) scan.projection rows at = tells (λ one. FaultsAt (file_leaves one scan.locations) scan.projection rows at) cause in
     absurd (answered_at (file_leaves file scan.locations) scan.projection at rows answered fault.0 fault.1)
@@ -151,7 +151,7 @@ quiet_back : (limit : ℕ) (before now after : SourceState) → Lasts before now
 quiet_back limit before now after lasts quiet = record { faults = λ rose. quiet.faults (rose_from 1 before.faults now.faults after.faults lasts.faults rose); idle = λ rose. quiet.idle (rose_from limit before.idle now.idle after.idle lasts.idle rose) }
 
 -- the first source went on, and the others are as they were
-all_last : (scan : FileScan) (reruns : List ℕ) (error : ScanError) (middles afters : List SourceState) → FirstSource (RunsAgain scan reruns error) middles afters → EachSource Lasts middles afters
+pub all_last : (scan : FileScan) (reruns : List ℕ) (error : ScanError) (middles afters : List SourceState) → FirstSource (RunsAgain scan reruns error) middles afters → EachSource Lasts middles afters
 all_last scan reruns error [] [] first = tt
 all_last scan reruns error [] (after ∷ afters) first = absurd first
 all_last scan reruns error (now ∷ middles) [] first = absurd first

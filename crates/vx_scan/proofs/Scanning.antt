@@ -31,11 +31,12 @@ use Rattle.vx_scan.specs.Plans.{bytes_of, projection_node, IsQuiet}
 use Rattle.vx_scan.specs.Prepared.{IsPreparedFor}
 use Rattle.vx_scan.specs.Preparing.{ArePlansOf, AreChunksOf, LiesInside}
 use Rattle.vx_scan.specs.Reasons.{Reason, chunk_and_segment}
-use Rattle.vx_scan.specs.Scanned.{Gains, GainsAgain, GainsOver, LowestCause, AnswersScan}
+use Rattle.vx_scan.specs.Scanned.{AreUnhindered, Gains, GainsAgain, GainsOver, LowestCause, AnswersScan}
 use Rattle.vx_scan.specs.Valid.{HasRows, IsValidScan}
 use Rattle.vx_scan.proofs.BeginningRows.{no_pieces}
 use Rattle.vx_scan.proofs.Distinct.{distinct_none}
 use Rattle.vx_scan.proofs.GivenBatches.{gives_batches, is_memory}
+use Rattle.vx_scan.proofs.HinderedScans.{all_unhindered}
 use Rattle.vx_scan.proofs.LentSources.{each_clear, each_lasts, each_same, each_same_by, first_same, for_each, joined_none}
 use Rattle.vx_scan.proofs.LowestCauses.{lowest_of}
 use Rattle.vx_scan.proofs.Sessions.{asked_nothing}
@@ -81,6 +82,7 @@ answers_scan scan limit plans are chunks of_scan (Ok batches) befores afters giv
   count = gives.count ∙ (sym (length-map chunks chosen_rows) ∙ ap length of_scan.pieces);
   dtype = each_dtype (projection_node plans).dtype scan.projection.expression.dtype (projection_dtype scan limit plans are) batches.items gives.dtype;
   rows = gives.rows ∙ (chosen_counts (row_count scan) chunks of_scan.inside ∙ ap (map (λ (rows : List ℕ). length rows)) of_scan.pieces);
+  unhindered = subst (AllByRecursion (AreUnhindered scan)) of_scan.pieces (all_unhindered scan limit plans are chunks of_scan.inside gives.unhindered);
   faults = gives.faults;
   asks = gains_over scan limit plans are chunks of_scan befores afters gives.asks;
   cause = tt;
@@ -95,6 +97,7 @@ answers_scan scan limit plans are chunks of_scan (Err error) befores afters give
       count = tt;
       dtype = tt;
       rows = tt;
+      unhindered = tt;
       faults = tt;
       asks = gains_over scan limit plans are chunks of_scan befores afters gives.asks;
       cause = cause;
@@ -151,6 +154,7 @@ memory_answers scan limit error sources is = record {
   count = tt;
   dtype = tt;
   rows = tt;
+  unhindered = tt;
   faults = tt;
   asks = none_gain scan sources;
   cause = inl is;
@@ -169,6 +173,7 @@ refused_answers scan limit error sources refuses = record {
   count = tt;
   dtype = tt;
   rows = tt;
+  unhindered = tt;
   faults = tt;
   asks = none_gain scan sources;
   cause = inr (inl refuses);
@@ -185,6 +190,7 @@ empty_answers scan limit batches sources none empty =
       count = ap length empty ∙ sym (ap length pieces);
       dtype = rw empty tt;
       rows = ap (map (λ (batch : ColumnData). length batch.values)) empty ∙ sym (ap (map (λ (rows : List ℕ). length rows)) pieces);
+      unhindered = rw pieces tt;
       faults = each_same KeepsFaults (λ source. refl) sources;
       asks = none_gain scan sources;
       cause = tt;

@@ -1,5 +1,5 @@
 -- A run of a scan over a session, step by step: what is in flight, what was asked, and what happens next.
-use Rattle.std.proofs.Common.{◌≡◌, ◌≢◌, ℕ, ◌+◌, ◌*◌, ◌<◌, ◌≤◌, ◌⊎◌, inl, inr, List, [], ◌∷◌, ◌++◌, Option, Some, None, Ok, Err, length, map, take, refl, sym, ap, ◌∙◌, subst, arith}
+use Rattle.std.proofs.Common.{◌≡◌, ◌≢◌, ℕ, ◌+◌, ◌*◌, ◌<◌, ◌≤◌, ◌⊎◌, inl, inr, List, [], ◌∷◌, ◌++◌, Option, Some, None, Ok, Err, length, map, take, drop, refl, sym, ap, ◌∙◌, subst, arith}
 use Rattle.std.specs.Prelude.{slice_get, slice_set, remove, Result}
 use Rattle.std.specs.List.{All}
 use Rattle.std.proofs.lemmas.List.{map-append, length-map, length-append}
@@ -32,6 +32,7 @@ use Rattle.vx_scan.specs.Fetched.{fetches_from, location_of, segments_in, unread
 use Rattle.vx_scan.specs.Runs.{GivesSplit}
 use Rattle.vx_scan.specs.Starts.{IsAtStart, IsUnread}
 use Rattle.vx_scan.specs.Waits.{owner, SendGives, Completed}
+use Rattle.vx_scan.proofs.Behind.{got_behind}
 use Rattle.vx_scan.proofs.Got.{got_mapped}
 use Rattle.vx_scan.proofs.Growing.{got_front}
 use Rattle.vx_scan.proofs.Running.{ScanSoFar, so_far_start, so_far_then, so_far_taken, left_behind, gave_now, gave_on, gave_same}
@@ -55,7 +56,8 @@ pub record Running (locations : List SegmentLocation) (start : ScanData) (before
   pub unread : IsUnread start
   pub scan : ScanSoFar locations start before adaptor.scan
   pub live : adaptor.state ≢ Done
-  pub ready : AreAsked locations adaptor.asked adaptor.scan.progress.reads
+  pub first : adaptor.first ≡ 0
+  pub ready : AreAsked locations adaptor.first adaptor.asked adaptor.scan.progress.reads
   pub waiting : NothingWaits state.table
   pub fetches : fetches_of state.table ≡ outstanding locations 0 (reads_of adaptor)
   pub asked : state.source.asked ≡ asked_for (map (location_of locations) (segments_in (reads_of adaptor))) before.asked
@@ -65,18 +67,19 @@ pub record Running (locations : List SegmentLocation) (start : ScanData) (before
   pub so_far : OutputSoFar locations start before adaptor output
 
 -- what stands of an adaptor that is not done
-pub ready_of : (locations others : List SegmentLocation) (adaptor : AdaptorData) → IsReady others adaptor.state adaptor.asked adaptor.scan.progress.reads → others ≡ locations → adaptor.state ≢ Done → AreAsked locations adaptor.asked adaptor.scan.progress.reads
-ready_of locations others adaptor ready same live = subst (λ (ls : List SegmentLocation). AreAsked ls adaptor.asked adaptor.scan.progress.reads) same (ready live)
+pub ready_of : (locations others : List SegmentLocation) (adaptor : AdaptorData) → IsReady others adaptor.state adaptor.first adaptor.asked adaptor.scan.progress.reads → others ≡ locations → adaptor.state ≢ Done → AreAsked locations adaptor.first adaptor.asked adaptor.scan.progress.reads
+ready_of locations others adaptor ready same live = subst (λ (ls : List SegmentLocation). AreAsked ls adaptor.first adaptor.asked adaptor.scan.progress.reads) same (ready live)
 
 pub needs_is_live : (state : State) → state ≡ NeedsCompute → state ≢ Done
 needs_is_live state is done = let both : NeedsCompute ≡ Done = sym is ∙ done in absurd cc
 
-pub run_begins : (locations : List SegmentLocation) (adaptor : AdaptorData) (state : SessionState) → IsAtStart adaptor → IsReady locations adaptor.state adaptor.asked adaptor.scan.progress.reads → state.table ≡ empty_table → Running locations adaptor.scan state.source adaptor None state
+pub run_begins : (locations : List SegmentLocation) (adaptor : AdaptorData) (state : SessionState) → IsAtStart adaptor → IsReady locations adaptor.state adaptor.first adaptor.asked adaptor.scan.progress.reads → state.table ≡ empty_table → Running locations adaptor.scan state.source adaptor None state
 run_begins locations adaptor state start ready empty =
-    let none : reads_of adaptor ≡ [] = ap (λ (n : ℕ). take n adaptor.scan.progress.reads.wanted) start.asked in record {
+    let none : reads_of adaptor ≡ [] = ap (λ (n : ℕ). take n (drop adaptor.first adaptor.scan.progress.reads.wanted)) start.asked in record {
       unread = start.scan;
       scan = so_far_start locations adaptor.scan state.source start.scan;
       live = needs_is_live adaptor.state start.state;
+      first = start.first;
       ready = ready (needs_is_live adaptor.state start.state);
       waiting = λ segment. ap (λ (table : Table). table.waiting segment) empty;
       fetches = ap fetches_of empty ∙ ap (outstanding locations 0) (sym none);
@@ -109,14 +112,15 @@ output_batch locations start before batch adaptor next output fresh scan batched
     absurd (let both : None ≡ Some number = sym (ap (λ (ns : List ℕ). slice_get ns out.place) left) ∙ out.at in cc)
 
 pub run_batch : (locations : List SegmentLocation) (start : ScanData) (before : SourceState) (batch : List IoRequest) (adaptor next : AdaptorData) (output : Option ColumnData) (old new : SessionState) →
-    Running locations start before adaptor output old → Batches locations batch adaptor next → AreAsked locations next.asked next.scan.progress.reads → SendGives batch (Ok tt) old new → Running locations start before next output new
+    Running locations start before adaptor output old → Batches locations batch adaptor next → AreAsked locations next.first next.asked next.scan.progress.reads → SendGives batch (Ok tt) old new → Running locations start before next output new
 run_batch locations start before batch adaptor next output old new run batched ready (sent, stays, faults) =
     let segments : segments_in (reads_of next) ≡ segments_in (reads_of adaptor) ++ batched.segments = ap segments_in batched.reads ∙ segments_more (reads_of adaptor) batched.segments in
-    let size = length_taken adaptor.scan.progress.reads.wanted adaptor.asked run.ready.wanted in
+    let size = length_taken (drop adaptor.first adaptor.scan.progress.reads.wanted) adaptor.asked run.ready.wanted in
     record {
       unread = run.unread;
       scan = so_far_then locations start before adaptor.scan next.scan run.scan batched.scan;
       live = needs_is_live next.state batched.state;
+      first = batched.first ∙ run.first;
       ready = ready;
       waiting = sent.waiting;
       fetches = sent.fetches ∙ (λ i. run.fetches i ++ map (fetch_for owner) (batched.batch_is i))
@@ -137,11 +141,12 @@ run_batch locations start before batch adaptor next output old new run batched r
 
 -- a step that asks nothing leaves the session as it was
 moved_on : (locations : List SegmentLocation) (start : ScanData) (before : SourceState) (adaptor next : AdaptorData) (output later : Option ColumnData) (state : SessionState) →
-    Running locations start before adaptor output state → ScanSoFar locations start before next.scan → reads_of next ≡ reads_of adaptor → next.state ≢ Done → AreAsked locations next.asked next.scan.progress.reads → OutputSoFar locations start before next later → Running locations start before next later state
-moved_on locations start before adaptor next output later state run scan reads live ready is = record {
+    Running locations start before adaptor output state → ScanSoFar locations start before next.scan → next.first ≡ adaptor.first → reads_of next ≡ reads_of adaptor → next.state ≢ Done → AreAsked locations next.first next.asked next.scan.progress.reads → OutputSoFar locations start before next later → Running locations start before next later state
+moved_on locations start before adaptor next output later state run scan first reads live ready is = record {
   unread = run.unread;
   scan = scan;
   live = live;
+  first = first ∙ run.first;
   ready = ready;
   waiting = run.waiting;
   fetches = run.fetches ∙ ap (outstanding locations 0) (sym reads);
@@ -172,9 +177,9 @@ output_piece locations start before number column adaptor next output fresh scan
     absurd (let both : None ≡ Some number = sym (ap (λ (ns : List ℕ). slice_get ns out.place) left) ∙ out.at in cc)
 
 pub run_piece : (locations : List SegmentLocation) (start : ScanData) (before : SourceState) (column : ColumnData) (adaptor next : AdaptorData) (output : Option ColumnData) (state : SessionState) →
-    Running locations start before adaptor output state → HandsOn column adaptor next → AreAsked locations next.asked next.scan.progress.reads → Running locations start before next (Some column) state
+    Running locations start before adaptor output state → HandsOn column adaptor next → AreAsked locations next.first next.asked next.scan.progress.reads → Running locations start before next (Some column) state
 run_piece locations start before column adaptor next output state run hands ready =
-    moved_on locations start before adaptor next output (Some column) state run (so_far_then locations start before adaptor.scan next.scan run.scan hands.scan) hands.asks.reads (needs_is_live next.state hands.state) ready
+    moved_on locations start before adaptor next output (Some column) state run (so_far_then locations start before adaptor.scan next.scan run.scan hands.scan) hands.asks.first hands.asks.reads (needs_is_live next.state hands.state) ready
     (output_piece locations start before hands.number column adaptor next output run.unread run.scan hands.held hands.output run.so_far)
 
 pub output_waits : (locations : List SegmentLocation) (start : ScanData) (before : SourceState) (adaptor next : AdaptorData) (output : Option ColumnData) → Yields adaptor next → OutputSoFar locations start before adaptor output → OutputSoFar locations start before next output
@@ -185,16 +190,17 @@ output_waits locations start before adaptor next output yields (inr (left, colum
     absurd (let both : None ≡ Some (number, column) = sym yields.held ∙ full in cc)
 
 pub run_waits : (locations : List SegmentLocation) (start : ScanData) (before : SourceState) (adaptor next : AdaptorData) (output : Option ColumnData) (state : SessionState) →
-    Running locations start before adaptor output state → Yields adaptor next → next.state ≢ Done → AreAsked locations next.asked next.scan.progress.reads → Running locations start before next output state
+    Running locations start before adaptor output state → Yields adaptor next → next.state ≢ Done → AreAsked locations next.first next.asked next.scan.progress.reads → Running locations start before next output state
 run_waits locations start before adaptor next output state run yields live ready =
-    moved_on locations start before adaptor next output output state run (so_far_then locations start before adaptor.scan next.scan run.scan yields.scan) yields.asks.reads live ready (output_waits locations start before adaptor next output yields run.so_far)
+    moved_on locations start before adaptor next output output state run (so_far_then locations start before adaptor.scan next.scan run.scan yields.scan) yields.asks.first yields.asks.reads live ready (output_waits locations start before adaptor next output yields run.so_far)
 
 pub some_in_flight : (locations : List SegmentLocation) (start : ScanData) (before : SourceState) (adaptor next : AdaptorData) (output : Option ColumnData) (state : SessionState) →
     Running locations start before next output state → Yields adaptor next → next.state ≢ Done → 0 < length state.table.fetches
 some_in_flight locations start before adaptor next output state run yields live = by_cause yields.why
   where
     by_cause : WhyYields adaptor next → 0 < length state.table.fetches
-    by_cause (inl (waits, some)) =
+    by_cause (inl (waits, inr (number, earlier, out))) = let first = run.first in absurd (omega (arith, earlier, first))
+    by_cause (inl (waits, inl some)) =
         let out = some_outstanding locations next some in
         let size = ap length run.fetches in
         let mapped = length-map state.table.fetches fetch_in_flight in
@@ -210,7 +216,7 @@ completed_read locations completion reads old new fetches ended =
     outstanding_at locations 0 reads ended.place (record { owner = completion.owner; request = completion.request; at = ended.at }) (ap (λ (ws : List WantedFetch). slice_get ws ended.place) (sym fetches) ∙ ended.here)
 
 -- a result of a completion is never refused
-pub not_refused : (locations : List SegmentLocation) (completion : Completion) (adaptor next : AdaptorData) (old new : SessionState) (error : AdaptorError) → AreAsked locations adaptor.asked adaptor.scan.progress.reads → fetches_of old.table ≡ outstanding locations 0 (reads_of adaptor) → FetchEnded completion old new →
+pub not_refused : (locations : List SegmentLocation) (completion : Completion) (adaptor next : AdaptorData) (old new : SessionState) (error : AdaptorError) → AreAsked locations adaptor.first adaptor.asked adaptor.scan.progress.reads → fetches_of old.table ≡ outstanding locations 0 (reads_of adaptor) → FetchEnded completion old new →
     ResultGives (Err error) completion.request.0 completion.bytes.items adaptor next → ⊥
 not_refused locations completion adaptor next old new (errors.NoLocation segment) ready fetches ended gives = gives
 not_refused locations completion adaptor next old new (errors.Step error) ready fetches ended gives = gives
@@ -235,14 +241,14 @@ segment_or_none None = 0
 segment_or_none (Some read) = read.segment
 
 pub run_result : (locations : List SegmentLocation) (start : ScanData) (before : SourceState) (completion : Completion) (adaptor next : AdaptorData) (output : Option ColumnData) (old new : SessionState) →
-    Running locations start before adaptor output old → Completed completion old new → TakesResult completion.request.0 completion.bytes.items adaptor next → (next.state ≢ Done → AreAsked locations next.asked next.scan.progress.reads) → Running locations start before next output new
+    Running locations start before adaptor output old → Completed completion old new → TakesResult completion.request.0 completion.bytes.items adaptor next → (next.state ≢ Done → AreAsked locations next.first next.asked next.scan.progress.reads) → Running locations start before next output new
 run_result locations start before completion adaptor next output old new run done takes ready =
     let ended = done.ended in
     let at = completed_read locations completion (reads_of adaptor) old new run.fetches ended in
     let bytes : List ℕ = completion.bytes.items in
     let number : completion.request.0 ≡ at.read = let is = at.number_is in omega (arith, is) in
     let one : Some (unread takes.takes.delivers.segment) ≡ Some (unread at.segment) =
-    sym (got_taken adaptor.scan.progress.reads.wanted adaptor.asked completion.request.0 (unread takes.takes.delivers.segment) takes.outstanding.0 takes.takes.delivers.at) ∙ ap (slice_get (reads_of adaptor)) number ∙ at.here in
+    sym (got_taken (drop adaptor.first adaptor.scan.progress.reads.wanted) adaptor.asked completion.request.0 (unread takes.takes.delivers.segment) takes.outstanding.0 (got_behind adaptor.scan.progress.reads.wanted adaptor.first completion.request.0 ∙ takes.takes.delivers.at)) ∙ ap (slice_get (reads_of adaptor)) number ∙ at.here in
     let segment : takes.takes.delivers.segment ≡ at.segment = ap segment_or_none one in
     let reads : reads_of next ≡ slice_set (reads_of adaptor) at.read (delivered at.segment bytes) = takes.reads ∙ (λ i. slice_set (reads_of adaptor) (number i) (delivered (segment i) bytes)) in
     let kept : segments_in (reads_of next) ≡ segments_in (reads_of adaptor) = ap segments_in reads ∙ segments_set (reads_of adaptor) at.read at.segment bytes at.here in
@@ -250,9 +256,10 @@ run_result locations start before completion adaptor next output old new run don
     let live : next.state ≢ Done = λ is. live_after adaptor.state run.live (sym takes.state ∙ is) in
     record {
       unread = run.unread;
-      scan = so_far_taken locations start before (record { 0 = completion.request.0 }) bytes adaptor.scan next.scan run.scan takes.takes
+      scan = so_far_taken locations start before (record { 0 = adaptor.first + completion.request.0 }) bytes adaptor.scan next.scan run.scan takes.takes
           (λ file is. ap (segment_bytes file locations) segment ∙ bytes_told file locations at.segment old.source.file ended.at bytes within at.at (run.file ∙ is) ended.segment);
       live = live;
+      first = takes.first ∙ run.first;
       ready = ready live;
       waiting = ended.waiting run.waiting;
       fetches = ended.gone ∙ ap (λ (ws : List WantedFetch). remove ws ended.place) run.fetches ∙ at.gone bytes ∙ ap (outstanding locations 0) (sym reads);

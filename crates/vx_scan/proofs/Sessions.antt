@@ -1,5 +1,5 @@
 -- What the calls on a session mean for its run: fetches as reads that are outstanding.
-use Rattle.std.proofs.Common.{◌≡◌, ℕ, zero, suc, ◌+◌, ◌<◌, List, [], ◌∷◌, ◌++◌, Option, Some, None, Ok, length, map, take, refl, sym, ap, ◌∙◌, subst, arith, append-nil, append_assoc}
+use Rattle.std.proofs.Common.{◌≡◌, ℕ, zero, suc, ◌+◌, ◌<◌, List, [], ◌∷◌, ◌++◌, Option, Some, None, Ok, length, map, take, drop, refl, sym, ap, ◌∙◌, subst, arith, append-nil, append_assoc}
 use Rattle.std.specs.Prelude.{option_and_then, slice_get, slice_set, remove, IsSome, IsSomeAnd}
 use Rattle.std.specs.List.{All}
 use Rattle.std.proofs.lemmas.List.{map-append}
@@ -23,6 +23,7 @@ use Rattle.vx_steps.specs.ReadTableData.{Wanted}
 use Rattle.vx_scan.specs.AdaptorData.{AdaptorData, reads_of, IsOutstanding, SomeOutstanding}
 use Rattle.vx_scan.specs.Fetched.{fetch_at, location_of, fetches_from, AllLocated, unread, delivered}
 use Rattle.vx_scan.specs.Waits.{owner, Completed}
+use Rattle.vx_scan.proofs.Behind.{got_behind}
 use Rattle.vx_scan.proofs.Growing.{got_front}
 
 -- ---- calls
@@ -193,13 +194,15 @@ waits_in locations number reads place (Some read) here none = waits_at locations
 
 pub some_outstanding : (locations : List SegmentLocation) (adaptor : AdaptorData) → SomeOutstanding adaptor → 0 < length (outstanding locations 0 (reads_of adaptor))
 some_outstanding locations adaptor (number, (asked, (handed, none))) =
-    waits_in locations 0 (reads_of adaptor) number (slice_get adaptor.scan.progress.reads.wanted number) (got_front adaptor.scan.progress.reads.wanted adaptor.asked number asked) none
+    waits_in locations 0 (reads_of adaptor) number (slice_get adaptor.scan.progress.reads.wanted (adaptor.first + number))
+    (got_front (drop adaptor.first adaptor.scan.progress.reads.wanted) adaptor.asked number asked ∙ got_behind adaptor.scan.progress.reads.wanted adaptor.first number) none
 
 -- a read among those that were asked for, whose bytes did not come, is outstanding
-pub is_outstanding : (adaptor : AdaptorData) (number segment : ℕ) → adaptor.asked ≡ adaptor.scan.progress.reads.handed → slice_get (reads_of adaptor) number ≡ Some (unread segment) → IsOutstanding adaptor number
+pub is_outstanding : (adaptor : AdaptorData) (number segment : ℕ) → adaptor.first + adaptor.asked ≡ adaptor.scan.progress.reads.handed → slice_get (reads_of adaptor) number ≡ Some (unread segment) → IsOutstanding adaptor number
 is_outstanding adaptor number segment handed here =
-    let asked = inside_front adaptor.scan.progress.reads.wanted adaptor.asked number (unread segment) here in
-    let at : slice_get adaptor.scan.progress.reads.wanted number ≡ Some (unread segment) = sym (got_front adaptor.scan.progress.reads.wanted adaptor.asked number asked) ∙ here in
+    let asked = inside_front (drop adaptor.first adaptor.scan.progress.reads.wanted) adaptor.asked number (unread segment) here in
+    let at : slice_get adaptor.scan.progress.reads.wanted (adaptor.first + number) ≡ Some (unread segment) =
+    sym (got_front (drop adaptor.first adaptor.scan.progress.reads.wanted) adaptor.asked number asked ∙ got_behind adaptor.scan.progress.reads.wanted adaptor.first number) ∙ here in
     (asked, (omega (arith, asked, handed), rw at refl))
   where
     inside_front : (reads : List Wanted) (n i : ℕ) (read : Wanted) → slice_get (take n reads) i ≡ Some read → i < n

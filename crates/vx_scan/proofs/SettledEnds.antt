@@ -152,11 +152,12 @@ settles_failing plans chunks loans done old now new loan chosen result error bef
           omega (arith, so, both, same, zero));
       content = subst (λ (ps : List Piece). Other (λ bytes. All (IsPieceOf (leaves_of bytes) plans chunks) ps)) (sym pieces) so_far.content;
       dtype = λ all. subst (All (HasDtype plans)) (sym pieces) (so_far.dtype all);
-      rows = λ all. subst (All (HasItsRows chunks)) (sym pieces) (so_far.rows all);
-      cause = inr (subst (λ (e : Option ChunkError). IsSomeAnd e (λ failure. FailsNow plans chunks loans Other failure before after)) (sym failed) (record {
+      rows = λ all. subst (All (HasItsRows plans chunks)) (sym pieces) (so_far.rows all);
+      cause = inr (subst (λ (e : Option ChunkError). IsSomeAnd e (λ failure. FailsNow plans chunks loans Other old.error failure before after)) (sym failed) (record {
         chunk = chosen;
         here = next.here;
         loaned = (let both = split loan.chunk in let itself = times_itself loan.chunk (loaned_of next.rest) in omega (arith, both, itself));
+        below = subst (λ (e : Option ChunkError). IsBelow e loan.chunk) so_far.error below;
         cause = failed_cause Other plans chosen result error before after fails (cause_sound plans chosen result before source after Told Other carries so_far.lasts one.cause);
       }));
       lowest = subst (λ (e : Option ChunkError). IsAtMost e old.error) (sym failed) (lower_error now.error old.error loan.chunk so_far.error below at refl);

@@ -94,12 +94,13 @@ rerun_told plans chunks Told Other carries rerun is = record {
   whole = carries (λ bytes. whole_value (leaves_of bytes) plans.row_offset (plan_at plans.table (number_of rerun.node)) ≡ Some rerun.made.values) is.whole;
 }
 
-fails_told : (plans : ScanPlans) (chunks : List SelectedRows) (joined : Joined) (loans : List Loan) (reruns : Vec Rerun) (error : ChunkError) (before after : SourceState) → IsPermutation joined.loans.items loans → FailsNow plans chunks loans (told_sound plans chunks loans (first_settled joined reruns) before) error before after →
+fails_told : (plans : ScanPlans) (chunks : List SelectedRows) (joined : Joined) (loans : List Loan) (reruns : Vec Rerun) (error : ChunkError) (before after : SourceState) → IsPermutation joined.loans.items loans → FailsNow plans chunks loans (told_sound plans chunks loans (first_settled joined reruns) before) joined.error error before after →
     FailsSettled plans chunks joined error before after
 fails_told plans chunks joined loans reruns error before after permutes fails = record {
   chunk = fails.chunk;
   here = fails.here;
   loaned = (let same = loans_permuted error.chunk joined.loans.items loans permutes in let some = fails.loaned in omega (arith, same, some));
+  below = fails.below;
   cause = cause_lasts (told_sound plans chunks loans (first_settled joined reruns) before) (told_right plans chunks joined before) (joined_told plans chunks joined loans reruns before permutes) plans [] fails.chunk error.error before before after (lasts_same before) fails.cause;
 }
 
@@ -110,7 +111,7 @@ abbrev IsCauseOf : ScanPlans → List SelectedRows → Joined → SourceState �
 IsCauseOf plans chunks joined before after error = (error ≡ no_memory) ⊎ ((joined.error ≡ Some error) ⊎ FailsSettled plans chunks joined error before after)
 
 error_cause : (plans : ScanPlans) (chunks : List SelectedRows) (joined : Joined) (loans : List Loan) (reruns : Vec Rerun) (error : Option ChunkError) (before after : SourceState) → IsPermutation joined.loans.items loans
-    → (error ≡ joined.error) ⊎ IsSomeAnd error (λ one. FailsNow plans chunks loans (told_sound plans chunks loans (first_settled joined reruns) before) one before after) → IfSome error (IsCauseOf plans chunks joined before after)
+    → (error ≡ joined.error) ⊎ IsSomeAnd error (λ one. FailsNow plans chunks loans (told_sound plans chunks loans (first_settled joined reruns) before) joined.error one before after) → IfSome error (IsCauseOf plans chunks joined before after)
 error_cause plans chunks joined loans reruns None before after permutes cause = tt
 error_cause plans chunks joined loans reruns (Some error) before after permutes (inl same) = inr (inl (sym same))
 error_cause plans chunks joined loans reruns (Some error) before after permutes (inr fails) = inr (inr (fails_told plans chunks joined loans reruns error before after permutes fails))
@@ -146,7 +147,7 @@ settles_sorted plans chunks joined loans reruns new pieces before after permutes
       content = λ file told right. All-permutation (IsPieceOf (leaves_of (bytes_of plans file)) plans chunks) new.pieces.items pieces.items moved
           (carries (λ bytes. All (IsPieceOf (leaves_of bytes) plans chunks) new.pieces.items) all.content file told right);
       dtype = λ each. All-permutation (HasDtype plans) new.pieces.items pieces.items moved (all.dtype each);
-      rows = λ each. All-permutation (HasItsRows chunks) new.pieces.items pieces.items moved (all.rows each);
+      rows = λ each. All-permutation (HasItsRows plans chunks) new.pieces.items pieces.items moved (all.rows each);
       cause = error_cause plans chunks joined loans reruns new.error before after permutes all.cause;
       lowest = all.lowest;
       faults = error_fault new.error before after all.faults;
@@ -172,7 +173,7 @@ settles_unordered plans chunks joined loans reruns new pieces before after permu
       sorted = sorted;
       content = λ file told right. subst (All (IsPieceOf (leaves_of (bytes_of plans file)) plans chunks)) (sym empty) (All-nil (IsPieceOf (leaves_of (bytes_of plans file)) plans chunks));
       dtype = λ each. subst (All (HasDtype plans)) (sym empty) (All-nil (HasDtype plans));
-      rows = λ each. subst (All (HasItsRows chunks)) (sym empty) (All-nil (HasItsRows chunks));
+      rows = λ each. subst (All (HasItsRows plans chunks)) (sym empty) (All-nil (HasItsRows plans chunks));
       cause = inl refl;
       lowest = no_memory_least joined.error;
       faults = inr (inl refl);

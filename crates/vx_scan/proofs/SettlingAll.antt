@@ -32,6 +32,7 @@ use Rattle.vx_scan.specs.Outcomes.{data_of, Claims, GivesPiece}
 use Rattle.vx_scan.specs.Plans.{bytes_of}
 use Rattle.vx_scan.specs.Settled.{told_loan, told_sound, whole_number, IsLoanOf, IsRerunOf, IsThroughKept, SettlesOne}
 use Rattle.vx_scan.specs.Settling.{rerun_chunks, AsksAgain, IsRerun}
+use Rattle.vx_scan.specs.Unhindered.{IsUnhindered}
 use Rattle.vx_scan.specs.Workers.{HasDtype, HasItsRows, IsPieceOf, numbers_of}
 use Rattle.vx_scan.proofs.AskingAgain.{again_more, AsksFor, all_middle, among_front, loaned_more, loaned_push, numbers_push, reruns_push, times_none}
 use Rattle.vx_scan.proofs.Certifying.{clear_then, each_weaker}
@@ -50,7 +51,7 @@ pub record Settling (plans : ScanPlans) (chunks : List SelectedRows) (loans done
   pub right_is : told_sound plans chunks loans old before (λ bytes. AreMade plans.table plans.row_offset (data_of now.right.items) (leaves_of bytes))
   pub typed : AreTyped plans.table (data_of now.right.items)
   pub dtype : All (HasDtype plans) old.pieces.items → All (HasDtype plans) now.pieces.items
-  pub rows : All (HasItsRows chunks) old.pieces.items → All (HasItsRows chunks) now.pieces.items
+  pub rows : All (HasItsRows plans chunks) old.pieces.items → All (HasItsRows plans chunks) now.pieces.items
   pub faults : KeepsFaults before source
   pub reruns_are : AllByRecursion (IsRerun plans chunks (told_sound plans chunks loans old before)) now.reruns.items
   pub reruns_once : (x : ℕ) → times x (rerun_chunks now.reruns.items) ≤ times x (loaned_of done)
@@ -113,6 +114,13 @@ loan_of_chunk plans chunks loan chosen is here =
     let both : Some is.chunk ≡ Some chosen = sym is.here ∙ here in
     let same : is.chunk ≡ chosen = cc in
     subst (λ (s : SelectedRows). IsLoanOf plans s loan) same (record { borrowed_are = is.borrowed; dtype = is.dtype; rows = is.rows; rests = is.rests })
+
+-- nothing else hinders its chunk
+pub loan_unhindered : (plans : ScanPlans) (chunks : List SelectedRows) (loan : Loan) (chosen : SelectedRows) → IsLoan plans chunks loan → slice_get chunks loan.chunk ≡ Some chosen → IsUnhindered plans chosen
+loan_unhindered plans chunks loan chosen is here =
+    let both : Some is.chunk ≡ Some chosen = sym is.here ∙ here in
+    let same : is.chunk ≡ chosen = cc in
+    subst (IsUnhindered plans) same is.unhindered
 
 at_chunk : (P : SelectedRows → Type 0) (got : Option SelectedRows) (chosen : SelectedRows) → got ≡ Some chosen → IsSomeAnd got P → P chosen
 at_chunk P None chosen here is = absurd cc
@@ -178,9 +186,9 @@ quiet_for result column before after is (inr fault) = let both : ◌≡◌ {A = 
 
 -- what became of the chunk, with its piece
 pub settling_more : (plans : ScanPlans) (chunks : List SelectedRows) (loans done : List Loan) (old now new : Settled) (loan : Loan) (chosen : SelectedRows) (result : Result ColumnData ScanError) (column : ColumnData) (before source after : SourceState) → IsNext plans chunks loans done loan chosen → Settling plans chunks loans done old now before source
-    → SettlesOne plans chosen loan (data_of now.right.items) (data_of new.right.items) now.reruns.items new.reruns.items result source after → result ≡ Ok column → new.error ≡ now.error → new.pieces.items ≡ now.pieces.items ++ record { chunk = loan.chunk; column = column } ∷ [] →
+    → SettlesOne plans chosen loan (data_of now.right.items) (data_of new.right.items) now.reruns.items new.reruns.items result source after → result ≡ Ok column → new.error ≡ now.error → new.pieces.items ≡ now.pieces.items ++ record { chunk = loan.chunk; column = column } ∷ [] → IsUnhindered plans chosen →
     Settling plans chunks loans (done ++ loan ∷ []) old new before after
-settling_more plans chunks loans done old now new loan chosen result column before source after next so_far one is error pieces =
+settling_more plans chunks loans done old now new loan chosen result column before source after next so_far one is error pieces free =
     let Told : Claims = told_loan plans chosen (data_of now.right.items) loan source in
     let Other : Claims = told_sound plans chunks loans old before in
     let carries : (P : Bytes → Type 0) → Told P → Other P = loan_told plans chunks loans done old now loan chosen before source next so_far in
@@ -206,8 +214,8 @@ settling_more plans chunks loans done old now new loan chosen result column befo
       right_is = carries (λ bytes. AreMade plans.table plans.row_offset (data_of new.right.items) (leaves_of bytes)) one.right;
       typed = one.typed;
       dtype = λ all. subst (All (HasDtype plans)) (sym pieces) (All-push (HasDtype plans) now.pieces.items piece (so_far.dtype all) gives.dtype);
-      rows = λ all. subst (All (HasItsRows chunks)) (sym pieces)
-          (All-push (HasItsRows chunks) now.pieces.items piece (so_far.rows all) (of_chunk (λ (chunk : SelectedRows). length column.values ≡ true_count chunk.mask) (slice_get chunks loan.chunk) chosen next.here gives.count));
+      rows = λ all. subst (All (HasItsRows plans chunks)) (sym pieces)
+          (All-push (HasItsRows plans chunks) now.pieces.items piece (so_far.rows all) (of_chunk (λ (chunk : SelectedRows). (length column.values ≡ true_count chunk.mask) × IsUnhindered plans chunk) (slice_get chunks loan.chunk) chosen next.here (gives.count, free)));
       faults = quiet_for result column source after is one.faults ∙ so_far.faults;
       reruns_are = more.are;
       reruns_once = λ x.

@@ -94,7 +94,7 @@ abbrev pub SeesOutside : Test → Type 0
 SeesOutside P = (p : Plan) (row : ℕ) → P None p row → ⊥
 
 mutual
-  none_inside : (P : Test) → SeesOutside P → (p : Plan) (row : ℕ) → Visits P None p row → ⊥
+  pub none_inside : (P : Test) → SeesOutside P → (p : Plan) (row : ℕ) → Visits P None p row → ⊥
   none_inside P out (no_plan head) row v = out (no_plan head) row v
   none_inside P out (concat_plan head children) row (inl v) = out (concat_plan head children) row v
   none_inside P out (concat_plan head children) row (inr v) = none_among P out children row v

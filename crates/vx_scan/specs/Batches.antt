@@ -18,9 +18,11 @@ use Rattle.vx_scan.specs.ChunkRows.{IsPiece}
 use Rattle.vx_scan.specs.Fetched.{AreDistinct}
 use Rattle.vx_scan.specs.Executes.{AskedAgain, FailsAgain}
 use Rattle.vx_scan.specs.Lent.{EachSource, EachSourceBy, FirstSource, SomeSourceBy, WhereAllTell}
+use Rattle.vx_scan.specs.Loans.{IsAsking}
 use Rattle.vx_scan.specs.Plans.{bytes_of, projection_node}
 use Rattle.vx_scan.specs.Reasons.{Reason, chunk_and_segment}
 use Rattle.vx_scan.specs.Settling.{AsksAgain}
+use Rattle.vx_scan.specs.Unhindered.{IsUnhindered, IsUnhinderedAt}
 use Rattle.vx_scan.specs.Workers.{AsksReached, IsLast, FailsLast, RunsSource}
 
 -- each batch is the piece of its chunk
@@ -59,16 +61,20 @@ abbrev pub FaultsFrom : ℕ → List ℕ → SourceState → SourceState → Typ
 FaultsFrom place numbers before after = KeepsFaults before after ⊎ ((last : ℕ) × IsLast last numbers × (place ≤ last))
 
 -- Each of these chunks has a piece, or is the last of them. Where values are shared, it may also lie no lower than that
--- place.
+-- place and ask for whole values.
 abbrev pub HavePiecesButLast : Leaves → ScanPlans → List SelectedRows → Bool → ℕ → List ℕ → Type 0
 HavePiecesButLast leaves plans chunks shares place numbers =
-    (x : ℕ) → IsAmong x numbers → IsSomeAnd (slice_get chunks x) (HasPiece leaves plans) ⊎ (IsLast x numbers ⊎ ((shares ≡ true) × (place ≤ x)))
+    (x : ℕ) → IsAmong x numbers → IsSomeAnd (slice_get chunks x) (HasPiece leaves plans) ⊎ (IsLast x numbers ⊎ ((shares ≡ true) × (place ≤ x) × IsAsking plans chunks x))
+
+-- Of each of these chunks no row is hindered, or it is the last of them, whatever the sources tell.
+abbrev pub AreUnhinderedButLast : ScanPlans → List SelectedRows → List ℕ → Type 0
+AreUnhinderedButLast plans chunks numbers = (x : ℕ) → IsAmong x numbers → IsUnhinderedAt plans chunks x ⊎ IsLast x numbers
 
 -- The lowest chunk that failed, and why; those before it have pieces. The workers ran these chunks, in ascending order and
 -- each one time at most: all before it, and it was the last of the worker whose source is its cause, or, with several
--- sources, one that failed on the first one once all workers were done. Each source was asked for the chunks of its worker,
--- which have pieces, but for its last and, with several sources, those that don't lie before the one that failed; and while
--- the workers ran, none failed at a chunk before it.
+-- sources, one that asks for whole values and failed on the first one once all workers were done. Each source was asked for
+-- the chunks of its worker, which have pieces, but for its last and, with several sources, those that don't lie before the
+-- one that failed and ask for whole values; and while the workers ran, none failed at a chunk before it.
 pub record LowestFailure (plans : ScanPlans) (chunks : List SelectedRows) (error : ScanError) (befores afters : List SourceState) : Type 0 where
   pub place : ℕ
   pub chunk : SelectedRows
@@ -88,6 +94,9 @@ pub record LowestFailure (plans : ScanPlans) (chunks : List SelectedRows) (error
       ⊎ ((1 < length befores) × (1 ≤ times_over place claims) × FirstSource (FailsAgain plans chunks (record { chunk = place; error = error }) befores) middles afters)
   pub lower : WhereAllTell befores (λ file. AllByRecursion (HasPiece (leaves_of (bytes_of plans file)) plans) (take place chunks))
   pub stops : WhereAllTell befores (λ file. AllByRecursion (HavePiecesButLast (leaves_of (bytes_of plans file)) plans chunks (nat_lt 1 (length befores)) place) claims)
+  -- whatever the sources tell
+  pub unhindered : AllByRecursion (IsUnhindered plans) (take place chunks)
+  pub ran_unhindered : AllByRecursion (AreUnhinderedButLast plans chunks) claims
 
 pub record GivesBatches (plans : ScanPlans) (chunks : List SelectedRows) (result : Result (Vec ColumnData) ScanError) (befores afters : List SourceState) : Type 0 where
   -- the batches are the chunks' pieces by the file, in order
@@ -96,6 +105,8 @@ pub record GivesBatches (plans : ScanPlans) (chunks : List SelectedRows) (result
   pub dtype : IfOk result (λ batches. AllByRecursion (λ (batch : ColumnData). batch.dtype ≡ (projection_node plans).dtype) batches.items)
   -- each with as many rows as its chunk selects
   pub rows : IfOk result (λ batches. map (λ (batch : ColumnData). length batch.values) batches.items ≡ map (λ (chunk : SelectedRows). true_count chunk.mask) chunks)
+  -- which read no list, and no segment without a location
+  pub unhindered : IfOk result (λ batches. AllByRecursion (IsUnhindered plans) chunks)
   pub faults : IfOk result (λ batches. EachSource KeepsFaults befores afters)
   pub asks : AsksOver plans chunks befores afters
   -- the error is that of the lowest chunk that failed, with its cause

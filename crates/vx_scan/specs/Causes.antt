@@ -6,7 +6,7 @@ use Rattle.vx_expr.specs.Rows.{no_bound}
 use Rattle.vx_layout.specs.Trees.{head_of}
 use Rattle.vx_lower.specs.Projected.{Projection, root_value, scan_reads}
 use Rattle.vx_rows.specs.Derivations.{Leaves}
-use Rattle.vx_rows.specs.Reads.{Found, AnyOf, IsAmong, Finds, IsIn}
+use Rattle.vx_rows.specs.Reads.{directly, Found, AnyOf, IsAmong, Finds, FindsBy, IsIn, IsCodeOf}
 use Rattle.vx_rows.specs.SegmentLeaves.{Bytes}
 use Rattle.vx_steps.specs.Laws.{IsRowOf, IsBadCodeAt}
 use Rattle.vx_steps.specs.ScanLaws.{IsTornIn}
@@ -18,6 +18,10 @@ ScanFinds P p rows = AnyOf (λ row. Finds P (scan_reads p row)) rows
 -- some row reaches the segment
 abbrev pub ScanReaches : Projection → List ℕ → ℕ → Type 0
 ScanReaches p rows segment = ScanFinds (IsIn segment) p rows
+
+-- some row reads a code of an outermost dictionary
+abbrev pub ReadsDictionary : Projection → List ℕ → Type 0
+ReadsDictionary p rows = AnyOf (λ row. (dictionary : ℕ) × FindsBy directly (IsCodeOf dictionary) (scan_reads p row)) rows
 
 -- some row reads a row of the list of that number
 abbrev pub ReadsList : Projection → List ℕ → ℕ → Type 0

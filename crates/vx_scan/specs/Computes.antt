@@ -16,7 +16,7 @@ use Rattle.vx_scan.specs.declared.adaptors.AdaptorStep.{AdaptorStep}
 use Rattle.vx_scan.specs.declared.adaptors.AdaptorStep.TheVariants.{Yield, NeedsIo, Piece}
 use Rattle.vx_scan.specs.declared.adaptors.State.{State}
 use Rattle.vx_scan.specs.declared.adaptors.State.TheVariants.{NeedsCompute, Waiting, Done}
-use Rattle.vx_scan.specs.AdaptorData.{AdaptorData, reads_of, read_numbered, work_of, IsOutstanding, SomeOutstanding}
+use Rattle.vx_scan.specs.AdaptorData.{AdaptorData, reads_of, read_numbered, work_of, IsOutstanding, SomeOutstanding, SomeEarlierOutstanding}
 use Rattle.vx_scan.specs.Continues.{KeepsScan, Continues, ComesOut, MayBeRead, splits_left}
 use Rattle.vx_scan.specs.Fetched.{AllLocated, AreApart, fetches_from, unread, delivered, segments_in}
 
@@ -39,6 +39,7 @@ pub record Batches (locations : List SegmentLocation) (batch : List IoRequest) (
   pub segments : List ℕ
   pub some : 0 < length segments
   pub batch_is : batch ≡ fetches_from locations old.asked segments
+  pub first : new.first ≡ old.first
   pub asked : new.asked ≡ old.asked + length segments
   pub reads : reads_of new ≡ reads_of old ++ map unread segments
   pub apart : AreApart (segments_in (reads_of new))
@@ -53,6 +54,7 @@ pub record Batches (locations : List SegmentLocation) (batch : List IoRequest) (
 
 -- no read was asked for, and nothing came for one
 pub record AsksNothing (old new : AdaptorData) : Type 0 where
+  pub first : new.first ≡ old.first
   pub asked : new.asked ≡ old.asked
   pub reads : reads_of new ≡ reads_of old
 
@@ -72,11 +74,11 @@ pub record HandsOn (column : ColumnData) (old new : AdaptorData) : Type 0 where
   pub state : new.state ≡ NeedsCompute
   pub fewer : work_of new < work_of old
 
--- the scan waits for the bytes of an outstanding fetch; or no split is left, or the scan had refused a step when it was
--- handed in
+-- the scan waits for the bytes of an outstanding fetch, or of a read that was handed out before the adaptor was made; or no
+-- split is left, or the scan had refused a step when it was handed in
 abbrev pub WhyYields : AdaptorData → AdaptorData → Type 0
 WhyYields old new =
-    ((new.state ≡ Waiting) × SomeOutstanding new)
+    ((new.state ≡ Waiting) × (SomeOutstanding new ⊎ SomeEarlierOutstanding new))
     ⊎ ((new.state ≡ Done) × ((splits_left old.scan ≡ []) ⊎ (old.scan.refused ≡ true)))
 
 -- The scan waits, or it is done.
@@ -141,7 +143,8 @@ after_result Done = Done
 -- The bytes came to the read that the fetch was made for.
 pub record TakesResult (number : ℕ) (bytes : List ℕ) (old new : AdaptorData) : Type 0 where
   pub outstanding : IsOutstanding old number
-  pub takes : TakesBytes (read_numbered number) bytes old.scan new.scan
+  pub takes : TakesBytes (read_numbered (old.first + number)) bytes old.scan new.scan
+  pub first : new.first ≡ old.first
   pub asked : new.asked ≡ old.asked
   pub reads : reads_of new ≡ slice_set (reads_of old) number (delivered takes.delivers.segment bytes)
   pub held : new.held ≡ old.held

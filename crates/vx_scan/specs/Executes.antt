@@ -19,6 +19,7 @@ use Rattle.vx_scan.specs.declared.plans.ScanPlans.{ScanPlans}
 use Rattle.vx_scan.specs.Asks.{IsLeftClear, KeepsFaults, Lasts}
 use Rattle.vx_scan.specs.Gathers.{OpensLanes, no_memory}
 use Rattle.vx_scan.specs.Lent.{EachSource, EachSourceBy, FirstSource, SomeSourceBy, WhereAllTell}
+use Rattle.vx_scan.specs.Loans.{AsksForWholes, IsAsking}
 use Rattle.vx_scan.specs.Outcomes.{told_by_all, Causes}
 use Rattle.vx_scan.specs.Plans.{AreInOrder, IsChunkOf, bytes_of}
 use Rattle.vx_scan.specs.Settling.{rerun_chunks, AsksAgain, IsRerun}
@@ -46,11 +47,16 @@ abbrev pub stretch : ℕ → ℕ → List ℕ
 stretch first zero = []
 stretch first (suc count) = first ∷ stretch (suc first) count
 
--- The chunk has a piece, or is the last of these: a worker stops at a chunk that fails. Where values are shared, it may
--- also lie no lower than the chunk that failed.
-abbrev pub StopsAtLast : Bool → Option ChunkError → List Piece → List ℕ → Type 0
-StopsAtLast shares error pieces numbers =
-    (x : ℕ) → IsAmong x numbers → (times x (numbers_of pieces) ≡ 1) ⊎ (IsLast x numbers ⊎ ((shares ≡ true) × IsSomeAnd error (λ one. one.chunk ≤ x)))
+-- The chunk may have run with values that are shared, and lies no lower than the chunk that failed: it asks for whole
+-- values.
+abbrev pub MayHaveBorrowed : ScanPlans → List SelectedRows → Bool → Option ChunkError → ℕ → Type 0
+MayHaveBorrowed plans chunks shares error x = (shares ≡ true) × IsSomeAnd error (λ one. one.chunk ≤ x) × IsAsking plans chunks x
+
+-- Each of these chunks has a piece, or is the last of them: a worker stops at a chunk that fails, unless its run may rest
+-- on a value that it borrowed.
+abbrev pub StopsAtLast : ScanPlans → List SelectedRows → Bool → Option ChunkError → List Piece → List ℕ → Type 0
+StopsAtLast plans chunks shares error pieces numbers =
+    (x : ℕ) → IsAmong x numbers → (times x (numbers_of pieces) ≡ 1) ⊎ (IsLast x numbers ⊎ MayHaveBorrowed plans chunks shares error x)
 
 -- A call on the source failed only where the last chunk that its worker claimed has no piece.
 abbrev pub FaultsAtLast : List Piece → List ℕ → SourceState → SourceState → Type 0
@@ -65,10 +71,12 @@ pub record AskedAgain (plans : ScanPlans) (chunks : List SelectedRows) (reruns :
   pub lasts : Lasts before after
   pub in_flight : IsLeftClear before after
 
--- The chunk failed on the first source, once all workers were done, with its cause by the file that all sources tell.
+-- The chunk, which asks for whole values, failed on the first source, once all workers were done, with its cause by the
+-- file that all sources tell.
 pub record FailsAgain (plans : ScanPlans) (chunks : List SelectedRows) (error : ChunkError) (sources : List SourceState) (before after : SourceState) : Type 0 where
   pub chunk : SelectedRows
   pub here : slice_get chunks error.chunk ≡ Some chunk
+  pub asks : AsksForWholes plans chunk
   pub cause : Causes (told_by_all plans sources) plans [] chunk error.error before after
 
 -- The chunk is the last that the worker of one of the sources claimed, and failed there; or, with several sources, it was
@@ -91,15 +99,16 @@ pub record Executed (plans : ScanPlans) (chunks : List SelectedRows) (outcome : 
   -- each piece is its chunk's by the file that all sources tell, whatever the cache has at entry or meanwhile
   pub content : WhereAllTell befores (λ file. All (IsPieceOf (leaves_of (bytes_of plans file)) plans chunks) outcome.pieces.items)
   pub dtype : All (HasDtype plans) outcome.pieces.items
-  -- and has as many rows as its chunk selects, whatever the sources tell
-  pub rows : All (HasItsRows chunks) outcome.pieces.items
+  -- and has as many rows as its chunk selects, which read no list and no segment without a location, whatever the sources
+  -- tell
+  pub rows : All (HasItsRows plans chunks) outcome.pieces.items
   -- what the sources were when all workers were done
   pub middles : List SourceState
   -- the error is that of the lowest chunk that failed, with its cause
   pub cause : IfSome outcome.error (λ error. (error ≡ no_memory) ⊎ FailsLowest plans chunks error outcome.pieces.items outcome.claimed.items befores middles afters)
-  -- each chunk of a worker has its piece, but for its last and those that lie no lower than the one that failed; unless
-  -- memory lacked outside of a run
-  pub stops : outcome.error ≢ Some no_memory → AllByRecursion (StopsAtLast (nat_lt 1 (length befores)) outcome.error outcome.pieces.items) outcome.claimed.items
+  -- each chunk of a worker has its piece, but for its last and those that lie no lower than the one that failed and ask
+  -- for whole values; unless memory lacked outside of a run
+  pub stops : outcome.error ≢ Some no_memory → AllByRecursion (StopsAtLast plans chunks (nat_lt 1 (length befores)) outcome.error outcome.pieces.items) outcome.claimed.items
   -- a call on a source failed only at the last chunk of its worker, and none did where there is no error
   pub faults : EachSourceBy (FaultsAtLast outcome.pieces.items) outcome.claimed.items befores middles
   pub quiet : outcome.error ≡ None → EachSource KeepsFaults befores afters

@@ -1,5 +1,5 @@
 -- Reads that follow one another, and the turn behind them.
-use Rattle.std.specs.Prelude.{◌≡◌, ◌≢◌, ℕ, ◌+◌, ◌<◌, ◌≤◌, ◌⊎◌, true, false, List, [], ◌++◌, length, map, take, Option, Some, None, Result, Ok, Err}
+use Rattle.std.specs.Prelude.{◌≡◌, ◌≢◌, ℕ, ◌+◌, ◌-◌, ◌^◌, ◌<◌, ◌≤◌, ◌⊎◌, true, false, List, [], ◌++◌, length, map, take, drop, Option, Some, None, Result, Ok, Err}
 use Rattle.std.specs.Global.{Vec}
 use Rattle.std.specs.List.{All}
 use Rattle.vx_base.specs.Columns.{ColumnData}
@@ -27,22 +27,28 @@ use Rattle.vx_scan.specs.Fetched.{AllLocated, fetches_from, unread}
 abbrev pub work_in : ScanData → ℕ
 work_in scan = work_left scan.job scan.progress
 
--- the reads that a scan handed out, in order
-abbrev pub handed_reads : ReadsData → List Wanted
-handed_reads reads = take reads.handed reads.wanted
+-- how many reads a scan handed out behind the first ones
+abbrev pub count_behind : ℕ → ReadsData → ℕ
+count_behind first reads = reads.handed - first
+
+-- and which, in order
+abbrev pub reads_behind : ℕ → ReadsData → List Wanted
+reads_behind first reads = take (count_behind first reads) (drop first reads.wanted)
 
 -- the scan had refused no step, and some split was left
 abbrev pub IsLive : ScanData → Type 0
 IsLive scan = (scan.refused ≡ false) × (splits_left scan ≢ [])
 
--- The scan handed out reads of these segments and no output, and the batch is their fetches.
-pub record Gathered (locations : List SegmentLocation) (batch : List IoRequest) (old new : ScanData) : Type 0 where
+-- The scan handed out reads of these segments and no output, and the batch is their fetches, numbered by the reads behind
+-- the first ones.
+pub record Gathered (locations : List SegmentLocation) (first : ℕ) (batch : List IoRequest) (old new : ScanData) : Type 0 where
   pub segments : List ℕ
-  pub batch_is : batch ≡ fetches_from locations old.progress.reads.handed segments
+  pub batch_is : batch ≡ fetches_from locations (count_behind first old.progress.reads) segments
   pub located : AllLocated locations segments
   pub handed : new.progress.reads.handed ≡ old.progress.reads.handed + length segments
-  pub reads : handed_reads new.progress.reads ≡ handed_reads old.progress.reads ++ map unread segments
-  pub asked : AreAsked locations new.progress.reads.handed new.progress.reads
+  pub fits : old.progress.reads.handed < 2 ^ 64 → new.progress.reads.handed < 2 ^ 64
+  pub reads : reads_behind first new.progress.reads ≡ reads_behind first old.progress.reads ++ map unread segments
+  pub asked : AreAsked locations first (count_behind first new.progress.reads) new.progress.reads
   pub stand : All (IsAsked new.progress.reads.wanted) segments
   pub left : splits_left new ≡ splits_left old
   pub fewer : work_in new + length segments ≤ work_in old
@@ -72,9 +78,9 @@ StepGives (Err Memory) old new = KeepsScan old new
 StepGives (Err (NoLocation segment)) old new = ⊥
 StepGives (Err NotOutstanding) old new = ⊥
 
-abbrev pub GatherGives : List SegmentLocation → Result Turn AdaptorError → List IoRequest → ScanData → ScanData → Type 0
-GatherGives locations (Ok turn) batch old new = (middle : ScanData) × Gathered locations batch old middle × GivesTurn turn middle new × IsNoRead turn
-GatherGives locations (Err error) batch old new = KeepsScan old new × StopCause locations error old new
+abbrev pub GatherGives : List SegmentLocation → ℕ → Result Turn AdaptorError → List IoRequest → ScanData → ScanData → Type 0
+GatherGives locations first (Ok turn) batch old new = (middle : ScanData) × Gathered locations first batch old middle × GivesTurn turn middle new × IsNoRead turn
+GatherGives locations first (Err error) batch old new = KeepsScan old new × StopCause locations error old new
 
 -- ---- the step that they make
 

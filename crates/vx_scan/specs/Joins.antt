@@ -97,7 +97,7 @@ pub record JoinedAll (plans : ScanPlans) (chunks : List SelectedRows) (joined : 
   -- right by the file that all sources tell
   pub right : WhereAllTell befores (λ file. IsRightBy plans chunks joined (bytes_of plans file))
   pub dtype : All (HasDtype plans) joined.pieces.items
-  pub rows : All (HasItsRows chunks) joined.pieces.items
+  pub rows : All (HasItsRows plans chunks) joined.pieces.items
   pub loans : All (IsLoan plans chunks) joined.loans.items
   pub typed : AreTyped plans.table (data_of joined.made.items)
   -- a worker that is alone borrows nothing

@@ -10,6 +10,12 @@ EachSource P [] (after ∷ afters) = ⊥
 EachSource P (before ∷ befores) [] = ⊥
 EachSource P (before ∷ befores) (after ∷ afters) = P before after × EachSource P befores afters
 
+-- it holds of one of them
+abbrev pub SomeSource : (SourceState → SourceState → Type 0) → List SourceState → List SourceState → Type 0
+SomeSource P [] afters = ⊥
+SomeSource P (before ∷ befores) [] = ⊥
+SomeSource P (before ∷ befores) (after ∷ afters) = P before after ⊎ SomeSource P befores afters
+
 -- it holds of each source and what the list has for it
 abbrev pub EachSourceBy : {X : Type 0} → (X → SourceState → SourceState → Type 0) → List X → List SourceState → List SourceState → Type 0
 EachSourceBy P [] [] [] = Unit {0}

@@ -21,6 +21,7 @@ pub mod Fetched
 pub mod Finished
 pub mod Gathered
 pub mod Gathers
+pub mod Hindered
 pub mod Joins
 pub mod Laws
 pub mod LeafRows
@@ -29,6 +30,7 @@ pub mod Limits
 pub mod Loans
 pub mod Outcomes
 pub mod Pieces
+pub mod PlainCauses
 pub mod PlanTexts
 pub mod Plans
 pub mod Prepared
@@ -42,6 +44,7 @@ pub mod Settled
 pub mod Settling
 pub mod SourceCounts
 pub mod Starts
+pub mod Unhindered
 pub mod Valid
 pub mod Values
 pub mod Waits

@@ -1,5 +1,5 @@
 -- Chunks that ran with whole values that their workers borrowed.
-use Rattle.std.specs.Prelude.{◌≡◌, ℕ, List, [], length, map, Result, Ok, Err, IfOk, IfErr, IsSomeAnd, Some}
+use Rattle.std.specs.Prelude.{◌≡◌, ◌≢◌, ℕ, List, [], length, map, Result, Ok, Err, IfOk, IfErr, IsSomeAnd, Some}
 use Rattle.std.specs.List.{slice_get, AllByRecursion}
 use Rattle.vx_base.specs.Columns.{ColumnData}
 use Rattle.vx_base.specs.Masks.{true_count}
@@ -15,6 +15,7 @@ use Rattle.vx_scan.specs.declared.plans.ScanPlans.{ScanPlans}
 use Rattle.vx_scan.specs.ChunkRows.{ChunkFaultsAt, ChunkReadsBadCode, IsPiece}
 use Rattle.vx_scan.specs.Outcomes.{data_of, ChunkAsks}
 use Rattle.vx_scan.specs.Plans.{projection_node}
+use Rattle.vx_scan.specs.Unhindered.{IsUnhindered}
 
 -- ---- what is borrowed
 
@@ -29,20 +30,31 @@ RestsOnValues (BadCode take row) = Unit {0}
 RestsOnValues (EvalFault row) = Unit {0}
 RestsOnValues error = ⊥
 
+-- the chunk asks for whole values: some selected row reads a code of an outermost take, or an outermost share
+abbrev pub AsksForWholes : ScanPlans → SelectedRows → Type 0
+AsksForWholes plans chosen = (n : ℕ) × ChunkAsks plans [] chosen n
+
+-- so it is of the chunk of that number, and nothing else hinders its rows
+abbrev pub IsAsking : ScanPlans → List SelectedRows → ℕ → Type 0
+IsAsking plans chunks x = IsSomeAnd (slice_get chunks x) (λ chunk. AsksForWholes plans chunk × IsUnhindered plans chunk)
+
 -- ---- what came of it
 
 -- the chunks that ran so, in their order
 abbrev pub loaned_of : List Loan → List ℕ
 loaned_of loans = map (λ (loan : Loan). loan.chunk) loans
 
--- The chunk asks for the values that it borrowed. A column has its shape, and an error may come of a value.
+-- The chunk asks for the values that it borrowed, at least one. A column has its shape, and an error may come of a value.
+-- Nothing else hinders its rows.
 pub record IsLoan (plans : ScanPlans) (chunks : List SelectedRows) (loan : Loan) : Type 0 where
   pub chunk : SelectedRows
   pub here : slice_get chunks loan.chunk ≡ Some chunk
+  pub some : loan.borrowed.items ≢ []
   pub borrowed : AreBorrowed plans chunk (data_of loan.borrowed.items)
   pub dtype : IfOk loan.result (λ column. column.dtype ≡ (projection_node plans).dtype)
   pub rows : IfOk loan.result (λ column. length column.values ≡ true_count chunk.mask)
   pub rests : IfErr loan.result RestsOnValues
+  pub unhindered : IsUnhindered plans chunk
 
 -- with these values in place of the plan's own, and by these bytes, the column is the chunk's piece, or the error has its
 -- cause

@@ -10,22 +10,25 @@ use Rattle.vx_base.specs.Sources.{SourceState, Rose, RoseBy, range_of}
 use Rattle.vx_claims.specs.Apart.{times, times_over, AreApart}
 use Rattle.vx_layout.specs.Rows.{file_leaves, segment_bytes}
 use Rattle.vx_lower.specs.Projected.{Projection, scan_reads}
+use Rattle.vx_plan.specs.Plans.{Plan, list_plan}
 use Rattle.vx_plan.specs.Refs.{number_of}
 use Rattle.vx_rows.specs.Derivations.{Leaves}
 use Rattle.vx_rows.specs.Reads.{Way, AnyOf, FindsBy, IsAmong, IsIn}
 use Rattle.vx_rows.specs.Renumbered.{way_renumbered}
+use Rattle.vx_steps.specs.Below.{StandsIn}
 use Rattle.vx_scan.specs.declared.errors.ScanError.{ScanError}
 use Rattle.vx_scan.specs.declared.errors.ScanError.TheVariants.{Unsupported, NoLocation, ReadFault, Stalled, BadSegment, BadCode, EvalFault, Memory}
 use Rattle.vx_scan.specs.Answer.{FileScan, scan_rows, scan_pieces, IsAnswer, ArePieces}
 use Rattle.vx_scan.specs.Asks.{IsLeftClear, KeepsFaults, Lasts}
 use Rattle.vx_scan.specs.Batches.{FaultsFrom}
 use Rattle.vx_scan.specs.Beginning.{Refuses}
-use Rattle.vx_scan.specs.Causes.{ScanReaches, ReadsList, LacksLocation, ReadsTorn, ReadsBadCode, FaultsAt}
+use Rattle.vx_scan.specs.Causes.{ScanReaches, ReadsDictionary, ReadsList, LacksLocation, ReadsTorn, ReadsBadCode, FaultsAt}
 use Rattle.vx_scan.specs.Fetched.{AreDistinct}
 use Rattle.vx_scan.specs.LeafRows.{ScanReadsLeaf}
 use Rattle.vx_scan.specs.Lent.{EachSource, EachSourceBy, FirstSource, SomeSourceBy, WhereAllTell}
 use Rattle.vx_scan.specs.Plans.{WhereTold, IsQuiet}
-use Rattle.vx_scan.specs.Preparing.{node_of}
+use Rattle.vx_scan.specs.PlanTexts.{held_tree}
+use Rattle.vx_scan.specs.Preparing.{node_of, IsTakeAs}
 use Rattle.vx_scan.specs.Reasons.{Reason, read_for, leaf_of, chunk_and_segment, taken_by}
 use Rattle.vx_scan.specs.Settling.{direct_and_segment, IsDirectAmong}
 use Rattle.vx_scan.specs.Valid.{IsValidScan}
@@ -102,21 +105,39 @@ pub record GainsOver (scan : FileScan) (befores afters : List SourceState) : Typ
   pub again : FirstSource (GainsAgain scan reruns) middles afters
   pub alone : length befores ≡ 1 → (afters ≡ middles) × (reruns ≡ [])
 
+-- ---- which plan an error names
+
+-- a list of that number
+abbrev pub IsListAs : ℕ → Plan → Type 0
+IsListAs n (list_plan head elements offsets validity) = head.number ≡ n
+IsListAs n p = ⊥
+
+-- a list of that number stands in the plan of the projection's tree, and some row reads a row of the list that it was
+-- lowered from
+abbrev pub ReadsListPlan : Projection → List ℕ → ℕ → Type 0
+ReadsListPlan p rows number = StandsIn (IsListAs number) (held_tree p) × ReadsList p rows (node_of p number)
+
+-- a take of that number stands in the plan of the projection's tree, where no share does, and some row reads a bad code of
+-- the dictionary that it was lowered from, at that row
+abbrev pub ReadsBadCodePlan : Leaves → Projection → List ℕ → ℕ → ℕ → Type 0
+ReadsBadCodePlan leaves p rows number row = StandsIn (IsTakeAs number) (held_tree p) × ReadsBadCode leaves p rows (node_of p number) row
+
 -- ---- why there are no batches
 
 -- of which files something is claimed: it holds of them all
 abbrev pub FileClaims : Type 1
 FileClaims = (List ℕ → Type 0) → Type 0
 
--- Why rows of the scan have none. A plan is named by its number, which tells the node that it was lowered from.
+-- Why rows of the scan have none. A plan is named by its number, by which it stands in the plan of the projection's tree;
+-- that tells the node that it was lowered from.
 abbrev pub CausedIn : FileClaims → FileScan → ℕ → List ℕ → ScanError → SourceState → SourceState → Type 0
-CausedIn Told scan limit rows (Unsupported list) before after = ReadsList scan.projection rows (node_of scan.projection (number_of list))
+CausedIn Told scan limit rows (Unsupported list) before after = ReadsListPlan scan.projection rows (number_of list)
 CausedIn Told scan limit rows (NoLocation segment) before after = LacksLocation scan.locations scan.projection rows segment
 CausedIn Told scan limit rows ReadFault before after = Rose before.faults after.faults
 CausedIn Told scan limit rows Stalled before after = RoseBy limit before.idle after.idle
 CausedIn Told scan limit rows (BadSegment segment) before after = Told (λ file. ReadsTorn (segment_bytes file scan.locations) scan.projection rows segment)
 CausedIn Told scan limit rows (BadCode take row) before after =
-    Told (λ file. ReadsBadCode (file_leaves file scan.locations) scan.projection rows (node_of scan.projection (number_of take)) row)
+    Told (λ file. ReadsBadCodePlan (file_leaves file scan.locations) scan.projection rows (number_of take) row)
 CausedIn Told scan limit rows (EvalFault row) before after = Told (λ file. FaultsAt (file_leaves file scan.locations) scan.projection rows row)
 CausedIn Told scan limit rows Memory before after = Unit {0}
 CausedIn Told scan limit rows error before after = ⊥
@@ -154,23 +175,38 @@ pub record FailsPiece (scan : FileScan) (limit : ℕ) (place : ℕ) (rows : List
   pub cause : CausedBy scan limit rows error before after
   pub faults : KeepsFaults before after ⊎ (error ≡ ReadFault)
 
--- The piece failed on the first source, once all workers were done, with its cause by the file that all sources tell. Where a
--- call on it failed, the error is that a read failed.
+-- The piece, whose rows read an outermost dictionary, failed on the first source, once all workers were done, with its cause
+-- by the file that all sources tell. Where a call on it failed, the error is that a read failed.
 pub record FailsPieceAgain (scan : FileScan) (limit : ℕ) (rows : List ℕ) (error : ScanError) (sources : List SourceState) (before after : SourceState) : Type 0 where
+  pub reads : ReadsDictionary scan.projection rows
   pub cause : CausedByAll scan limit rows error sources before after
   pub faults : KeepsFaults before after ⊎ (error ≡ ReadFault)
 
+-- No row reads a row of a list, and each segment that one reaches has a location.
+pub record AreUnhindered (scan : FileScan) (rows : List ℕ) : Type 0 where
+  pub no_list : (list : ℕ) → ReadsList scan.projection rows list → ⊥
+  pub located : (segment : ℕ) → ScanReaches scan.projection rows segment → segment < length scan.locations
+
+-- So it is of each of these pieces, but for the last of them.
+abbrev pub PiecesUnhinderedButLast : FileScan → List ℕ → Type 0
+PiecesUnhinderedButLast scan numbers = (x : ℕ) → IsAmong x numbers → IsSomeAnd (slice_get (scan_pieces scan) x) (AreUnhindered scan) ⊎ IsLast x numbers
+
+-- The rows of the piece at that place read an outermost dictionary.
+abbrev pub PieceReadsDictionary : FileScan → ℕ → Type 0
+PieceReadsDictionary scan x = IsSomeAnd (slice_get (scan_pieces scan) x) (ReadsDictionary scan.projection)
+
 -- Each of these pieces has an answer, or is the last of them. Where values are shared, it may also lie no lower than that
--- place.
+-- place, if its rows read an outermost dictionary.
 abbrev pub HaveAnswersButLast : Leaves → FileScan → Bool → ℕ → List ℕ → Type 0
 HaveAnswersButLast leaves scan shares place numbers =
-    (x : ℕ) → IsAmong x numbers → IsSomeAnd (slice_get (scan_pieces scan) x) (HasAnswer leaves scan.projection) ⊎ (IsLast x numbers ⊎ ((shares ≡ true) × (place ≤ x)))
+    (x : ℕ) → IsAmong x numbers → IsSomeAnd (slice_get (scan_pieces scan) x) (HasAnswer leaves scan.projection) ⊎ (IsLast x numbers ⊎ ((shares ≡ true) × (place ≤ x) × PieceReadsDictionary scan x))
 
 -- The lowest of the scan's pieces that has no batch, and why; those before it have answers. The workers ran these pieces, in
 -- ascending order and each one time at most: all before it, and it was the last of the worker whose source is its cause, or,
--- with several sources, one that failed on the first one once all workers were done. Those of a worker have answers, but for
--- its last and, with several sources, those that don't lie before the one that failed; and while the workers ran, no call
--- on a source failed at a piece before it.
+-- with several sources, one that reads an outermost dictionary and failed on the first one once all workers were done. Those
+-- of a worker have answers, but for its last and, with several sources, those that don't lie before the one that failed and
+-- read an outermost dictionary; and while the workers ran, no call on a source failed at a piece before it. Whatever the
+-- sources tell, neither those before it nor those of a worker, but for its last, read a list or lack a location.
 pub record LowestCause (scan : FileScan) (limit : ℕ) (error : ScanError) (befores afters : List SourceState) : Type 0 where
   pub place : ℕ
   pub rows : List ℕ
@@ -190,6 +226,9 @@ pub record LowestCause (scan : FileScan) (limit : ℕ) (error : ScanError) (befo
       ⊎ ((1 < length befores) × (1 ≤ times_over place claims) × FirstSource (FailsPieceAgain scan limit rows error befores) middles afters)
   pub lower : WhereAllTell befores (λ file. AllByRecursion (HasAnswer (file_leaves file scan.locations) scan.projection) (take place (scan_pieces scan)))
   pub stops : WhereAllTell befores (λ file. AllByRecursion (HaveAnswersButLast (file_leaves file scan.locations) scan (nat_lt 1 (length befores)) place) claims)
+  -- whatever the sources tell, no row of these reads a list, or reaches a segment without a location
+  pub unhindered : AllByRecursion (AreUnhindered scan) (take place (scan_pieces scan))
+  pub ran_unhindered : AllByRecursion (PiecesUnhinderedButLast scan) claims
 
 -- ---- the scan
 
@@ -202,6 +241,8 @@ pub record AnswersScan (scan : FileScan) (limit : ℕ) (result : Result (Vec Col
   pub dtype : IfOk result (λ batches. AllByRecursion (λ (batch : ColumnData). batch.dtype ≡ scan.projection.expression.dtype) batches.items)
   -- with a row for each row of its piece, whatever the sources tell
   pub rows : IfOk result (λ batches. map (λ (batch : ColumnData). length batch.values) batches.items ≡ map (λ (rows : List ℕ). length rows) (scan_pieces scan))
+  -- which read no list, and no segment without a location
+  pub unhindered : IfOk result (λ batches. AllByRecursion (AreUnhindered scan) (scan_pieces scan))
   -- and no call on a source failed
   pub faults : IfOk result (λ batches. EachSource KeepsFaults befores afters)
   -- only what the scan reaches was asked for, each time for another reason, whatever the result

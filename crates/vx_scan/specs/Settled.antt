@@ -143,11 +143,12 @@ abbrev pub told_sound : ScanPlans → List SelectedRows → List Loan → Settle
 told_sound plans chunks loans settled source P =
     (file : List ℕ) → source.file ≡ Some file → AreSound plans chunks settled.pieces.items loans (data_of settled.right.items) (bytes_of plans file) → P (bytes_of plans file)
 
--- A chunk of these failed, with its cause.
-pub record FailsNow (plans : ScanPlans) (chunks : List SelectedRows) (loans : List Loan) (Told : Claims) (error : ChunkError) (before after : SourceState) : Type 0 where
+-- A chunk of these failed, below the one that failed before, if one did, with its cause.
+pub record FailsNow (plans : ScanPlans) (chunks : List SelectedRows) (loans : List Loan) (Told : Claims) (old : Option ChunkError) (error : ChunkError) (before after : SourceState) : Type 0 where
   pub chunk : SelectedRows
   pub here : slice_get chunks error.chunk ≡ Some chunk
   pub loaned : 1 ≤ times error.chunk (loaned_of loans)
+  pub below : IsBelow old error.chunk
   pub cause : Causes Told plans [] chunk error.error before after
 
 -- The loans are settled in their order, up to the first that fails, or that lies no lower than the error.
@@ -157,8 +158,8 @@ pub record SettlesAll (plans : ScanPlans) (chunks : List SelectedRows) (loans : 
   pub all_pieces : (x : ℕ) → IsBelow new.error x → times x (numbers_of new.pieces.items) ≡ times x (numbers_of old.pieces.items) + times x (loaned_of loans)
   pub content : told_sound plans chunks loans old before (λ bytes. All (IsPieceOf (leaves_of bytes) plans chunks) new.pieces.items)
   pub dtype : All (HasDtype plans) old.pieces.items → All (HasDtype plans) new.pieces.items
-  pub rows : All (HasItsRows chunks) old.pieces.items → All (HasItsRows chunks) new.pieces.items
-  pub cause : (new.error ≡ old.error) ⊎ IsSomeAnd new.error (λ error. FailsNow plans chunks loans (told_sound plans chunks loans old before) error before after)
+  pub rows : All (HasItsRows plans chunks) old.pieces.items → All (HasItsRows plans chunks) new.pieces.items
+  pub cause : (new.error ≡ old.error) ⊎ IsSomeAnd new.error (λ error. FailsNow plans chunks loans (told_sound plans chunks loans old before) old.error error before after)
   pub lowest : IsAtMost new.error old.error
   pub faults : KeepsFaults before after ⊎ IsSomeAnd new.error (λ error. error.error ≡ ReadFault)
   pub reruns : AllByRecursion (IsRerun plans chunks (told_sound plans chunks loans old before)) new.reruns.items

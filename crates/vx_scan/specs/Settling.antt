@@ -76,11 +76,13 @@ rerun_chunks reruns = map (λ (rerun : Rerun). rerun.chunk) reruns
 
 -- ---- all of it
 
--- A chunk that had run with borrowed values failed, once these were tested or it ran again, with its cause.
+-- A chunk that had run with borrowed values failed, once these were tested or it ran again, below the one that failed
+-- before, if one did, with its cause.
 pub record FailsSettled (plans : ScanPlans) (chunks : List SelectedRows) (joined : Joined) (error : ChunkError) (before after : SourceState) : Type 0 where
   pub chunk : SelectedRows
   pub here : slice_get chunks error.chunk ≡ Some chunk
   pub loaned : 1 ≤ times error.chunk (loaned_of joined.loans.items)
+  pub below : IsBelow joined.error error.chunk
   pub cause : Causes (told_right plans chunks joined before) plans [] chunk error.error before after
 
 pub record Settles (plans : ScanPlans) (chunks : List SelectedRows) (joined : Joined) (outcome : Outcome) (before after : SourceState) : Type 0 where
@@ -93,7 +95,7 @@ pub record Settles (plans : ScanPlans) (chunks : List SelectedRows) (joined : Jo
   -- they are right by the file if what was joined is, whatever was borrowed
   pub content : told_right plans chunks joined before (λ bytes. All (IsPieceOf (leaves_of bytes) plans chunks) outcome.pieces.items)
   pub dtype : All (HasDtype plans) joined.pieces.items → All (HasDtype plans) outcome.pieces.items
-  pub rows : All (HasItsRows chunks) joined.pieces.items → All (HasItsRows chunks) outcome.pieces.items
+  pub rows : All (HasItsRows plans chunks) joined.pieces.items → All (HasItsRows plans chunks) outcome.pieces.items
   -- the error is the one that was joined, or that of a lower chunk which failed now
   pub cause : IfSome outcome.error (λ error. (error ≡ no_memory) ⊎ ((joined.error ≡ Some error) ⊎ FailsSettled plans chunks joined error before after))
   pub lowest : IsAtMost outcome.error joined.error

@@ -28,6 +28,7 @@ pub record IsUnread (scan : ScanData) : Type 0 where
 
 pub record IsAtStart (adaptor : AdaptorData) : Type 0 where
   pub scan : IsUnread adaptor.scan
+  pub first : adaptor.first ≡ 0
   pub asked : adaptor.asked ≡ 0
   pub held : adaptor.held ≡ None
   pub state : adaptor.state ≡ NeedsCompute

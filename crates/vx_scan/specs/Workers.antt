@@ -25,6 +25,7 @@ use Rattle.vx_scan.specs.Loans.{loaned_of, IsLoan, IsLoanBy}
 use Rattle.vx_scan.specs.Outcomes.{data_of, told_by, Causes}
 use Rattle.vx_scan.specs.Plans.{projection_node, projection_plan, AreInOrder}
 use Rattle.vx_scan.specs.Reasons.{Reason, leaf_of, segment_of, chunk_and_segment, take_and_segment, IsReasonAmong}
+use Rattle.vx_scan.specs.Unhindered.{IsUnhindered}
 
 -- ---- the pieces
 
@@ -40,9 +41,9 @@ IsPieceOf leaves plans chunks piece = IsSomeAnd (slice_get chunks piece.chunk) (
 abbrev pub HasDtype : ScanPlans → Piece → Type 0
 HasDtype plans piece = piece.column.dtype ≡ (projection_node plans).dtype
 
--- and as many rows as its chunk selects
-abbrev pub HasItsRows : List SelectedRows → Piece → Type 0
-HasItsRows chunks piece = IsSomeAnd (slice_get chunks piece.chunk) (λ chunk. length piece.column.values ≡ true_count chunk.mask)
+-- and as many rows as its chunk selects, none of which is hindered
+abbrev pub HasItsRows : ScanPlans → List SelectedRows → Piece → Type 0
+HasItsRows plans chunks piece = IsSomeAnd (slice_get chunks piece.chunk) (λ chunk. (length piece.column.values ≡ true_count chunk.mask) × IsUnhindered plans chunk)
 
 -- ---- the source
 
@@ -126,7 +127,7 @@ pub record Worked (shares : Bool) (claims : Claims) (plans : ScanPlans) (chunks 
   -- each piece is its chunk's by the file
   pub content : told_by plans before (λ bytes. All (IsPieceOf (leaves_of bytes) plans chunks) lane.pieces.items)
   pub dtype : All (HasDtype plans) lane.pieces.items
-  pub rows : All (HasItsRows chunks) lane.pieces.items
+  pub rows : All (HasItsRows plans chunks) lane.pieces.items
   -- chunks that ran with borrowed values have what comes of these by the file; a worker that is alone has none
   pub loans : All (IsLoan plans chunks) lane.loans.items
   pub loans_by : told_by plans before (λ bytes. All (IsLoanBy bytes plans chunks) lane.loans.items)

@@ -1,6 +1,6 @@
 //! The adaptor between a polled scan and a session: each read of the scan becomes one fetch.
 
-ghost use Rattle.std.specs.Prelude.{◌≡◌, ◌≤◌, length};
+ghost use Rattle.std.specs.Prelude.{◌≡◌, ◌+◌, ◌^◌, ◌<◌, ◌≤◌, length};
 ghost use Rattle.vx_base.specs.Limits.{most_segments};
 ghost use Rattle.vx_scan.specs.AdaptorData.{IsReady};
 ghost use Rattle.vx_scan.specs.Computes.{after_result};
@@ -87,18 +87,21 @@ fn step_of(
     }
 }
 
-/// A scan whose reads are handed out as fetches: fetch `n` is the `n`-th read of the scan, counted from 0. An output
-/// that came behind a batch of fetches is held, with the number of its split, until it is handed on.
+/// A scan whose reads are handed out as fetches: fetch `n` is the `n`-th read of the scan behind the `first` ones, which it
+/// handed out before the adaptor was made, counted from 0. An output that came behind a batch of fetches is held, with the
+/// number of its split, until it is handed on.
 #[derive(Drop)]
 pub struct ScanAdaptor<'a> {
     alloc: Global,
     scan: Scan<'a>,
     locations: &'a [SegmentLocation],
+    first: u64,
     asked: u64,
     held: Option<(usize, Column)>,
     state: State,
     ghost few: { length locations.now ≤ most_segments },
-    ghost ready: { IsReady locations.now state asked scan.progress.reads },
+    ghost fits: { first + asked < 2 ^ 64 },
+    ghost ready: { IsReady locations.now state first asked scan.progress.reads },
 }
 
 impl<'a> ScanAdaptor<'a> {
@@ -107,21 +110,23 @@ impl<'a> ScanAdaptor<'a> {
     ghost use Rattle.vx_scan.specs.Adaptors.{adaptor_data};
     ghost use Rattle.vx_scan.specs.Computes.{ComputeGives, ResultGives};
 
-    /// An adaptor of a scan that handed out no read yet, and of where each segment lies, by the segment's number. It
-    /// takes no memory.
+    /// An adaptor of a scan, and of where each segment lies, by the segment's number. Reads that the scan handed out before
+    /// are not the adaptor's: it makes no fetch of them, and takes no bytes for them. It takes no memory.
     pub fn new(alloc: Global, scan: Scan<'a>, locations: &'a [SegmentLocation]) -> ScanAdaptor<'a>
         requires few { length locations.now ≤ most_segments }
-        requires fresh { scan.progress.reads.handed ≡ 0 }
         ensures locations { result.locations.now ≡ locations.now }
         ensures scan { (adaptor_data result).scan ≡ scan.entry }
+        ensures first { (adaptor_data result).first ≡ scan.entry.progress.reads.handed }
         ensures asked { (adaptor_data result).asked ≡ 0 }
         ensures held { (adaptor_data result).held ≡ None }
         ensures state { (adaptor_data result).state ≡ states.NeedsCompute }
     {
+        let first = scan.reads_handed_out();
         ScanAdaptor {
             alloc,
             scan,
             locations,
+            first,
             asked: 0,
             held: None,
             state: State::NeedsCompute,
@@ -171,7 +176,7 @@ impl<'a> ScanAdaptor<'a> {
             return Ok(AdaptorStep::Piece(column));
         }
         let mut batch = Vec::new(self.alloc);
-        match gather(&mut self.scan, self.locations, &mut batch) {
+        match gather(&mut self.scan, self.locations, self.first, &mut batch) {
             Ok(turn) => {
                 self.asked += batch.len() as u64;
                 Ok(step_of(batch, turn, &mut self.held, &mut self.state))
@@ -188,7 +193,8 @@ impl<'a> ScanAdaptor<'a> {
     ///
     /// # Errors
     ///
-    /// `NotOutstanding` where no fetch of that number was handed out, or its bytes came already. Then all is as before.
+    /// `NotOutstanding` where the adaptor handed out no fetch of that number, or its bytes came already. Then all is as
+    /// before.
     pub fn set_io_result(
         &mut self,
         request: IoRequestId,
@@ -201,7 +207,7 @@ impl<'a> ScanAdaptor<'a> {
         if number >= self.asked {
             return Err(AdaptorError::NotOutstanding);
         }
-        match self.scan.deliver(ReadId(number), bytes) {
+        match self.scan.deliver(ReadId(self.first + number), bytes) {
             Ok(()) => {
                 self.state = self.state.after_result();
                 Ok(())

@@ -158,8 +158,10 @@ impl ScanBuilder {
 
     /// Runs the scan over the sources, with a worker for each: the projection at the scan's rows, a column for each chunk
     /// with a row of the scan, in the order of the file. Each worker claims chunks and runs them on its own source; each
-    /// stops at a chunk that fails, and the lowest chunk that failed tells the error. Several workers share whole values
-    /// of dictionaries, which are tested on the first source once all are done. It returns when that is done too.
+    /// stops at a chunk that fails, unless its error may come of a value that it borrowed, and the lowest chunk that failed
+    /// tells the error. A chunk that reads a list, or a segment without a location, is refused before anything is asked for
+    /// it. Several workers share whole values of dictionaries, which are tested on the first source once all are done. It
+    /// returns when that is done too.
     pub fn into_batches<R: Threads + Wait + Sync, S: SegmentSource + Send>(
         self,
         rt: &R,

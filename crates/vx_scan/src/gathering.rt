@@ -4,7 +4,7 @@ ghost use Rattle.std.specs.Prelude.{◌≡◌, ◌≤◌, [], length};
 ghost use Rattle.vx_base.specs.Limits.{most_segments};
 ghost use Rattle.vx_scan.specs.AdaptorData.{AreAsked};
 ghost use Rattle.vx_scan.specs.Fetched.{fetch_at};
-ghost use Rattle.vx_scan.specs.Gathered.{GatherGives, StepGives};
+ghost use Rattle.vx_scan.specs.Gathered.{count_behind, GatherGives, StepGives};
 
 use crate::adaptor_errors::AdaptorError;
 use vx_base::SegmentLocation;
@@ -36,17 +36,18 @@ fn step(scan: &mut Scan<'_>) -> Result<Turn, AdaptorError>
     }
 }
 
-/// Steps the scan as long as it wants reads, and adds a fetch of each to the batch. It gives the first turn that wants
-/// none.
+/// Steps the scan as long as it wants reads, and adds a fetch of each to the batch, numbered behind the first reads. It
+/// gives the first turn that wants none.
 pub(crate) fn gather(
     scan: &mut Scan<'_>,
     locations: &[SegmentLocation],
+    first: u64,
     batch: &mut Vec<IoRequest>,
 ) -> Result<Turn, AdaptorError>
     requires few { length locations.now ≤ most_segments }
     requires empty { batch.old.items ≡ [] }
-    requires asked { AreAsked locations.now scan.old.progress.reads.handed scan.old.progress.reads }
-    ensures { GatherGives locations.now result batch.new.items scan.old scan.new }
+    requires asked { AreAsked locations.now first (count_behind first scan.old.progress.reads) scan.old.progress.reads }
+    ensures { GatherGives locations.now first result batch.new.items scan.old scan.new }
 {
     'gathering: loop {
         match step(scan) {
@@ -55,7 +56,7 @@ pub(crate) fn gather(
                 if segment >= locations.len() {
                     return Err(AdaptorError::NoLocation(read.segment_id));
                 }
-                let request = fetch(read.id.0 as u32, locations[segment]);
+                let request = fetch((read.id.0 - first) as u32, locations[segment]);
                 if batch.push(request).is_err() {
                     return Err(AdaptorError::Memory);
                 }

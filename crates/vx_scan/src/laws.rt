@@ -3,6 +3,7 @@
 ghost use Rattle.vx_scan.specs.ChunkLaws.{UsedGivePiece, UsedHaveCause, WholeGivePiece, WholeHaveCause};
 ghost use Rattle.vx_scan.specs.Counts.{AllSourcesAreCounted, AsksAgainAreCounted, AsksAreCounted, OneSourceIsCounted};
 ghost use Rattle.vx_scan.specs.Laws.{AnswerIsOne, ValidScanIsAnswered, ValidScanBegins, FaultyReadIsNoAnswer, FaultIsNoAnswer, PiecesJoin, PiecesAnswer, PlanTextIsOne};
+ghost use Rattle.vx_scan.specs.PlainCauses.{ErrorsHavePlainCauses};
 ghost use Rattle.vx_scan.specs.SourceCounts.{FirstIsCountedAgain, SourceIsCounted, SourceIsCountedByChunks};
 
 /// A valid scan is not refused before it begins, and has an answer; no scan has two. There is none where a row has a
@@ -13,6 +14,12 @@ pub fn scans_have_answers()
     ensures one { AnswerIsOne }
     ensures faulty { FaultyReadIsNoAnswer }
     ensures fault { FaultIsNoAnswer }
+{}
+
+/// Each error of a scan has its cause in the scan's own rows, by the file that all sources tell, or in what a source counted
+/// from before the call to after it: a plain one, whichever chunk failed, on whichever source, and when.
+pub fn errors_have_causes()
+    ensures { ErrorsHavePlainCauses }
 {}
 
 /// The pieces of a scan, one after another, are its rows, and batches with their values are its answer.

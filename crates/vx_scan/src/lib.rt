@@ -10,10 +10,9 @@
 //! - Whole values by plan: [`Book`], and [`ValueCache`], which keeps one under a lock.
 //! - The plan of a projection as a text: [`plan_text`].
 //! - Why there are no rows: [`ScanError`].
-//! - The laws of answers: [`scans_have_answers`], [`pieces_are_the_answer`]; of values that were used:
-//!   [`used_values_serve_chunks`]; of asks: [`asks_are_counted`],
-//!   [`claimed_asks_are_counted`]; of texts: [`plans_have_one_text`]; by hand: [`answers_by_hand`], [`faults_by_hand`],
-//!   [`pieces_by_hand`].
+//! - The laws of answers: [`scans_have_answers`], [`pieces_are_the_answer`]; of errors: [`errors_have_causes`]; of values
+//!   that were used: [`used_values_serve_chunks`]; of asks: [`asks_are_counted`], [`claimed_asks_are_counted`]; of texts:
+//!   [`plans_have_one_text`]; by hand: [`answers_by_hand`], [`faults_by_hand`], [`pieces_by_hand`].
 #![tactic(auto)]
 
 mod adaptor_errors;
@@ -39,6 +38,7 @@ mod plan_texts;
 mod plans;
 mod prepares;
 mod preparing;
+mod refusing;
 mod rerunning;
 mod runs;
 mod settings;
@@ -59,8 +59,8 @@ pub use executes::execute;
 pub use files::ScanFile;
 pub use lanes::{ChunkError, Piece};
 pub use laws::{
-    asks_are_counted, claimed_asks_are_counted, pieces_are_the_answer, plans_have_one_text,
-    scans_have_answers, used_values_serve_chunks,
+    asks_are_counted, claimed_asks_are_counted, errors_have_causes, pieces_are_the_answer,
+    plans_have_one_text, scans_have_answers, used_values_serve_chunks,
 };
 pub use outcomes::{ChunkOutcome, Outcome, Rerun};
 pub use plan_texts::plan_text;

@@ -9,10 +9,11 @@ ghost use Rattle.vx_scan.specs.Plans.{ArePlans, IsChunkOf};
 ghost use Rattle.vx_scan.specs.Workers.{IsFreshLane, Worked};
 
 use crate::books::ValueCache;
-use crate::borrowing::{Shared, enlist, run_shared};
+use crate::borrowing::{Shared, enlist};
 use crate::lanes::{Lane, want_of_memory};
 use crate::outcomes::{Ran, nothing_handed};
 use crate::plans::ScanPlans;
+use crate::refusing::run_unhindered;
 use std::mem;
 use std::sync::Wait;
 use std::thread::{Threads, join_mut};
@@ -23,7 +24,8 @@ use vx_splits::SelectedRows;
 /// Claims chunks and runs them on the source, until none is left or one fails. What a chunk decoded and made is handed on
 /// to the next one of this worker, so that it reads no whole values twice, and no leaf that stays with it. Where values are
 /// shared, a chunk borrows from the cache what the worker lacks; a chunk that borrowed doesn't stop the worker where its
-/// error may come of a value that is wrong.
+/// error may come of a value that is wrong. A chunk that reads a list, or a segment without a location, is refused before
+/// anything is asked for it.
 fn work<R: Wait, S: SegmentSource>(
     rt: &R,
     plans: &ScanPlans,
@@ -56,7 +58,7 @@ fn work<R: Wait, S: SegmentSource>(
         lane.claimed.push_reserved(number);
         let handed = mem::replace(&mut lane.handed, nothing_handed(lane.alloc));
         let chunk = &chunks[number as usize];
-        let Shared { ran, borrowed } = run_shared(
+        let Shared { ran, borrowed } = run_unhindered(
             rt, lane.alloc, plans, chunk, cache, shares, source, handed,
         );
         let Ran { piece, handed } = ran;

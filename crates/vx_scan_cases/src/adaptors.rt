@@ -1,6 +1,6 @@
 //! Stories of an adaptor: what it gives and takes, step by step.
 
-ghost use Rattle.std.specs.Prelude.{◌≡◌, ◌<◌, ◌≤◌, length};
+ghost use Rattle.std.specs.Prelude.{◌<◌, ◌≤◌, length};
 ghost use Rattle.vx_base.specs.Limits.{most_segments};
 ghost use Rattle.vx_plan.specs.Refs.{number_of};
 
@@ -103,6 +103,14 @@ fn write_story(
     Ok(())
 }
 
+/// The scan behind so many steps of its own.
+fn stepped<'a>(mut scan: Scan<'a>, steps: usize) -> Scan<'a> {
+    for _ in 0..steps {
+        drop(scan.step());
+    }
+    scan
+}
+
 /// Appends the story of an adaptor of the scan.
 fn write_scanned(
     alloc: Global,
@@ -112,7 +120,6 @@ fn write_scanned(
     out: &mut String,
 ) -> Result<(), AllocError>
     requires few { length locations.now ≤ most_segments }
-    requires fresh { scan.progress.reads.handed ≡ 0 }
 {
     let mut adaptor = ScanAdaptor::new(alloc, scan, locations);
     let written = write_story(alloc, &mut adaptor, story, out);
@@ -120,7 +127,8 @@ fn write_scanned(
     written
 }
 
-/// Appends the story of an adaptor of a scan of splits; behind `2 of ` so many of them may be active at once.
+/// Appends the story of an adaptor of a scan of splits; behind `2 of ` so many of them may be active at once, and behind
+/// `1 before ` the scan takes so many steps before the adaptor is made.
 fn write_planned(
     alloc: Global,
     plans: &Lowered,
@@ -132,11 +140,16 @@ fn write_planned(
     requires few { length locations.now ≤ most_segments }
 {
     let (words, story) = words.split_once(" | ").unwrap_or((words, ""));
+    let (steps, words) = words.split_once(" before ").unwrap_or(("0", words));
+    let steps = steps.parse::<usize>().unwrap_or(0);
     let (active, words) = words.split_once(" of ").unwrap_or(("1", words));
     let active = active.parse::<usize>().unwrap_or(1);
     let splits = splits_of(alloc, words);
     match Scan::try_new(alloc, &plans.table, plans.root, splits) {
-        Ok(scan) => write_scanned(alloc, scan.with_max_active(active), locations, story, out),
+        Ok(scan) => {
+            let scan = stepped(scan.with_max_active(active), steps);
+            write_scanned(alloc, scan, locations, story, out)
+        }
         Err(_) => out.push_str(" out of range;"),
     }
 }

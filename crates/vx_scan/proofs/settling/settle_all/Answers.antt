@@ -8,7 +8,7 @@ use Rattle.vx_scan.specs.Plans.{IsChunkOf}
 use Rattle.vx_scan.specs.Settled.{IsNotBelow}
 use Rattle.vx_scan.proofs.Got.{each_got, got_at}
 use Rattle.vx_scan.proofs.SettledEnds.{settles_before, settles_done, settles_failing}
-use Rattle.vx_scan.proofs.SettlingAll.{loan_inside, loan_of_chunk, next_loan, settling_more, settling_none, IsNext}
+use Rattle.vx_scan.proofs.SettlingAll.{loan_inside, loan_of_chunk, loan_unhindered, next_loan, settling_more, settling_none, IsNext}
 use Rattle.vx_scan.proofs.settling.settle_all.Goals as goal
 
 pub loop-loan-init : goal.loop-loan-init
@@ -68,7 +68,7 @@ loop-loan-preserved g c =
     let here : slice_get c.args.chunks.now c.in-Some.loan.chunk ≡ Some c.index-chunks-number.result = got_at c.args.chunks.now c.in-Some.loan.chunk c.index-chunks-number.result less c.index-chunks-number.is in
     let next : IsNext c.args.plans.now c.args.chunks.now c.args.loans.items c.loop-loan.yielded c.in-Some.loan c.index-chunks-number.result = record { rest = c.next.new.self.rest.items; all = all; here = here; once = c.requires.once } in
     let kept : (column : ColumnData) × (c.settle_one-one.result ≡ Ok column) × (c.keep_piece.new.pieces.items ≡ c.loop-loan.settled.pieces.items ++ record { chunk = c.in-Some.loan.chunk; column = column } ∷ []) = c.in_default.ensures in (
-      settling_more c.args.plans.now c.args.chunks.now c.args.loans.items c.loop-loan.yielded c.args.settled.now c.loop-loan.settled _ c.in-Some.loan c.index-chunks-number.result c.settle_one-one.result kept.0 (g.S.SegmentSource.state c.args.source.now) (g.S.SegmentSource.state c.loop-loan.source) (g.S.SegmentSource.state c.settle_one-one.new.source) next c.loop-loan.invariant.0 c.settle_one-one.ensures kept.1 refl kept.2,
+      settling_more c.args.plans.now c.args.chunks.now c.args.loans.items c.loop-loan.yielded c.args.settled.now c.loop-loan.settled _ c.in-Some.loan c.index-chunks-number.result c.settle_one-one.result kept.0 (g.S.SegmentSource.state c.args.source.now) (g.S.SegmentSource.state c.loop-loan.source) (g.S.SegmentSource.state c.settle_one-one.new.source) next c.loop-loan.invariant.0 c.settle_one-one.ensures kept.1 refl kept.2 (loan_unhindered c.args.plans.now c.args.chunks.now c.in-Some.loan c.index-chunks-number.result is here),
       grind (arith, common_steps),
     )
 

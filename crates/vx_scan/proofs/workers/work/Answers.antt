@@ -3,7 +3,7 @@ use Rattle.std.specs.Prelude.{slice_get}
 use Rattle.vx_claims.specs.Views.{above}
 use Rattle.vx_scan.specs.declared.lanes.Lane.{Lane}
 use Rattle.vx_scan.specs.declared.outcomes.HandedOn.{HandedOn}
-use Rattle.vx_scan.specs.Borrowing.{RunsShared}
+use Rattle.vx_scan.specs.Hindered.{RunsIfUnhindered}
 use Rattle.vx_scan.specs.Outcomes.{CanHandOn}
 use Rattle.vx_scan.specs.Plans.{IsChunkOf}
 use Rattle.vx_scan.proofs.Got.{each_got, got_at}
@@ -17,16 +17,16 @@ working-init g c = works_none c.args.shares c.args.claims.now c.args.plans.now c
 pub working-preserved : goal.working-preserved
 working-preserved g c =
     let number : ℕ = c.in-Some.number in
-    let lane : Lane = record { alloc = c.working.lane.alloc; seat = c.claim.new.self; claimed = c.push_reserved.new.self; pieces = c.reserve-else-is_err.new.self; loans = c.reserve-else-is_err-2.new.self; handed = c.run_shared-ran.result.ran.handed; error = c.working.lane.error } in
+    let lane : Lane = record { alloc = c.working.lane.alloc; seat = c.claim.new.self; claimed = c.push_reserved.new.self; pieces = c.reserve-else-is_err.new.self; loans = c.reserve-else-is_err-2.new.self; handed = c.run_unhindered-ran.result.ran.handed; error = c.working.lane.error } in
     let numbers : c.push_reserved.new.self.items ≡ c.working.lane.claimed.items ++ number ∷ [] = search rules in
     let pieces : lane.pieces.items ≡ c.working.lane.pieces.items = search rules in
     let loans : lane.loans.items ≡ c.working.lane.loans.items = search rules in
     let here : slice_get c.args.chunks.now number ≡ Some c.index-chunks-number.result = got_at c.args.chunks.now number c.index-chunks-number.result (search rules) c.index-chunks-number.is in
     let one : IsChunkOf c.args.plans.now c.index-chunks-number.result = each_got (IsChunkOf c.args.plans.now) c.args.chunks.now number c.index-chunks-number.result here c.requires.chunks in
     let later : above c.working.lane.claimed.items ≤ number = subst (λ (ns : List ℕ). above ns ≤ number) (sym c.working.invariant.claimed) c.in-Some.ensures.gives.behind in
-    let runs = subst (λ (h : HandedOn). RunsShared c.args.shares c.args.plans.now c.index-chunks-number.result h c.run_shared-ran.result (g.S.SegmentSource.state c.working.source) (g.S.SegmentSource.state c.run_shared-ran.new.source)) c.replace-handed.ensures.value c.run_shared-ran.ensures in
-    goes_on c.args.shares c.args.claims.now c.args.plans.now c.args.chunks.now number c.index-chunks-number.result c.run_shared-ran.result c.working.lane lane c.enlist.new.lane
-    (g.S.SegmentSource.state c.args.source.now) (g.S.SegmentSource.state c.working.source) (g.S.SegmentSource.state c.run_shared-ran.new.source) c.working.invariant
+    let runs = subst (λ (h : HandedOn). RunsIfUnhindered c.args.shares c.args.plans.now c.index-chunks-number.result h c.run_unhindered-ran.result (g.S.SegmentSource.state c.working.source) (g.S.SegmentSource.state c.run_unhindered-ran.new.source)) c.replace-handed.ensures.value c.run_unhindered-ran.ensures in
+    goes_on c.args.shares c.args.claims.now c.args.plans.now c.args.chunks.now number c.index-chunks-number.result c.run_unhindered-ran.result c.working.lane lane c.enlist.new.lane
+    (g.S.SegmentSource.state c.args.source.now) (g.S.SegmentSource.state c.working.source) (g.S.SegmentSource.state c.run_unhindered-ran.new.source) c.working.invariant
     (record {
       own = c.in-Some.ensures.seat;
       parts = search rules;
@@ -36,21 +36,21 @@ working-preserved g c =
       loans = loans;
       handed = refl;
       error = c.working.invariant.error;
-    }) (record { good = c.len-plans.ensures.good; known = c.requires.plans.known }) one here later runs c.enlist.result c.if-not-enlist.false c.enlist.ensures
+    }) (record { good = c.len-plans.ensures.good; known = c.requires.plans.known }) one here later runs.runs runs.unhindered c.enlist.result c.if-not-enlist.false c.enlist.ensures
 
 pub returns-then-not-enlist : goal.returns-then-not-enlist
 returns-then-not-enlist g c =
     let number : ℕ = c.in-Some.number in
-    let lane : Lane = record { alloc = c.working.lane.alloc; seat = c.claim.new.self; claimed = c.push_reserved.new.self; pieces = c.reserve-else-is_err.new.self; loans = c.reserve-else-is_err-2.new.self; handed = c.run_shared-ran.result.ran.handed; error = c.working.lane.error } in
+    let lane : Lane = record { alloc = c.working.lane.alloc; seat = c.claim.new.self; claimed = c.push_reserved.new.self; pieces = c.reserve-else-is_err.new.self; loans = c.reserve-else-is_err-2.new.self; handed = c.run_unhindered-ran.result.ran.handed; error = c.working.lane.error } in
     let numbers : c.push_reserved.new.self.items ≡ c.working.lane.claimed.items ++ number ∷ [] = search rules in
     let pieces : lane.pieces.items ≡ c.working.lane.pieces.items = search rules in
     let loans : lane.loans.items ≡ c.working.lane.loans.items = search rules in
     let here : slice_get c.args.chunks.now number ≡ Some c.index-chunks-number.result = got_at c.args.chunks.now number c.index-chunks-number.result (search rules) c.index-chunks-number.is in
     let one : IsChunkOf c.args.plans.now c.index-chunks-number.result = each_got (IsChunkOf c.args.plans.now) c.args.chunks.now number c.index-chunks-number.result here c.requires.chunks in
     let later : above c.working.lane.claimed.items ≤ number = subst (λ (ns : List ℕ). above ns ≤ number) (sym c.working.invariant.claimed) c.in-Some.ensures.gives.behind in
-    let runs = subst (λ (h : HandedOn). RunsShared c.args.shares c.args.plans.now c.index-chunks-number.result h c.run_shared-ran.result (g.S.SegmentSource.state c.working.source) (g.S.SegmentSource.state c.run_shared-ran.new.source)) c.replace-handed.ensures.value c.run_shared-ran.ensures in
-    stops c.args.shares c.args.claims.now c.args.plans.now c.args.chunks.now number c.index-chunks-number.result c.run_shared-ran.result c.working.lane lane c.enlist.new.lane
-    (g.S.SegmentSource.state c.args.source.now) (g.S.SegmentSource.state c.working.source) (g.S.SegmentSource.state c.run_shared-ran.new.source) c.working.invariant
+    let runs = subst (λ (h : HandedOn). RunsIfUnhindered c.args.shares c.args.plans.now c.index-chunks-number.result h c.run_unhindered-ran.result (g.S.SegmentSource.state c.working.source) (g.S.SegmentSource.state c.run_unhindered-ran.new.source)) c.replace-handed.ensures.value c.run_unhindered-ran.ensures in
+    stops c.args.shares c.args.claims.now c.args.plans.now c.args.chunks.now number c.index-chunks-number.result c.run_unhindered-ran.result c.working.lane lane c.enlist.new.lane
+    (g.S.SegmentSource.state c.args.source.now) (g.S.SegmentSource.state c.working.source) (g.S.SegmentSource.state c.run_unhindered-ran.new.source) c.working.invariant
     (record {
       own = c.in-Some.ensures.seat;
       parts = search rules;
@@ -60,10 +60,10 @@ returns-then-not-enlist g c =
       loans = loans;
       handed = refl;
       error = c.working.invariant.error;
-    }) (record { good = c.len-plans.ensures.good; known = c.requires.plans.known }) one here later runs c.enlist.result c.if-not-enlist.true c.enlist.ensures
+    }) (record { good = c.len-plans.ensures.good; known = c.requires.plans.known }) one here later runs.runs runs.unhindered c.enlist.result c.if-not-enlist.true c.enlist.ensures
 
-pub run_shared-ran-requires-clause-handed : goal.run_shared-ran-requires-clause-handed
-run_shared-ran-requires-clause-handed g c = subst (CanHandOn c.args.plans.now) (sym c.replace-handed.ensures.value) c.working.invariant.ran.can
+pub run_unhindered-ran-requires-clause-handed : goal.run_unhindered-ran-requires-clause-handed
+run_unhindered-ran-requires-clause-handed g c = subst (CanHandOn c.args.plans.now) (sym c.replace-handed.ensures.value) c.working.invariant.ran.can
 
 pub returns-in_default : goal.returns-in_default
 returns-in_default g c =

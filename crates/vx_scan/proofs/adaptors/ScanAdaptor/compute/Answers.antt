@@ -1,7 +1,7 @@
 use Rattle.std.proofs.Common.{◌≡◌, ◌≢◌, ◌+◌, ◌∙◌, None, length, sym, inr, arith, rules}
 use Rattle.vx_scan.specs.declared.adaptors.State.TheVariants as states
 use Rattle.vx_scan.specs.Adaptors.{adaptor_data}
-use Rattle.vx_scan.proofs.Computing.{computed_asked, computed_few, computes, stops}
+use Rattle.vx_scan.proofs.Computing.{computed_asked, computed_few, computed_fits, computes, stops}
 use Rattle.vx_scan.proofs.adaptors.ScanAdaptor.compute.Goals as goal
 
 pub overflow_add-self : goal.overflow_add-self
@@ -16,6 +16,7 @@ invariant_of-self-in-Ok c =
     let counted : c.args.self.now.asked + c.len.result ≡ c.args.self.now.asked + length c.gather.new.batch.items = omega (arith, c.len.ensures) in
     record {
       few = c.args.self.now.few;
+      fits = computed_fits c.args.self.now.locations.now c.gather.new.batch.items c.in-Ok.turn (adaptor_data c.args.self.now) c.gather.new.scan (c.args.self.now.asked + c.len.result) (c.args.self.now.ready live) counted (c.in-Ok.ensures {u = tt}) c.args.self.now.fits;
       ready = λ differs. computed_asked c.args.self.now.locations.now c.gather.new.batch.items c.in-Ok.turn (adaptor_data c.args.self.now) c.gather.new.scan (c.args.self.now.asked + c.len.result) (c.args.self.now.ready live) counted (c.in-Ok.ensures {u = tt});
     }
 
