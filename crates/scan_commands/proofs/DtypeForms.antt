@@ -1,19 +1,18 @@
 -- Names with and without their `?`, and dtypes by the parts of their JSON.
-use Rattle.std.proofs.Common.{◌≡◌, ℕ, zero, suc, ◌+◌, ◌-◌, ◌<◌, ◌≤◌, ◌++◌, Bool, true, false, eqb, List, [], ◌∷◌, length, take, drop, get_or, map, Option, Some, None, String, Global, string_bytes, refl, sym, ap, ◌∙◌, arith}
+use Rattle.std.proofs.Common.{◌≡◌, ℕ, zero, suc, ◌-◌, ◌<◌, ◌≤◌, ◌++◌, Bool, true, false, eqb, List, [], ◌∷◌, length, take, get_or, Option, Some, None, String, Global, string_bytes, refl, sym, ap, ◌∙◌, arith}
 use Rattle.std.specs.List.{slice_get}
 use Rattle.std.proofs.lemmas.Bool.{eqb-true}
-use Rattle.std.proofs.lemmas.List.{append_assoc, map-append}
-use Rattle.serde_json.specs.Data.{depth, items_depth, members_depth}
+use Rattle.serde_json.specs.Data.{Data, null, boolean, number, string, array, object, Items, no_items, item, depth, items_depth, members_depth}
 use Rattle.serde_json.specs.Find.{as_str}
 use Rattle.serde_json.specs.View.{view, items_view, members_view}
 use Rattle.serde_json.specs.declared.value.Value.{Value}
 use Rattle.serde_json.proofs.Views.{Entry}
 use Rattle.vx_base.specs.declared.dtypes.Nullability.TheVariants.{NonNullable, Nullable}
-use Rattle.vx_base.specs.declared.dtypes.Field.{Field}
 use Rattle.vx_base.specs.Data.{DataType}
-use Rattle.vx_base.specs.Views.{FieldData, field_data}
+use Rattle.vx_base.specs.Views.{FieldData}
 use Rattle.scan_words.specs.Words.{◌>>=◌}
-use Rattle.scan_commands.specs.DtypeForms.{is_marked, unmarked, dtype_form, nested_form, nested_named, fields_form, each_field, field_form, field_items}
+use Rattle.scan_commands.specs.DtypeForms.{is_marked, unmarked, dtype_form, nested_form, nested_named, fields_form, each_field, field_form}
+use Rattle.scan_commands.specs.JsonForms.{each_form, two_items}
 use Rattle.scan_commands.proofs.JsonForms.{here}
 
 -- ---- names
@@ -59,49 +58,27 @@ one_member (first ∷ second ∷ members) name inside one at = absurd (omega (ar
 
 -- ---- fields
 
--- what all fields are, where those so far are fs and these items are left
-abbrev pub fields_so_far : List FieldData → List Value → Option (List FieldData)
-fields_so_far fs rest = each_field (items_view rest) >>= λ more. Some (fs ++ more)
+pub each_field_is : (ds : Items) → each_field ds ≡ each_form field_form ds
+each_field_is no_items = refl
+each_field_is (item d ds) = ap (λ (o : Option (List FieldData)). field_form d >>= λ field. o >>= λ fields. here (field ∷ fields)) (each_field_is ds)
 
-pub none_below_two : (items : List Value) → length items < 2 → None ≡ field_items (items_view items)
-none_below_two [] below = refl
-none_below_two (a ∷ []) below = refl
-none_below_two (a ∷ b ∷ rest) below = absurd (omega (arith, below))
+-- a field is the name and the dtype of a list of two
+field_is : (d : Data) → field_form d ≡ (two_items d >>= λ pair. as_str pair.0 >>= λ name. dtype_form pair.1 >>= λ t. here (record { name = name; dtype = t }))
+field_is null = refl
+field_is (boolean t) = refl
+field_is (number n) = refl
+field_is (string s) = refl
+field_is (array no_items) = refl
+field_is (array (item a no_items)) = refl
+field_is (array (item a (item b no_items))) = refl
+field_is (array (item a (item b (item c ds)))) = refl
+field_is (object ms) = refl
 
-pub none_past_two : (items : List Value) → 3 ≤ length items → None ≡ field_items (items_view items)
-none_past_two [] past = absurd (omega (arith, past))
-none_past_two (a ∷ []) past = absurd (omega (arith, past))
-none_past_two (a ∷ b ∷ []) past = absurd (omega (arith, past))
-none_past_two (a ∷ b ∷ c ∷ rest) past = refl
-
--- a field of a name and a dtype
-pub field_is : (items : List Value) (a b : Value) (name : List ℕ) (t : Option DataType) → length items ≡ 2 → a ≡ get_or items 0 a → b ≡ get_or items 1 b → Some name ≡ as_str (view a) → t ≡ dtype_form (view b)
-    → field_items (items_view items) ≡ (t >>= λ dtype. Some (record { name = name; dtype = dtype }))
-field_is [] a b name t two at_a at_b named typed = absurd (omega (arith, two))
-field_is (x ∷ []) a b name t two at_a at_b named typed = absurd (omega (arith, two))
-field_is (x ∷ y ∷ []) a b name t two at_a at_b named typed = rw (← at_a, ← at_b, ← named, ← typed) refl
-field_is (x ∷ y ∷ z ∷ rest) a b name t two at_a at_b named typed = absurd (omega (arith, two))
-
-from_place : (items : List Value) (i : ℕ) (v : Value) → i < length items → v ≡ get_or items i v → drop i items ≡ v ∷ drop (suc i) items
-from_place [] i v lt is = absurd (omega arith)
-from_place (one ∷ items) zero v lt is = ap (λ (w : Value). w ∷ items) (sym is)
-from_place (one ∷ items) (suc i) v lt is = from_place items i v (omega arith) is
-
-joined : (rest : Option (List FieldData)) (fs gs : List FieldData) (field : FieldData) → gs ≡ fs ++ field ∷ []
-    → (rest >>= λ fields. here (field ∷ fields)) >>= (λ more. here (fs ++ more)) ≡ (rest >>= λ more. here (gs ++ more))
-joined None fs gs field is = refl
-joined (Some fields) fs gs field is = ap here (sym (append_assoc fs (field ∷ []) fields) ∙ ap (λ (hs : List FieldData). hs ++ fields) (sym is))
-
--- one field more
-pub fields_more : (items : List Value) (all : Option (List FieldData)) (fs gs : List Field) (i next : ℕ) (v : Value) (field : Field) → next ≡ i + 1 → i < length items → v ≡ get_or items i v → gs ≡ fs ++ field ∷ [] → Some (field_data field) ≡ field_form (view v)
-    → all ≡ fields_so_far (map field_data fs) (drop i items) → all ≡ fields_so_far (map field_data gs) (drop next items)
-fields_more items all fs gs i next v field e lt is pushed formed before =
-    let p : next ≡ suc i = omega arith in
-    let left : drop i items ≡ v ∷ drop next items = from_place items i v lt is ∙ ap (λ (n : ℕ). v ∷ drop n items) (sym p) in
-    let whole : map field_data gs ≡ map field_data fs ++ field_data field ∷ [] = ap (map field_data) pushed ∙ map-append field_data fs (field ∷ []) in
-    before ∙ ap (fields_so_far (map field_data fs)) left
-    ∙ ap (λ (o : Option FieldData). (o >>= λ f. each_field (items_view (drop next items)) >>= λ fields. here (f ∷ fields)) >>= λ more. here (map field_data fs ++ more)) (sym formed)
-    ∙ joined (each_field (items_view (drop next items))) (map field_data fs) (map field_data gs) (field_data field) whole
+pub field_from : (d a b : Data) (name : List ℕ) (t : Option DataType) → Some (a, b) ≡ two_items d → Some name ≡ as_str a → t ≡ dtype_form b → field_form d ≡ (t >>= λ dtype. here (record { name = name; dtype = dtype }))
+field_from d a b name t is named typed =
+    field_is d ∙ ap (λ (pair : Option (Data × Data)). pair >>= λ p. as_str p.0 >>= λ n. dtype_form p.1 >>= λ dtype. here (record { name = n; dtype = dtype })) (sym is)
+    ∙ ap (λ (n : Option (List ℕ)). n >>= λ n. dtype_form b >>= λ dtype. here (record { name = n; dtype = dtype })) (sym named)
+    ∙ ap (λ (o : Option DataType). o >>= λ dtype. here (record { name = name; dtype = dtype })) (sym typed)
 
 -- ---- how deep parts nest
 

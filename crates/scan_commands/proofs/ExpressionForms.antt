@@ -1,20 +1,20 @@
 -- Expressions by the parts of their JSON.
-use Rattle.std.proofs.Common.{◌≡◌, ℕ, ◌<◌, ◌≤◌, Bool, true, false, codes, List, [], ◌∷◌, length, get_or, map, Option, Some, None, option_map, String, Global, string_bytes, refl, ap, ◌∙◌, arith}
+use Rattle.std.proofs.Common.{◌≡◌, ℕ, Bool, true, false, codes, List, [], ◌∷◌, length, map, Option, Some, None, option_map, String, Global, string_bytes, refl, sym, ap, ◌∙◌, arith}
 use Rattle.std.specs.List.{slice_get}
 use Rattle.std.specs.Map.{lookup}
 use Rattle.std.specs.Str.{bytes_eq}
 use Rattle.std.proofs.lemmas.Slice.Eq.{bytes_eq-Decides}
-use Rattle.serde_json.specs.Data.{Items, no_items, item, object}
+use Rattle.serde_json.specs.Data.{Data, null, boolean, number, string, array, object, Items, no_items, item}
 use Rattle.serde_json.specs.Find.{as_str}
-use Rattle.serde_json.specs.View.{view, items_view, members_view}
+use Rattle.serde_json.specs.View.{view, members_view}
 use Rattle.serde_json.specs.declared.value.Value.{Value}
 use Rattle.serde_json.proofs.Views.{Entry}
 use Rattle.vx_expr.specs.declared.expressions.Expr.{Expr}
 use Rattle.vx_expr.specs.Terms.{Term, pack, named}
 use Rattle.vx_expr.specs.TermViews.{term, terms_of}
-use Rattle.scan_commands.specs.JsonForms.{each_form}
+use Rattle.scan_commands.specs.JsonForms.{each_form, two_items}
 use Rattle.scan_words.specs.Words.{◌>>=◌}
-use Rattle.scan_commands.specs.ExpressionForms.{pair_names, terms_from, literal_form, joined_form, expression_form, object_form, named_form, named_items, all_named_form, each_named, pair_form, pair_items}
+use Rattle.scan_commands.specs.ExpressionForms.{pair_names, terms_from, literal_form, joined_form, expression_form, object_form, named_form, all_named_form, each_named, pair_form}
 use Rattle.scan_commands.specs.ExpressionViews.{named_term}
 use Rattle.scan_commands.proofs.JsonForms.{here}
 
@@ -62,41 +62,47 @@ terms_of_pairs (pair ∷ pairs) = ap (named pair.0 (term pair.1)) (terms_of_pair
 pub packed : (pairs : List (List ℕ × Expr)) (e : Term) (parts : Option (List (List ℕ × Term))) → e ≡ pack (terms_of pairs) → Some (map named_term pairs) ≡ parts → Some e ≡ option_map (λ fields. pack (terms_from fields)) parts
 packed pairs e parts is all = rw (← all) (ap here (is ∙ ap pack (terms_of_pairs pairs)))
 
-pub none_named_below_two : (items : List Value) → length items < 2 → None ≡ named_items (items_view items)
-none_named_below_two [] below = refl
-none_named_below_two (a ∷ []) below = refl
-none_named_below_two (a ∷ b ∷ rest) below = absurd (omega (arith, below))
+-- a named expression is the name and the expression of a list of two
+named_is : (d : Data) → named_form d ≡ (two_items d >>= λ pair. as_str pair.0 >>= λ name. expression_form pair.1 >>= λ e. here (name, e))
+named_is null = refl
+named_is (boolean t) = refl
+named_is (number n) = refl
+named_is (string s) = refl
+named_is (array no_items) = refl
+named_is (array (item a no_items)) = refl
+named_is (array (item a (item b no_items))) = refl
+named_is (array (item a (item b (item c ds)))) = refl
+named_is (object ms) = refl
 
-pub none_named_past_two : (items : List Value) → 3 ≤ length items → None ≡ named_items (items_view items)
-none_named_past_two [] past = absurd (omega (arith, past))
-none_named_past_two (a ∷ []) past = absurd (omega (arith, past))
-none_named_past_two (a ∷ b ∷ []) past = absurd (omega (arith, past))
-none_named_past_two (a ∷ b ∷ c ∷ rest) past = refl
-
--- a name and an expression
-pub named_is : (items : List Value) (a b : Value) (name : List ℕ) (e : Option Term) → length items ≡ 2 → a ≡ get_or items 0 a → b ≡ get_or items 1 b → Some name ≡ as_str (view a) → e ≡ expression_form (view b)
-    → named_items (items_view items) ≡ (e >>= λ term. here (name, term))
-named_is [] a b name e two at_a at_b is_name is_term = absurd (omega (arith, two))
-named_is (x ∷ []) a b name e two at_a at_b is_name is_term = absurd (omega (arith, two))
-named_is (x ∷ y ∷ []) a b name e two at_a at_b is_name is_term = rw (← at_a, ← at_b, ← is_name, ← is_term) refl
-named_is (x ∷ y ∷ z ∷ rest) a b name e two at_a at_b is_name is_term = absurd (omega (arith, two))
+pub named_from : (d a b : Data) (name : List ℕ) (e : Option Term) → Some (a, b) ≡ two_items d → Some name ≡ as_str a → e ≡ expression_form b → named_form d ≡ (e >>= λ term. here (name, term))
+named_from d a b name e is is_name is_term =
+    named_is d ∙ ap (λ (pair : Option (Data × Data)). pair >>= λ p. as_str p.0 >>= λ n. expression_form p.1 >>= λ term. here (n, term)) (sym is)
+    ∙ ap (λ (n : Option (List ℕ)). n >>= λ n. expression_form b >>= λ term. here (n, term)) (sym is_name)
+    ∙ ap (λ (o : Option Term). o >>= λ term. here (name, term)) (sym is_term)
 
 -- ---- pairs
 
-pub no_pair_below_two : (items : List Value) → length items < 2 → None ≡ pair_items (items_view items)
-no_pair_below_two [] below = refl
-no_pair_below_two (a ∷ []) below = refl
-no_pair_below_two (a ∷ b ∷ rest) below = absurd (omega (arith, below))
+-- a pair is the expressions of a list of two
+pair_is : (d : Data) → pair_form d ≡ (two_items d >>= λ pair. expression_form pair.0 >>= λ left. expression_form pair.1 >>= λ right. here (left, right))
+pair_is null = refl
+pair_is (boolean t) = refl
+pair_is (number n) = refl
+pair_is (string s) = refl
+pair_is (array no_items) = refl
+pair_is (array (item a no_items)) = refl
+pair_is (array (item a (item b no_items))) = refl
+pair_is (array (item a (item b (item c ds)))) = refl
+pair_is (object ms) = refl
 
-pub no_pair_past_two : (items : List Value) → 3 ≤ length items → None ≡ pair_items (items_view items)
-no_pair_past_two [] past = absurd (omega (arith, past))
-no_pair_past_two (a ∷ []) past = absurd (omega (arith, past))
-no_pair_past_two (a ∷ b ∷ []) past = absurd (omega (arith, past))
-no_pair_past_two (a ∷ b ∷ c ∷ rest) past = refl
+joined_both : (join : Term → Term → Term) (left right : Option Term) → option_map (λ (es : Term × Term). join es.0 es.1) (left >>= λ l. right >>= λ r. here (l, r)) ≡ (left >>= λ l. right >>= λ r. here (join l r))
+joined_both join None right = refl
+joined_both join (Some l) None = refl
+joined_both join (Some l) (Some r) = refl
 
-pub pair_is : (items : List Value) (a b : Value) (left right : Option Term) → length items ≡ 2 → a ≡ get_or items 0 a → b ≡ get_or items 1 b → left ≡ expression_form (view a) → right ≡ expression_form (view b)
-    → pair_items (items_view items) ≡ (left >>= λ l. right >>= λ r. here (l, r))
-pair_is [] a b left right two at_a at_b is_left is_right = absurd (omega (arith, two))
-pair_is (x ∷ []) a b left right two at_a at_b is_left is_right = absurd (omega (arith, two))
-pair_is (x ∷ y ∷ []) a b left right two at_a at_b is_left is_right = rw (← at_a, ← at_b, ← is_left, ← is_right) refl
-pair_is (x ∷ y ∷ z ∷ rest) a b left right two at_a at_b is_left is_right = absurd (omega (arith, two))
+pub pair_from : (join : Term → Term → Term) (d a b : Data) (left right : Option Term) → Some (a, b) ≡ two_items d → left ≡ expression_form a → right ≡ expression_form b → option_map (λ (es : Term × Term). join es.0 es.1) (pair_form d) ≡ (left >>= λ l. right >>= λ r. here (join l r))
+pair_from join d a b left right is is_left is_right =
+    ap (option_map (λ (es : Term × Term). join es.0 es.1)) (pair_is d
+    ∙ ap (λ (pair : Option (Data × Data)). pair >>= λ p. expression_form p.0 >>= λ l. expression_form p.1 >>= λ r. here (l, r)) (sym is)
+    ∙ ap (λ (o : Option Term). o >>= λ l. expression_form b >>= λ r. here (l, r)) (sym is_left)
+    ∙ ap (λ (o : Option Term). left >>= λ l. o >>= λ r. here (l, r)) (sym is_right))
+    ∙ joined_both join left right

@@ -10,9 +10,6 @@ use Rattle.scan_commands.specs.declared.expression_forms.Join.TheVariants as joi
 abbrev pub named_term : List ℕ × Expr → List ℕ × Term
 named_term part = (part.0, term part.1)
 
-abbrev pub pair_of_terms : Expr × Expr → Term × Term
-pair_of_terms pair = (term pair.0, term pair.1)
-
 -- what two expressions are joined to
 abbrev pub joined_by : Join → Term → Term → Term
 joined_by joins.And = conjunction

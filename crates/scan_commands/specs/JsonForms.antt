@@ -31,6 +31,16 @@ few_items d = as_array d >>= λ items. if nat_le (items_len items) most_items th
 abbrev pub list_form : {X : Type 0} → (Data → Option X) → Data → Option (List X)
 list_form form d = few_items d >>= each_form form
 
+-- the two items of a list of exactly two
+abbrev pub two_in : Items → Option (Data × Data)
+two_in no_items = None
+two_in (item a no_items) = None
+two_in (item a (item b no_items)) = Some (a, b)
+two_in (item a (item b (item c ds))) = None
+
+abbrev pub two_items : Data → Option (Data × Data)
+two_items d = as_array d >>= two_in
+
 -- a member that may be absent, and what stands for it then
 abbrev pub optional_form : {X : Type 0} → X → (Data → Option X) → Option Data → Option X
 optional_form absent form None = Some absent

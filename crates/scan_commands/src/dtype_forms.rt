@@ -6,8 +6,10 @@ ghost use Rattle.serde_json.specs.View.{view, items_view, members_view};
 ghost use Rattle.vx_base.specs.Views.{data_type, field_data, members_from};
 ghost use Rattle.std.specs.Map.{lookup};
 ghost use Rattle.std.specs.Str.{bytes_eq};
-ghost use Rattle.scan_commands.specs.DtypeForms.{dtype_form, nested_form, nested_named as nested_by_name, fields_form, each_field, field_form, field_items, leaf_form, kind_names, unmarked as without_mark};
+ghost use Rattle.scan_commands.specs.JsonForms.{each_form};
+ghost use Rattle.scan_commands.specs.DtypeForms.{dtype_form, nested_form, nested_named as nested_by_name, fields_form, field_form, leaf_form, kind_names, unmarked as without_mark};
 
+use crate::json_forms::two_of;
 use serde_json::{Map, Value};
 use std::alloc::{AllocError, Global};
 use vx_base::{DType, Element, Field, Fields, IntKind, Nullability, Text};
@@ -111,7 +113,7 @@ fn fields_of(alloc: Global, value: &Value) -> Result<Option<Fields>, AllocError>
 /// The fields of a struct, in order.
 #[cycle(dtypes)]
 fn fields_in(alloc: Global, items: &[Value]) -> Result<Option<Fields>, AllocError>
-    ensures { IfOk result (λ fields. fields ≡ option_map members_from (each_field (items_view items.now))) }
+    ensures { IfOk result (λ fields. fields ≡ option_map members_from (each_form field_form (items_view items.now))) }
 {
     let mut fields = Vec::with_capacity(alloc, items.len())?;
     for item in items {
@@ -123,22 +125,12 @@ fn fields_in(alloc: Global, items: &[Value]) -> Result<Option<Fields>, AllocErro
     Ok(Some(Fields::from_vec(fields)))
 }
 
+/// A field, which is a list of its name and its dtype.
 #[cycle(dtypes)]
 fn field_of(alloc: Global, value: &Value) -> Result<Option<Field>, AllocError>
     ensures { IfOk result (λ field. option_map field_data field ≡ field_form (view value.now)) }
 {
-    match value {
-        Value::Array(items) => field_in(alloc, items),
-        _ => Ok(None),
-    }
-}
-
-/// A field, which is a list of its name and its dtype.
-#[cycle(dtypes)]
-fn field_in(alloc: Global, items: &[Value]) -> Result<Option<Field>, AllocError>
-    ensures { IfOk result (λ field. option_map field_data field ≡ field_items (items_view items.now)) }
-{
-    let [name, dtype] = items else {
+    let Some((name, dtype)) = two_of(value) else {
         return Ok(None);
     };
     let Some(name) = name.as_str() else {

@@ -8,11 +8,11 @@ ghost use Rattle.serde_json.specs.View.{view, items_view, members_view};
 ghost use Rattle.vx_base.specs.ValueViews.{datum};
 ghost use Rattle.vx_expr.specs.TermViews.{term};
 ghost use Rattle.scan_commands.specs.JsonForms.{each_form};
-ghost use Rattle.scan_commands.specs.ExpressionForms.{bare_names, pair_names, value_form, literal_form, expression_form, object_form, joined_form, named_form, named_items, all_named_form, pair_form, pair_items};
-ghost use Rattle.scan_commands.specs.ExpressionViews.{named_term, pair_of_terms, joined_by};
+ghost use Rattle.scan_commands.specs.ExpressionForms.{bare_names, pair_names, value_form, literal_form, expression_form, object_form, joined_form, named_form, all_named_form, pair_form};
+ghost use Rattle.scan_commands.specs.ExpressionViews.{named_term, joined_by};
 
 use crate::dtype_forms::dtype_of;
-use crate::json_forms::has_members;
+use crate::json_forms::{has_members, two_of};
 use serde_json::{Map, Value};
 use std::alloc::{AllocError, Global};
 use vx_base::{Text, Value as Literal};
@@ -175,33 +175,12 @@ fn joined_of(alloc: Global, name: &str, inside: &Value) -> Result<Option<Expr>, 
     }
 }
 
-/// Two expressions inside, joined.
+/// Two expressions inside, left and right, joined.
 #[cycle(expressions)]
 fn pair_joined(alloc: Global, join: Join, inside: &Value) -> Result<Option<Expr>, AllocError>
     ensures { IfOk result (λ expr. option_map term expr ≡ option_map (λ pair. joined_by join pair.0 pair.1) (pair_form (view inside.now))) }
 {
-    match pair_of(alloc, inside)? {
-        Some((left, right)) => Ok(Some(join.join(alloc, left, right)?)),
-        None => Ok(None),
-    }
-}
-
-#[cycle(expressions)]
-fn pair_of(alloc: Global, value: &Value) -> Result<Option<(Expr, Expr)>, AllocError>
-    ensures { IfOk result (λ pair. option_map pair_of_terms pair ≡ pair_form (view value.now)) }
-{
-    match value {
-        Value::Array(items) => pair_in(alloc, items),
-        _ => Ok(None),
-    }
-}
-
-/// Two expressions, left and right.
-#[cycle(expressions)]
-fn pair_in(alloc: Global, items: &[Value]) -> Result<Option<(Expr, Expr)>, AllocError>
-    ensures { IfOk result (λ pair. option_map pair_of_terms pair ≡ pair_items (items_view items.now)) }
-{
-    let [left, right] = items else {
+    let Some((left, right)) = two_of(inside) else {
         return Ok(None);
     };
     let Some(left) = expression_of(alloc, left)? else {
@@ -210,7 +189,7 @@ fn pair_in(alloc: Global, items: &[Value]) -> Result<Option<(Expr, Expr)>, Alloc
     let Some(right) = expression_of(alloc, right)? else {
         return Ok(None);
     };
-    Ok(Some((left, right)))
+    Ok(Some(join.join(alloc, left, right)?))
 }
 
 #[cycle(expressions)]
@@ -238,30 +217,20 @@ fn named_in(alloc: Global, items: &[Value]) -> Result<Option<Vec<(Text, Expr)>>,
     Ok(Some(parts))
 }
 
+/// An expression with its name, which is a list of both.
 #[cycle(expressions)]
 fn named_of(alloc: Global, value: &Value) -> Result<Option<(Text, Expr)>, AllocError>
     ensures { IfOk result (λ part. option_map named_term part ≡ named_form (view value.now)) }
 {
-    match value {
-        Value::Array(items) => name_and_expression(alloc, items),
-        _ => Ok(None),
-    }
-}
-
-/// An expression with its name, which is a list of both.
-#[cycle(expressions)]
-fn name_and_expression(alloc: Global, items: &[Value]) -> Result<Option<(Text, Expr)>, AllocError>
-    ensures { IfOk result (λ part. option_map named_term part ≡ named_items (items_view items.now)) }
-{
-    let [name, expr] = items else {
+    let Some((name, expr)) = two_of(value) else {
         return Ok(None);
     };
     let Some(name) = name.as_str() else {
         return Ok(None);
     };
+    let name = Text::from_string(String::from_str(alloc, name)?);
     let Some(expr) = expression_of(alloc, expr)? else {
         return Ok(None);
     };
-    let name = Text::from_string(String::from_str(alloc, name)?);
     Ok(Some((name, expr)))
 }

@@ -2,7 +2,7 @@
 
 ghost use Rattle.std.specs.Prelude.{◌≡◌, ◌^◌, IfOk, option_map};
 ghost use Rattle.serde_json.specs.View.{view, items_view};
-ghost use Rattle.scan_commands.specs.JsonForms.{has_members as members_test, whole_form, each_form, few_items};
+ghost use Rattle.scan_commands.specs.JsonForms.{has_members as members_test, whole_form, each_form, few_items, two_in as both_items, two_items};
 
 use serde_json::Value;
 use std::alloc::{AllocError, Global};
@@ -49,6 +49,23 @@ pub(crate) fn few_items_of(value: &Value) -> Option<&Vec<Value>>
     } else {
         Some(items)
     }
+}
+
+/// The items of a list of exactly two.
+pub(crate) fn two_of(value: &Value) -> Option<(&Value, &Value)>
+    ensures { option_map (λ pair. (view pair.0.now, view pair.1.now)) result ≡ two_items (view value.now) }
+{
+    two_in(value.as_array()?)
+}
+
+/// The items where they are two.
+fn two_in(items: &[Value]) -> Option<(&Value, &Value)>
+    ensures { option_map (λ pair. (view pair.0.now, view pair.1.now)) result ≡ both_items (items_view items.now) }
+{
+    let [first, second] = items else {
+        return None;
+    };
+    Some((first, second))
 }
 
 /// Numbers that 32 bits hold, in order.

@@ -1,34 +1,54 @@
-use Rattle.std.proofs.Common.{◌≡◌, Some, None, length, sym, ◌∙◌, arith, rules}
-use Rattle.serde_json.specs.View.{view}
-use Rattle.vx_base.specs.Views.{data_type, field_data}
-use Rattle.scan_commands.specs.DtypeForms.{dtype_form, field_form}
-use Rattle.scan_commands.proofs.DtypeForms.{none_below_two, none_past_two, field_is, fields_more, not_one, one_member, item_depth, first_depth}
-use Rattle.scan_commands.proofs.dtype_forms.+dtypes.Goals.{field_in-in_default-via-then-items-lt2, field_in-in_default-via-else-items-lt2+else-items-lt3}
+use Rattle.std.proofs.Common.{◌≡◌, List, [], ◌∷◌, ◌++◌, Some, None, option_map, length, map, sym, ap, ◌∙◌, arith, rules}
+use Rattle.std.proofs.lemmas.List.{map-append}
+use Rattle.serde_json.specs.View.{view, items_view}
+use Rattle.serde_json.specs.declared.value.Value.{Value}
+use Rattle.serde_json.proofs.Views.{view-Array}
+use Rattle.vx_base.specs.Views.{data_type, field_data, members_from}
+use Rattle.scan_commands.specs.DtypeForms.{dtype_form, fields_form, field_form}
+use Rattle.scan_commands.specs.JsonForms.{each_form}
+use Rattle.scan_commands.proofs.DtypeForms.{each_field_is, field_from, not_one, one_member, item_depth, first_depth}
+use Rattle.scan_commands.proofs.JsonForms.{each_begun, each_done, each_more, each_none, two_depth}
 use Rattle.scan_commands.proofs.dtype_forms.+dtypes.Goals as goal
 
-pub field_in-returns-in_default : goal.field_in-returns-in_default
-field_in-returns-in_default t c = elim c.in_default.branch [
-  | field_in-in_default-via-then-items-lt2 w ↦ none_below_two c.args.items.now (search rules)
-  | field_in-in_default-via-else-items-lt2+else-items-lt3 w ↦ none_past_two c.args.items.now (search rules)
-]
+pub field_of-dtype_of-requires : goal.field_of-dtype_of-requires
+field_of-dtype_of-requires t c = (omega (arith, two_depth _ _ _ c.in-Some.ensures), tt)
 
-pub field_in-returns-in_default-2 : goal.field_in-returns-in_default-2
-field_in-returns-in_default-2 t c =
-    let none : None ≡ dtype_form (view c.dtype-item.result) = rw c.in_default-2.is at c.in_ok-dtype.ensures in
-    sym (field_is c.args.items.now c.name-item.result c.dtype-item.result c.in-Some.name.now None (omega (arith, c.in-len2.len_at_least, c.in-len2.len_below)) c.name-item.is c.dtype-item.is c.in-Some.ensures none)
+pub field_of-returns-in_default-2 : goal.field_of-returns-in_default-2
+field_of-returns-in_default-2 t c =
+    let none : None ≡ dtype_form (view c.in-Some.dtype.now) = rw c.in_default-2.is at c.in_ok-dtype.ensures in
+    sym (field_from (view c.args.value.now) (view c.in-Some.name.now) (view c.in-Some.dtype.now) c.in-Some-as_str.name.now None c.in-Some.ensures c.in-Some-as_str.ensures none)
 
-pub field_in-returns : goal.field_in-returns
-field_in-returns t c =
-    let typed : Some (data_type c.in-Some-2.dtype) ≡ dtype_form (view c.dtype-item.result) = rw c.in-Some-2.is at c.in_ok-dtype.ensures in
-    rw (c.from_string-name.ensures, c.in_ok-from_str.ensures.ok) (sym (field_is c.args.items.now c.name-item.result c.dtype-item.result c.in-Some.name.now (Some (data_type c.in-Some-2.dtype)) (omega (arith, c.in-len2.len_at_least, c.in-len2.len_below)) c.name-item.is c.dtype-item.is c.in-Some.ensures typed))
+pub field_of-returns : goal.field_of-returns
+field_of-returns t c =
+    let typed : Some (data_type c.in-Some-2.dtype) ≡ dtype_form (view c.in-Some.dtype.now) = rw c.in-Some-2.is at c.in_ok-dtype.ensures in
+    rw (c.from_string-name.ensures, c.in_ok-from_str.ensures.ok) (sym (field_from (view c.args.value.now) (view c.in-Some.name.now) (view c.in-Some.dtype.now) c.in-Some-as_str.name.now (Some (data_type c.in-Some-2.dtype)) c.in-Some.ensures c.in-Some-as_str.ensures typed))
 
 pub fields_in-field_of-requires : goal.fields_in-field_of-requires
 fields_in-field_of-requires t c = (omega (arith, item_depth c.args.items.now c.loop-item.item-index c.item-item.result c.loop-item-test.true c.item-item.is), tt)
 
+pub fields_of-returns-in-Array : goal.fields_of-returns-in-Array
+fields_of-returns-in-Array t c =
+    let is : fields_form (view c.args.value.now) ≡ each_form field_form (items_view c.deref.result.now) =
+    ap (λ (v : Value). fields_form (view v)) c.in-Array.is ∙ (ap fields_form (view-Array c.in-Array.items) ∙ each_field_is (items_view c.in-Array.items.items) ∙ ap (λ (vs : List Value). each_form field_form (items_view vs)) (sym c.deref.ensures.value)) in
+    rw is c.fields_in.ensures
+
+pub fields_in-loop-item-init : goal.fields_in-loop-item-init
+fields_in-loop-item-init t c = each_begun field_form c.args.items.now (map field_data c.in_ok-fields.fields.items) (ap (map field_data) c.in_ok-fields.ensures.items)
+
 pub fields_in-loop-item-preserved : goal.fields_in-loop-item-preserved
 fields_in-loop-item-preserved t c =
     let formed : Some (field_data c.in-Some.field) ≡ field_form (view c.item-item.result) = rw c.in-Some.is at c.in_ok-field.ensures in
-    fields_more c.args.items.now _ c.loop-item.fields.items c.push.new.self.items c.loop-item.item-index _ c.item-item.result c.in-Some.field (omega arith) c.loop-item-test.true c.item-item.is c.in_ok-push.ensures.items formed c.loop-item.invariant
+    let pushed : map field_data c.push.new.self.items ≡ map field_data c.loop-item.fields.items ++ field_data c.in-Some.field ∷ [] = ap (map field_data) c.in_ok-push.ensures.items ∙ map-append field_data c.loop-item.fields.items (c.in-Some.field ∷ []) in
+    each_more field_form c.args.items.now _ (map field_data c.loop-item.fields.items) (map field_data c.push.new.self.items) c.loop-item.item-index _ c.item-item.result (field_data c.in-Some.field) (omega arith) c.loop-item-test.true c.item-item.is pushed formed c.loop-item.invariant
+
+pub fields_in-returns-in_default : goal.fields_in-returns-in_default
+fields_in-returns-in_default t c =
+    let formed : None ≡ field_form (view c.item-item.result) = rw c.in_default.is at c.in_ok-field.ensures in
+    ap (option_map members_from) (each_none field_form c.args.items.now _ (map field_data c.loop-item.fields.items) c.loop-item.item-index c.item-item.result c.loop-item-test.true c.item-item.is formed c.loop-item.invariant)
+
+pub fields_in-returns : goal.fields_in-returns
+fields_in-returns t c =
+    rw c.from_vec.ensures (ap (option_map members_from) (each_done field_form c.args.items.now _ (map field_data c.loop-item.fields.items) c.loop-item.item-index c.loop-item-test.false c.loop-item.invariant))
 
 pub nested_of-returns-then-len-ne1 : goal.nested_of-returns-then-len-ne1
 nested_of-returns-then-len-ne1 t c = not_one c.args.members.now.entries c.len.result c.len.ensures.len (search rules)

@@ -2,8 +2,9 @@ use Rattle.std.proofs.Common.{◌≡◌, ◌+◌, ◌*◌, drop, map}
 use Rattle.serde_json.specs.Data.{depth, items_depth, members_depth}
 use Rattle.serde_json.specs.View.{view, items_view, members_view}
 use Rattle.vx_base.specs.Views.{field_data}
-use Rattle.scan_commands.specs.DtypeForms.{each_field}
-use Rattle.scan_commands.proofs.DtypeForms.{fields_so_far}
+use Rattle.scan_commands.specs.DtypeForms.{field_form}
+use Rattle.scan_commands.specs.JsonForms.{each_form}
+use Rattle.scan_commands.proofs.JsonForms.{so_far}
 use Rattle.scan_commands.proofs.dtype_forms.+dtypes.Given as goal
 
 abbrev pub decreases-dtype_of : goal.decreases-dtype_of
@@ -24,8 +25,5 @@ decreases-fields_in l = 5 * items_depth (items_view l.items.now) + 2
 abbrev pub decreases-field_of : goal.decreases-field_of
 decreases-field_of l = 5 * depth (view l.value.now) + 1
 
-abbrev pub decreases-field_in : goal.decreases-field_in
-decreases-field_in l = 5 * items_depth (items_view l.items.now) + 1
-
 abbrev pub invariant-fields_in-loop-item : goal.invariant-fields_in-loop-item
-invariant-fields_in-loop-item l = each_field (items_view l.items) ≡ fields_so_far (map field_data l.fields.items) (drop l.item-index l.items)
+invariant-fields_in-loop-item l = each_form field_form (items_view l.items) ≡ so_far field_form (map field_data l.fields.items) (drop l.item-index l.items)

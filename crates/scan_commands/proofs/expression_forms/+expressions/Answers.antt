@@ -1,4 +1,5 @@
-use Rattle.std.proofs.Common.{◌≡◌, List, Some, None, length, map, refl, sym, ap, ◌∙◌, arith, rules}
+use Rattle.std.proofs.Common.{◌≡◌, List, [], ◌∷◌, ◌++◌, Some, None, length, map, refl, sym, ap, ◌∙◌, arith}
+use Rattle.std.proofs.lemmas.List.{map-append}
 use Rattle.serde_json.specs.View.{view, items_view}
 use Rattle.serde_json.specs.declared.value.Value.{Value}
 use Rattle.serde_json.proofs.Views.{view-Array, view-Object}
@@ -7,31 +8,45 @@ use Rattle.scan_commands.specs.JsonForms.{each_form}
 use Rattle.scan_commands.specs.ExpressionForms.{literal_form, expression_form, all_named_form, named_form, pair_form}
 use Rattle.scan_commands.specs.ExpressionViews.{named_term, joined_by}
 use Rattle.scan_commands.proofs.DtypeForms.{item_depth, first_depth}
-use Rattle.scan_commands.proofs.ExpressionForms.{each_named_is, many_members, one_member, packed, joined_pair, none_named_below_two, none_named_past_two, named_is, no_pair_below_two, no_pair_past_two, pair_is}
+use Rattle.scan_commands.proofs.ExpressionForms.{each_named_is, many_members, one_member, packed, joined_pair, named_from, pair_from}
+use Rattle.scan_commands.proofs.JsonForms.{each_begun, each_done, each_more, each_none, two_depth}
 use Rattle.scan_commands.proofs.expression_forms.+expressions.Goals as goal
-use Rattle.scan_commands.proofs.expression_forms.+expressions.Goals.{name_and_expression-in_default-via-then-items-lt2, name_and_expression-in_default-via-else-items-lt2+else-items-lt3, pair_in-in_default-via-then-items-lt2, pair_in-in_default-via-else-items-lt2+else-items-lt3}
 
-pub name_and_expression-returns-in_default : goal.name_and_expression-returns-in_default
-name_and_expression-returns-in_default t c = elim c.in_default.branch [
-  | name_and_expression-in_default-via-then-items-lt2 w ↦ none_named_below_two c.args.items.now (search rules)
-  | name_and_expression-in_default-via-else-items-lt2+else-items-lt3 w ↦ none_named_past_two c.args.items.now (search rules)
-]
+pub named_of-expression_of-requires : goal.named_of-expression_of-requires
+named_of-expression_of-requires t c = (omega (arith, two_depth _ _ _ c.in-Some.ensures), tt)
 
-pub name_and_expression-returns-in_default-2 : goal.name_and_expression-returns-in_default-2
-name_and_expression-returns-in_default-2 t c =
-    let none : None ≡ expression_form (view c.expr-item.result) = rw c.in_default-2.is at c.in_ok-expr.ensures in
-    sym (named_is c.args.items.now c.name-item.result c.expr-item.result c.in-Some.name.now None (omega (arith, c.in-len2.len_at_least, c.in-len2.len_below)) c.name-item.is c.expr-item.is c.in-Some.ensures none)
+pub named_of-returns-in_default-2 : goal.named_of-returns-in_default-2
+named_of-returns-in_default-2 t c =
+    let none : None ≡ expression_form (view c.in-Some.expr.now) = rw c.in_default-2.is at c.in_ok-expr.ensures in
+    sym (named_from (view c.args.value.now) (view c.in-Some.name.now) (view c.in-Some.expr.now) c.in-Some-as_str.name.now None c.in-Some.ensures c.in-Some-as_str.ensures none)
 
-pub name_and_expression-returns : goal.name_and_expression-returns
-name_and_expression-returns t c =
-    let formed : Some (term c.in-Some-2.expr) ≡ expression_form (view c.expr-item.result) = rw c.in-Some-2.is at c.in_ok-expr.ensures in
-    rw (c.from_string-name.ensures, c.in_ok-from_str.ensures.ok) (sym (named_is c.args.items.now c.name-item.result c.expr-item.result c.in-Some.name.now (Some (term c.in-Some-2.expr)) (omega (arith, c.in-len2.len_at_least, c.in-len2.len_below)) c.name-item.is c.expr-item.is c.in-Some.ensures formed))
+pub named_of-returns : goal.named_of-returns
+named_of-returns t c =
+    let formed : Some (term c.in-Some-2.expr) ≡ expression_form (view c.in-Some.expr.now) = rw c.in-Some-2.is at c.in_ok-expr.ensures in
+    rw (c.from_string-name.ensures, c.in_ok-from_str.ensures.ok) (sym (named_from (view c.args.value.now) (view c.in-Some.name.now) (view c.in-Some.expr.now) c.in-Some-as_str.name.now (Some (term c.in-Some-2.expr)) c.in-Some.ensures c.in-Some-as_str.ensures formed))
 
-pub pair_in-returns-in_default : goal.pair_in-returns-in_default
-pair_in-returns-in_default t c = elim c.in_default.branch [
-  | pair_in-in_default-via-then-items-lt2 w ↦ no_pair_below_two c.args.items.now (search rules)
-  | pair_in-in_default-via-else-items-lt2+else-items-lt3 w ↦ no_pair_past_two c.args.items.now (search rules)
-]
+pub pair_joined-expression_of-requires : goal.pair_joined-expression_of-requires
+pair_joined-expression_of-requires t c = (omega (arith, two_depth _ _ _ c.in-Some.ensures), tt)
+
+pub pair_joined-expression_of-requires-2 : goal.pair_joined-expression_of-requires-2
+pair_joined-expression_of-requires-2 t c = (omega (arith, two_depth _ _ _ c.in-Some.ensures), tt)
+
+pub pair_joined-returns-in_default-2 : goal.pair_joined-returns-in_default-2
+pair_joined-returns-in_default-2 t c =
+    let none : None ≡ expression_form (view c.in-Some.left.now) = rw c.in_default-2.is at c.in_ok-left.ensures in
+    sym (pair_from (joined_by c.args.join) (view c.args.inside.now) (view c.in-Some.left.now) (view c.in-Some.right.now) None (expression_form (view c.in-Some.right.now)) c.in-Some.ensures none refl)
+
+pub pair_joined-returns-in_default-3 : goal.pair_joined-returns-in_default-3
+pair_joined-returns-in_default-3 t c =
+    let left : Some (term c.in-Some-2.left) ≡ expression_form (view c.in-Some.left.now) = rw c.in-Some-2.is at c.in_ok-left.ensures in
+    let none : None ≡ expression_form (view c.in-Some.right.now) = rw c.in_default-3.is at c.in_ok-right.ensures in
+    sym (pair_from (joined_by c.args.join) (view c.args.inside.now) (view c.in-Some.left.now) (view c.in-Some.right.now) (Some (term c.in-Some-2.left)) None c.in-Some.ensures left none)
+
+pub pair_joined-returns : goal.pair_joined-returns
+pair_joined-returns t c =
+    let left : Some (term c.in-Some-2.left) ≡ expression_form (view c.in-Some.left.now) = rw c.in-Some-2.is at c.in_ok-left.ensures in
+    let right : Some (term c.in-Some-3.right) ≡ expression_form (view c.in-Some.right.now) = rw c.in-Some-3.is at c.in_ok-right.ensures in
+    rw c.in_ok-join.ensures (sym (pair_from (joined_by c.args.join) (view c.args.inside.now) (view c.in-Some.left.now) (view c.in-Some.right.now) (Some (term c.in-Some-2.left)) (Some (term c.in-Some-3.right)) c.in-Some.ensures left right))
 
 pub only_member_of-joined_of-requires : goal.only_member_of-joined_of-requires
 only_member_of-joined_of-requires t c = (omega (arith, first_depth c.args.members.now.entries _ c.in-Some.inside.now c.in-Some.ensures.first), tt)
@@ -41,25 +56,25 @@ only_member_of-returns-in-Some t c =
     let is = one_member c.args.members.now.entries _ c.in-Some.inside.now c.requires c.in-Some.ensures.first in
     rw (is, ← c.deref.ensures) c.joined_of.ensures
 
+pub named_in-loop-item-init : goal.named_in-loop-item-init
+named_in-loop-item-init t c = each_begun named_form c.args.items.now (map named_term c.in_ok-parts.parts.items) (ap (map named_term) c.in_ok-parts.ensures.items)
+
+pub named_in-loop-item-preserved : goal.named_in-loop-item-preserved
+named_in-loop-item-preserved t c =
+    let formed : Some (named_term c.in-Some.part) ≡ named_form (view c.item-item.result) = rw c.in-Some.is at c.in_ok-part.ensures in
+    let pushed : map named_term c.push.new.self.items ≡ map named_term c.loop-item.parts.items ++ named_term c.in-Some.part ∷ [] = ap (map named_term) c.in_ok-push.ensures.items ∙ map-append named_term c.loop-item.parts.items (c.in-Some.part ∷ []) in
+    each_more named_form c.args.items.now _ (map named_term c.loop-item.parts.items) (map named_term c.push.new.self.items) c.loop-item.item-index _ c.item-item.result (named_term c.in-Some.part) (omega arith) c.loop-item-test.true c.item-item.is pushed formed c.loop-item.invariant
+
+pub named_in-returns-in_default : goal.named_in-returns-in_default
+named_in-returns-in_default t c =
+    let formed : None ≡ named_form (view c.item-item.result) = rw c.in_default.is at c.in_ok-part.ensures in
+    each_none named_form c.args.items.now _ (map named_term c.loop-item.parts.items) c.loop-item.item-index c.item-item.result c.loop-item-test.true c.item-item.is formed c.loop-item.invariant
+
+pub named_in-returns : goal.named_in-returns
+named_in-returns t c = each_done named_form c.args.items.now _ (map named_term c.loop-item.parts.items) c.loop-item.item-index c.loop-item-test.false c.loop-item.invariant
+
 pub named_in-named_of-requires : goal.named_in-named_of-requires
 named_in-named_of-requires t c = (omega (arith, item_depth c.args.items.now c.loop-item.item-index c.item-item.result c.loop-item-test.true c.item-item.is), tt)
-
-pub pair_in-returns-in_default-2 : goal.pair_in-returns-in_default-2
-pair_in-returns-in_default-2 t c =
-    let none : None ≡ expression_form (view c.left-item.result) = rw c.in_default-2.is at c.in_ok-left.ensures in
-    sym (pair_is c.args.items.now c.left-item.result c.right-item.result None (expression_form (view c.right-item.result)) (omega (arith, c.in-len2.len_at_least, c.in-len2.len_below)) c.left-item.is c.right-item.is none refl)
-
-pub pair_in-returns-in_default-3 : goal.pair_in-returns-in_default-3
-pair_in-returns-in_default-3 t c =
-    let left : Some (term c.in-Some.left) ≡ expression_form (view c.left-item.result) = rw c.in-Some.is at c.in_ok-left.ensures in
-    let none : None ≡ expression_form (view c.right-item.result) = rw c.in_default-3.is at c.in_ok-right.ensures in
-    sym (pair_is c.args.items.now c.left-item.result c.right-item.result (Some (term c.in-Some.left)) None (omega (arith, c.in-len2.len_at_least, c.in-len2.len_below)) c.left-item.is c.right-item.is left none)
-
-pub pair_in-returns : goal.pair_in-returns
-pair_in-returns t c =
-    let left : Some (term c.in-Some.left) ≡ expression_form (view c.left-item.result) = rw c.in-Some.is at c.in_ok-left.ensures in
-    let right : Some (term c.in-Some-2.right) ≡ expression_form (view c.right-item.result) = rw c.in-Some-2.is at c.in_ok-right.ensures in
-    sym (pair_is c.args.items.now c.left-item.result c.right-item.result (Some (term c.in-Some.left)) (Some (term c.in-Some-2.right)) (omega (arith, c.in-len2.len_at_least, c.in-len2.len_below)) c.left-item.is c.right-item.is left right)
 
 pub all_named_of-returns-in-Array : goal.all_named_of-returns-in-Array
 all_named_of-returns-in-Array t c =

@@ -19,12 +19,6 @@ decreases-joined_of l = 7 * depth (view l.inside.now) + 5
 abbrev pub decreases-pair_joined : goal.decreases-pair_joined
 decreases-pair_joined l = 7 * depth (view l.inside.now) + 4
 
-abbrev pub decreases-pair_of : goal.decreases-pair_of
-decreases-pair_of l = 7 * depth (view l.value.now) + 1
-
-abbrev pub decreases-pair_in : goal.decreases-pair_in
-decreases-pair_in l = 7 * items_depth (items_view l.items.now) + 1
-
 abbrev pub decreases-all_named_of : goal.decreases-all_named_of
 decreases-all_named_of l = 7 * depth (view l.value.now) + 1
 
@@ -33,9 +27,6 @@ decreases-named_in l = 7 * items_depth (items_view l.items.now) + 3
 
 abbrev pub decreases-named_of : goal.decreases-named_of
 decreases-named_of l = 7 * depth (view l.value.now) + 1
-
-abbrev pub decreases-name_and_expression : goal.decreases-name_and_expression
-decreases-name_and_expression l = 7 * items_depth (items_view l.items.now) + 1
 
 abbrev pub invariant-named_in-loop-item : goal.invariant-named_in-loop-item
 invariant-named_in-loop-item l = each_form named_form (items_view l.items) ≡ so_far named_form (map named_term l.parts.items) (drop l.item-index l.items)

@@ -14,10 +14,10 @@ plan_text-requires g c =
 pub returns-in-Err-plan_text-clause-draws : goal.returns-in-Err-plan_text-clause-draws
 returns-in-Err-plan_text-clause-draws g c = inl (record { few = few_in_all _ _ _ c.in-Ok.ensures.bytes; faults = c.in-Ok.ensures.bytes.faults; sink = refl })
 
-pub returns-in-Err-request_of-clause-draws : goal.returns-in-Err-request_of-clause-draws
-returns-in-Err-request_of-clause-draws g c =
-    let refused : RefusedBy c.in-Ok.bytes.items c.in-Err-request_of.error = subst (λ (bytes : List ℕ). RefusedBy bytes c.in-Err-request_of.error) c.deref.ensures.value c.in-Err-request_of.ensures.refused in
-    request_refused c.of_request.result c.in-Err-request_of.error c.in-Ok.bytes.items
+pub returns-in-Err-clause-draws : goal.returns-in-Err-clause-draws
+returns-in-Err-clause-draws g c =
+    let refused : RefusedBy c.in-Ok.bytes.items c.in-Err.error = subst (λ (bytes : List ℕ). RefusedBy bytes c.in-Err.error) c.deref.ensures.value c.in-Err.ensures.refused in
+    request_refused c.of_request.result c.in-Err.error c.in-Ok.bytes.items
     (record { request = g.Q.Source.state c.args.request.now; sink = g.K.Sink.state c.args.out.now })
     (record { request = g.Q.Source.state c.read_request.new.request; sink = g.K.Sink.state c.args.out.now })
     c.of_request.ensures c.in-Ok.ensures.bytes refused refl

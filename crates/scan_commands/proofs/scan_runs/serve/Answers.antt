@@ -5,10 +5,10 @@ use Rattle.scan_commands.specs.RowWriting.{batch_lines}
 use Rattle.scan_commands.proofs.Serving.{request_refused, scan_fails, rows_written, rows_not_written, rows_lack_memory}
 use Rattle.scan_commands.proofs.scan_runs.serve.Goals as goal
 
-pub returns-in-Err-request_of-clause-ends : goal.returns-in-Err-request_of-clause-ends
-returns-in-Err-request_of-clause-ends g c =
-    let refused : RefusedBy c.in-Ok.bytes.items c.in-Err-request_of.error = subst (λ (bytes : List ℕ). RefusedBy bytes c.in-Err-request_of.error) c.deref.ensures.value c.in-Err-request_of.ensures.refused in
-    request_refused c.args.idle_limit c.of_request.result c.in-Err-request_of.error c.in-Ok.bytes.items _ _ _ _ c.of_request.ensures c.in-Ok.ensures.bytes refused
+pub returns-in-Err-clause-ends : goal.returns-in-Err-clause-ends
+returns-in-Err-clause-ends g c =
+    let refused : RefusedBy c.in-Ok.bytes.items c.in-Err.error = subst (λ (bytes : List ℕ). RefusedBy bytes c.in-Err.error) c.deref.ensures.value c.in-Err.ensures.refused in
+    request_refused c.args.idle_limit c.of_request.result c.in-Err.error c.in-Ok.bytes.items _ _ _ _ c.of_request.ensures c.in-Ok.ensures.bytes refused
 
 pub returns-in-Err-batches_of-clause-ends : goal.returns-in-Err-batches_of-clause-ends
 returns-in-Err-batches_of-clause-ends g c =
