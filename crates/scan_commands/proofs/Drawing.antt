@@ -1,17 +1,17 @@
 -- What each way through a run that draws a plan ends in.
 use Rattle.std.proofs.Common.{◌≡◌, ℕ, suc, ◌<◌, ◌≤◌, ◌⊎◌, List, length, Option, Some, None, refl, sym, subst, inl, inr, arith}
 use Rattle.std.specs.Prelude.{IfSome}
+use Rattle.scan_request.specs.declared.request_errors.RequestError.{RequestError}
+use Rattle.scan_request.specs.declared.request_errors.RequestError.TheVariants as requests
+use Rattle.scan_request.specs.RequestForms.{Asked, requested, IsRequest, HasBadLayout, HasBadProjection, RefusedBy}
+use Rattle.scan_request.proofs.OneRequest.{has_good_layout, has_good_projection}
 use Rattle.vx_base.specs.Sources.{Rose}
 use Rattle.scan_commands.specs.declared.endings.Ending.{Ending}
 use Rattle.scan_commands.specs.declared.endings.Ending.TheVariants.{Done, RequestTooLarge, BadRequest, BadLayout, BadProjection, ScanFailed, WriteFault, RequestFault, OutOfMemory}
-use Rattle.scan_commands.specs.declared.request_errors.RequestError.{RequestError}
-use Rattle.scan_commands.specs.declared.request_errors.RequestError.TheVariants as requests
 use Rattle.scan_commands.specs.Desks.{Desk}
 use Rattle.scan_commands.specs.Endings.{refused_ending, status_of}
 use Rattle.scan_commands.specs.PlanRuns.{Draws, IsPlanComplete, ServesPlan}
 use Rattle.scan_commands.specs.Reading.{most_bytes, ReadsAll, ReadsPieces}
-use Rattle.scan_commands.specs.RequestForms.{Asked, requested, IsRequest, HasBadLayout, HasBadProjection, RefusedBy}
-use Rattle.scan_commands.proofs.OneRequest.{has_good_layout, has_good_projection}
 use Rattle.scan_commands.proofs.Pieces.{few_in_all}
 use Rattle.scan_commands.proofs.Serving.{large_told, not_both, told_bytes, well_known}
 

@@ -1,23 +1,6 @@
+pub mod Demonstrating
+pub mod Drawing
 pub mod Pieces
-pub mod Writes
-pub mod JsonForms
-pub mod LocationForms
-pub mod DtypeForms
-pub mod ExpressionForms
-pub mod RowForms
-pub mod RequestForms
-pub mod OneRequest
-pub mod Ranges
-pub mod Strings
-pub mod RowTexts
-pub mod Leads
-pub mod CellTexts
-pub mod ColumnLines
-pub mod Buffering
+pub mod Running
 pub mod Scanning
 pub mod Serving
-pub mod SideBySides
-mod ColumnCrossing
-pub mod Drawing
-pub mod Demonstrating
-pub mod Running

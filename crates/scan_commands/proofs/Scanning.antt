@@ -15,10 +15,10 @@ use Rattle.vx_scan.specs.Laws.{PiecesAnswer}
 use Rattle.vx_scan.specs.Lent.{WhereAllTell}
 use Rattle.vx_scan.specs.Scanned.{AnswersScan}
 use Rattle.vx_scan.proofs.Scanning.{memory_answers}
-use Rattle.scan_commands.specs.RowText.{lines}
-use Rattle.scan_commands.specs.RowWriting.{batch_lines}
+use Rattle.scan_output.specs.RowText.{lines}
+use Rattle.scan_output.specs.RowWriting.{batch_lines}
+use Rattle.scan_output.proofs.Buffering.{lines_append}
 use Rattle.scan_commands.specs.Scans.{IsText, ScanGives}
-use Rattle.scan_commands.proofs.Buffering.{lines_append}
 
 -- ---- the text of batches
 

@@ -18,19 +18,19 @@ use Rattle.vx_scan.specs.Plans.{IsQuiet}
 use Rattle.vx_scan.specs.Scanned.{LowestCause}
 use Rattle.vx_scan.specs.Valid.{IsValidScan}
 use Rattle.vx_scan.proofs.ScanValid.{no_lowest, valid_begins}
+use Rattle.scan_request.specs.declared.request_errors.RequestError.{RequestError}
+use Rattle.scan_request.specs.declared.request_errors.RequestError.TheVariants as requests
+use Rattle.scan_request.specs.RequestForms.{Asked, requested, IsRequest, HasBadLayout, HasBadProjection, RefusedBy}
+use Rattle.scan_request.proofs.OneRequest.{same_request, projection_is_bound, has_good_layout, has_good_projection}
+use Rattle.scan_output.specs.RowWriting.{batch_lines}
+use Rattle.scan_output.specs.Writing.{WritingGives}
 use Rattle.scan_commands.specs.declared.endings.Ending.{Ending}
 use Rattle.scan_commands.specs.declared.endings.Ending.TheVariants.{Done, RequestTooLarge, BadRequest, BadLayout, BadProjection, ScanFailed, WriteFault, RequestFault, OutOfMemory}
-use Rattle.scan_commands.specs.declared.request_errors.RequestError.{RequestError}
-use Rattle.scan_commands.specs.declared.request_errors.RequestError.TheVariants as requests
 use Rattle.scan_commands.specs.Desks.{ReadsBytes, ReadsRequest}
 use Rattle.scan_commands.specs.Endings.{refused_ending, scan_ending, status_of}
 use Rattle.scan_commands.specs.Reading.{most_bytes, ReadsAll, ReadsPieces}
-use Rattle.scan_commands.specs.RequestForms.{Asked, requested, IsRequest, HasBadLayout, HasBadProjection, RefusedBy}
-use Rattle.scan_commands.specs.RowWriting.{batch_lines}
 use Rattle.scan_commands.specs.Runs.{World, Asks, WritesFront, Ends, Serves, IsRefused, RefusesScan, FailsToScan, ScanFails, IsValid, IsComplete}
 use Rattle.scan_commands.specs.Scans.{scan_of, ScanGives}
-use Rattle.scan_commands.specs.Writing.{WritingGives}
-use Rattle.scan_commands.proofs.OneRequest.{same_request, projection_is_bound, has_good_layout, has_good_projection}
 use Rattle.scan_commands.proofs.Pieces.{few_in_all}
 
 abbrev pub world : ReadState → List SourceState → WriteState → World

@@ -6,10 +6,10 @@ use Rattle.vx_base.specs.Sources.{Rose}
 use Rattle.vx_base.specs.Streams.{WriteState}
 use Rattle.vx_base.specs.declared.memory_sources.MemorySource.{MemorySource}
 use Rattle.scan_demo.specs.Summary.{summary}
+use Rattle.scan_output.specs.Writing.{WritesFront}
 use Rattle.scan_commands.specs.declared.endings.Ending.{Ending}
 use Rattle.scan_commands.specs.declared.endings.Ending.TheVariants.{Done, WriteFault, OutOfMemory}
 use Rattle.scan_commands.specs.Endings.{status_of}
-use Rattle.scan_commands.specs.Writing.{WritesFront}
 
 -- the source tells these bytes
 abbrev pub TellsBytes : List ℕ → MemorySource → Type 0

@@ -2,14 +2,14 @@
 use Rattle.std.specs.Prelude.{◌≡◌, ℕ, ◌≤◌, ◌⊎◌, ◌++◌, List, length, IfSome, option_map}
 use Rattle.vx_base.specs.Sources.{Rose}
 use Rattle.vx_scan.specs.PlanTexts.{projection_of, IsPlanText}
+use Rattle.scan_request.specs.RequestForms.{Asked, IsRequest}
+use Rattle.scan_output.specs.Writing.{WritesFront}
 use Rattle.scan_commands.specs.declared.endings.Ending.{Ending}
 use Rattle.scan_commands.specs.declared.endings.Ending.TheVariants.{Done, RequestTooLarge, BadRequest, BadLayout, BadProjection, ScanFailed, WriteFault, RequestFault, OutOfMemory}
 use Rattle.scan_commands.specs.Desks.{Desk, ReadsRequest, IsTooLarge, IsBadRequest, IsBadLayout, IsBadProjection, FailsToRead, RunsOutAtOnce}
 use Rattle.scan_commands.specs.Endings.{status_of}
 use Rattle.scan_commands.specs.Reading.{most_bytes, ReadsPieces}
-use Rattle.scan_commands.specs.RequestForms.{Asked, IsRequest}
 use Rattle.scan_commands.specs.Statuses.{done_status, memory_status}
-use Rattle.scan_commands.specs.Writing.{WritesFront}
 
 -- the text is that of the plan that the request's scan would run
 abbrev pub IsTextOfPlan : Asked → List ℕ → Type 0

@@ -12,12 +12,12 @@ use Rattle.vx_scan.specs.Scanned.{GainsOver, LowestCause}
 use Rattle.vx_scan.specs.Valid.{IsValidScan}
 use Rattle.vx_scan.specs.declared.errors.ScanError.{ScanError}
 use Rattle.vx_scan.specs.declared.errors.ScanError.TheVariants.{OutOfRange, OffsetOverflow, Memory}
+use Rattle.scan_request.specs.RequestForms.{Asked, IsRequest}
 use Rattle.scan_commands.specs.declared.endings.Ending.{Ending}
 use Rattle.scan_commands.specs.declared.endings.Ending.TheVariants.{Done, RequestTooLarge, BadRequest, BadLayout, BadProjection, ScanFailed, WriteFault, RequestFault, OutOfMemory}
 use Rattle.scan_commands.specs.Desks.{Desk, ReadsRequest, IsTooLarge, IsBadRequest, IsBadLayout, IsBadProjection, FailsToRead, RunsOutAtOnce}
 use Rattle.scan_commands.specs.Endings.{status_of}
 use Rattle.scan_commands.specs.Reading.{most_bytes, ReadsPieces}
-use Rattle.scan_commands.specs.RequestForms.{Asked, IsRequest}
 use Rattle.scan_commands.specs.Scans.{scan_of, IsText}
 use Rattle.scan_commands.specs.Statuses.{done_status, memory_status}
 

@@ -13,9 +13,9 @@ use Rattle.vx_scan.specs.Lent.{WhereAllTell}
 use Rattle.vx_scan.specs.Scanned.{AnswersScan}
 use Rattle.vx_scan.specs.declared.errors.ScanError.{ScanError}
 use Rattle.vx_scan.specs.declared.errors.ScanError.TheVariants.{Memory}
-use Rattle.scan_commands.specs.RequestForms.{Asked}
-use Rattle.scan_commands.specs.RowText.{lines}
-use Rattle.scan_commands.specs.RowWriting.{batch_lines}
+use Rattle.scan_request.specs.RequestForms.{Asked}
+use Rattle.scan_output.specs.RowText.{lines}
+use Rattle.scan_output.specs.RowWriting.{batch_lines}
 
 -- the number of the file's first row, which is left at 0 where the projection doesn't use the row's number
 abbrev pub first_row : Asked → ℕ

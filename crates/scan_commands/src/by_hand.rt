@@ -1,10 +1,10 @@
 //! Statuses and lines that were written by hand, on which the definitions are checked.
 
 ghost use Rattle.std.specs.Prelude.{◌≡◌, ◌∷◌, [], pos, negsuc, codes};
+ghost use Rattle.scan_output.specs.RowText.{lines};
 ghost use Rattle.vx_base.specs.Data.{int_type, number};
 ghost use Rattle.vx_base.specs.declared.dtypes.IntKind.TheVariants.{I64};
 ghost use Rattle.vx_base.specs.declared.dtypes.Nullability.TheVariants.{NonNullable};
-ghost use Rattle.scan_commands.specs.RowText.{lines};
 ghost use Rattle.scan_commands.specs.Statuses.{text_of_status};
 
 /// A status has its text, and each number its line.

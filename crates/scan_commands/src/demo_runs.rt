@@ -6,8 +6,8 @@ ghost use Rattle.scan_demo.specs.Summary.{summary};
 ghost use Rattle.scan_commands.specs.DemoRuns.{AreSourcesOf, Demonstrates};
 
 use crate::endings::Ending;
-use crate::writing::write_all;
 use scan_demo::{DemoFile, demo_file, scans_give_demo_rows, summary_of};
+use scan_output::write_all;
 use std::alloc::{AllocError, Global};
 use std::sync::Wait;
 use std::thread::Threads;

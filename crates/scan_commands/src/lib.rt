@@ -9,54 +9,34 @@
 //!   of the promises to one another; [`commands_by_hand`],
 //!   [`strings_by_hand`], [`rows_by_hand`], [`dtype_forms_by_hand`], [`node_forms_by_hand`], [`expression_forms_by_hand`],
 //!   [`row_forms_by_hand`] and [`request_forms_by_hand`] check the definitions on literals.
+//!
+//! It exports what callers need of `scan_request` and `scan_output`.
 #![tactic(auto)]
 
 mod by_hand;
-mod cell_texts;
-mod column_lines;
 mod demo_runs;
-mod dtype_forms;
 mod endings;
-mod expression_forms;
-mod field_leads;
-mod forms_by_hand;
-mod json_forms;
-mod json_strings;
-mod location_forms;
-mod node_forms;
 mod numbers;
 mod plan_runs;
-mod printed_numbers;
-mod request_errors;
-mod request_forms;
 mod requests;
-mod row_forms;
-mod row_texts;
-mod row_writing;
 mod runs;
 mod scan_runs;
 mod scans;
-mod side_by_side;
 mod statuses;
-mod texts_by_hand;
-mod writing;
 
 pub use by_hand::commands_by_hand;
-pub use column_lines::{append_column_lines, append_row_lines};
-pub use forms_by_hand::{
-    dtype_forms_by_hand, expression_forms_by_hand, node_forms_by_hand, request_forms_by_hand,
-    row_forms_by_hand,
-};
 pub use numbers::{numbers_agree, numbers_are_promised};
-pub use request_errors::RequestError;
-pub use request_forms::{Request, request_of};
-pub use row_texts::row_text;
-pub use row_writing::write_batches;
 pub use runs::run;
+pub use scan_output::{
+    append_column_lines, append_row_lines, row_text, rows_by_hand, strings_by_hand, write_batches,
+};
+pub use scan_request::{
+    Request, RequestError, dtype_forms_by_hand, expression_forms_by_hand, node_forms_by_hand,
+    request_forms_by_hand, request_of, row_forms_by_hand,
+};
 pub use statuses::{
     BAD_CODE, BAD_LAYOUT, BAD_PROJECTION, BAD_REQUEST, BAD_SEGMENT, DONE, EXPRESSION_FAULT,
     LISTS_UNSUPPORTED, NO_LOCATION, NOT_READABLE, NOT_YET, OUT_OF_MEMORY, READ_FAULT,
     REQUEST_FAULT, REQUEST_TOO_LARGE, ROW_OFFSET_OVERFLOW, ROW_OUT_OF_RANGE, STALLED, USAGE,
     WRITE_FAULT, status_text,
 };
-pub use texts_by_hand::{rows_by_hand, strings_by_hand};

@@ -5,9 +5,9 @@ ghost use Rattle.scan_commands.specs.PlanRuns.{Draws};
 ghost use Rattle.scan_commands.specs.Reading.{ReadsPieces};
 
 use crate::endings::{Ending, of_request};
-use crate::request_forms::request_of;
 use crate::requests::{ReadingError, read_request};
-use crate::writing::write_all;
+use scan_output::write_all;
+use scan_request::request_of;
 use std::alloc::Global;
 use vx_base::{Sink, Source, StreamError};
 use vx_scan::plan_text;

@@ -6,10 +6,10 @@ ghost use Rattle.scan_commands.specs.Reading.{ReadsPieces};
 ghost use Rattle.scan_commands.specs.Runs.{Ends};
 
 use crate::endings::{Ending, of_request, of_scan};
-use crate::request_forms::request_of;
 use crate::requests::{ReadingError, read_request};
 use crate::scans::batches_of;
-use crate::side_by_side::write_by;
+use scan_output::write_by;
+use scan_request::request_of;
 use std::sync::Wait;
 use std::thread::Threads;
 use vx_base::{SegmentSource, Sink, Source, StreamError};

@@ -3,11 +3,11 @@
 ghost use Rattle.std.specs.Prelude.{◌≡◌, ◌<◌, ◌≤◌, IfOk, length, map};
 ghost use Rattle.vx_scan.specs.Builders.{scan_of as built_scan};
 ghost use Rattle.scan_words.specs.Limits.{most_workers};
-ghost use Rattle.scan_commands.specs.JsonForms.{most_items};
-ghost use Rattle.scan_commands.specs.RequestViews.{asked_of};
+ghost use Rattle.scan_request.specs.JsonForms.{most_items};
+ghost use Rattle.scan_request.specs.RequestViews.{asked_of};
 ghost use Rattle.scan_commands.specs.Scans.{scan_of, ScanGives};
 
-use crate::request_forms::Request;
+use scan_request::Request;
 use std::alloc::{AllocError, Global};
 use std::sync::Wait;
 use std::thread::Threads;

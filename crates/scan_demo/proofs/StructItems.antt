@@ -6,7 +6,7 @@ use Rattle.vx_base.specs.Cells.{struct_at}
 use Rattle.vx_base.specs.Data.{Datum, null, structure, Items, no_items, item}
 use Rattle.vx_base.specs.ValueViews.{data_in}
 use Rattle.vx_types.proofs.Items.{some_datum}
-use Rattle.vx_packed.specs.Fields.{field_at, first_item, items_behind}
+use Rattle.vx_arrays.specs.Fields.{field_at, first_item, items_behind}
 
 -- what an item at a place is
 item_is : (place : ℕ) (vs : Items) (v : Datum) → slice_get (data_in vs) place ≡ some_datum v → first_item (items_behind place vs) ≡ v

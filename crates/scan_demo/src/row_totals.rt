@@ -5,12 +5,12 @@ ghost use Rattle.std.specs.List.{flat_map};
 ghost use Rattle.vx_base.specs.Cells.{cell_datum, struct_at};
 ghost use Rattle.vx_base.specs.Data.{number, structure, truth as truth_value};
 ghost use Rattle.vx_base.specs.ValueViews.{datum, items_of};
-ghost use Rattle.vx_packed.specs.Fields.{field_at};
+ghost use Rattle.vx_arrays.specs.Fields.{field_at};
 ghost use Rattle.scan_demo.specs.Totals.{facts_of, facts_without_number, natural_in, no_totals, totals_of, with_row, with_rows};
 
 use std::alloc::{AllocError, Global};
+use vx_arrays::Parts;
 use vx_base::{Cell, Column, Value};
-use vx_packed::Parts;
 
 /// What the summary reads of a field: its number, whether there is a value, and whether that is true.
 #[derive(Clone, Copy)]
@@ -111,7 +111,7 @@ impl FieldFacts {
     }
 
     /// The facts of the item at a place, which is null past the last item.
-    #[tactic(auto, using(vx_packed::proofs::ValueRows::field_here, vx_packed::proofs::ValueRows::field_past))]
+    #[tactic(auto, using(vx_arrays::proofs::ValueRows::field_here, vx_arrays::proofs::ValueRows::field_past))]
     fn of_item(items: &[Value], place: usize) -> FieldFacts
         ensures { result ≡ facts_of (field_at place (structure (items_of items.now))) }
     {

@@ -1,9 +1,4 @@
-pub mod ColumnRows
-pub mod KeptRuns
-pub mod RunRows
-pub mod ScriptTurns
-pub mod SpreadRuns
-pub mod Tickets
+pub mod Got
 pub use Rattle.vx_types.proofs.AllFit
 pub use Rattle.vx_types.proofs.BuiltRows
 pub use Rattle.vx_types.proofs.FieldTexts
@@ -11,3 +6,5 @@ pub use Rattle.vx_types.proofs.Items
 pub use Rattle.vx_types.proofs.Leaves
 pub use Rattle.vx_types.proofs.Members
 pub use Rattle.vx_types.proofs.Spelled
+pub use Rattle.vx_columns.proofs.ColumnRows
+pub use Rattle.vx_outside.proofs.ScriptTurns

@@ -9,9 +9,9 @@ use Rattle.vx_base.specs.Fits.{Fits, EachFits}
 use Rattle.vx_base.specs.Reading.{where_valid}
 use Rattle.vx_base.specs.ValueViews.{items_from}
 use Rattle.vx_base.specs.Views.{fields_in}
-use Rattle.vx_packed.specs.PartRows.{members_in, beside, rows_of, picked_at, HaveRows}
-use Rattle.vx_packed.specs.Slots.{bare, bare_members}
-use Rattle.vx_words.specs.Rows.{taken}
+use Rattle.vx_arrays.specs.PartRows.{members_in, beside, rows_of, picked_at, HaveRows}
+use Rattle.vx_arrays.specs.Slots.{bare, bare_members}
+use Rattle.vx_masks.specs.Rows.{taken}
 use Rattle.vx_expr.specs.Packs.{put_first, rows_along, struct_row, typed_columns, FitEach, IsStructOf}
 use Rattle.vx_expr.specs.Rows.{along}
 use Rattle.vx_expr.proofs.PackRows.{along_len, take_same}

@@ -5,7 +5,7 @@ use Rattle.vx_base.specs.Columns.{ColumnData}
 use Rattle.vx_base.specs.Data.{DataType, struct_type, Members, no_members, member, Datum, structure}
 use Rattle.vx_base.specs.Fits.{Fits}
 use Rattle.vx_base.specs.ValueViews.{items_from}
-use Rattle.vx_packed.specs.Slots.{bare}
+use Rattle.vx_arrays.specs.Slots.{bare}
 use Rattle.vx_expr.specs.Rows.{along}
 
 abbrev pub put_first : Datum → List Datum → List Datum

@@ -2,7 +2,7 @@
 
 ghost use Rattle.std.specs.Prelude.{◌≡◌, ℕ, Some, map, length, IfOk, IsErrOf, IsTrue};
 ghost use Rattle.std.specs.List.{AllByRecursion};
-ghost use Rattle.vx_packed.specs.Slots.{bare};
+ghost use Rattle.vx_arrays.specs.Slots.{bare};
 ghost use Rattle.vx_base.specs.Fits.{Fits};
 ghost use Rattle.vx_base.specs.Views.{data_type};
 ghost use Rattle.vx_expr.specs.declared.applying.ApplyError.TheVariants as errors;
@@ -19,8 +19,8 @@ use crate::fitting::{cell_part, fitting_structs, fitting_worth};
 use crate::found::Finds;
 use std::alloc::{AllocError, AllocFailed, Global};
 use thiserror::Error;
+use vx_arrays::Part;
 use vx_base::{Column, DType};
-use vx_packed::Part;
 
 /// Why an expression has no column over these rows.
 #[derive(Debug, Drop, Error)]
@@ -73,7 +73,7 @@ fn part_of(alloc: Global, dtype: &DType, made: Evaluated<'_>) -> Result<Part, Al
 }
 
 /// The column of values that fit, wherever they are held.
-#[tactic(auto, using(vx_packed::proofs::PackedRows::column_of_values))]
+#[tactic(auto, using(vx_arrays::proofs::PackedRows::column_of_values))]
 fn column_of(alloc: Global, dtype: &DType, made: Evaluated<'_>) -> Result<Column, AllocError>
     requires { AllByRecursion (Fits (data_type dtype.now)) (evaluated_rows made) }
     ensures dtype { IfOk result (λ column. column.dtype ≡ data_type dtype.now) }
@@ -90,7 +90,7 @@ fn column_of(alloc: Global, dtype: &DType, made: Evaluated<'_>) -> Result<Column
 }
 
 /// The rows of a column, spread.
-#[tactic(auto, using(vx_packed::proofs::PackedRows::all_nullable))]
+#[tactic(auto, using(vx_arrays::proofs::PackedRows::all_nullable))]
 fn spread(alloc: Global, column: &Column) -> Result<Part, AllocError>
     ensures values { IfOk result (λ part. part.values ≡ column.now.values) }
     ensures fit { AllByRecursion (Fits column.now.dtype) column.now.values }

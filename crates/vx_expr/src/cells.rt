@@ -4,12 +4,12 @@ ghost use Rattle.std.specs.Prelude.{◌≡◌, IfOk};
 ghost use Rattle.vx_base.specs.ValueViews.{datum};
 ghost use Rattle.vx_expr.specs.Steps.{cell_datum, seen_datum};
 ghost use Rattle.vx_operators.specs.Worths.{single_datum};
-ghost use Rattle.vx_packed.specs.Cells.{cell_datum as row_datum};
+ghost use Rattle.vx_arrays.specs.Cells.{cell_datum as row_datum};
 
 use std::alloc::{AllocError, Global};
+use vx_arrays::Cell as Row;
 use vx_base::{Text, Value};
 use vx_operators::Single;
-use vx_packed::Cell as Row;
 
 /// The value of an expression at one row.
 #[derive(Drop)]

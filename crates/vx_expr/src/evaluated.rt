@@ -12,12 +12,12 @@ use crate::cells::Cell;
 use crate::packing::{fewest_rows, rows_of_worths, struct_cells};
 use crate::steps::{OneStep, TwoStep, one, two};
 use std::alloc::{AllocError, Global};
+use vx_arrays::{Look, Part};
 use vx_base::{DType, Value};
 use vx_operators::{
     Single, Worth, and_worths, compare_worths, join_worths, not_worth, null_test, or_worths,
     value_test,
 };
-use vx_packed::{Look, Part};
 
 /// What an expression is worth at each row.
 #[derive(Drop)]

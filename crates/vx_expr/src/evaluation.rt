@@ -17,9 +17,9 @@ use crate::found::Finds;
 use crate::packing::Packing;
 use crate::steps::{OneStep, TwoStep};
 use std::alloc::{AllocError, Global};
+use vx_arrays::Part;
 use vx_base::DType;
 use vx_operators::Worth;
-use vx_packed::Part;
 
 /// The rows that an expression is evaluated over.
 #[derive(Clone, Copy)]

@@ -8,16 +8,16 @@ ghost use Rattle.vx_base.specs.Views.{data_type, fields_in};
 ghost use Rattle.vx_operators.specs.Worths.{single_datum, worth_rows};
 ghost use Rattle.vx_expr.specs.Packs.{rows_along, struct_row, typed_columns, FitEach, IsStructOf};
 ghost use Rattle.vx_expr.specs.Steps.{cell_datum};
-ghost use Rattle.vx_packed.specs.Slots.{bare};
+ghost use Rattle.vx_arrays.specs.Slots.{bare};
 
 use crate::cells::Cell;
 use crate::evaluated::own_cells;
 use crate::packing::{fewest_rows, rows_of_worths, struct_cells};
 use std::alloc::{AllocError, Global};
+use vx_arrays::{Look, Part, Parts, SharedPart};
 use vx_base::{DType, Fields, Value};
+use vx_masks::Mask;
 use vx_operators::{Single, Worth};
-use vx_packed::{Look, Part, Parts, SharedPart};
-use vx_words::Mask;
 
 /// The values of the cells, in memory of their own.
 fn values_of(alloc: Global, cells: Vec<Cell<'_>>) -> Result<Vec<Value>, AllocError>
@@ -43,7 +43,7 @@ fn is_leaf_of(dtype: &DType, part: &Part) -> bool
 }
 
 /// The part of values that are handed over cell by cell.
-#[tactic(auto, using(vx_packed::proofs::PackedRows::all_nullable))]
+#[tactic(auto, using(vx_arrays::proofs::PackedRows::all_nullable))]
 pub(crate) fn cell_part(
     alloc: Global,
     dtype: &DType,
@@ -75,7 +75,7 @@ fn fitting_part(alloc: Global, dtype: &DType, part: Part) -> Result<Part, AllocE
 }
 
 /// The rows of a part, in memory of their own.
-#[tactic(auto, using(vx_packed::proofs::PackedRows::whole_range))]
+#[tactic(auto, using(vx_arrays::proofs::PackedRows::whole_range))]
 fn part_copy(alloc: Global, part: &Part) -> Result<Part, AllocError>
     ensures { IfOk result (λ copied. copied.values ≡ part.now.values) }
 {

@@ -5,9 +5,9 @@ use Rattle.vx_types.specs.declared.dtypes.IntKind.{IntKind}
 use Rattle.vx_types.specs.declared.dtypes.Nullability.{Nullability}
 use Rattle.vx_types.specs.Data.{Datum, null, number, truth, text, structure, int_type}
 use Rattle.vx_types.specs.Fits.{least_of, greatest_of}
-use Rattle.vx_words.specs.Masks.{both}
+use Rattle.vx_masks.specs.Masks.{both}
 use Rattle.vx_types.specs.Reading.{where_valid}
-use Rattle.vx_words.specs.Rows.{NullsHold}
+use Rattle.vx_masks.specs.Rows.{NullsHold}
 use Rattle.vx_operators.specs.declared.operators.ArithOp.{ArithOp}
 use Rattle.vx_operators.specs.declared.operators.CompareOp.{CompareOp}
 use Rattle.vx_operators.specs.Operators.{comparison_of, arithmetic_of, exact, if_inside}

@@ -5,8 +5,8 @@ use Rattle.vx_types.specs.declared.dtypes.IntKind.{IntKind}
 use Rattle.vx_types.specs.declared.dtypes.Nullability.{Nullability}
 use Rattle.vx_types.specs.Data.{Datum, null, number, truth, int_type}
 use Rattle.vx_types.specs.Reading.{where_valid}
-use Rattle.vx_words.specs.Masks.{both}
-use Rattle.vx_words.specs.Rows.{NullsHold}
+use Rattle.vx_masks.specs.Masks.{both}
+use Rattle.vx_masks.specs.Rows.{NullsHold}
 use Rattle.vx_operators.specs.declared.operators.ArithOp.{ArithOp}
 use Rattle.vx_operators.specs.declared.operators.CompareOp.{CompareOp}
 use Rattle.vx_operators.specs.Operators.{arithmetic_of, comparison_of}

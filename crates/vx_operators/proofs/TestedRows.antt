@@ -2,8 +2,8 @@
 use Rattle.std.proofs.Common.{◌≡◌, Bool, true, false, ◌&&◌, List, [], ◌∷◌, length, map, Option, Some, refl, sym, ap, ◌∙◌}
 use Rattle.vx_types.specs.Data.{Datum, truth}
 use Rattle.vx_types.specs.Reading.{where_valid}
-use Rattle.vx_words.specs.Masks.{both, either, without}
-use Rattle.vx_words.specs.Rows.{NullsHold}
+use Rattle.vx_masks.specs.Masks.{both, either, without}
+use Rattle.vx_masks.specs.Rows.{NullsHold}
 use Rattle.vx_operators.specs.declared.operators.CompareOp.TheVariants.{Eq, Ne, Lt, Le, Gt, Ge}
 use Rattle.vx_operators.specs.Rows.{along, front}
 use Rattle.vx_operators.specs.Kernels.{LiftsTwo, of_two, compares_truth}

@@ -16,7 +16,7 @@ use crate::truth_operators::{
 };
 use crate::worths::Worth;
 use std::alloc::{AllocError, Global};
-use vx_packed::Part;
+use vx_arrays::Part;
 use vx_types::IntKind;
 
 /// How the truth values, the texts or the numbers of both compare, row by row.

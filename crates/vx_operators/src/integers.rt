@@ -3,12 +3,12 @@
 ghost use Rattle.std.specs.Prelude.{◌≡◌, pos, map, option_map};
 ghost use Rattle.std.specs.Ordering.{int_cmp};
 ghost use Rattle.vx_types.specs.declared.dtypes.IntKind.TheVariants.{U8, U16, U32, U64, I8, I16, I32, I64};
-ghost use Rattle.vx_packed.specs.Numbers.{kind_in, numbers_in};
+ghost use Rattle.vx_arrays.specs.Numbers.{kind_in, numbers_in};
 ghost use Rattle.vx_operators.specs.Kernels.{exact_inside};
 
 use crate::operators::ArithOp;
 use std::cmp::Ordering;
-use vx_packed::{Kind, Numbers, Primitive};
+use vx_arrays::{Kind, Numbers, Primitive};
 
 /// A kind of whole numbers, with its order and its arithmetic.
 pub trait Integer: Kind {

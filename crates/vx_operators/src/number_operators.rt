@@ -13,7 +13,7 @@ use crate::numbers::{compare_numbers, join_numbers};
 use crate::operators::{ArithOp, CompareOp};
 use crate::worths::Worth;
 use std::alloc::{AllocError, Global};
-use vx_packed::Part;
+use vx_arrays::Part;
 use vx_types::IntKind;
 
 /// How numbers of one kind compare.

@@ -14,8 +14,8 @@ use crate::integers::Integer;
 use crate::operators::{ArithOp, CompareOp};
 use crate::sides::Side;
 use std::alloc::{AllocError, Global};
-use vx_packed::Part;
-use vx_words::Mask;
+use vx_arrays::Part;
+use vx_masks::Mask;
 
 /// How two numbers compare.
 #[inline(always)]

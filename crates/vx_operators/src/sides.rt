@@ -2,13 +2,13 @@
 //! never spread.
 
 ghost use Rattle.std.specs.Prelude.{◌≡◌, ◌<◌, length, map, slice_get, Some, IfOk};
-ghost use Rattle.vx_words.specs.Masks.{both};
+ghost use Rattle.vx_masks.specs.Masks.{both};
 ghost use Rattle.vx_operators.specs.Sides.{side_valid, side_numbers, valid_rows, IsSide};
 
 use crate::integers::Integer;
 use crate::valid_rows::Valid;
 use std::alloc::{AllocError, Global};
-use vx_words::Mask;
+use vx_masks::Mask;
 
 /// Numbers of one kind, one for each row or none.
 #[derive(Clone, Copy)]

@@ -11,7 +11,7 @@ use crate::operators::CompareOp;
 use crate::texts::compare_texts;
 use crate::worths::Worth;
 use std::alloc::{AllocError, Global};
-use vx_packed::Part;
+use vx_arrays::Part;
 
 /// How the texts of both compare, row by row.
 pub(crate) fn compare_text_rows(

@@ -2,14 +2,14 @@
 //! is never spread.
 
 ghost use Rattle.std.specs.Prelude.{◌≡◌, ◌<◌, length, slice_get, Some, IfOk};
-ghost use Rattle.vx_words.specs.Masks.{both};
+ghost use Rattle.vx_masks.specs.Masks.{both};
 ghost use Rattle.vx_operators.specs.Sides.{valid_rows};
 ghost use Rattle.vx_operators.specs.TextSides.{text_valid, side_texts, IsTextSide};
 
 use crate::valid_rows::Valid;
 use std::alloc::{AllocError, Global};
-use vx_packed::Texts;
-use vx_words::Mask;
+use vx_arrays::Texts;
+use vx_masks::Mask;
 
 /// Texts, one for each row or none.
 #[derive(Clone, Copy)]

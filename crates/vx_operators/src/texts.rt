@@ -11,8 +11,8 @@ ghost use Rattle.vx_operators.specs.TextSides.{text_valid, side_texts, text_rows
 use crate::operators::CompareOp;
 use crate::text_sides::TextSide;
 use std::alloc::{AllocError, Global};
-use vx_packed::Part;
-use vx_words::Mask;
+use vx_arrays::Part;
+use vx_masks::Mask;
 
 /// How two texts compare.
 #[inline(always)]

@@ -4,7 +4,7 @@ ghost use Rattle.std.specs.Prelude.{◌≡◌, Some, false, if◌then◌else◌,
 ghost use Rattle.vx_types.specs.declared.dtypes.Nullability.TheVariants.{NonNullable};
 ghost use Rattle.vx_types.specs.Data.{bool_type, null, truth};
 ghost use Rattle.vx_types.specs.Reading.{where_valid};
-ghost use Rattle.vx_words.specs.Rows.{Holds, NullsHold};
+ghost use Rattle.vx_masks.specs.Rows.{Holds, NullsHold};
 ghost use Rattle.vx_operators.specs.Operators.{and_of, comparison_of, or_of, negated, null_test_of, value_test_of};
 ghost use Rattle.vx_operators.specs.Rows.{along, front};
 ghost use Rattle.vx_operators.specs.Worths.{worth_type, worth_rows};
@@ -13,8 +13,8 @@ use crate::operators::CompareOp;
 use crate::truths::{Truths, and, compare, is_not_null, is_null, not, or};
 use crate::worths::{Single, Worth};
 use std::alloc::{AllocError, Global};
-use vx_packed::{Look, Part};
-use vx_words::Mask;
+use vx_arrays::{Look, Part};
+use vx_masks::Mask;
 
 /// The truth values of a part, in memory of their own.
 fn part_truths(alloc: Global, part: &Part) -> Result<Truths, AllocError>

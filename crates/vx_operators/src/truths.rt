@@ -5,15 +5,15 @@ ghost use Rattle.std.specs.Prelude.{◌≡◌, List, Some, false, length, map, I
 ghost use Rattle.vx_types.specs.Data.{Datum, truth};
 ghost use Rattle.vx_types.specs.Reading.{where_valid};
 ghost use Rattle.vx_types.specs.Segment.{is_value};
-ghost use Rattle.vx_words.specs.Masks.{both};
-ghost use Rattle.vx_words.specs.Rows.{NullsHold};
+ghost use Rattle.vx_masks.specs.Masks.{both};
+ghost use Rattle.vx_masks.specs.Rows.{NullsHold};
 ghost use Rattle.vx_operators.specs.Operators.{and_of, comparison_of, or_of, negated, null_test_of, value_test_of};
 ghost use Rattle.vx_operators.specs.Kernels.{compares_truth};
 ghost use Rattle.vx_operators.specs.Rows.{along, front};
 
 use crate::operators::CompareOp;
 use std::alloc::{AllocError, Global};
-use vx_words::Mask;
+use vx_masks::Mask;
 
 /// Truth values of the rows of a column.
 #[derive(Drop)]

@@ -1,11 +1,11 @@
 //! Which rows of a side of an operator have a value: those that a mask says, all, or none.
 
 ghost use Rattle.std.specs.Prelude.{◌≡◌, length, IfOk};
-ghost use Rattle.vx_words.specs.Masks.{both};
+ghost use Rattle.vx_masks.specs.Masks.{both};
 ghost use Rattle.vx_operators.specs.Sides.{valid_rows};
 
 use std::alloc::{AllocError, Global};
-use vx_words::Mask;
+use vx_masks::Mask;
 
 /// Which rows have a value.
 #[derive(Clone, Copy)]

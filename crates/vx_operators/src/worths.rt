@@ -14,7 +14,7 @@ use crate::integers::Integer;
 use crate::sides::Side;
 use crate::text_sides::TextSide;
 use std::alloc::{AllocError, Global};
-use vx_packed::{Look, Part};
+use vx_arrays::{Look, Part};
 use vx_types::IntKind;
 
 /// One value, or null, of a leaf dtype.

@@ -15,15 +15,15 @@ use Rattle.vx_splits.specs.Trimmed.{chosen_rows}
 use Rattle.vx_steps.specs.Below.{StandsAmong, IsSharePlan, HasNoShare}
 use Rattle.vx_steps.specs.Given.{given_for}
 use Rattle.vx_steps.specs.Visits.{Visits, VisitsIn, VisitsField, IsWholeRead}
-use Rattle.vx_scan.specs.declared.plans.ScanPlans.{ScanPlans}
+use Rattle.vx_drive.specs.declared.plans.ScanPlans.{ScanPlans}
+use Rattle.vx_drive.specs.Plans.{projection_plan}
+use Rattle.vx_chunks.proofs.Ways.{none_inside, SeesOutside}
+use Rattle.vx_workers.specs.Loans.{AsksForWholes}
 use Rattle.vx_scan.specs.Answer.{FileScan, row_count}
 use Rattle.vx_scan.specs.Causes.{ReadsDictionary}
-use Rattle.vx_scan.specs.Loans.{AsksForWholes}
-use Rattle.vx_scan.specs.Plans.{projection_plan}
 use Rattle.vx_scan.specs.Preparing.{node_of, ArePlansOf, LiesInside}
 use Rattle.vx_scan.proofs.ScanReads.{some_chosen}
 use Rattle.vx_scan.proofs.UnsharedPlans.{none_shared}
-use Rattle.vx_scan.proofs.Ways.{none_inside, SeesOutside}
 
 -- ---- rows of a plan
 

@@ -24,24 +24,24 @@ use Rattle.vx_steps.proofs.CodeVisits.{code_found}
 use Rattle.vx_steps.proofs.FreeVisits.{code_becomes, fault_becomes, none_same}
 use Rattle.vx_steps.proofs.HandedRows.{typed_fit}
 use Rattle.vx_steps.proofs.UsedValues.{used_serve}
-use Rattle.vx_scan.specs.declared.errors.ScanError.{ScanError}
-use Rattle.vx_scan.specs.declared.errors.ScanError.TheVariants.{BadProjection, OffsetOverflow, OutOfRange, Unsupported, NoLocation, ReadFault, Stalled, BadSegment, BadCode, EvalFault, Memory}
-use Rattle.vx_scan.specs.declared.outcomes.ChunkOutcome.{ChunkOutcome}
-use Rattle.vx_scan.specs.declared.plans.ScanPlans.{ScanPlans}
+use Rattle.vx_drive.specs.declared.errors.ScanError.{ScanError}
+use Rattle.vx_drive.specs.declared.errors.ScanError.TheVariants.{BadProjection, OffsetOverflow, OutOfRange, Unsupported, NoLocation, ReadFault, Stalled, BadSegment, BadCode, EvalFault, Memory}
+use Rattle.vx_drive.specs.declared.plans.ScanPlans.{ScanPlans}
+use Rattle.vx_drive.specs.Plans.{bytes_of, projection_plan, ArePlans, IsChunkOf}
+use Rattle.vx_drive.specs.Runs.{row_fault}
+use Rattle.vx_drive.proofs.Lasting.{lasts_same}
+use Rattle.vx_chunks.specs.declared.outcomes.ChunkOutcome.{ChunkOutcome}
+use Rattle.vx_chunks.specs.ChunkRows.{given_to, ChunkFailsInside, ChunkFaultsAt, ChunkFinds, ChunkReadsBadCode}
+use Rattle.vx_chunks.specs.Outcomes.{AreAllUsedOrMade, Causes, KeepsValues, RunsChunk, data_of, told_by}
+use Rattle.vx_chunks.proofs.AddedValues.{AllStand, no_code_added}
+use Rattle.vx_chunks.proofs.AddedVisits.{AreBehind, all_stand, lacks_as, first_of}
+use Rattle.vx_chunks.proofs.ChunkScanning.{IsGoodChunk, good_chunk}
+use Rattle.vx_chunks.proofs.FewerReads.{NoCode}
+use Rattle.vx_chunks.proofs.HandedRuns.{error_as}
+use Rattle.vx_workers.proofs.SettledCauses.{cause_free}
 use Rattle.vx_scan.specs.ChunkLaws.{told_whole}
-use Rattle.vx_scan.specs.ChunkRows.{given_to, ChunkFailsInside, ChunkFaultsAt, ChunkFinds, ChunkReadsBadCode}
-use Rattle.vx_scan.specs.Outcomes.{AreAllUsedOrMade, Causes, KeepsValues, RunsChunk, data_of, told_by}
-use Rattle.vx_scan.specs.Plans.{bytes_of, projection_plan, ArePlans, IsChunkOf}
-use Rattle.vx_scan.specs.Runs.{row_fault}
-use Rattle.vx_scan.proofs.AddedValues.{AllStand, no_code_added}
-use Rattle.vx_scan.proofs.AddedVisits.{AreBehind, all_stand, lacks_as, first_of}
 use Rattle.vx_scan.proofs.CarriedVisits.{carried, fault_alike}
 use Rattle.vx_scan.proofs.ChunkLaws.{served, wholes_of}
-use Rattle.vx_scan.proofs.ChunkScanning.{IsGoodChunk, good_chunk}
-use Rattle.vx_scan.proofs.FewerReads.{NoCode}
-use Rattle.vx_scan.proofs.HandedRuns.{error_as}
-use Rattle.vx_scan.proofs.Lasting.{lasts_same}
-use Rattle.vx_scan.proofs.SettledCauses.{cause_free}
 
 -- used values are first of those and the given ones
 used_first : (used given : Option ColumnData) → ((column : ColumnData) → used ≡ Some column → given ≡ Some column) → given ≡ first_of used given

@@ -12,14 +12,14 @@ use Rattle.vx_steps.specs.GivenLaws.{AreServed}
 use Rattle.vx_steps.specs.KeptData.{Kept}
 use Rattle.vx_steps.proofs.CertifiedValues.{certified_columns}
 use Rattle.vx_steps.proofs.UsedValues.{used_columns}
-use Rattle.vx_scan.specs.declared.errors.ScanError.{ScanError}
-use Rattle.vx_scan.specs.declared.outcomes.ChunkOutcome.{ChunkOutcome}
-use Rattle.vx_scan.specs.declared.plans.ScanPlans.{ScanPlans}
+use Rattle.vx_drive.specs.declared.errors.ScanError.{ScanError}
+use Rattle.vx_drive.specs.declared.plans.ScanPlans.{ScanPlans}
+use Rattle.vx_drive.specs.Plans.{bytes_of, ArePlans, IsChunkOf}
+use Rattle.vx_chunks.specs.declared.outcomes.ChunkOutcome.{ChunkOutcome}
+use Rattle.vx_chunks.specs.ChunkRows.{IsPlanPiece}
+use Rattle.vx_chunks.specs.Outcomes.{GivesPiece, KeepsValues, RunsChunk, AreAllUsedOrMade, data_of, told_by}
+use Rattle.vx_chunks.proofs.ChunkScanning.{IsGoodChunk, good_chunk}
 use Rattle.vx_scan.specs.ChunkLaws.{told_whole}
-use Rattle.vx_scan.specs.ChunkRows.{IsPlanPiece}
-use Rattle.vx_scan.specs.Outcomes.{GivesPiece, KeepsValues, RunsChunk, AreAllUsedOrMade, data_of, told_by}
-use Rattle.vx_scan.specs.Plans.{bytes_of, ArePlans, IsChunkOf}
-use Rattle.vx_scan.proofs.ChunkScanning.{IsGoodChunk, good_chunk}
 
 -- the whole values that were used and made
 abbrev pub wholes_of : ChunkOutcome → Wholes

@@ -8,17 +8,17 @@ use Rattle.vx_base.specs.Sources.{SourceState, range_of}
 use Rattle.vx_rows.specs.Reads.{Way, directly, through, IsAmong}
 use Rattle.vx_rows.specs.Renumbered.{way_renumbered}
 use Rattle.vx_splits.specs.declared.selected_rows.SelectedRows.{SelectedRows}
-use Rattle.vx_scan.specs.declared.plans.ScanPlans.{ScanPlans}
+use Rattle.vx_drive.specs.declared.plans.ScanPlans.{ScanPlans}
+use Rattle.vx_drive.specs.Fetched.{AllLocated, AreDistinct, location_of}
+use Rattle.vx_drive.proofs.Sessions.{located_at}
+use Rattle.vx_workers.specs.Reasons.{Reason, segment_of, chunk_and_segment, taken_by, take_and_segment, IsReasonAmong}
+use Rattle.vx_workers.specs.Workers.{RunsSource}
+use Rattle.vx_workers.proofs.Certifying.{each_weaker}
+use Rattle.vx_settle.specs.Settling.{direct_and_segment, AsksAgain, IsDirectAmong}
 use Rattle.vx_scan.specs.Counts.{is_range, times_asked, asked_times, AreAllOf}
-use Rattle.vx_scan.specs.Fetched.{AllLocated, AreDistinct, location_of}
-use Rattle.vx_scan.specs.Reasons.{Reason, segment_of, chunk_and_segment, taken_by, take_and_segment, IsReasonAmong}
-use Rattle.vx_scan.specs.Settling.{direct_and_segment, AsksAgain, IsDirectAmong}
 use Rattle.vx_scan.specs.SourceCounts.{ChunkReads, IsDirectRead, IsReadOf, IsSharedRead}
-use Rattle.vx_scan.specs.Workers.{RunsSource}
 use Rattle.vx_scan.proofs.Counting.{ArePairs, AreBacked, counted_most, direct_once, gained_times, is_same, no_pairs, one_more, one_passed, pairs_most, taken_as}
 use Rattle.vx_scan.proofs.ScanAsks.{ranges_for}
-use Rattle.vx_scan.proofs.Certifying.{each_weaker}
-use Rattle.vx_scan.proofs.Sessions.{located_at}
 
 -- takes keep their numbers
 same_way : (way : Way) → way_renumbered (λ n. n) way ≡ way

@@ -13,12 +13,12 @@ use Rattle.vx_splits.specs.Chunks.{clipped_chunk, row_chunks, Tile}
 use Rattle.vx_splits.specs.Taken.{rows_between, selects, selected_rows}
 use Rattle.vx_splits.specs.Trimmed.{selection_mask, chosen_rows, IsTrimmed}
 use Rattle.vx_splits.proofs.ChunkRows.{joins, row_chunks-tile}
+use Rattle.vx_drive.specs.Plans.{AreInOrder}
+use Rattle.vx_workers.proofs.NewReasons.{end_of, end_next, follow_more}
 use Rattle.vx_scan.specs.Answer.{pieces_of}
-use Rattle.vx_scan.specs.Plans.{AreInOrder}
 use Rattle.vx_scan.specs.Preparing.{IsCutBy, LiesInside}
 use Rattle.vx_scan.proofs.Pieces.{nonempty}
 use Rattle.vx_scan.proofs.ChunkPieces.{selected_of, chunk_pieces}
-use Rattle.vx_scan.proofs.NewReasons.{end_of, end_next, follow_more}
 
 -- where the last of the ranges ends, and this row where there is none
 abbrev pub reach : ℕ → List (Range ℕ) → ℕ

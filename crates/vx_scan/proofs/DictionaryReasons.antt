@@ -10,14 +10,14 @@ use Rattle.vx_steps.specs.declared.leaf_reads.LeafRead.{LeafRead}
 use Rattle.vx_steps.specs.Below.{StandsIn}
 use Rattle.vx_steps.specs.Given.{no_given}
 use Rattle.vx_steps.proofs.Standing.{Tells, visit_stands}
+use Rattle.vx_drive.specs.Fetched.{AreDistinct}
+use Rattle.vx_drive.proofs.Distinct.{distinct_by}
+use Rattle.vx_chunks.specs.Ways.{IsReadThrough, ReadsBy}
+use Rattle.vx_workers.specs.Reasons.{Reason, read_for, taken_by, take_and_segment}
 use Rattle.vx_scan.specs.Answer.{FileScan}
-use Rattle.vx_scan.specs.Fetched.{AreDistinct}
 use Rattle.vx_scan.specs.PlanTexts.{held_tree}
 use Rattle.vx_scan.specs.Preparing.{node_of, IsTakeAs, TakesAreApart}
-use Rattle.vx_scan.specs.Reasons.{Reason, read_for, taken_by, take_and_segment}
 use Rattle.vx_scan.specs.Scanned.{AreReasonsFor, dictionary_and_segment}
-use Rattle.vx_scan.specs.Ways.{IsReadThrough, ReadsBy}
-use Rattle.vx_scan.proofs.Distinct.{distinct_by}
 
 -- ---- a take that a leaf is read through stands in the plan
 

@@ -35,13 +35,13 @@ use Rattle.vx_splits.specs.declared.selected_rows.SelectedRows.{SelectedRows}
 use Rattle.vx_splits.specs.Chunks.{chunk_size}
 use Rattle.vx_splits.specs.Taken.{selected_rows}
 use Rattle.vx_splits.specs.Trimmed.{chosen_rows}
+use Rattle.vx_drive.specs.declared.plans.ScanPlans.{ScanPlans}
+use Rattle.vx_drive.specs.Plans.{AreInOrder}
 use Rattle.vx_scan.specs.declared.files.ScanFile.{ScanFile}
-use Rattle.vx_scan.specs.declared.plans.ScanPlans.{ScanPlans}
 use Rattle.vx_scan.specs.declared.settings.Settings.{Settings}
 use Rattle.vx_scan.specs.Answer.{row_count, size_of, pieces_of}
 use Rattle.vx_scan.specs.Beginning.{BeginsOver}
 use Rattle.vx_scan.specs.PlanTexts.{held_tree, projection_of, IsProjectionPlanBy}
-use Rattle.vx_scan.specs.Plans.{AreInOrder}
 use Rattle.vx_scan.specs.Preparing.{ArePlansOf, AreChunksOf, IsCutBy, IsPlannedFor, IsProjectedBy, IsProjectedIn, LiesInside}
 use Rattle.vx_scan.specs.Builders.{new_building}
 use Rattle.vx_scan.specs.Settings.{building_of, new_settings, scan_by}

@@ -19,32 +19,32 @@ use Rattle.vx_rows.specs.Derivations.{Leaves}
 use Rattle.vx_rows.specs.Reads.{IsAmong}
 use Rattle.vx_rows.specs.SegmentLeaves.{leaves_of}
 use Rattle.vx_splits.specs.declared.selected_rows.SelectedRows.{SelectedRows}
-use Rattle.vx_scan.specs.declared.errors.ScanError.{ScanError}
-use Rattle.vx_scan.specs.declared.errors.ScanError.TheVariants.{BadProjection, OffsetOverflow, OutOfRange, Unsupported, NoLocation, ReadFault, Stalled, BadSegment, BadCode, EvalFault, Memory}
-use Rattle.vx_scan.specs.declared.lanes.ChunkError.{ChunkError}
-use Rattle.vx_scan.specs.declared.lanes.Piece.{Piece}
-use Rattle.vx_scan.specs.declared.outcomes.Outcome.{Outcome}
-use Rattle.vx_scan.specs.declared.plans.ScanPlans.{ScanPlans}
-use Rattle.vx_scan.specs.Asks.{IsLeftClear, Lasts}
+use Rattle.vx_drive.specs.declared.errors.ScanError.{ScanError}
+use Rattle.vx_drive.specs.declared.errors.ScanError.TheVariants.{BadProjection, OffsetOverflow, OutOfRange, Unsupported, NoLocation, ReadFault, Stalled, BadSegment, BadCode, EvalFault, Memory}
+use Rattle.vx_drive.specs.declared.plans.ScanPlans.{ScanPlans}
+use Rattle.vx_drive.specs.Asks.{IsLeftClear, Lasts}
+use Rattle.vx_drive.specs.Fetched.{AreDistinct}
+use Rattle.vx_drive.specs.Plans.{bytes_of, projection_node}
+use Rattle.vx_drive.proofs.Distinct.{distinct_none, distinct_then, apart_from}
+use Rattle.vx_drive.proofs.Lasting.{lasts_then}
+use Rattle.vx_drive.proofs.Sessions.{asked_nothing}
+use Rattle.vx_chunks.specs.ChunkRows.{IsPiece}
+use Rattle.vx_chunks.specs.Lent.{EachSource, EachSourceBy, FirstSource, SomeSourceBy}
+use Rattle.vx_chunks.proofs.LentSources.{each_by, each_clear, each_first, each_lasts, first_by, first_same, first_there}
+use Rattle.vx_workers.specs.declared.lanes.ChunkError.{ChunkError}
+use Rattle.vx_workers.specs.declared.lanes.Piece.{Piece}
+use Rattle.vx_workers.specs.Gathers.{no_memory}
+use Rattle.vx_workers.specs.Loans.{AsksForWholes, IsAsking}
+use Rattle.vx_workers.specs.Reasons.{Reason, chunk_and_segment}
+use Rattle.vx_workers.specs.Unhindered.{IsUnhindered, IsUnhinderedAt}
+use Rattle.vx_workers.specs.Workers.{HasDtype, HasItsRows, IsPieceOf, numbers_of, IsLast, AsksReached, RunsSource, FailsLast}
+use Rattle.vx_workers.proofs.LaneEnds.{among_stands}
+use Rattle.vx_workers.proofs.Certifying.{each_weaker}
+use Rattle.vx_settle.specs.declared.outcomes.Outcome.{Outcome}
+use Rattle.vx_settle.specs.Executes.{stretch, AskedAgain, FailsAgain, FailsLowest, FaultsAtLast, MayHaveBorrowed, StopsAtLast, Executed, Executes}
+use Rattle.vx_settle.specs.Settling.{rerun_chunks, AsksAgain}
 use Rattle.vx_scan.specs.BatchColumns.{Told, TakesBatches}
 use Rattle.vx_scan.specs.Batches.{AreBatches, AreUnhinderedButLast, FaultsFrom, HasPiece, HavePiecesButLast, Share, reasons_in, AsksOver, LowestFailure, GivesBatches}
-use Rattle.vx_scan.specs.ChunkRows.{IsPiece}
-use Rattle.vx_scan.specs.Fetched.{AreDistinct}
-use Rattle.vx_scan.specs.Executes.{stretch, AskedAgain, FailsAgain, FailsLowest, FaultsAtLast, MayHaveBorrowed, StopsAtLast, Executed, Executes}
-use Rattle.vx_scan.specs.Gathers.{no_memory}
-use Rattle.vx_scan.specs.Lent.{EachSource, EachSourceBy, FirstSource, SomeSourceBy}
-use Rattle.vx_scan.specs.Loans.{AsksForWholes, IsAsking}
-use Rattle.vx_scan.specs.Plans.{bytes_of, projection_node}
-use Rattle.vx_scan.specs.Reasons.{Reason, chunk_and_segment}
-use Rattle.vx_scan.specs.Settling.{rerun_chunks, AsksAgain}
-use Rattle.vx_scan.specs.Unhindered.{IsUnhindered, IsUnhinderedAt}
-use Rattle.vx_scan.specs.Workers.{HasDtype, HasItsRows, IsPieceOf, numbers_of, IsLast, AsksReached, RunsSource, FailsLast}
-use Rattle.vx_scan.proofs.Distinct.{distinct_none, distinct_then, apart_from}
-use Rattle.vx_scan.proofs.LaneEnds.{among_stands}
-use Rattle.vx_scan.proofs.Lasting.{lasts_then}
-use Rattle.vx_scan.proofs.LentSources.{each_by, each_clear, each_first, each_lasts, first_by, first_same, first_there}
-use Rattle.vx_scan.proofs.Sessions.{asked_nothing}
-use Rattle.vx_scan.proofs.Certifying.{each_weaker}
 
 -- ---- the batches
 

@@ -14,14 +14,14 @@ use Rattle.vx_steps.specs.Laws.{IsRowOf, row_reads}
 use Rattle.vx_steps.specs.Rows.{rows_of, SomeRow}
 use Rattle.vx_steps.proofs.ReadVisits.{no_columns}
 use Rattle.vx_steps.proofs.VisitedReads.{none_served}
-use Rattle.vx_scan.specs.declared.plans.ScanPlans.{ScanPlans}
+use Rattle.vx_drive.specs.declared.plans.ScanPlans.{ScanPlans}
+use Rattle.vx_drive.specs.Plans.{projection_plan}
+use Rattle.vx_chunks.specs.ChunkRows.{given_to, ChunkReaches}
+use Rattle.vx_workers.specs.Unhindered.{IsUnhindered}
 use Rattle.vx_scan.specs.Answer.{FileScan, row_count}
 use Rattle.vx_scan.specs.Causes.{ReadsList, ScanReaches}
-use Rattle.vx_scan.specs.ChunkRows.{given_to, ChunkReaches}
-use Rattle.vx_scan.specs.Plans.{projection_plan}
 use Rattle.vx_scan.specs.Preparing.{node_of, ArePlansOf, LiesInside}
 use Rattle.vx_scan.specs.Scanned.{AreUnhindered}
-use Rattle.vx_scan.specs.Unhindered.{IsUnhindered}
 use Rattle.vx_scan.proofs.ScanReads.{chunk_rows}
 
 -- ---- the rows of a chunk

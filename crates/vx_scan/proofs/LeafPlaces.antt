@@ -16,8 +16,8 @@ use Rattle.vx_steps.specs.declared.leaf_reads.LeafRead.{LeafRead}
 use Rattle.vx_steps.specs.Leavings.{IsLeafOf}
 use Rattle.vx_steps.specs.Visits.{Visits, VisitsIn, VisitsField, VisitsValidity}
 use Rattle.vx_steps.proofs.PlacedVisits.{by_match}
+use Rattle.vx_chunks.specs.Ways.{ReadsBy}
 use Rattle.vx_scan.specs.PlanTexts.{held_tree, IsProjectionPlan, IsProjectionPlanBy}
-use Rattle.vx_scan.specs.Ways.{ReadsBy}
 
 -- ---- the numbers of a numbered plan's leaves
 

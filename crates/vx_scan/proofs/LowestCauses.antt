@@ -5,34 +5,34 @@ use Rattle.std.specs.List.{slice_get, AllByRecursion}
 use Rattle.std.proofs.lemmas.List.{length-map}
 use Rattle.std.proofs.lemmas.Option.{same_Some}
 use Rattle.vx_base.specs.Sources.{SourceState}
+use Rattle.vx_base.proofs.Got.{got_mapped}
 use Rattle.vx_claims.specs.Apart.{times_over, AreApart}
 use Rattle.vx_rows.specs.SegmentLeaves.{Bytes, leaves_of}
 use Rattle.vx_splits.specs.declared.selected_rows.SelectedRows.{SelectedRows}
 use Rattle.vx_splits.specs.Trimmed.{chosen_rows}
-use Rattle.vx_scan.specs.declared.errors.ScanError.{ScanError}
-use Rattle.vx_scan.specs.declared.errors.ScanError.TheVariants.{ReadFault, Memory}
-use Rattle.vx_scan.specs.declared.lanes.ChunkError.{ChunkError}
-use Rattle.vx_scan.specs.declared.plans.ScanPlans.{ScanPlans}
+use Rattle.vx_drive.specs.declared.errors.ScanError.{ScanError}
+use Rattle.vx_drive.specs.declared.errors.ScanError.TheVariants.{ReadFault, Memory}
+use Rattle.vx_drive.specs.declared.plans.ScanPlans.{ScanPlans}
+use Rattle.vx_drive.specs.Asks.{KeepsFaults}
+use Rattle.vx_drive.specs.Plans.{bytes_of}
+use Rattle.vx_chunks.specs.Lent.{FirstSource, SomeSourceBy}
+use Rattle.vx_chunks.specs.Outcomes.{Causes, told_by, told_by_all}
+use Rattle.vx_chunks.proofs.LentSources.{each_by, first_by, some_by}
+use Rattle.vx_workers.specs.declared.lanes.ChunkError.{ChunkError}
+use Rattle.vx_workers.specs.Gathers.{no_memory}
+use Rattle.vx_workers.specs.Loans.{AsksForWholes, IsAsking}
+use Rattle.vx_workers.specs.Unhindered.{IsUnhindered, IsUnhinderedAt}
+use Rattle.vx_workers.specs.Workers.{IsLast, FailsLast, RunsSource}
+use Rattle.vx_settle.specs.Executes.{AskedAgain, FailsAgain}
 use Rattle.vx_scan.specs.Answer.{FileScan, row_count, scan_pieces}
-use Rattle.vx_scan.specs.Asks.{KeepsFaults}
 use Rattle.vx_scan.specs.Batches.{AreUnhinderedButLast, HasPiece, HavePiecesButLast, LowestFailure}
-use Rattle.vx_scan.specs.Executes.{AskedAgain, FailsAgain}
-use Rattle.vx_scan.specs.Gathers.{no_memory}
 use Rattle.vx_scan.specs.Causes.{ReadsDictionary}
-use Rattle.vx_scan.specs.Lent.{FirstSource, SomeSourceBy}
-use Rattle.vx_scan.specs.Loans.{AsksForWholes, IsAsking}
-use Rattle.vx_scan.specs.Outcomes.{Causes, told_by, told_by_all}
-use Rattle.vx_scan.specs.Plans.{bytes_of}
 use Rattle.vx_scan.specs.Preparing.{ArePlansOf, AreChunksOf, LiesInside}
 use Rattle.vx_scan.specs.Scanned.{AreUnhindered, FailsPiece, FailsPieceAgain, HasAnswer, HaveAnswersButLast, LowestCause, PieceReadsDictionary, PiecesUnhinderedButLast, RunsAgain, RunsPieces}
-use Rattle.vx_scan.specs.Unhindered.{IsUnhindered, IsUnhinderedAt}
-use Rattle.vx_scan.specs.Workers.{IsLast, FailsLast, RunsSource}
 use Rattle.vx_scan.proofs.AskedDictionaries.{asks_reads}
 use Rattle.vx_scan.proofs.HinderedScans.{first_unhindered, unhindered_there}
-use Rattle.vx_scan.proofs.LentSources.{each_by, first_by, some_by}
 use Rattle.vx_scan.proofs.ScanAsks.{gains_again, gains_of}
 use Rattle.vx_scan.proofs.ScanCauses.{cause_of, cause_of_all, have_answers, inside_at, piece_answers, same_bytes}
-use Rattle.vx_scan.proofs.Got.{got_mapped}
 
 module _ (scan : FileScan) (limit : ℕ) (plans : ScanPlans) (are : ArePlansOf scan limit plans) (chunks : List SelectedRows) (of_scan : AreChunksOf scan chunks) where
   runs_pieces : (numbers : List ℕ) (before after : SourceState) → RunsSource plans chunks numbers before after → RunsPieces scan numbers before after

@@ -9,19 +9,19 @@ use Rattle.vx_plan.specs.Refs.{number_of}
 use Rattle.vx_rows.specs.Reads.{AnyOf, Finds, IsIn}
 use Rattle.vx_steps.specs.Laws.{IsRowOf, IsBadCodeAt}
 use Rattle.vx_steps.specs.ScanLaws.{IsTornIn}
-use Rattle.vx_scan.specs.declared.errors.ScanError.{ScanError}
-use Rattle.vx_scan.specs.declared.errors.ScanError.TheVariants.{BadProjection, OffsetOverflow, OutOfRange, Unsupported, NoLocation, ReadFault, Stalled, BadSegment, BadCode, EvalFault, Memory}
+use Rattle.vx_drive.specs.declared.errors.ScanError.{ScanError}
+use Rattle.vx_drive.specs.declared.errors.ScanError.TheVariants.{BadProjection, OffsetOverflow, OutOfRange, Unsupported, NoLocation, ReadFault, Stalled, BadSegment, BadCode, EvalFault, Memory}
+use Rattle.vx_drive.specs.Asks.{Lasts}
+use Rattle.vx_drive.specs.Plans.{WhereTold}
+use Rattle.vx_drive.proofs.Lasting.{rose_from, rose_on}
+use Rattle.vx_chunks.specs.Lent.{EachSource, EachSourceBy, FirstSource, SomeSource, SomeSourceBy, AllTell, WhereAllTell}
 use Rattle.vx_scan.specs.Answer.{FileScan, scan_rows, scan_pieces, size_of}
-use Rattle.vx_scan.specs.Asks.{Lasts}
 use Rattle.vx_scan.specs.Beginning.{Refuses}
 use Rattle.vx_scan.specs.Causes.{ReadsTorn, FaultsAt}
-use Rattle.vx_scan.specs.Lent.{EachSource, EachSourceBy, FirstSource, SomeSource, SomeSourceBy, AllTell, WhereAllTell}
 use Rattle.vx_scan.specs.PlainCauses.{PlainCause, ErrorsHavePlainCauses}
-use Rattle.vx_scan.specs.Plans.{WhereTold}
 use Rattle.vx_scan.specs.Preparing.{node_of}
 use Rattle.vx_scan.specs.Scanned.{CausedIn, FailsPiece, FailsPieceAgain, FileClaims, LowestCause, ReadsBadCodePlan, RunsPieces}
 use Rattle.vx_scan.proofs.Answered.{pieces_join}
-use Rattle.vx_scan.proofs.Lasting.{rose_from, rose_on}
 use Rattle.vx_scan.proofs.ScanValid.{all_last}
 
 -- ---- the rows of a piece are rows of the scan

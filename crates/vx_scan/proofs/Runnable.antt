@@ -19,13 +19,13 @@ use Rattle.vx_splits.specs.declared.selected_rows.SelectedRows.{SelectedRows}
 use Rattle.vx_splits.specs.declared.selections.Selection.{Selection}
 use Rattle.vx_splits.specs.Trimmed.{chosen_rows}
 use Rattle.vx_steps.specs.Held.{FitsOffset}
+use Rattle.vx_drive.specs.declared.plans.ScanPlans.{ScanPlans}
+use Rattle.vx_drive.specs.Plans.{projection_node, projection_plan, ArePlans, FollowFrom, IsChunkOf}
+use Rattle.vx_settle.specs.Executes.{CanRun}
 use Rattle.vx_scan.specs.declared.files.ScanFile.{ScanFile}
-use Rattle.vx_scan.specs.declared.plans.ScanPlans.{ScanPlans}
 use Rattle.vx_scan.specs.declared.settings.Settings.{Settings}
 use Rattle.vx_scan.specs.Answer.{FileScan, row_count}
 use Rattle.vx_scan.specs.Beginning.{BeginsOver, Overflows}
-use Rattle.vx_scan.specs.Executes.{CanRun}
-use Rattle.vx_scan.specs.Plans.{projection_node, projection_plan, ArePlans, FollowFrom, IsChunkOf}
 use Rattle.vx_scan.specs.Prepared.{IsPreparedFor}
 use Rattle.vx_scan.specs.Preparing.{ArePlansOf, AreChunksOf, IsCutBy, LiesInside}
 use Rattle.vx_scan.specs.Settings.{scan_by}

@@ -6,6 +6,7 @@ use Rattle.std.proofs.lemmas.List.Elements.{All-head, All-tail}
 use Rattle.vx_base.specs.Sources.{SourceState, range_of}
 use Rattle.vx_base.specs.declared.locations.AskedRange.{AskedRange}
 use Rattle.vx_base.specs.declared.locations.SegmentLocation.{SegmentLocation}
+use Rattle.vx_base.proofs.Got.{got_mapped}
 use Rattle.vx_lower.specs.Projected.{Projection, scan_reads}
 use Rattle.vx_plan.specs.PlanRows.{plan_reads}
 use Rattle.vx_plan.specs.Refs.{number_of}
@@ -16,32 +17,32 @@ use Rattle.vx_splits.specs.Trimmed.{chosen_rows}
 use Rattle.vx_steps.specs.declared.leaf_reads.LeafRead.{LeafRead}
 use Rattle.vx_steps.specs.Below.{HasNoShare}
 use Rattle.vx_steps.specs.Rows.{SomeRow}
-use Rattle.vx_scan.specs.declared.plans.ScanPlans.{ScanPlans}
+use Rattle.vx_steps.proofs.LeafShapes.{one_segment}
+use Rattle.vx_drive.specs.declared.plans.ScanPlans.{ScanPlans}
+use Rattle.vx_drive.specs.Fetched.{AllLocated, AreDistinct, location_of}
+use Rattle.vx_drive.specs.Plans.{projection_plan}
+use Rattle.vx_drive.proofs.Sessions.{located_at}
+use Rattle.vx_chunks.specs.LeafRows.{LeavesLieTogether}
+use Rattle.vx_chunks.specs.Ways.{ReadsBy}
+use Rattle.vx_chunks.proofs.LentSources.{each_source_by, first_by, joined_map}
+use Rattle.vx_chunks.proofs.TakenReads.{read_below}
+use Rattle.vx_chunks.proofs.Ways.{found_by}
+use Rattle.vx_workers.specs.Reasons.{Reason, read_for, segment_of, chunk_and_segment, IsReasonAmong}
+use Rattle.vx_workers.specs.Workers.{AsksReached}
+use Rattle.vx_settle.specs.Settling.{AsksAgain}
 use Rattle.vx_scan.specs.Answer.{FileScan, row_count, scan_pieces, scan_rows, size_of}
 use Rattle.vx_scan.specs.Batches.{AsksOver, Share, reasons_in}
 use Rattle.vx_scan.specs.Causes.{ScanReaches}
-use Rattle.vx_scan.specs.Fetched.{AllLocated, AreDistinct, location_of}
-use Rattle.vx_scan.specs.LeafRows.{LeavesLieTogether, ScanReadsLeaf}
-use Rattle.vx_scan.specs.Plans.{projection_plan}
 use Rattle.vx_scan.specs.PlanTexts.{held_tree}
 use Rattle.vx_scan.specs.Preparing.{node_of, ArePlansOf, LiesInside, AreChunksOf}
-use Rattle.vx_scan.specs.Reasons.{Reason, read_for, segment_of, chunk_and_segment, IsReasonAmong}
 use Rattle.vx_scan.specs.Scanned.{AreReasonsFor, Gains, GainsAgain, GainsOver, IsReasonFor, ReachesRange, ScanReachesBy, way_in}
-use Rattle.vx_scan.specs.Settling.{AsksAgain}
-use Rattle.vx_scan.specs.Ways.{ReadsBy}
-use Rattle.vx_scan.specs.Workers.{AsksReached}
 use Rattle.vx_scan.proofs.Answered.{pieces_join}
 use Rattle.vx_scan.proofs.DictionaryReasons.{once_a_dictionary}
 use Rattle.vx_scan.proofs.LeafPlaces.{reads_between, tree_reads}
-use Rattle.vx_scan.proofs.LeafShapes.{one_segment}
-use Rattle.vx_scan.proofs.LentSources.{each_source_by, first_by, joined_map}
 use Rattle.vx_scan.proofs.ScanCauses.{inside_at}
 use Rattle.vx_scan.proofs.ScanReads.{in_moved, some_chosen}
-use Rattle.vx_scan.proofs.TakenReads.{read_below}
 use Rattle.vx_scan.proofs.UnsharedPlans.{none_shared}
-use Rattle.vx_scan.proofs.Ways.{found_by}
-use Rattle.vx_scan.proofs.Got.{got_mapped}
-use Rattle.vx_scan.proofs.Sessions.{located_at}
+use Rattle.vx_scan.specs.ScanLeaves.{ScanReadsLeaf}
 
 any_left : (P : ℕ → Type 0) (ones twos : List ℕ) → AnyOf P ones → AnyOf P (ones ++ twos)
 any_left P [] twos any = absurd any

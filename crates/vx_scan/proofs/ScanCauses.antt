@@ -26,17 +26,17 @@ use Rattle.vx_steps.specs.ScanLaws.{IsTornIn}
 use Rattle.vx_steps.specs.Visits.{Visits, HasEvalFault}
 use Rattle.vx_steps.proofs.ReadVisits.{no_columns}
 use Rattle.vx_steps.proofs.VisitedReads.{none_served}
-use Rattle.vx_scan.specs.declared.errors.ScanError.{ScanError}
-use Rattle.vx_scan.specs.declared.errors.ScanError.TheVariants.{BadProjection, OffsetOverflow, OutOfRange, Unsupported, NoLocation, ReadFault, Stalled, BadSegment, BadCode, EvalFault, Memory}
-use Rattle.vx_scan.specs.declared.plans.ScanPlans.{ScanPlans}
+use Rattle.vx_drive.specs.declared.errors.ScanError.{ScanError}
+use Rattle.vx_drive.specs.declared.errors.ScanError.TheVariants.{BadProjection, OffsetOverflow, OutOfRange, Unsupported, NoLocation, ReadFault, Stalled, BadSegment, BadCode, EvalFault, Memory}
+use Rattle.vx_drive.specs.declared.plans.ScanPlans.{ScanPlans}
+use Rattle.vx_drive.specs.Plans.{bytes_of, projection_plan}
+use Rattle.vx_chunks.specs.ChunkRows.{given_to, ChunkFinds, IsPiece}
+use Rattle.vx_chunks.specs.Lent.{AllTell}
+use Rattle.vx_chunks.specs.Outcomes.{told_by, told_by_all, Causes}
 use Rattle.vx_scan.specs.Answer.{FileScan, row_count, IsAnswer, ArePieces}
 use Rattle.vx_scan.specs.Batches.{AreBatches, HasPiece}
 use Rattle.vx_scan.specs.Causes.{ScanFinds, ReadsTorn, IsFaultAt, FaultsAt}
-use Rattle.vx_scan.specs.ChunkRows.{given_to, ChunkFinds, IsPiece}
-use Rattle.vx_scan.specs.Lent.{AllTell}
-use Rattle.vx_scan.specs.Outcomes.{told_by, told_by_all, Causes}
 use Rattle.vx_scan.specs.PlanTexts.{held_tree}
-use Rattle.vx_scan.specs.Plans.{bytes_of, projection_plan}
 use Rattle.vx_scan.specs.Preparing.{node_of, ArePlansOf, IsTakeAs, LiesInside}
 use Rattle.vx_scan.specs.Scanned.{CausedBy, CausedByAll, CausedIn, HasAnswer, ReadsBadCodePlan}
 use Rattle.vx_scan.proofs.NamedPlans.{list_stands, take_stands}

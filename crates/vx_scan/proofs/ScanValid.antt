@@ -18,20 +18,20 @@ use Rattle.vx_rows.specs.Reads.{Found, a_cell, a_code, a_list_row, Read, IsAmong
 use Rattle.vx_rows.specs.SegmentLeaves.{Bytes, leaves_of}
 use Rattle.vx_steps.specs.Laws.{IsRowOf, IsBadCodeAt}
 use Rattle.vx_steps.specs.ScanLaws.{IsTornIn}
-use Rattle.vx_scan.specs.declared.errors.ScanError.{ScanError}
-use Rattle.vx_scan.specs.declared.errors.ScanError.TheVariants.{BadProjection, OffsetOverflow, OutOfRange, Unsupported, NoLocation, ReadFault, Stalled, BadSegment, BadCode, EvalFault, Memory}
+use Rattle.vx_drive.specs.declared.errors.ScanError.{ScanError}
+use Rattle.vx_drive.specs.declared.errors.ScanError.TheVariants.{BadProjection, OffsetOverflow, OutOfRange, Unsupported, NoLocation, ReadFault, Stalled, BadSegment, BadCode, EvalFault, Memory}
+use Rattle.vx_drive.specs.Asks.{Lasts}
+use Rattle.vx_drive.specs.Plans.{WhereTold, IsQuiet}
+use Rattle.vx_drive.proofs.Lasting.{rose_from, rose_on}
+use Rattle.vx_chunks.specs.Lent.{EachSource, EachSourceBy, FirstSource, SomeSourceBy, AllTell, WhereAllTell}
+use Rattle.vx_chunks.proofs.LentSources.{each_lasts, first_there, none_by}
 use Rattle.vx_scan.specs.Answer.{FileScan, scan_rows, scan_pieces, size_of}
-use Rattle.vx_scan.specs.Asks.{Lasts}
 use Rattle.vx_scan.specs.Beginning.{Refuses}
 use Rattle.vx_scan.specs.Causes.{ScanFinds, ReadsTorn, IsFaultAt, FaultsAt}
-use Rattle.vx_scan.specs.Lent.{EachSource, EachSourceBy, FirstSource, SomeSourceBy, AllTell, WhereAllTell}
-use Rattle.vx_scan.specs.Plans.{WhereTold, IsQuiet}
 use Rattle.vx_scan.specs.Preparing.{node_of}
 use Rattle.vx_scan.specs.Scanned.{CausedIn, FailsPiece, FailsPieceAgain, FileClaims, LowestCause, ReadsBadCodePlan, RunsAgain, RunsPieces}
 use Rattle.vx_scan.specs.Valid.{IsValidScan}
 use Rattle.vx_scan.proofs.Answered.{pieces_join, fault_by}
-use Rattle.vx_scan.proofs.Lasting.{rose_from, rose_on}
-use Rattle.vx_scan.proofs.LentSources.{each_lasts, first_there, none_by}
 
 -- ---- no read of it is amiss
 

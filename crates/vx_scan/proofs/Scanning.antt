@@ -14,32 +14,32 @@ use Rattle.vx_rows.specs.Heads.{Head}
 use Rattle.vx_splits.specs.declared.selected_rows.SelectedRows.{SelectedRows}
 use Rattle.vx_splits.specs.Trimmed.{chosen_rows}
 use Rattle.vx_steps.proofs.SelectedRows.{rows_count}
-use Rattle.vx_scan.specs.declared.errors.ScanError.{ScanError}
-use Rattle.vx_scan.specs.declared.errors.ScanError.TheVariants.{Memory}
-use Rattle.vx_scan.specs.declared.outcomes.Outcome.{Outcome}
-use Rattle.vx_scan.specs.declared.plans.ScanPlans.{ScanPlans}
+use Rattle.vx_drive.specs.declared.errors.ScanError.{ScanError}
+use Rattle.vx_drive.specs.declared.errors.ScanError.TheVariants.{Memory}
+use Rattle.vx_drive.specs.declared.plans.ScanPlans.{ScanPlans}
+use Rattle.vx_drive.specs.Asks.{KeepsFaults}
+use Rattle.vx_drive.specs.Fetched.{AreDistinct}
+use Rattle.vx_drive.specs.Plans.{bytes_of, projection_node, IsQuiet}
+use Rattle.vx_drive.proofs.Distinct.{distinct_none}
+use Rattle.vx_drive.proofs.Sessions.{asked_nothing}
+use Rattle.vx_chunks.specs.Lent.{EachSource, AllTell}
+use Rattle.vx_chunks.proofs.LentSources.{each_clear, each_lasts, each_same, each_same_by, first_same, for_each, joined_none}
+use Rattle.vx_workers.specs.Reasons.{Reason, chunk_and_segment}
+use Rattle.vx_settle.specs.declared.outcomes.Outcome.{Outcome}
+use Rattle.vx_settle.specs.Executes.{Executes}
 use Rattle.vx_scan.specs.declared.prepares.Prepared.{Prepared}
 use Rattle.vx_scan.specs.Answer.{FileScan, row_count, scan_rows, scan_pieces, ArePieces}
-use Rattle.vx_scan.specs.Asks.{KeepsFaults}
 use Rattle.vx_scan.specs.BatchColumns.{TakesBatches}
 use Rattle.vx_scan.specs.Batches.{LowestFailure, GivesBatches}
 use Rattle.vx_scan.specs.Beginning.{Refuses}
-use Rattle.vx_scan.specs.Executes.{Executes}
-use Rattle.vx_scan.specs.Fetched.{AreDistinct}
-use Rattle.vx_scan.specs.Lent.{EachSource, AllTell}
-use Rattle.vx_scan.specs.Plans.{bytes_of, projection_node, IsQuiet}
 use Rattle.vx_scan.specs.Prepared.{IsPreparedFor}
 use Rattle.vx_scan.specs.Preparing.{ArePlansOf, AreChunksOf, LiesInside}
-use Rattle.vx_scan.specs.Reasons.{Reason, chunk_and_segment}
 use Rattle.vx_scan.specs.Scanned.{AreUnhindered, Gains, GainsAgain, GainsOver, LowestCause, AnswersScan}
 use Rattle.vx_scan.specs.Valid.{HasRows, IsValidScan}
 use Rattle.vx_scan.proofs.BeginningRows.{no_pieces}
-use Rattle.vx_scan.proofs.Distinct.{distinct_none}
 use Rattle.vx_scan.proofs.GivenBatches.{gives_batches, is_memory}
 use Rattle.vx_scan.proofs.HinderedScans.{all_unhindered}
-use Rattle.vx_scan.proofs.LentSources.{each_clear, each_lasts, each_same, each_same_by, first_same, for_each, joined_none}
 use Rattle.vx_scan.proofs.LowestCauses.{lowest_of}
-use Rattle.vx_scan.proofs.Sessions.{asked_nothing}
 use Rattle.vx_scan.proofs.ScanAsks.{gains_over}
 use Rattle.vx_scan.proofs.ScanCauses.{pieces_answer, same_bytes}
 use Rattle.vx_scan.proofs.ScanReads.{chunk_rows}

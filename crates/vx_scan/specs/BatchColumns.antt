@@ -1,12 +1,12 @@
 -- The columns of the pieces that workers gave.
 use Rattle.std.specs.Prelude.{◌≡◌, map, Result, Ok, Err, ◌⊎◌, Some, None}
 use Rattle.std.specs.Global.{Vec}
+use Rattle.vx_drive.specs.declared.errors.ScanError.{ScanError}
+use Rattle.vx_drive.specs.declared.errors.ScanError.TheVariants.{Memory}
+use Rattle.vx_workers.specs.declared.lanes.ChunkError.{ChunkError}
+use Rattle.vx_workers.specs.declared.lanes.Piece.{Piece}
+use Rattle.vx_settle.specs.declared.outcomes.Outcome.{Outcome}
 use Rattle.vx_base.specs.Columns.{ColumnData}
-use Rattle.vx_scan.specs.declared.errors.ScanError.{ScanError}
-use Rattle.vx_scan.specs.declared.errors.ScanError.TheVariants.{Memory}
-use Rattle.vx_scan.specs.declared.lanes.ChunkError.{ChunkError}
-use Rattle.vx_scan.specs.declared.lanes.Piece.{Piece}
-use Rattle.vx_scan.specs.declared.outcomes.Outcome.{Outcome}
 
 -- the workers told that error of some chunk
 pub record Told (outcome : Outcome) (error : ScanError) : Type 0 where

@@ -10,20 +10,20 @@ use Rattle.vx_rows.specs.Derivations.{Leaves}
 use Rattle.vx_rows.specs.Reads.{IsAmong}
 use Rattle.vx_rows.specs.SegmentLeaves.{leaves_of}
 use Rattle.vx_splits.specs.declared.selected_rows.SelectedRows.{SelectedRows}
-use Rattle.vx_scan.specs.declared.errors.ScanError.{ScanError}
-use Rattle.vx_scan.specs.declared.errors.ScanError.TheVariants.{Memory}
-use Rattle.vx_scan.specs.declared.plans.ScanPlans.{ScanPlans}
-use Rattle.vx_scan.specs.Asks.{IsLeftClear, KeepsFaults, Lasts}
-use Rattle.vx_scan.specs.ChunkRows.{IsPiece}
-use Rattle.vx_scan.specs.Fetched.{AreDistinct}
-use Rattle.vx_scan.specs.Executes.{AskedAgain, FailsAgain}
-use Rattle.vx_scan.specs.Lent.{EachSource, EachSourceBy, FirstSource, SomeSourceBy, WhereAllTell}
-use Rattle.vx_scan.specs.Loans.{IsAsking}
-use Rattle.vx_scan.specs.Plans.{bytes_of, projection_node}
-use Rattle.vx_scan.specs.Reasons.{Reason, chunk_and_segment}
-use Rattle.vx_scan.specs.Settling.{AsksAgain}
-use Rattle.vx_scan.specs.Unhindered.{IsUnhindered, IsUnhinderedAt}
-use Rattle.vx_scan.specs.Workers.{AsksReached, IsLast, FailsLast, RunsSource}
+use Rattle.vx_drive.specs.declared.errors.ScanError.{ScanError}
+use Rattle.vx_drive.specs.declared.errors.ScanError.TheVariants.{Memory}
+use Rattle.vx_drive.specs.declared.plans.ScanPlans.{ScanPlans}
+use Rattle.vx_drive.specs.Asks.{IsLeftClear, KeepsFaults, Lasts}
+use Rattle.vx_drive.specs.Fetched.{AreDistinct}
+use Rattle.vx_drive.specs.Plans.{bytes_of, projection_node}
+use Rattle.vx_chunks.specs.ChunkRows.{IsPiece}
+use Rattle.vx_chunks.specs.Lent.{EachSource, EachSourceBy, FirstSource, SomeSourceBy, WhereAllTell}
+use Rattle.vx_workers.specs.Loans.{IsAsking}
+use Rattle.vx_workers.specs.Reasons.{Reason, chunk_and_segment}
+use Rattle.vx_workers.specs.Unhindered.{IsUnhindered, IsUnhinderedAt}
+use Rattle.vx_workers.specs.Workers.{AsksReached, IsLast, FailsLast, RunsSource}
+use Rattle.vx_settle.specs.Executes.{AskedAgain, FailsAgain}
+use Rattle.vx_settle.specs.Settling.{AsksAgain}
 
 -- each batch is the piece of its chunk
 abbrev pub AreBatches : Leaves → ScanPlans → List SelectedRows → List ColumnData → Type 0

@@ -3,8 +3,8 @@ use Rattle.std.specs.Prelude.{◌≡◌, ℕ, ◌+◌, ◌^◌, ◌≤◌, IsTru
 use Rattle.std.specs.declared.ops.Range.{Range}
 use Rattle.vx_expr.specs.Mentions.{uses_row_number}
 use Rattle.vx_splits.specs.Taken.{selected_rows}
-use Rattle.vx_scan.specs.declared.errors.ScanError.{ScanError}
-use Rattle.vx_scan.specs.declared.errors.ScanError.TheVariants.{BadProjection, OffsetOverflow, OutOfRange}
+use Rattle.vx_drive.specs.declared.errors.ScanError.{ScanError}
+use Rattle.vx_drive.specs.declared.errors.ScanError.TheVariants.{BadProjection, OffsetOverflow, OutOfRange}
 use Rattle.vx_scan.specs.Answer.{FileScan, row_count, scan_rows}
 use Rattle.vx_scan.specs.Valid.{HasRows, IsBound, SelectsInside}
 

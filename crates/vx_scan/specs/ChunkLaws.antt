@@ -6,11 +6,11 @@ use Rattle.vx_rows.specs.SegmentLeaves.{leaves_of}
 use Rattle.vx_splits.specs.declared.selected_rows.SelectedRows.{SelectedRows}
 use Rattle.vx_steps.specs.Held.{AreMade}
 use Rattle.vx_steps.specs.KeptData.{Kept}
-use Rattle.vx_scan.specs.declared.outcomes.ChunkOutcome.{ChunkOutcome}
-use Rattle.vx_scan.specs.declared.plans.ScanPlans.{ScanPlans}
-use Rattle.vx_scan.specs.ChunkRows.{IsPlanPiece}
-use Rattle.vx_scan.specs.Outcomes.{Causes, Claims, GivesPiece, RunsChunk, data_of, told_by}
-use Rattle.vx_scan.specs.Plans.{ArePlans, IsChunkOf}
+use Rattle.vx_drive.specs.declared.plans.ScanPlans.{ScanPlans}
+use Rattle.vx_drive.specs.Plans.{ArePlans, IsChunkOf}
+use Rattle.vx_chunks.specs.declared.outcomes.ChunkOutcome.{ChunkOutcome}
+use Rattle.vx_chunks.specs.ChunkRows.{IsPlanPiece}
+use Rattle.vx_chunks.specs.Outcomes.{Causes, Claims, GivesPiece, RunsChunk, data_of, told_by}
 
 -- The piece of a chunk is that with the values in place of whole ones that were used, whatever else was given.
 abbrev pub UsedGivePiece : Type 0

@@ -5,9 +5,9 @@ use Rattle.std.specs.List.{slice_get, flat_map}
 use Rattle.vx_base.specs.declared.locations.AskedRange.{AskedRange}
 use Rattle.vx_base.specs.Sources.{SourceState, range_of}
 use Rattle.vx_rows.specs.Reads.{Way, directly, through, IsAmong}
+use Rattle.vx_drive.specs.Fetched.{AreDistinct}
+use Rattle.vx_workers.specs.Reasons.{Reason, chunk_and_segment}
 use Rattle.vx_scan.specs.Answer.{FileScan, scan_pieces}
-use Rattle.vx_scan.specs.Fetched.{AreDistinct}
-use Rattle.vx_scan.specs.Reasons.{Reason, chunk_and_segment}
 use Rattle.vx_scan.specs.Scanned.{AreReasonsFor, GainsAgain, GainsOver, ScanReachesBy, dictionary_and_segment}
 
 abbrev pub is_range : AskedRange → AskedRange → Bool

@@ -5,12 +5,12 @@ use Rattle.vx_base.specs.Columns.{ColumnData}
 use Rattle.vx_base.specs.Sources.{SourceState, Rose, RoseBy}
 use Rattle.vx_layout.specs.Rows.{file_leaves, segment_bytes}
 use Rattle.vx_plan.specs.Refs.{number_of}
-use Rattle.vx_scan.specs.declared.errors.ScanError.{ScanError}
-use Rattle.vx_scan.specs.declared.errors.ScanError.TheVariants.{BadProjection, OffsetOverflow, OutOfRange, Unsupported, NoLocation, ReadFault, Stalled, BadSegment, BadCode, EvalFault, Memory}
+use Rattle.vx_drive.specs.declared.errors.ScanError.{ScanError}
+use Rattle.vx_drive.specs.declared.errors.ScanError.TheVariants.{BadProjection, OffsetOverflow, OutOfRange, Unsupported, NoLocation, ReadFault, Stalled, BadSegment, BadCode, EvalFault, Memory}
+use Rattle.vx_chunks.specs.Lent.{SomeSource, WhereAllTell}
 use Rattle.vx_scan.specs.Answer.{FileScan, scan_rows}
 use Rattle.vx_scan.specs.Beginning.{Refuses}
 use Rattle.vx_scan.specs.Causes.{LacksLocation, ReadsTorn, FaultsAt}
-use Rattle.vx_scan.specs.Lent.{SomeSource, WhereAllTell}
 use Rattle.vx_scan.specs.Scanned.{ReadsListPlan, ReadsBadCodePlan, AnswersScan}
 
 -- A scan is refused before it begins for a reason of its own. Else some row of it reads a list; reaches a segment without a

@@ -4,11 +4,11 @@ use Rattle.std.specs.List.{AllByRecursion}
 use Rattle.vx_expr.specs.Mentions.{uses_row_number}
 use Rattle.vx_splits.specs.Trimmed.{chosen_rows}
 use Rattle.vx_steps.specs.Below.{HasNoEvalBelowTake, HasNoShare}
+use Rattle.vx_drive.specs.Plans.{projection_plan, ArePlans}
+use Rattle.vx_chunks.specs.LeafRows.{LeavesLieTogether}
+use Rattle.vx_settle.specs.Executes.{CanRun}
 use Rattle.vx_scan.specs.declared.prepares.Prepared.{Prepared}
 use Rattle.vx_scan.specs.Answer.{FileScan, row_count, scan_pieces}
-use Rattle.vx_scan.specs.Executes.{CanRun}
-use Rattle.vx_scan.specs.LeafRows.{LeavesLieTogether}
-use Rattle.vx_scan.specs.Plans.{projection_plan, ArePlans}
 use Rattle.vx_scan.specs.Preparing.{ArePlansOf, AreChunksOf, IsCutBy}
 use Rattle.vx_scan.specs.Valid.{HasRows}
 

@@ -28,10 +28,10 @@ use Rattle.vx_steps.specs.Below.{StandsIn}
 use Rattle.vx_steps.specs.Given.{Handed}
 use Rattle.vx_steps.specs.Laws.{HandsNone}
 use Rattle.vx_steps.specs.Visits.{Visits, HasEvalFault}
-use Rattle.vx_scan.specs.declared.plans.ScanPlans.{ScanPlans}
+use Rattle.vx_drive.specs.declared.plans.ScanPlans.{ScanPlans}
+use Rattle.vx_drive.specs.Plans.{AreInOrder}
 use Rattle.vx_scan.specs.Answer.{FileScan, row_count, scan_pieces}
 use Rattle.vx_scan.specs.Causes.{IsFaultAt}
-use Rattle.vx_scan.specs.Plans.{AreInOrder}
 use Rattle.vx_scan.specs.PlanTexts.{held_tree, IsProjectionPlan}
 
 -- ---- the plan

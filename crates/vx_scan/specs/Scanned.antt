@@ -16,23 +16,23 @@ use Rattle.vx_rows.specs.Derivations.{Leaves}
 use Rattle.vx_rows.specs.Reads.{Way, AnyOf, FindsBy, IsAmong, IsIn}
 use Rattle.vx_rows.specs.Renumbered.{way_renumbered}
 use Rattle.vx_steps.specs.Below.{StandsIn}
-use Rattle.vx_scan.specs.declared.errors.ScanError.{ScanError}
-use Rattle.vx_scan.specs.declared.errors.ScanError.TheVariants.{Unsupported, NoLocation, ReadFault, Stalled, BadSegment, BadCode, EvalFault, Memory}
+use Rattle.vx_drive.specs.declared.errors.ScanError.{ScanError}
+use Rattle.vx_drive.specs.declared.errors.ScanError.TheVariants.{Unsupported, NoLocation, ReadFault, Stalled, BadSegment, BadCode, EvalFault, Memory}
+use Rattle.vx_drive.specs.Asks.{IsLeftClear, KeepsFaults, Lasts}
+use Rattle.vx_drive.specs.Fetched.{AreDistinct}
+use Rattle.vx_drive.specs.Plans.{WhereTold, IsQuiet}
+use Rattle.vx_chunks.specs.Lent.{EachSource, EachSourceBy, FirstSource, SomeSourceBy, WhereAllTell}
+use Rattle.vx_workers.specs.Reasons.{Reason, read_for, leaf_of, chunk_and_segment, taken_by}
+use Rattle.vx_workers.specs.Workers.{IsLast}
+use Rattle.vx_settle.specs.Settling.{direct_and_segment, IsDirectAmong}
 use Rattle.vx_scan.specs.Answer.{FileScan, scan_rows, scan_pieces, IsAnswer, ArePieces}
-use Rattle.vx_scan.specs.Asks.{IsLeftClear, KeepsFaults, Lasts}
 use Rattle.vx_scan.specs.Batches.{FaultsFrom}
 use Rattle.vx_scan.specs.Beginning.{Refuses}
 use Rattle.vx_scan.specs.Causes.{ScanReaches, ReadsDictionary, ReadsList, LacksLocation, ReadsTorn, ReadsBadCode, FaultsAt}
-use Rattle.vx_scan.specs.Fetched.{AreDistinct}
-use Rattle.vx_scan.specs.LeafRows.{ScanReadsLeaf}
-use Rattle.vx_scan.specs.Lent.{EachSource, EachSourceBy, FirstSource, SomeSourceBy, WhereAllTell}
-use Rattle.vx_scan.specs.Plans.{WhereTold, IsQuiet}
 use Rattle.vx_scan.specs.PlanTexts.{held_tree}
 use Rattle.vx_scan.specs.Preparing.{node_of, IsTakeAs}
-use Rattle.vx_scan.specs.Reasons.{Reason, read_for, leaf_of, chunk_and_segment, taken_by}
-use Rattle.vx_scan.specs.Settling.{direct_and_segment, IsDirectAmong}
 use Rattle.vx_scan.specs.Valid.{IsValidScan}
-use Rattle.vx_scan.specs.Workers.{IsLast}
+use Rattle.vx_scan.specs.ScanLeaves.{ScanReadsLeaf}
 
 -- ---- what is asked
 

@@ -6,12 +6,12 @@ use Rattle.vx_base.specs.Sources.{SourceState, range_of}
 use Rattle.vx_rows.specs.Reads.{Way, directly, through, IsAmong}
 use Rattle.vx_splits.specs.declared.selected_rows.SelectedRows.{SelectedRows}
 use Rattle.vx_steps.specs.Rows.{SomeRow}
-use Rattle.vx_scan.specs.declared.plans.ScanPlans.{ScanPlans}
+use Rattle.vx_drive.specs.declared.plans.ScanPlans.{ScanPlans}
+use Rattle.vx_drive.specs.Plans.{projection_plan}
+use Rattle.vx_chunks.specs.Ways.{ReadsBy}
+use Rattle.vx_workers.specs.Workers.{RunsSource}
+use Rattle.vx_settle.specs.Settling.{AsksAgain}
 use Rattle.vx_scan.specs.Counts.{asked_times, AreAllOf}
-use Rattle.vx_scan.specs.Plans.{projection_plan}
-use Rattle.vx_scan.specs.Settling.{AsksAgain}
-use Rattle.vx_scan.specs.Ways.{ReadsBy}
-use Rattle.vx_scan.specs.Workers.{RunsSource}
 
 -- A selected row of the chunk of that number reads a leaf in the segment that way; the segment's location has the range.
 pub record ChunkReads (plans : ScanPlans) (chunks : List SelectedRows) (range : AskedRange) (number segment : ℕ) (way : Way) : Type 0 where

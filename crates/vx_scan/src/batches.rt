@@ -2,10 +2,10 @@
 
 ghost use Rattle.vx_scan.specs.BatchColumns.{TakesBatches};
 
-use crate::errors::ScanError;
-use crate::outcomes::Outcome;
 use std::alloc::Global;
 use vx_base::Column;
+use vx_drive::ScanError;
+use vx_settle::Outcome;
 
 /// The columns of all pieces in their order, or the error of the lowest chunk that failed.
 pub(crate) fn batches_of(alloc: Global, outcome: Outcome) -> Result<Vec<Column>, ScanError>

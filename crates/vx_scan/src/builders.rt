@@ -4,22 +4,19 @@ ghost use Rattle.std.specs.Prelude.{◌≡◌, ◌<◌, ◌≤◌, ◌⊎◌, []
 ghost use Rattle.vx_base.specs.Limits.{most_segments};
 ghost use Rattle.vx_base.specs.Views.{data_type};
 ghost use Rattle.vx_splits.specs.declared.selections.Selection.TheVariants.{IncludeByIndex};
+ghost use Rattle.vx_drive.specs.declared.errors.ScanError.{ScanError as Refusal};
+ghost use Rattle.vx_drive.specs.declared.errors.ScanError.TheVariants.{Memory as lacking};
+ghost use Rattle.vx_workers.specs.Limits.{most_workers};
 ghost use Rattle.vx_scan.specs.Answer.{row_count};
 ghost use Rattle.vx_scan.specs.Beginning.{Refuses};
 ghost use Rattle.vx_scan.specs.Builders.{new_building, scan_of};
-ghost use Rattle.vx_scan.specs.Limits.{most_workers};
 ghost use Rattle.vx_scan.specs.Prepared.{IsPreparedFor};
 ghost use Rattle.vx_scan.specs.Scanned.{AnswersScan};
 ghost use Rattle.vx_scan.specs.Settings.{scan_by};
-ghost use Rattle.vx_scan.specs.declared.errors.ScanError.{ScanError as Refusal};
-ghost use Rattle.vx_scan.specs.declared.errors.ScanError.TheVariants.{Memory as lacking};
 ghost use Rattle.vx_scan.specs.Valid.{HasRows, IsBound};
 
 use crate::batches::batches_of;
 use crate::beginning::begin;
-use crate::books::ValueCache;
-use crate::errors::ScanError;
-use crate::executes::execute;
 use crate::files::ScanFile;
 use crate::prepares::{Prepared, prepare_nothing, prepare_rows};
 use crate::settings::Settings;
@@ -30,8 +27,11 @@ use std::ops::Range;
 use std::sync::Wait;
 use std::thread::Threads;
 use vx_base::{Column, DType, SegmentSource};
+use vx_drive::ScanError;
 use vx_expr::BoundExpression;
+use vx_settle::execute;
 use vx_splits::{Selection, StrictSorted};
+use vx_workers::ValueCache;
 
 /// A scan of a file, before it runs: the file, and the settings. Each `with_` call sets one setting and takes no memory;
 /// of two calls for one setting the later stands.

@@ -19,7 +19,7 @@ use Rattle.vx_expr.specs.Mentions.{uses_root}
 use Rattle.vx_expr.specs.Rows.{worth, IsFirstFault, no_bound}
 use Rattle.vx_expr.specs.Terms.{Term}
 use Rattle.vx_expr.proofs.RewrittenMeaning.{worth_as_root}
-use Rattle.vx_packed.specs.Cells.{struct_at}
+use Rattle.vx_arrays.specs.Cells.{struct_at}
 use Rattle.vx_plan.proofs.Offsets.{drop_at}
 use Rattle.vx_rows.specs.Derivations.{look_up}
 use Rattle.vx_steps.specs.RowFaults.{root_meaning}

@@ -3,7 +3,7 @@ use Rattle.std.proofs.Common.{◌≡◌, ℕ, zero, suc, ◌+◌, ◌-◌, ◌<�
 use Rattle.std.specs.Prelude.{slice_range}
 use Rattle.std.specs.List.{slice_get, range_with_len}
 use Rattle.std.proofs.lemmas.List.{length-map}
-use Rattle.vx_words.proofs.Places.{true_count-cons, false_first}
+use Rattle.vx_masks.proofs.Places.{true_count-cons, false_first}
 use Rattle.vx_base.specs.Data.{Datum}
 use Rattle.vx_base.specs.Masks.{chosen, true_count}
 use Rattle.vx_steps.specs.Rows.{rows_of, SelectsNone, AreOf}

@@ -31,7 +31,7 @@ use Rattle.vx_steps.specs.Wholes.{AreThere, IsThere}
 use Rattle.vx_steps.proofs.OutermostTakes.{take_there}
 use Rattle.vx_steps.proofs.SelectedRows.{true_first}
 use Rattle.vx_steps.proofs.Standing.{fault_outside}
-use Rattle.vx_words.proofs.Places.{false_first}
+use Rattle.vx_masks.proofs.Places.{false_first}
 
 -- ---- one split
 

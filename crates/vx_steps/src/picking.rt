@@ -8,7 +8,7 @@ ghost use Rattle.vx_base.specs.Data.{int_type};
 ghost use Rattle.vx_base.specs.Fits.{nullability_of};
 ghost use Rattle.vx_base.specs.ColumnCalls.{natural, nullable_where, IsCodeBelow, IsUnsigned};
 ghost use Rattle.vx_base.specs.Masks.{chosen, true_count};
-ghost use Rattle.vx_packed.specs.Cells.{cell_datum};
+ghost use Rattle.vx_arrays.specs.Cells.{cell_datum};
 ghost use Rattle.vx_expr.specs.Bound.{IsBoundTo};
 ghost use Rattle.vx_expr.specs.Types.{row_number_type};
 ghost use Rattle.vx_plan.specs.Kinds.{has_validity_of, HasKind, IsPack};

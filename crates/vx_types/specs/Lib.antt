@@ -16,6 +16,6 @@ pub mod TypeText
 pub mod ValueFalls
 pub mod ValueViews
 pub mod Views
-pub use Rattle.vx_words.specs.Bytes
-pub use Rattle.vx_words.specs.Masks
-pub use Rattle.vx_words.specs.Words
+pub use Rattle.vx_masks.specs.Bytes
+pub use Rattle.vx_masks.specs.Masks
+pub use Rattle.vx_masks.specs.Words

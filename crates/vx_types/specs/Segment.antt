@@ -10,7 +10,7 @@ use Rattle.vx_types.specs.declared.dtypes.Nullability.TheVariants.{NonNullable, 
 use Rattle.vx_types.specs.Data.{DataType, bool_type, int_type, utf8_type, struct_type, list_type, Datum, null, truth, number, text, structure}
 use Rattle.vx_types.specs.Fits.{Fits}
 use Rattle.vx_types.specs.Limits.{text_limit}
-pub use Rattle.vx_words.specs.Bytes.{byte_of, packed}
+pub use Rattle.vx_masks.specs.Bytes.{byte_of, packed}
 
 -- What a row has in each part of the bytes. A null has false, 0 or the empty text, so `truth_in` also says
 -- whether a value is true.

@@ -1,8 +1,8 @@
 use Rattle.std.proofs.Common.{List, ℕ, inl, refl, subst}
-use Rattle.scan_commands.specs.RequestForms.{IsRequest, RefusedBy}
-use Rattle.scan_commands.specs.RequestViews.{asked_of}
+use Rattle.scan_request.specs.RequestForms.{IsRequest, RefusedBy}
+use Rattle.scan_request.specs.RequestViews.{asked_of}
+use Rattle.scan_request.proofs.OneRequest.{projection_is_bound}
 use Rattle.scan_commands.proofs.Drawing.{request_refused}
-use Rattle.scan_commands.proofs.OneRequest.{projection_is_bound}
 use Rattle.scan_commands.proofs.Pieces.{few_in_all}
 use Rattle.scan_commands.proofs.plan_runs.draw.Goals as goal
 

@@ -1,7 +1,7 @@
 use Rattle.std.proofs.Common.{ℕ, List, ap, subst}
-use Rattle.scan_commands.specs.RequestForms.{IsRequest, RefusedBy}
-use Rattle.scan_commands.specs.RequestViews.{asked_of}
-use Rattle.scan_commands.specs.RowWriting.{batch_lines}
+use Rattle.scan_request.specs.RequestForms.{IsRequest, RefusedBy}
+use Rattle.scan_request.specs.RequestViews.{asked_of}
+use Rattle.scan_output.specs.RowWriting.{batch_lines}
 use Rattle.scan_commands.proofs.Serving.{request_refused, scan_fails, rows_written, rows_not_written, rows_lack_memory}
 use Rattle.scan_commands.proofs.scan_runs.serve.Goals as goal
 

@@ -4,7 +4,7 @@ use Rattle.vx_scan.specs.Beginning.{Refuses}
 use Rattle.vx_scan.specs.declared.errors.ScanError.{ScanError}
 use Rattle.vx_scan.specs.declared.errors.ScanError.TheVariants.{Memory}
 use Rattle.vx_scan.specs.Scanned.{AnswersScan}
-use Rattle.scan_commands.specs.RequestViews.{asked_of}
+use Rattle.scan_request.specs.RequestViews.{asked_of}
 use Rattle.scan_commands.specs.Scans.{scan_of}
 use Rattle.scan_commands.proofs.Scanning.{lacks_memory, scan_gives}
 use Rattle.scan_commands.proofs.scans.batches_of.Goals as goal

@@ -5,7 +5,7 @@ use Rattle.vx_base.specs.Data.{structure}
 use Rattle.vx_base.specs.Reading.{where_valid}
 use Rattle.vx_base.specs.Views.{data_type, fields_in}
 use Rattle.vx_operators.specs.Worths.{worth_rows}
-use Rattle.vx_packed.specs.PartRows.{StructRows, rows_of, members_in, HaveRows}
+use Rattle.vx_arrays.specs.PartRows.{StructRows, rows_of, members_in, HaveRows}
 use Rattle.vx_expr.specs.Packs.{rows_along, typed_columns, FitEach}
 use Rattle.vx_expr.proofs.PackedColumns.{columns_fit, have_rows, members_same, structs_same, structs_len, struct_bare}
 use Rattle.vx_expr.proofs.fitting.fitting_fields.Goals as goal

@@ -1,6 +1,6 @@
 use Rattle.std.proofs.Common.{◌≡◌, ◌∙◌, length, sym, ap, arith}
 use Rattle.std.proofs.lemmas.List.{length-map}
-use Rattle.vx_packed.specs.Numbers.{numbers_in}
+use Rattle.vx_arrays.specs.Numbers.{numbers_in}
 use Rattle.vx_operators.specs.Sides.{side_valid, side_numbers}
 use Rattle.vx_operators.proofs.NumberRows.{both_len, joined_len, made_rows, joined_part, joined_part_held}
 use Rattle.vx_operators.proofs.numbers.join_numbers.Goals as goal

@@ -1,8 +1,8 @@
 use Rattle.std.proofs.Common.{List, Ok, Some, None, map, ap, ◌∙◌, subst}
 use Rattle.vx_splits.specs.declared.selected_rows.SelectedRows.{SelectedRows}
+use Rattle.vx_settle.specs.Executes.{Executes}
 use Rattle.vx_scan.specs.Answer.{row_count}
 use Rattle.vx_scan.specs.Beginning.{Begins}
-use Rattle.vx_scan.specs.Executes.{Executes}
 use Rattle.vx_scan.specs.Settings.{scan_by}
 use Rattle.vx_scan.proofs.BeginningRows.{no_rows}
 use Rattle.vx_scan.proofs.Scanning.{empty_answers, lacking_answers, refused_answers, run_answers}

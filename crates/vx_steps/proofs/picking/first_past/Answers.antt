@@ -1,4 +1,4 @@
-use Rattle.vx_packed.specs.Cells.{cell_datum}
+use Rattle.vx_arrays.specs.Cells.{cell_datum}
 use Rattle.vx_steps.proofs.PickedValues.{codes_before}
 use Rattle.vx_steps.proofs.picking.first_past.Goals as goal
 

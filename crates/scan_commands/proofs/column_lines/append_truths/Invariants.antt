@@ -1,9 +1,0 @@
-use Rattle.std.proofs.Common.{◌≡◌, ◌++◌, map}
-use Rattle.std.specs.List.{slice_range}
-use Rattle.vx_base.specs.Data.{DataType, truth}
-use Rattle.vx_base.specs.Reading.{where_valid}
-use Rattle.scan_commands.specs.RowText.{lines}
-use Rattle.scan_commands.proofs.column_lines.append_truths.Given as goal
-
-abbrev pub invariant-loop-row : goal.invariant-loop-row
-invariant-loop-row l = (t : DataType) → l.out.items ≡ l.fn.out.items ++ lines t (slice_range (where_valid l.valid (map truth l.truths)) l.fn.rows.start l.row)

@@ -1,7 +1,0 @@
-use Rattle.std.proofs.Common.{ap, arith}
-use Rattle.vx_base.specs.Sizes.{members_size}
-use Rattle.vx_base.proofs.Members.{size_at}
-use Rattle.scan_commands.proofs.field_leads.+leads.Goals as goal
-
-pub leads_of_fields-leads_of-requires : goal.leads_of_fields-leads_of-requires
-leads_of_fields-leads_of-requires t c = (omega (arith, size_at c.items-members.result.now c.loop-place.place c.index-members-place.result c.loop-place-test.true c.index-members-place.is, ap members_size c.items-members.ensures), tt)

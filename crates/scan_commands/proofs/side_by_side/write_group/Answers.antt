@@ -1,6 +1,0 @@
-use Rattle.scan_commands.specs.RowWriting.{batch_lines}
-use Rattle.scan_commands.proofs.SideBySides.{none_lacks}
-use Rattle.scan_commands.proofs.side_by_side.write_group.Goals as goal
-
-pub returns-in-Err : goal.returns-in-Err
-returns-in-Err g c = none_lacks (batch_lines c.args.group.now) (g.K.Sink.state c.args.out.now)

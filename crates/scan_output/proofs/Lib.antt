@@ -1,0 +1,10 @@
+pub mod Buffering
+mod CellTexts
+mod ColumnCrossing
+mod ColumnLines
+mod Leads
+mod Ranges
+mod RowTexts
+mod SideBySides
+mod Strings
+mod Writes

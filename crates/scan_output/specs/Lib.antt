@@ -1,0 +1,5 @@
+pub mod FieldLeads
+pub mod RowText
+pub mod RowWriting
+pub mod SideBySide
+pub mod Writing

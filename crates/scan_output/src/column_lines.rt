@@ -1,0 +1,205 @@
+//! The lines of a column's rows: leaves that lie packed in one loop each, all other rows cell by cell.
+
+ghost use Rattle.std.specs.Prelude.{◌≡◌, ◌≤◌, ◌++◌, if◌then◌else◌, length, map, slice_range, OnOk};
+ghost use Rattle.vx_arrays.specs.Numbers.{numbers_in};
+ghost use Rattle.scan_output.specs.RowText.{line, lines};
+ghost use Rattle.vx_base.specs.Data.{DataType, null, number, text, truth};
+ghost use Rattle.vx_base.specs.Reading.{where_valid};
+
+use crate::cell_texts::append_cell;
+use crate::field_leads::leads_of;
+use crate::json_strings::append_string;
+use crate::printed_numbers::Printed;
+use itoa::Buffer;
+use std::alloc::{AllocError, Global};
+use std::ops::Range;
+use vx_arrays::{Look, Numbers, Texts};
+use vx_base::{Column, Mask};
+
+/// How many bytes the line of a truth value or a null has at most.
+const TRUTH_LINE: usize = 6;
+
+/// Appends the line of a truth value, or of a null where it isn't valid.
+fn append_truth_line(valid: bool, bit: bool, out: &mut Vec<u8>) -> Result<(), AllocError>
+    ensures { OnOk result ((t : DataType) → out.new.items ≡ out.old.items ++ line t (if valid then truth bit else null)) }
+{
+    if !valid {
+        return out.extend_from_slice(b"null\n");
+    }
+    if bit {
+        out.extend_from_slice(b"true\n")
+    } else {
+        out.extend_from_slice(b"false\n")
+    }
+}
+
+/// Appends the line of a number, or of a null where it isn't valid.
+fn append_number_line<T: Printed>(
+    digits: &mut Buffer,
+    valid: bool,
+    value: T,
+    out: &mut Vec<u8>,
+) -> Result<(), AllocError>
+    ensures { OnOk result ((t : DataType) → out.new.items ≡ out.old.items ++ line t (if valid then number (T.number value) else null)) }
+{
+    if !valid {
+        return out.extend_from_slice(b"null\n");
+    }
+    out.extend_from_slice(value.printed(digits).as_bytes())?;
+    out.push(b'\n')?;
+    Ok(())
+}
+
+/// Appends the line of a text, or of a null where it isn't valid.
+fn append_text_line(valid: bool, value: &str, out: &mut Vec<u8>) -> Result<(), AllocError>
+    ensures { OnOk result ((t : DataType) → out.new.items ≡ out.old.items ++ line t (if valid then text value.now else null)) }
+{
+    if !valid {
+        return out.extend_from_slice(b"null\n");
+    }
+    append_string(out, value.as_bytes())?;
+    out.push(b'\n')?;
+    Ok(())
+}
+
+/// Appends the lines of a range of truth values.
+fn append_truths(
+    valid: &Mask,
+    truths: &Mask,
+    rows: Range<usize>,
+    out: &mut Vec<u8>,
+) -> Result<(), AllocError>
+    requires same { length valid.now ≡ length truths.now }
+    requires forwards { rows.start ≤ rows.end }
+    requires inside { rows.end ≤ length truths.now }
+    ensures { OnOk result ((t : DataType) → out.new.items ≡ out.old.items
+        ++ lines t (slice_range (where_valid valid.now (map truth truths.now)) rows.start rows.end)) }
+{
+    out.reserve((rows.end - rows.start).saturating_mul(TRUTH_LINE))?;
+    for row in rows.start..rows.end {
+        append_truth_line(valid.value(row as u64), truths.value(row as u64), out)?;
+    }
+    Ok(())
+}
+
+/// Appends the lines of a range of numbers of one kind.
+fn append_kind<T: Printed>(
+    valid: &Mask,
+    numbers: &[T],
+    rows: Range<usize>,
+    out: &mut Vec<u8>,
+) -> Result<(), AllocError>
+    requires same { length valid.now ≡ length numbers.now }
+    requires forwards { rows.start ≤ rows.end }
+    requires inside { rows.end ≤ length numbers.now }
+    ensures { OnOk result ((t : DataType) → out.new.items ≡ out.old.items
+        ++ lines t (slice_range (where_valid valid.now (map number (map T.number numbers.now))) rows.start rows.end)) }
+{
+    // At most three digits for each byte of a number, a sign and a newline.
+    let longest = T::width().saturating_mul(3).saturating_add(2);
+    out.reserve((rows.end - rows.start).saturating_mul(longest))?;
+    let mut digits = Buffer::new();
+    for row in rows.start..rows.end {
+        append_number_line(&mut digits, valid.value(row as u64), numbers[row], out)?;
+    }
+    Ok(())
+}
+
+/// Appends the lines of a range of numbers.
+fn append_numbers(
+    valid: &Mask,
+    numbers: &Numbers,
+    rows: Range<usize>,
+    out: &mut Vec<u8>,
+) -> Result<(), AllocError>
+    requires same { length valid.now ≡ length (numbers_in numbers.now) }
+    requires forwards { rows.start ≤ rows.end }
+    requires inside { rows.end ≤ length (numbers_in numbers.now) }
+    ensures { OnOk result ((t : DataType) → out.new.items ≡ out.old.items
+        ++ lines t (slice_range (where_valid valid.now (map number (numbers_in numbers.now))) rows.start rows.end)) }
+{
+    match numbers {
+        Numbers::U8(kind) => append_kind(valid, kind.as_slice(), rows, out),
+        Numbers::U16(kind) => append_kind(valid, kind.as_slice(), rows, out),
+        Numbers::U32(kind) => append_kind(valid, kind.as_slice(), rows, out),
+        Numbers::U64(kind) => append_kind(valid, kind.as_slice(), rows, out),
+        Numbers::I8(kind) => append_kind(valid, kind.as_slice(), rows, out),
+        Numbers::I16(kind) => append_kind(valid, kind.as_slice(), rows, out),
+        Numbers::I32(kind) => append_kind(valid, kind.as_slice(), rows, out),
+        Numbers::I64(kind) => append_kind(valid, kind.as_slice(), rows, out),
+    }
+}
+
+/// Appends the lines of a range of texts.
+fn append_texts(
+    valid: &Mask,
+    texts: &Texts,
+    rows: Range<usize>,
+    out: &mut Vec<u8>,
+) -> Result<(), AllocError>
+    requires same { length valid.now ≡ length texts.now }
+    requires forwards { rows.start ≤ rows.end }
+    requires inside { rows.end ≤ length texts.now }
+    ensures { OnOk result ((t : DataType) → out.new.items ≡ out.old.items
+        ++ lines t (slice_range (where_valid valid.now (map text texts.now)) rows.start rows.end)) }
+{
+    for row in rows.start..rows.end {
+        append_text_line(valid.value(row as u64), texts.text(row), out)?;
+    }
+    Ok(())
+}
+
+/// Appends the lines of a range of rows cell by cell. The names of fields are written once for all rows.
+fn append_cells(
+    alloc: Global,
+    column: &Column,
+    rows: Range<u64>,
+    out: &mut Vec<u8>,
+) -> Result<(), AllocError>
+    requires forwards { rows.start ≤ rows.end }
+    requires inside { rows.end ≤ length column.now.values }
+    ensures { OnOk result (out.new.items ≡ out.old.items ++ lines column.now.dtype (slice_range column.now.values rows.start rows.end)) }
+{
+    let dtype = column.dtype();
+    let leads = leads_of(alloc, dtype)?;
+    for row in rows.start..rows.end {
+        append_cell(alloc, dtype, &leads, column.cell(row), out)?;
+        out.push(b'\n')?;
+    }
+    Ok(())
+}
+
+/// Appends a line for each row of a range: the text of the row's value, and a newline.
+pub fn append_row_lines(
+    alloc: Global,
+    column: &Column,
+    rows: Range<u64>,
+    out: &mut Vec<u8>,
+) -> Result<(), AllocError>
+    requires forwards { rows.start ≤ rows.end }
+    requires inside { rows.end ≤ length column.now.values }
+    ensures { OnOk result (out.new.items ≡ out.old.items ++ lines column.now.dtype (slice_range column.now.values rows.start rows.end)) }
+{
+    let Some(part) = column.part() else {
+        return append_cells(alloc, column, rows, out);
+    };
+    let places = rows.start as usize..rows.end as usize;
+    match part.look() {
+        Look::Truths(valid, truths) => append_truths(valid, truths, places, out),
+        Look::Numbers(valid, numbers) => append_numbers(valid, numbers, places, out),
+        Look::Texts(valid, texts) => append_texts(valid, texts, places, out),
+        Look::Structs(_, _) | Look::Lists(_, _) => append_cells(alloc, column, rows, out),
+    }
+}
+
+/// Appends a line for each row of a column: the text of the row's value, and a newline.
+#[tactic(auto, using(vx_arrays::proofs::PackedRows::whole_range))]
+pub fn append_column_lines(
+    alloc: Global,
+    column: &Column,
+    out: &mut Vec<u8>,
+) -> Result<(), AllocError>
+    ensures { OnOk result (out.new.items ≡ out.old.items ++ lines column.now.dtype column.now.values) }
+{
+    append_row_lines(alloc, column, 0..column.len(), out)
+}

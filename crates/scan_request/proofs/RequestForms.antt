@@ -1,0 +1,116 @@
+-- What a request's bytes are, from what reading them as JSON and binding the projection gave.
+use Rattle.std.proofs.Common.{◌≡◌, ℕ, ◌≤◌, Bool, true, false, cond, List, [], ◌∷◌, length, Option, Some, None, Ok, Err, codes, refl, sym, ap, ◌∙◌, subst}
+use Rattle.std.specs.Prelude.{IsSomeAnd}
+use Rattle.std.specs.List.{slice_get}
+use Rattle.std.specs.Str.{IsUtf8, is_utf8}
+use Rattle.std.proofs.lemmas.Str.{IsUtf8-from_is_utf8, is_utf8-from_IsUtf8}
+use Rattle.serde_json.specs.Data.{Data}
+use Rattle.serde_json.specs.Read.{read}
+use Rattle.serde_json.specs.Find.{get}
+use Rattle.vx_expr.specs.Bound.{Bound}
+use Rattle.vx_expr.specs.Mismatches.{BindGives}
+use Rattle.vx_expr.specs.Terms.{Term, root}
+use Rattle.vx_expr.specs.declared.binding.BindError.{BindError}
+use Rattle.vx_expr.specs.declared.binding.BindError.TheVariants as bind
+use Rattle.vx_layout.specs.Nodes.{Node}
+use Rattle.vx_layout.specs.Shape.{IsGoodTree}
+use Rattle.scan_words.specs.Words.{◌>>=◌}
+use Rattle.scan_request.specs.declared.request_errors.RequestError.TheVariants.{BadRequest}
+use Rattle.scan_request.specs.BindRefusals.{of_bind}
+use Rattle.scan_request.specs.ExpressionForms.{expression_form}
+use Rattle.scan_request.specs.JsonForms.{has_members, list_form, most_items, optional_form}
+use Rattle.scan_request.specs.LocationForms.{location_form}
+use Rattle.scan_request.specs.NodeForms.{node_form}
+use Rattle.scan_request.specs.RequestForms.{Asked, Parts, members_of, request_form, json_value, requested, root_dtype, IsRequest, HasBadProjection, RefusedBy}
+use Rattle.scan_request.specs.RowForms.{rows_form}
+use Rattle.scan_request.specs.declared.row_forms.RowsAsked.{RowsAsked}
+use Rattle.scan_request.proofs.JsonForms.{here, list_few, some_is}
+use Rattle.vx_base.specs.Data.{DataType}
+use Rattle.vx_base.specs.declared.locations.SegmentLocation.{SegmentLocation}
+
+-- the bytes are JSON
+pub json_is : (bytes : List ℕ) (d : Data) → IsUtf8 bytes → read bytes ≡ Some d → json_value bytes ≡ Some d
+json_is bytes d utf8 is = let test = is_utf8-from_IsUtf8 bytes utf8 in rw test is
+
+refused : (b : Bool) (r : Option Data) → (b ≡ true → r ≡ None) → cond b r None ≡ None
+refused true r h = h refl
+refused false r h = refl
+
+-- the bytes are none
+pub json_none : (bytes : List ℕ) → (IsUtf8 bytes → read bytes ≡ None) → json_value bytes ≡ None
+json_none bytes h = refused (is_utf8 bytes) (read bytes) (λ test. h (IsUtf8-from_is_utf8 bytes test))
+
+pub no_json : (bytes : List ℕ) → json_value bytes ≡ None → RefusedBy bytes BadRequest
+no_json bytes none = rw none refl
+
+pub in_form : (bytes : List ℕ) (d : Data) (parts : Parts) → json_value bytes ≡ Some d → Some parts ≡ request_form d → requested bytes ≡ Some parts
+in_form bytes d parts is formed = rw is (sym formed)
+
+-- ---- the tree and the projection
+
+root_is : (nodes : List Node) (t : DataType) → IsSomeAnd (slice_get nodes 0) (λ node. t ≡ node.dtype) → t ≡ root_dtype nodes
+root_is [] t is = absurd is
+root_is (node ∷ nodes) t is = is
+
+unbound : (bytes : List ℕ) (parts : Parts) (error : BindError) → (error ≡ bind.Memory → ⊥) → requested bytes ≡ Some parts → IsGoodTree parts.nodes → BindGives (root_dtype parts.nodes) parts.projection (Err error) → HasBadProjection bytes error
+unbound bytes parts error other form good gives = record { parts = parts; form = form; good = good; unbound = gives; not_memory = other }
+
+-- the projection can't be bound
+no_projection : (bytes : List ℕ) (parts : Parts) (error : BindError) → requested bytes ≡ Some parts → IsGoodTree parts.nodes → BindGives (root_dtype parts.nodes) parts.projection (Err error) → RefusedBy bytes (of_bind error)
+no_projection bytes parts (bind.NoField name) form good gives = unbound bytes parts (bind.NoField name) (λ e. absurd cc) form good gives
+no_projection bytes parts (bind.TypeMismatch place) form good gives = unbound bytes parts (bind.TypeMismatch place) (λ e. absurd cc) form good gives
+no_projection bytes parts bind.TooDeep form good gives = unbound bytes parts bind.TooDeep (λ e. absurd cc) form good gives
+no_projection bytes parts bind.Memory form good gives = tt
+
+-- what is said over a tree, with the projection bound
+abbrev asked_by : Parts → List Node → Bound → Asked
+asked_by parts layout projection = record { locations = parts.locations; nodes = layout; projection = projection; range = parts.range; selection = parts.selection; row_offset = parts.row_offset }
+
+bound_request : (bytes : List ℕ) (parts : Parts) (projection : Bound) → requested bytes ≡ Some parts → IsGoodTree parts.nodes → BindGives (root_dtype parts.nodes) parts.projection (Ok projection) → IsRequest bytes (asked_by parts parts.nodes projection)
+bound_request bytes parts projection form good gives = record {
+  form = form ∙ ap (λ (e : Term). here (record parts { projection = e })) (sym gives.1);
+  good = good;
+  bound = subst (λ (e : Term). BindGives (root_dtype parts.nodes) e (Ok projection)) (sym gives.1) gives;
+}
+
+-- the same nodes as a checked tree, whose root has the dtype
+over_root : (P : DataType → Type 0) (nodes layout : List Node) (t : DataType) → layout ≡ nodes → IsSomeAnd (slice_get layout 0) (λ node. t ≡ node.dtype) → P t → P (root_dtype nodes)
+over_root P nodes layout t same typed holds = subst P (root_is layout t typed ∙ ap root_dtype same) holds
+
+pub is_request : (bytes : List ℕ) (parts : Parts) (layout : List Node) (t : DataType) (projection : Bound) → requested bytes ≡ Some parts → layout ≡ parts.nodes → IsGoodTree parts.nodes → IsSomeAnd (slice_get layout 0) (λ node. t ≡ node.dtype) → BindGives t parts.projection (Ok projection) → IsRequest bytes (asked_by parts layout projection)
+is_request bytes parts layout t projection form same good typed gives =
+    subst (λ (nodes : List Node). IsRequest bytes (asked_by parts nodes projection)) (sym same)
+    (bound_request bytes parts projection form good (over_root (λ s. BindGives s parts.projection (Ok projection)) parts.nodes layout t same typed gives))
+
+pub is_unbound : (bytes : List ℕ) (parts : Parts) (layout : List Node) (t : DataType) (error : BindError) → requested bytes ≡ Some parts → layout ≡ parts.nodes → IsGoodTree parts.nodes → IsSomeAnd (slice_get layout 0) (λ node. t ≡ node.dtype) → BindGives t parts.projection (Err error) → RefusedBy bytes (of_bind error)
+is_unbound bytes parts layout t error form same good typed gives =
+    no_projection bytes parts error form good (over_root (λ s. BindGives s parts.projection (Err error)) parts.nodes layout t same typed gives)
+
+-- ---- a request has few locations and nodes
+
+abbrev parts_by : Option (List SegmentLocation) → Option (List Node) → Option RowsAsked → Option Term → Option Parts
+parts_by locations nodes rows projection =
+    locations >>= λ ls. nodes >>= λ ns. rows >>= λ r. projection >>= λ e. here (record { locations = ls; nodes = ns; projection = e; range = r.range; selection = r.selection; row_offset = r.row_offset })
+
+both : (b : Bool) (locations : Option (List SegmentLocation)) (nodes : Option (List Node)) (rows : Option RowsAsked) (projection : Option Term) (parts : Parts) → cond b (parts_by locations nodes rows projection) None ≡ Some parts → (locations ≡ Some parts.locations) × (nodes ≡ Some parts.nodes)
+both false locations nodes rows projection parts e = absurd cc
+both true None nodes rows projection parts e = absurd cc
+both true (Some ls) None rows projection parts e = absurd cc
+both true (Some ls) (Some ns) None projection parts e = absurd cc
+both true (Some ls) (Some ns) (Some r) None parts e = absurd cc
+both true (Some ls) (Some ns) (Some r) (Some term) parts e =
+    let same = some_is (record { locations = ls; nodes = ns; projection = term; range = r.range; selection = r.selection; row_offset = r.row_offset }) parts e in
+    (ap (λ (p : Parts). here p.locations) same, ap (λ (p : Parts). here p.nodes) same)
+
+form_few : (d : Data) (parts : Parts) → request_form d ≡ Some parts → (length parts.locations ≤ most_items) × (length parts.nodes ≤ most_items)
+unfolding request_form
+form_few d parts e =
+    let is = both (has_members (members_of d) d) (get (codes "locations") d >>= list_form location_form) (get (codes "nodes") d >>= list_form node_form) (rows_form d) (optional_form root expression_form (get (codes "projection") d)) parts e in
+    (list_few location_form (get (codes "locations") d) parts.locations is.0, list_few node_form (get (codes "nodes") d) parts.nodes is.1)
+
+pub requested_few : (bytes : List ℕ) (parts : Parts) → requested bytes ≡ Some parts → (length parts.locations ≤ most_items) × (length parts.nodes ≤ most_items)
+requested_few bytes parts e = of_json (json_value bytes) e
+  where
+    of_json : (o : Option Data) → (o >>= request_form) ≡ Some parts → (length parts.locations ≤ most_items) × (length parts.nodes ≤ most_items)
+    of_json None e = absurd cc
+    of_json (Some d) e = form_few d parts e

@@ -1,0 +1,11 @@
+pub mod BindRefusals
+pub mod DtypeForms
+pub mod ExpressionForms
+pub mod ExpressionViews
+pub mod JsonForms
+pub mod LayoutRefusals
+pub mod LocationForms
+pub mod NodeForms
+pub mod RequestForms
+pub mod RequestViews
+pub mod RowForms

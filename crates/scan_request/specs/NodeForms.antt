@@ -1,0 +1,70 @@
+-- The form of a node: an object of exactly its kind, dtype and rows, and the members of its kind.
+use Rattle.std.specs.Prelude.{ℕ, ◌^◌, codes, if◌then◌else◌, List, [], ◌∷◌, Option, Some, None}
+use Rattle.std.specs.Map.{lookup}
+use Rattle.std.specs.Str.{bytes_eq}
+use Rattle.serde_json.specs.Data.{Data}
+use Rattle.serde_json.specs.Find.{get, as_str, as_array}
+use Rattle.vx_expr.specs.declared.statistics.Statistic.{Statistic}
+use Rattle.vx_expr.specs.declared.statistics.Statistic.TheVariants.{Min, Max, NullCount}
+use Rattle.vx_layout.specs.declared.nodes.LayoutKind.{LayoutKind}
+use Rattle.vx_layout.specs.declared.nodes.LayoutKind.TheVariants as kinds
+use Rattle.vx_layout.specs.Nodes.{Node}
+use Rattle.scan_words.specs.Words.{◌>>=◌}
+use Rattle.scan_request.specs.JsonForms.{whole_form, has_members, each_form}
+use Rattle.scan_request.specs.DtypeForms.{dtype_form}
+
+-- ---- kinds
+
+-- the statistics by their names
+abbrev pub statistic_names : List (List ℕ × Statistic)
+statistic_names = (codes "min", Min) ∷ (codes "max", Max) ∷ (codes "null_count", NullCount) ∷ []
+
+abbrev pub statistic_form : Data → Option Statistic
+statistic_form d = as_str d >>= λ name. lookup (bytes_eq name) statistic_names
+
+-- the length of the zones, and their statistics, in order
+abbrev pub zones_form : Data → Option (ℕ × List Statistic)
+zones_form d = get (codes "zone_len") d >>= whole_form (2 ^ 64) >>= λ zone_len. get (codes "stats") d >>= as_array >>= each_form statistic_form >>= λ stats. Some (zone_len, stats)
+
+-- the kinds of which children tell all else, by their names
+abbrev pub plain_kinds : List (List ℕ × LayoutKind)
+plain_kinds = (codes "chunked", kinds.Chunked) ∷ (codes "struct", kinds.Struct) ∷ (codes "dict", kinds.Dict) ∷ (codes "list", kinds.List) ∷ []
+
+-- a kind by its name, with the members that it has besides children
+abbrev pub kind_named : Data → List ℕ → Option LayoutKind
+kind_named d name =
+    if bytes_eq name (codes "flat") then (get (codes "segment") d >>= whole_form (2 ^ 32) >>= λ segment. Some (kinds.Flat segment))
+    else (if bytes_eq name (codes "zoned") then (zones_form d >>= λ zones. Some (kinds.Zoned zones.0 zones.1))
+    else (if bytes_eq name (codes "legacy_stats") then (zones_form d >>= λ zones. Some (kinds.LegacyStats zones.0 zones.1))
+    else lookup (bytes_eq name) plain_kinds))
+
+abbrev pub kind_form : Data → Option LayoutKind
+kind_form d = get (codes "kind") d >>= as_str >>= kind_named d
+
+-- ---- nodes
+
+-- kind, dtype, rows, and of a flat node its segment, of each other its children; and zone length and statistics
+abbrev pub member_count : LayoutKind → ℕ
+member_count (kinds.Flat segment) = 4
+member_count kinds.Chunked = 4
+member_count kinds.Struct = 4
+member_count kinds.Dict = 4
+member_count kinds.List = 4
+member_count (kinds.Zoned zone_len stats) = 6
+member_count (kinds.LegacyStats zone_len stats) = 6
+
+-- the numbers of the children, of which a flat node has none
+abbrev pub numbers_under : Data → Option (List ℕ)
+numbers_under d = get (codes "children") d >>= as_array >>= each_form (whole_form (2 ^ 32))
+
+abbrev pub children_form : LayoutKind → Data → Option (List ℕ)
+children_form (kinds.Flat segment) d = Some []
+children_form kinds.Chunked d = numbers_under d
+children_form kinds.Struct d = numbers_under d
+children_form kinds.Dict d = numbers_under d
+children_form kinds.List d = numbers_under d
+children_form (kinds.Zoned zone_len stats) d = numbers_under d
+children_form (kinds.LegacyStats zone_len stats) d = numbers_under d
+
+unfoldable pub node_form : Data → Option Node
+node_form d = kind_form d >>= λ kind. if has_members (member_count kind) d then (get (codes "dtype") d >>= dtype_form >>= λ dtype. get (codes "rows") d >>= whole_form (2 ^ 64) >>= λ rows. children_form kind d >>= λ children. Some (record { kind = kind; dtype = dtype; rows = rows; children = children })) else None

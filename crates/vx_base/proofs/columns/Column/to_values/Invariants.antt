@@ -1,6 +1,0 @@
-use Rattle.std.proofs.Common.{◌≡◌, map, take}
-use Rattle.vx_base.specs.ValueViews.{datum}
-use Rattle.vx_base.proofs.columns.Column.to_values.Given as goal
-
-abbrev pub invariant-loop-row : goal.invariant-loop-row
-invariant-loop-row l = map datum l.values.items ≡ take l.row l.self.values

@@ -1,5 +1,0 @@
-use Rattle.vx_base.proofs.KeptRuns.{PlacesKept}
-use Rattle.vx_base.proofs.run_rows.places_kept.Given as goal
-
-abbrev pub invariant-loop-place : goal.invariant-loop-place
-invariant-loop-place l = PlacesKept l.counts l.places.items l.place

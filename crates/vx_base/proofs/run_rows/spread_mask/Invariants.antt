@@ -1,5 +1,0 @@
-use Rattle.vx_base.proofs.SpreadRuns.{SpreadSoFar}
-use Rattle.vx_base.proofs.run_rows.spread_mask.Given as goal
-
-abbrev pub invariant-loop-run : goal.invariant-loop-run
-invariant-loop-run l = SpreadSoFar l.bits l.ends l.mask l.before l.run

@@ -1,5 +1,0 @@
-use Rattle.vx_base.proofs.RunRows.{GoodSoFar}
-use Rattle.vx_base.proofs.runs.first_bad_end.Given as goal
-
-abbrev pub invariant-loop-place : goal.invariant-loop-place
-invariant-loop-place l = GoodSoFar l.count l.ends l.place l.before

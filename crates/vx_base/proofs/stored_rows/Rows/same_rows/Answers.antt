@@ -1,7 +1,0 @@
-use Rattle.std.proofs.Common.{arith}
-use Rattle.vx_packed.proofs.SameRows.{rows_more}
-use Rattle.vx_base.specs.StoredRows.{row_data}
-use Rattle.vx_base.proofs.stored_rows.Rows.same_rows.Goals as goal
-
-pub loop-row-preserved : goal.loop-row-preserved
-loop-row-preserved c = rows_more (row_data c.args.self.now).values (row_data c.args.other.now).values c.loop-row.row (omega arith) (omega arith) (c.same_row.ensures.0 cc) c.loop-row.invariant

@@ -1,0 +1,9 @@
+pub mod ChunkRows
+pub mod ChunkScans
+pub mod KeptValues
+pub mod LeafRows
+pub mod Lent
+pub mod Outcomes
+pub mod Pieces
+pub mod Values
+pub mod Ways

@@ -1,0 +1,4 @@
+pub mod ColumnRows
+mod KeptRuns
+mod RunRows
+mod SpreadRuns

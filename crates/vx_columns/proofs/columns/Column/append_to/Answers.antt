@@ -1,0 +1,14 @@
+use Rattle.std.proofs.Common.{◌∙◌, ◌++◌, ap, refl}
+use Rattle.vx_types.specs.Columns.{ColumnData}
+use Rattle.vx_columns.specs.StoredRows.{row_data}
+use Rattle.vx_arrays.proofs.PackedRows.{same_shape, column_joined}
+use Rattle.vx_columns.proofs.columns.Column.append_to.Goals as goal
+
+pub append_to-requires : goal.append_to-requires
+append_to-requires c = same_shape c.args.self.now.dtype c.args.self.now.dtype c.args.part (row_data c.rows-rows.result.now) refl c.requires c.rows-rows.ensures.column
+
+pub returns-clause-column : goal.returns-clause-column
+returns-clause-column c = column_joined c.args.self.now.dtype c.args.self.now.dtype c.args.part (row_data c.rows-rows.result.now) c.in_ok-made.made refl c.in_ok-made.ensures c.requires c.rows-rows.ensures.column
+
+pub returns-clause-values : goal.returns-clause-values
+returns-clause-values c = ap (λ (a : ColumnData). a.values) c.in_ok-made.ensures ∙ (λ i. c.args.part.values ++ c.rows-rows.ensures.values i)

@@ -1,0 +1,11 @@
+use Rattle.std.proofs.Common.{◌++◌, ◌∷◌, [], ◌∙◌, ℕ, get_or, refl, ap, arith}
+use Rattle.vx_columns.proofs.KeptRuns.{mask_inside, mask_more}
+use Rattle.vx_columns.proofs.run_rows.counts_chosen.Goals as goal
+
+pub loop-end-preserved : goal.loop-end-preserved
+loop-end-preserved c =
+    let ends = c.args.ends.now in
+    let i = c.loop-end.end-index in
+    let end = get_or ends i 0 in
+    let inside = mask_inside c.args.mask.now ends c.loop-end.counts.items c.loop-end.before i end c.loop-end-test.true refl c.requires.rise c.requires.rows c.loop-end.invariant in
+    mask_more c.args.mask.now c.in_ok-rows.rows ends c.loop-end.counts.items c.push.new.self.items c.loop-end.before i end c.loop-end-test.true refl (omega (arith, inside.0)) c.in_ok-rows.ensures (c.in_ok-push.ensures.items ∙ ap (λ (n : ℕ). c.loop-end.counts.items ++ n ∷ []) c.true_count.ensures) c.loop-end.invariant

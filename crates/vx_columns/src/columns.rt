@@ -1,0 +1,222 @@
+//! Columns: a dtype and values that it takes, one for each row.
+
+ghost use Rattle.std.specs.Prelude.{◌≡◌, ℕ, ◌<◌, ◌≤◌, Some, [], length, map, slice_get, OnOk, IfOk, IfSome, IsErrOf, MatchOption};
+ghost use Rattle.std.specs.List.{AllByRecursion};
+ghost use Rattle.vx_types.specs.Fits.{Fits};
+ghost use Rattle.vx_types.specs.Columns.{IsFirstUnfit};
+ghost use Rattle.vx_types.specs.Segment.{is_value};
+ghost use Rattle.vx_types.specs.Views.{data_type};
+ghost use Rattle.vx_types.specs.ValueViews.{datum};
+ghost use Rattle.vx_columns.specs.StoredRows.{row_data};
+ghost use Rattle.vx_arrays.specs.Cells.{cell_datum};
+ghost use Rattle.vx_arrays.specs.PackedColumns.{IsColumn};
+
+use crate::stored_rows::{Laid, Rows};
+use std::alloc::{AllocError, Global};
+use std::marker::Model;
+use thiserror::Error;
+use vx_arrays::{Cell, Part, SharedPart};
+use vx_masks::Mask;
+use vx_types::{DType, Value, fits};
+
+/// Why values are no column of a dtype.
+#[derive(Debug, Drop, Error)]
+pub enum ColumnError {
+    /// The first row, counted from 0, whose value the dtype doesn't take.
+    #[error("the value of row {0} does not fit the dtype")]
+    Unfit(u64),
+    /// There is no memory left.
+    #[error("out of memory")]
+    Memory,
+}
+
+/// A dtype and values that it takes, one for each row.
+pub struct Column {
+    dtype: DType,
+    rows: Rows,
+}
+
+impl Drop for Column {
+    fn drop(self) {
+        let Column { dtype: _, rows: _ } = self;
+    }
+}
+
+impl Model for Column {
+    ghost use Rattle.vx_types.specs.Columns.{ColumnData};
+    ghost use Rattle.vx_types.specs.Codes.{coded_column};
+    ghost use Rattle.vx_types.specs.Views.{data_type};
+    ghost use Rattle.vx_columns.specs.StoredRows.{row_data};
+    ghost use Rattle.vx_arrays.specs.PackedColumns.{IsColumn};
+
+    ghost Value = { ColumnData };
+
+    ghost coded = { coded_column };
+
+    ghost view = { λ a. record { dtype = data_type a.dtype; values = (row_data a.rows).values } };
+
+    ghost invariant = { λ a. IsColumn (data_type a.dtype) (row_data a.rows) };
+}
+
+/// The first of the values that the dtype doesn't take. None where it takes each.
+pub(crate) fn first_unfit(dtype: &DType, values: &[Value]) -> Option<usize>
+    ensures { MatchOption result (AllByRecursion (Fits (data_type dtype.now)) (map datum values.now)) (λ row. IsFirstUnfit (data_type dtype.now) (map datum values.now) row) }
+{
+    for (row, value) in values.iter().enumerate() {
+        if !fits(dtype, value) {
+            return Some(row);
+        }
+    }
+    None
+}
+
+impl Column {
+    /// The column of a dtype and of rows that it takes. It takes no memory.
+    pub(crate) fn of_rows(dtype: DType, rows: Rows) -> Column
+        requires { IsColumn (data_type dtype) (row_data rows) }
+        ensures dtype { result.dtype ≡ data_type dtype }
+        ensures values { result.values ≡ (row_data rows).values }
+    {
+        Column { dtype, rows }
+    }
+
+    /// The column of a dtype and of packed rows that it takes. It takes no memory.
+    pub fn of_part(dtype: DType, part: Part) -> Column
+        requires { IsColumn (data_type dtype) part }
+        ensures dtype { result.dtype ≡ data_type dtype }
+        ensures values { result.values ≡ part.values }
+    {
+        Column {
+            dtype,
+            rows: Rows::Plain(part),
+        }
+    }
+
+    /// What the rows hold. It takes no memory.
+    pub(crate) fn rows(&self) -> &Rows
+        ensures values { (row_data result.now).values ≡ self.now.values }
+        ensures column { IsColumn self.now.dtype (row_data result.now) }
+    {
+        &self.rows
+    }
+
+    /// What the rows hold, where they are packed one by one, shared or not; None where they lie in runs. It takes no
+    /// memory.
+    pub fn part(&self) -> Option<&Part>
+        ensures values { IfSome result (λ part. part.now.values ≡ self.now.values) }
+        ensures column { IfSome result (λ part. IsColumn self.now.dtype part.now) }
+    {
+        match self.rows.laid() {
+            Laid::Packed(part) => Some(part),
+            Laid::Runs(_) => None,
+        }
+    }
+
+    /// The same column, whose rows other columns can share from now on: where they are packed, `copy` and a `slice` of
+    /// all rows copy no row. It moves the rows, and takes memory for a handle on them; runs stay what they are.
+    pub fn share(self, alloc: Global) -> Result<Column, AllocError>
+        ensures { IfOk result (λ column. column ≡ self) }
+    {
+        let Column { dtype, rows } = self;
+        let rows = rows.share(alloc)?;
+        Ok(Column { dtype, rows })
+    }
+
+    /// What the rows hold, packed and behind a handle. It moves what is packed already, and copies no row that is shared.
+    pub(crate) fn into_shared(self, alloc: Global) -> Result<SharedPart, AllocError>
+        ensures values { IfOk result (λ part. part.values ≡ self.values) }
+        ensures column { IfOk result (λ part. IsColumn self.dtype part) }
+    {
+        let Column { dtype, rows } = self;
+        drop(dtype);
+        let part = rows.into_shared(alloc)?;
+        Ok(part)
+    }
+
+    /// The column of these values in this order, where the dtype takes each of them.
+    pub fn try_of(alloc: Global, dtype: DType, values: Vec<Value>) -> Result<Column, ColumnError>
+        ensures dtype { IfOk result (λ column. column.dtype ≡ data_type dtype) }
+        ensures values { IfOk result (λ column. column.values ≡ map datum values.items) }
+        ensures fit { OnOk result (AllByRecursion (Fits (data_type dtype)) (map datum values.items)) }
+        ensures unfit { (row : ℕ) → IsErrOf result (ColumnError.Unfit row) → IsFirstUnfit (data_type dtype) (map datum values.items) row }
+    {
+        if let Some(row) = first_unfit(&dtype, &values) {
+            return Err(ColumnError::Unfit(row as u64));
+        }
+        match Column::of_fitting(alloc, dtype, values) {
+            Ok(column) => Ok(column),
+            Err(_) => Err(ColumnError::Memory),
+        }
+    }
+
+    /// The column of values that are known to fit, in their order.
+    #[tactic(auto, using(vx_arrays::proofs::PackedRows::column_of_values, vx_arrays::proofs::PackedRows::all_nullable))]
+    pub fn of_fitting(alloc: Global, dtype: DType, values: Vec<Value>) -> Result<Column, AllocError>
+        requires { AllByRecursion (Fits (data_type dtype)) (map datum values.items) }
+        ensures dtype { IfOk result (λ column. column.dtype ≡ data_type dtype) }
+        ensures values { IfOk result (λ column. column.values ≡ map datum values.items) }
+    {
+        let part = Part::of_values(alloc, &dtype, values.as_slice())?;
+        Ok(Column::of_part(dtype, part))
+    }
+
+    /// The column of no rows.
+    pub fn empty(alloc: Global, dtype: DType) -> Result<Column, AllocError>
+        ensures dtype { IfOk result (λ column. column.dtype ≡ data_type dtype) }
+        ensures values { IfOk result (λ column. column.values ≡ []) }
+    {
+        Column::of_fitting(alloc, dtype, Vec::new(alloc))
+    }
+
+    /// How many rows there are.
+    pub fn len(&self) -> u64
+        ensures rows { result ≡ length self.now.values }
+        ensures fit { AllByRecursion (Fits self.now.dtype) self.now.values }
+    {
+        self.rows.len() as u64
+    }
+
+    /// The dtype of the values. It takes no memory.
+    pub fn dtype(&self) -> &DType
+        ensures { data_type result.now ≡ self.now.dtype }
+    {
+        &self.dtype
+    }
+
+    /// Which rows have a value. It takes no memory.
+    pub fn validity(&self) -> &Mask
+        ensures { result.now ≡ map is_value self.now.values }
+    {
+        self.rows.validity()
+    }
+
+    /// The value of a row, counted from 0, borrowed from the column. It takes no memory.
+    pub fn cell(&self, row: u64) -> Cell<'_>
+        requires { row < length self.now.values }
+        ensures { slice_get self.now.values row ≡ Some (cell_datum result) }
+    {
+        self.rows.cell(row as usize)
+    }
+
+    /// The value of a row, counted from 0, in memory of its own.
+    pub fn get(&self, alloc: Global, row: u64) -> Result<Value, AllocError>
+        requires { row < length self.now.values }
+        ensures { IfOk result (λ value. slice_get self.now.values row ≡ Some (datum value)) }
+    {
+        let value = self.rows.get(alloc, row as usize)?;
+        Ok(value)
+    }
+
+    /// The values, row by row, in memory of their own.
+    pub fn to_values(&self, alloc: Global) -> Result<Vec<Value>, AllocError>
+        ensures values { IfOk result (λ values. map datum values.items ≡ self.now.values) }
+        ensures fit { AllByRecursion (Fits self.now.dtype) self.now.values }
+    {
+        let mut values = Vec::with_capacity(alloc, self.len() as usize)?;
+        for row in 0..self.len() {
+            let value = self.get(alloc, row)?;
+            values.push(value)?;
+        }
+        Ok(values)
+    }
+}

@@ -1,0 +1,14 @@
+mod Behind
+mod ClearedRuns
+mod Computing
+mod Continuing
+pub mod Distinct
+mod FewApart
+mod HandingOut
+pub mod Lasting
+mod Resulting
+mod RunEnds
+mod Running
+mod SessionRuns
+pub mod Sessions
+mod Stepping

@@ -1,0 +1,321 @@
+-- A run of a scan over a session, step by step: what is in flight, what was asked, and what happens next.
+use Rattle.std.proofs.Common.{◌≡◌, ◌≢◌, ℕ, ◌+◌, ◌*◌, ◌<◌, ◌≤◌, ◌⊎◌, inl, inr, List, [], ◌∷◌, ◌++◌, Option, Some, None, Ok, Err, length, map, take, drop, refl, sym, ap, ◌∙◌, subst, arith}
+use Rattle.std.specs.Prelude.{slice_get, slice_set, remove, Result}
+use Rattle.std.specs.List.{All}
+use Rattle.std.proofs.lemmas.List.{map-append, length-map, length-append}
+use Rattle.std.proofs.lemmas.List.Edits.{length-remove}
+use Rattle.std.proofs.lemmas.Option.{slice_get_within}
+use Rattle.vx_layout.specs.Rows.{segment_bytes}
+use Rattle.vx_plan.proofs.Each.{each_at}
+use Rattle.vx_steps.specs.ReadTableData.{Wanted}
+use Rattle.vx_steps.specs.ScanData.{ScanData}
+use Rattle.vx_steps.proofs.SelectedRows.{length_taken}
+use Rattle.vx_steps.proofs.Growing.{got_front}
+use Rattle.vx_io.specs.declared.requests.Completion.{Completion}
+use Rattle.vx_io.specs.declared.requests.IoRequest.{IoRequest}
+use Rattle.vx_io.specs.Ranges.{RangeTable, IsTableOf}
+use Rattle.vx_io.specs.Session.{SessionState, Table, empty_table}
+use Rattle.vx_io.specs.Submits.{IsKnown}
+use Rattle.vx_io.specs.Drive.{Wanted as WantedFetch, fetch_for}
+use Rattle.vx_io.specs.Fetches.{fetch_in_flight, fetches_of, NothingWaits, AllFetch, place_of, asked_for, FetchEnded}
+use Rattle.vx_drive.specs.declared.adaptor_errors.AdaptorError.{AdaptorError}
+use Rattle.vx_drive.specs.declared.adaptor_errors.AdaptorError.TheVariants as errors
+use Rattle.vx_drive.specs.declared.adaptors.AdaptorStep.{AdaptorStep}
+use Rattle.vx_drive.specs.declared.adaptors.State.{State}
+use Rattle.vx_drive.specs.declared.adaptors.State.TheVariants.{NeedsCompute, Waiting, Done}
+use Rattle.vx_drive.specs.AdaptorData.{AdaptorData, AreAsked, IsReady, reads_of, work_of}
+use Rattle.vx_drive.specs.Computes.{Batches, HandsOn, HoldsNext, IsNextOutput, Yields, WhyYields, Computes, ComputeGives, ResultGives, TakesResult, after_result}
+use Rattle.vx_drive.specs.Continues.{splits_left}
+use Rattle.vx_drive.specs.Fetched.{fetches_from, location_of, segments_in, unread, delivered}
+use Rattle.vx_drive.specs.Runs.{GivesSplit}
+use Rattle.vx_drive.specs.Starts.{IsAtStart, IsUnread}
+use Rattle.vx_drive.specs.Waits.{owner, SendGives, Completed}
+use Rattle.vx_drive.proofs.Behind.{got_behind}
+use Rattle.vx_drive.proofs.Running.{ScanSoFar, so_far_start, so_far_then, so_far_taken, left_behind, gave_now, gave_on, gave_same}
+use Rattle.vx_drive.proofs.Sessions.{known_fetches, all_fetches, fetches_places, asked_then, asked_nothing, outstanding, outstanding_more, OutstandingAt, outstanding_at, some_outstanding, is_outstanding, bytes_told}
+use Rattle.vx_drive.proofs.Computing.{length_fetches}
+use Rattle.vx_drive.proofs.Resulting.{segments_set}
+use Rattle.vx_base.specs.Columns.{ColumnData}
+use Rattle.vx_base.specs.Sources.{SourceState}
+use Rattle.vx_base.specs.declared.locations.SegmentLocation.{SegmentLocation}
+use Rattle.vx_base.proofs.Got.{got_mapped}
+
+-- ---- what a run keeps
+
+-- the output of the scan: collected already, or held by the adaptor
+abbrev pub OneOf : Option ColumnData → Option (ℕ × ColumnData) → ColumnData → Type 0
+OneOf output held column = ((output ≡ Some column) × (held ≡ None)) ⊎ ((output ≡ None) × (number : ℕ) × (held ≡ Some (number, column)))
+
+abbrev pub OutputSoFar : List SegmentLocation → ScanData → SourceState → AdaptorData → Option ColumnData → Type 0
+OutputSoFar locations start before adaptor output =
+    ((splits_left adaptor.scan ≡ splits_left start) × (output ≡ None) × (adaptor.held ≡ None))
+    ⊎ ((splits_left adaptor.scan ≡ []) × (column : ColumnData) × OneOf output adaptor.held column × GivesSplit locations start adaptor.scan before column)
+
+-- The fetches in flight are the reads whose bytes did not come, and exactly the ranges of the reads were asked for.
+pub record Running (locations : List SegmentLocation) (start : ScanData) (before : SourceState) (adaptor : AdaptorData) (output : Option ColumnData) (state : SessionState) : Type 0 where
+  pub unread : IsUnread start
+  pub scan : ScanSoFar locations start before adaptor.scan
+  pub live : adaptor.state ≢ Done
+  pub first : adaptor.first ≡ 0
+  pub ready : AreAsked locations adaptor.first adaptor.asked adaptor.scan.progress.reads
+  pub waiting : NothingWaits state.table
+  pub fetches : fetches_of state.table ≡ outstanding locations 0 (reads_of adaptor)
+  pub asked : state.source.asked ≡ asked_for (map (location_of locations) (segments_in (reads_of adaptor))) before.asked
+  pub file : state.source.file ≡ before.file
+  pub faults : state.source.faults ≡ before.faults
+  pub idle : before.idle ≤ state.source.idle
+  pub so_far : OutputSoFar locations start before adaptor output
+
+-- what stands of an adaptor that is not done
+pub ready_of : (locations others : List SegmentLocation) (adaptor : AdaptorData) → IsReady others adaptor.state adaptor.first adaptor.asked adaptor.scan.progress.reads → others ≡ locations → adaptor.state ≢ Done → AreAsked locations adaptor.first adaptor.asked adaptor.scan.progress.reads
+ready_of locations others adaptor ready same live = subst (λ (ls : List SegmentLocation). AreAsked ls adaptor.first adaptor.asked adaptor.scan.progress.reads) same (ready live)
+
+pub needs_is_live : (state : State) → state ≡ NeedsCompute → state ≢ Done
+needs_is_live state is done = let both : NeedsCompute ≡ Done = sym is ∙ done in absurd cc
+
+pub run_begins : (locations : List SegmentLocation) (adaptor : AdaptorData) (state : SessionState) → IsAtStart adaptor → IsReady locations adaptor.state adaptor.first adaptor.asked adaptor.scan.progress.reads → state.table ≡ empty_table → Running locations adaptor.scan state.source adaptor None state
+run_begins locations adaptor state start ready empty =
+    let none : reads_of adaptor ≡ [] = ap (λ (n : ℕ). take n (drop adaptor.first adaptor.scan.progress.reads.wanted)) start.asked in record {
+      unread = start.scan;
+      scan = so_far_start locations adaptor.scan state.source start.scan;
+      live = needs_is_live adaptor.state start.state;
+      first = start.first;
+      ready = ready (needs_is_live adaptor.state start.state);
+      waiting = λ segment. ap (λ (table : Table). table.waiting segment) empty;
+      fetches = ap fetches_of empty ∙ ap (outstanding locations 0) (sym none);
+      asked = sym (asked_nothing state.source.asked) ∙ ap (λ (reads : List Wanted). asked_for (map (location_of locations) (segments_in reads)) state.source.asked) (sym none);
+      file = refl;
+      faults = refl;
+      idle = omega arith;
+      so_far = inl (refl, refl, start.held);
+    }
+
+-- ---- a batch
+
+pub segments_more : (reads : List Wanted) (segments : List ℕ) → segments_in (reads ++ map unread segments) ≡ segments_in reads ++ segments
+segments_more [] [] = refl
+segments_more [] (segment ∷ segments) = ap (λ (ss : List ℕ). segment ∷ ss) (segments_more [] segments)
+segments_more (read ∷ reads) segments = ap (λ (ss : List ℕ). read.segment ∷ ss) (segments_more reads segments)
+
+output_batch : (locations : List SegmentLocation) (start : ScanData) (before : SourceState) (batch : List IoRequest) (adaptor next : AdaptorData) (output : Option ColumnData) → IsUnread start → ScanSoFar locations start before adaptor.scan → Batches locations batch adaptor next →
+    OutputSoFar locations start before adaptor output → HoldsNext adaptor next → OutputSoFar locations start before next output
+output_batch locations start before batch adaptor next output fresh scan batched (inl (left, none, empty)) (inl (held, same)) = inl (same ∙ left, none, held)
+output_batch locations start before batch adaptor next output fresh scan batched (inl (left, none, empty)) (inr (number, column, held, out)) =
+    inr (left_behind start adaptor.scan next.scan number column fresh left out, column, inr (none, number, held), gave_now locations start adaptor.scan next.scan before number column fresh scan.kept out)
+output_batch locations start before batch adaptor next output fresh scan batched (inr (left, column, one, gave)) (inl (held, same)) =
+    inr (same ∙ left, column, moved one, gave_on locations start adaptor.scan next.scan before column batched.scan.keeps.wholes batched.scan.keeps.leaves gave)
+  where
+    moved : OneOf output adaptor.held column → OneOf output next.held column
+    moved (inl (is, empty)) = inl (is, held)
+    moved (inr (is, number, full)) = absurd (let both : None ≡ Some (number, column) = sym batched.held ∙ full in cc)
+output_batch locations start before batch adaptor next output fresh scan batched (inr (left, column, one, gave)) (inr (number, other, held, out)) =
+    absurd (let both : None ≡ Some number = sym (ap (λ (ns : List ℕ). slice_get ns out.place) left) ∙ out.at in cc)
+
+pub run_batch : (locations : List SegmentLocation) (start : ScanData) (before : SourceState) (batch : List IoRequest) (adaptor next : AdaptorData) (output : Option ColumnData) (old new : SessionState) →
+    Running locations start before adaptor output old → Batches locations batch adaptor next → AreAsked locations next.first next.asked next.scan.progress.reads → SendGives batch (Ok tt) old new → Running locations start before next output new
+run_batch locations start before batch adaptor next output old new run batched ready (sent, stays, faults) =
+    let segments : segments_in (reads_of next) ≡ segments_in (reads_of adaptor) ++ batched.segments = ap segments_in batched.reads ∙ segments_more (reads_of adaptor) batched.segments in
+    let size = length_taken (drop adaptor.first adaptor.scan.progress.reads.wanted) adaptor.asked run.ready.wanted in
+    record {
+      unread = run.unread;
+      scan = so_far_then locations start before adaptor.scan next.scan run.scan batched.scan;
+      live = needs_is_live next.state batched.state;
+      first = batched.first ∙ run.first;
+      ready = ready;
+      waiting = sent.waiting;
+      fetches = sent.fetches ∙ (λ i. run.fetches i ++ map (fetch_for owner) (batched.batch_is i))
+          ∙ ap (λ (n : ℕ). outstanding locations 0 (reads_of adaptor) ++ map (fetch_for owner) (fetches_from locations n batched.segments)) (let same : adaptor.asked ≡ 0 + length (reads_of adaptor) = omega (arith, size) in same)
+          ∙ sym (outstanding_more locations 0 (reads_of adaptor) batched.segments)
+          ∙ ap (outstanding locations 0) (sym batched.reads);
+      asked = sent.asked ∙ (λ i. asked_for (map place_of (batched.batch_is i)) (run.asked i))
+          ∙ ap (λ (places : List SegmentLocation). asked_for places (asked_for (map (location_of locations) (segments_in (reads_of adaptor))) before.asked)) (fetches_places locations adaptor.asked batched.segments)
+          ∙ asked_then (map (location_of locations) (segments_in (reads_of adaptor))) (map (location_of locations) batched.segments) before.asked
+          ∙ ap (λ (places : List SegmentLocation). asked_for places before.asked) (sym (map-append (location_of locations) (segments_in (reads_of adaptor)) batched.segments) ∙ ap (map (location_of locations)) (sym segments));
+      file = stays.file ∙ run.file;
+      faults = faults ∙ run.faults;
+      idle = let p = stays.idle in let q = run.idle in omega (arith, p, q);
+      so_far = output_batch locations start before batch adaptor next output run.unread run.scan batched run.so_far batched.holds;
+    }
+
+-- ---- a piece, and a wait
+
+-- a step that asks nothing leaves the session as it was
+moved_on : (locations : List SegmentLocation) (start : ScanData) (before : SourceState) (adaptor next : AdaptorData) (output later : Option ColumnData) (state : SessionState) →
+    Running locations start before adaptor output state → ScanSoFar locations start before next.scan → next.first ≡ adaptor.first → reads_of next ≡ reads_of adaptor → next.state ≢ Done → AreAsked locations next.first next.asked next.scan.progress.reads → OutputSoFar locations start before next later → Running locations start before next later state
+moved_on locations start before adaptor next output later state run scan first reads live ready is = record {
+  unread = run.unread;
+  scan = scan;
+  live = live;
+  first = first ∙ run.first;
+  ready = ready;
+  waiting = run.waiting;
+  fetches = run.fetches ∙ ap (outstanding locations 0) (sym reads);
+  asked = run.asked ∙ ap (λ (rs : List Wanted). asked_for (map (location_of locations) (segments_in rs)) before.asked) (sym reads);
+  file = run.file;
+  faults = run.faults;
+  idle = run.idle;
+  so_far = is;
+}
+
+-- the column of an output
+abbrev column_or : ColumnData → Option (ℕ × ColumnData) → ColumnData
+column_or other None = other
+column_or other (Some output) = output.1
+
+output_piece : (locations : List SegmentLocation) (start : ScanData) (before : SourceState) (number : ℕ) (column : ColumnData) (adaptor next : AdaptorData) (output : Option ColumnData) → IsUnread start → ScanSoFar locations start before adaptor.scan → next.held ≡ None → IsNextOutput number column adaptor next →
+    OutputSoFar locations start before adaptor output → OutputSoFar locations start before next (Some column)
+output_piece locations start before number column adaptor next output fresh scan none (inl (full, same)) (inl (left, is, empty)) =
+    absurd (let both : None ≡ Some (number, column) = sym empty ∙ full in cc)
+output_piece locations start before number column adaptor next output fresh scan none (inl (full, same)) (inr (left, other, inl (is, empty), gave)) =
+    absurd (let both : None ≡ Some (number, column) = sym empty ∙ full in cc)
+output_piece locations start before number column adaptor next output fresh scan none (inl (full, same)) (inr (left, other, inr (is, place, there), gave)) =
+    let column_is : other ≡ column = ap (column_or column) (sym there ∙ full) in
+    inr (ap splits_left same ∙ left, column, inl (refl, none), subst (GivesSplit locations start next.scan before) column_is (gave_same locations start adaptor.scan next.scan before other (ap (λ (s : ScanData). s.progress.wholes) same) (ap (λ (s : ScanData). s.progress.leaves) same) gave))
+output_piece locations start before number column adaptor next output fresh scan none (inr (empty, out)) (inl (left, is, same)) =
+    inr (left_behind start adaptor.scan next.scan number column fresh left out, column, inl (refl, none), gave_now locations start adaptor.scan next.scan before number column fresh scan.kept out)
+output_piece locations start before number column adaptor next output fresh scan none (inr (empty, out)) (inr (left, other, one, gave)) =
+    absurd (let both : None ≡ Some number = sym (ap (λ (ns : List ℕ). slice_get ns out.place) left) ∙ out.at in cc)
+
+pub run_piece : (locations : List SegmentLocation) (start : ScanData) (before : SourceState) (column : ColumnData) (adaptor next : AdaptorData) (output : Option ColumnData) (state : SessionState) →
+    Running locations start before adaptor output state → HandsOn column adaptor next → AreAsked locations next.first next.asked next.scan.progress.reads → Running locations start before next (Some column) state
+run_piece locations start before column adaptor next output state run hands ready =
+    moved_on locations start before adaptor next output (Some column) state run (so_far_then locations start before adaptor.scan next.scan run.scan hands.scan) hands.asks.first hands.asks.reads (needs_is_live next.state hands.state) ready
+    (output_piece locations start before hands.number column adaptor next output run.unread run.scan hands.held hands.output run.so_far)
+
+pub output_waits : (locations : List SegmentLocation) (start : ScanData) (before : SourceState) (adaptor next : AdaptorData) (output : Option ColumnData) → Yields adaptor next → OutputSoFar locations start before adaptor output → OutputSoFar locations start before next output
+output_waits locations start before adaptor next output yields (inl (left, is, empty)) = inl (yields.left ∙ left, is, yields.none)
+output_waits locations start before adaptor next output yields (inr (left, column, inl (is, empty), gave)) =
+    inr (yields.left ∙ left, column, inl (is, yields.none), gave_on locations start adaptor.scan next.scan before column yields.scan.keeps.wholes yields.scan.keeps.leaves gave)
+output_waits locations start before adaptor next output yields (inr (left, column, inr (is, number, full), gave)) =
+    absurd (let both : None ≡ Some (number, column) = sym yields.held ∙ full in cc)
+
+pub run_waits : (locations : List SegmentLocation) (start : ScanData) (before : SourceState) (adaptor next : AdaptorData) (output : Option ColumnData) (state : SessionState) →
+    Running locations start before adaptor output state → Yields adaptor next → next.state ≢ Done → AreAsked locations next.first next.asked next.scan.progress.reads → Running locations start before next output state
+run_waits locations start before adaptor next output state run yields live ready =
+    moved_on locations start before adaptor next output output state run (so_far_then locations start before adaptor.scan next.scan run.scan yields.scan) yields.asks.first yields.asks.reads live ready (output_waits locations start before adaptor next output yields run.so_far)
+
+pub some_in_flight : (locations : List SegmentLocation) (start : ScanData) (before : SourceState) (adaptor next : AdaptorData) (output : Option ColumnData) (state : SessionState) →
+    Running locations start before next output state → Yields adaptor next → next.state ≢ Done → 0 < length state.table.fetches
+some_in_flight locations start before adaptor next output state run yields live = by_cause yields.why
+  where
+    by_cause : WhyYields adaptor next → 0 < length state.table.fetches
+    by_cause (inl (waits, inr (number, earlier, out))) = let first = run.first in absurd (omega (arith, earlier, first))
+    by_cause (inl (waits, inl some)) =
+        let out = some_outstanding locations next some in
+        let size = ap length run.fetches in
+        let mapped = length-map state.table.fetches fetch_in_flight in
+        omega (arith, out, size, mapped)
+    by_cause (inr (done, why)) = absurd (live done)
+
+-- ---- a result
+
+-- the read of a completion's number
+completed_read : (locations : List SegmentLocation) (completion : Completion) (reads : List Wanted) (old new : SessionState) → fetches_of old.table ≡ outstanding locations 0 reads → (ended : FetchEnded completion old new) →
+    OutstandingAt locations 0 reads ended.place (record { owner = completion.owner; request = completion.request; at = ended.at })
+completed_read locations completion reads old new fetches ended =
+    outstanding_at locations 0 reads ended.place (record { owner = completion.owner; request = completion.request; at = ended.at }) (ap (λ (ws : List WantedFetch). slice_get ws ended.place) (sym fetches) ∙ ended.here)
+
+-- a result of a completion is never refused
+pub not_refused : (locations : List SegmentLocation) (completion : Completion) (adaptor next : AdaptorData) (old new : SessionState) (error : AdaptorError) → AreAsked locations adaptor.first adaptor.asked adaptor.scan.progress.reads → fetches_of old.table ≡ outstanding locations 0 (reads_of adaptor) → FetchEnded completion old new →
+    ResultGives (Err error) completion.request.0 completion.bytes.items adaptor next → ⊥
+not_refused locations completion adaptor next old new (errors.NoLocation segment) ready fetches ended gives = gives
+not_refused locations completion adaptor next old new (errors.Step error) ready fetches ended gives = gives
+not_refused locations completion adaptor next old new errors.Memory ready fetches ended gives = gives
+not_refused locations completion adaptor next old new errors.NotOutstanding ready fetches ended gives =
+    let at = completed_read locations completion (reads_of adaptor) old new fetches ended in
+    let number : completion.request.0 ≡ at.read = let is = at.number_is in omega (arith, is) in
+    gives.0 (is_outstanding adaptor completion.request.0 at.segment ready.all (ap (slice_get (reads_of adaptor)) number ∙ at.here))
+
+live_after : (state : State) → state ≢ Done → after_result state ≢ Done
+live_after NeedsCompute live done = live done
+live_after Waiting live done = let both : NeedsCompute ≡ Done = done in absurd cc
+live_after Done live done = live done
+
+output_result : (locations : List SegmentLocation) (start : ScanData) (before : SourceState) (number : ℕ) (bytes : List ℕ) (adaptor next : AdaptorData) (output : Option ColumnData) → TakesResult number bytes adaptor next → OutputSoFar locations start before adaptor output → OutputSoFar locations start before next output
+output_result locations start before number bytes adaptor next output takes (inl (left, is, empty)) = inl (takes.takes.left ∙ left, is, takes.held ∙ empty)
+output_result locations start before number bytes adaptor next output takes (inr (left, column, one, gave)) =
+    inr (takes.takes.left ∙ left, column, subst (λ (h : Option (ℕ × ColumnData)). OneOf output h column) (sym takes.held) one, gave_same locations start adaptor.scan next.scan before column takes.takes.wholes takes.takes.leaves gave)
+
+abbrev segment_or_none : Option Wanted → ℕ
+segment_or_none None = 0
+segment_or_none (Some read) = read.segment
+
+pub run_result : (locations : List SegmentLocation) (start : ScanData) (before : SourceState) (completion : Completion) (adaptor next : AdaptorData) (output : Option ColumnData) (old new : SessionState) →
+    Running locations start before adaptor output old → Completed completion old new → TakesResult completion.request.0 completion.bytes.items adaptor next → (next.state ≢ Done → AreAsked locations next.first next.asked next.scan.progress.reads) → Running locations start before next output new
+run_result locations start before completion adaptor next output old new run done takes ready =
+    let ended = done.ended in
+    let at = completed_read locations completion (reads_of adaptor) old new run.fetches ended in
+    let bytes : List ℕ = completion.bytes.items in
+    let number : completion.request.0 ≡ at.read = let is = at.number_is in omega (arith, is) in
+    let one : Some (unread takes.takes.delivers.segment) ≡ Some (unread at.segment) =
+    sym (got_taken (drop adaptor.first adaptor.scan.progress.reads.wanted) adaptor.asked completion.request.0 (unread takes.takes.delivers.segment) takes.outstanding.0 (got_behind adaptor.scan.progress.reads.wanted adaptor.first completion.request.0 ∙ takes.takes.delivers.at)) ∙ ap (slice_get (reads_of adaptor)) number ∙ at.here in
+    let segment : takes.takes.delivers.segment ≡ at.segment = ap segment_or_none one in
+    let reads : reads_of next ≡ slice_set (reads_of adaptor) at.read (delivered at.segment bytes) = takes.reads ∙ (λ i. slice_set (reads_of adaptor) (number i) (delivered (segment i) bytes)) in
+    let kept : segments_in (reads_of next) ≡ segments_in (reads_of adaptor) = ap segments_in reads ∙ segments_set (reads_of adaptor) at.read at.segment bytes at.here in
+    let within : at.segment < length locations = each_at (λ one. one < length locations) (segments_in (reads_of adaptor)) at.read at.segment (got_mapped (λ (read : Wanted). read.segment) (reads_of adaptor) at.read (unread at.segment) at.here) run.ready.located in
+    let live : next.state ≢ Done = λ is. live_after adaptor.state run.live (sym takes.state ∙ is) in
+    record {
+      unread = run.unread;
+      scan = so_far_taken locations start before (record { 0 = adaptor.first + completion.request.0 }) bytes adaptor.scan next.scan run.scan takes.takes
+          (λ file is. ap (segment_bytes file locations) segment ∙ bytes_told file locations at.segment old.source.file ended.at bytes within at.at (run.file ∙ is) ended.segment);
+      live = live;
+      first = takes.first ∙ run.first;
+      ready = ready live;
+      waiting = ended.waiting run.waiting;
+      fetches = ended.gone ∙ ap (λ (ws : List WantedFetch). remove ws ended.place) run.fetches ∙ at.gone bytes ∙ ap (outstanding locations 0) (sym reads);
+      asked = done.keeps.asked ∙ run.asked ∙ ap (λ (segments : List ℕ). asked_for (map (location_of locations) segments) before.asked) (sym kept);
+      file = done.keeps.file ∙ run.file;
+      faults = done.faults ∙ run.faults;
+      idle = let p = done.idle in let q = run.idle in omega (arith, p, q);
+      so_far = output_result locations start before completion.request.0 bytes adaptor next output takes run.so_far;
+    }
+  where
+    got_taken : (wanted : List Wanted) (n i : ℕ) (read : Wanted) → i < n → slice_get wanted i ≡ Some read → slice_get (take n wanted) i ≡ Some read
+    got_taken wanted n i read less at = got_front wanted n i less ∙ at
+
+-- ---- the work that is left
+
+-- each read is handed out and then ends, and the output is given and then collected
+abbrev pub work : List SegmentLocation → AdaptorData → ℕ
+work locations adaptor = 2 * work_of adaptor + length (outstanding locations 0 (reads_of adaptor))
+
+pub less_batch : (locations : List SegmentLocation) (batch : List IoRequest) (adaptor next : AdaptorData) → Batches locations batch adaptor next → work locations next < work locations adaptor
+less_batch locations batch adaptor next batched =
+    let more = ap (λ (rs : List Wanted). length (outstanding locations 0 rs)) batched.reads ∙ ap length (outstanding_more locations 0 (reads_of adaptor) batched.segments) in
+    let sum = length-append (outstanding locations 0 (reads_of adaptor)) (map (fetch_for owner) (fetches_from locations (0 + length (reads_of adaptor)) batched.segments)) in
+    let mapped = length-map (fetches_from locations (0 + length (reads_of adaptor)) batched.segments) (fetch_for owner) in
+    let fetched = length_fetches locations (0 + length (reads_of adaptor)) batched.segments in
+    let fewer = batched.fewer in
+    let some = batched.some in
+    omega (arith, more, sum, mapped, fetched, fewer, some)
+
+pub less_piece : (locations : List SegmentLocation) (column : ColumnData) (adaptor next : AdaptorData) → HandsOn column adaptor next → work locations next < work locations adaptor
+less_piece locations column adaptor next hands =
+    let out = ap (λ (rs : List Wanted). length (outstanding locations 0 rs)) hands.asks.reads in
+    let fewer = hands.fewer in
+    omega (arith, out, fewer)
+
+pub less_result : (locations : List SegmentLocation) (completion : Completion) (adaptor waiting next : AdaptorData) (old new : SessionState) → fetches_of old.table ≡ outstanding locations 0 (reads_of waiting) → Yields adaptor waiting → FetchEnded completion old new →
+    TakesResult completion.request.0 completion.bytes.items waiting next → fetches_of new.table ≡ outstanding locations 0 (reads_of next) → work locations next < work locations adaptor
+less_result locations completion adaptor waiting next old new fetches yields ended takes fetches_after =
+    let within = slice_get_within (fetches_of old.table) ended.place (record { owner = completion.owner; request = completion.request; at = ended.at }) ended.here in
+    let gone = length-remove (fetches_of old.table) ended.place within in
+    let left_after = ap length (sym fetches_after ∙ ended.gone) in
+    let left_before = ap length fetches in
+    let same = ap (λ (rs : List Wanted). length (outstanding locations 0 rs)) yields.asks.reads in
+    let one = yields.work in
+    let two = takes.work in
+    omega (arith, gone, left_after, left_before, same, one, two)
+
+-- ---- what a turn of the run cites
+
+pub computes_live : (locations : List SegmentLocation) (result : Result AdaptorStep AdaptorError) (old new : AdaptorData) → old.state ≢ Done → ComputeGives locations result old new → Computes locations result old new
+computes_live locations result old new live (inl (done, is, same)) = absurd (live done)
+computes_live locations result old new live (inr (alive, gives)) = gives
+
+pub batch_known : (ranges other : RangeTable) (locations : List SegmentLocation) (batch : List IoRequest) (adaptor next : AdaptorData) → Batches locations batch adaptor next → IsTableOf other locations → ranges ≡ other → All (IsKnown ranges) batch
+batch_known ranges other locations batch adaptor next batched tells same =
+    rw batched.batch_is (known_fetches ranges locations adaptor.asked batched.segments (subst (λ (r : RangeTable). IsTableOf r locations) (sym same) tells) batched.located)
+
+pub batch_fetches : (locations : List SegmentLocation) (batch : List IoRequest) (adaptor next : AdaptorData) → Batches locations batch adaptor next → AllFetch batch
+batch_fetches locations batch adaptor next batched = rw batched.batch_is (all_fetches locations adaptor.asked batched.segments)

@@ -1,0 +1,112 @@
+//! The run of a scan of one split over a session on a lent source, until the split's column is there.
+
+ghost use Rattle.std.specs.Prelude.{◌≡◌};
+ghost use Rattle.vx_io.specs.Ranges.{IsTableOf};
+ghost use Rattle.vx_io.specs.Session.{empty_table};
+ghost use Rattle.vx_io.specs.Tables.{session_state, KeepsLoans};
+ghost use Rattle.vx_drive.specs.Adaptors.{adaptor_data};
+ghost use Rattle.vx_drive.specs.Finished.{Finishes};
+ghost use Rattle.vx_drive.specs.Plans.{ArePlans};
+ghost use Rattle.vx_drive.specs.Runs.{scan_error, RunGives};
+ghost use Rattle.vx_drive.specs.Starts.{IsAtStart, IsUnread};
+
+use crate::adaptor_errors::AdaptorError;
+use crate::adaptors::{AdaptorStep, ScanAdaptor, State};
+use crate::errors::ScanError;
+use crate::plans::ScanPlans;
+use crate::waits::{next_completion, send};
+use std::alloc::Global;
+use vx_base::{Column, SegmentSource};
+use vx_io::{Completion, SegmentIoSource};
+use vx_steps::{Scan, ScanKept, StepError};
+
+/// What the run of a scan gave: the column of its split, and none where no row of the split is selected; and what is
+/// left of the scan.
+#[derive(Drop)]
+pub struct Finished {
+    pub output: Result<Option<Column>, ScanError>,
+    pub kept: ScanKept,
+}
+
+/// The error of a run whose adaptor refused.
+fn refusal(error: AdaptorError) -> ScanError
+    ensures { result ≡ scan_error error }
+{
+    match error {
+        AdaptorError::NoLocation(segment) => ScanError::NoLocation(segment),
+        AdaptorError::Step(StepError::Unsupported(list)) => ScanError::Unsupported(list),
+        AdaptorError::Step(StepError::BadSegment(segment)) => ScanError::BadSegment(segment),
+        AdaptorError::Step(StepError::BadCode { node, row }) => ScanError::BadCode { node, row },
+        AdaptorError::Step(StepError::EvalFault(row)) => ScanError::EvalFault(row),
+        AdaptorError::Step(StepError::Memory)
+        | AdaptorError::NotOutstanding
+        | AdaptorError::Memory => ScanError::Memory,
+    }
+}
+
+/// Runs the scan of an adaptor over a session until it is done: its reads are fetched, and what a fetch gives is
+/// handed to the read that it was made for. It gives the column of the scan's split, and none where no row of the split
+/// is selected.
+fn run<S: SegmentSource>(
+    adaptor: &mut ScanAdaptor<'_>,
+    session: &mut SegmentIoSource<'_, S>,
+    idle_limit: u64,
+) -> Result<Option<Column>, ScanError>
+    requires start { IsAtStart (adaptor_data adaptor.old) }
+    requires empty { (session_state session.old).table ≡ empty_table }
+    requires ranges { IsTableOf session.old.ranges.now adaptor.old.locations.now }
+    ensures loans { KeepsLoans session.old session.new }
+    ensures gives { RunGives adaptor.old.locations.now idle_limit (adaptor_data adaptor.old).scan result (adaptor_data adaptor.new).scan
+        (session_state session.old).source (session_state session.new).source }
+{
+    let mut output: Option<Column> = None;
+    'turns: loop {
+        match adaptor.compute() {
+            Ok(AdaptorStep::NeedsIo(batch)) => match send(session, batch) {
+                Ok(()) => {}
+                Err(error) => return Err(error),
+            },
+            Ok(AdaptorStep::Piece(column)) => output = Some(column),
+            Ok(AdaptorStep::Yield) => {
+                if adaptor.state() == State::Done {
+                    return Ok(output);
+                }
+                match next_completion(session, idle_limit) {
+                    Ok(completion) => {
+                        let Completion { request, bytes, .. } = completion;
+                        match adaptor.set_io_result(request, bytes) {
+                            Ok(()) => {}
+                            Err(_) => unreachable!(),
+                        }
+                    }
+                    Err(error) => return Err(error),
+                }
+            }
+            Err(error) => return Err(refusal(error)),
+        }
+    }
+}
+
+/// Runs a scan that did nothing yet on a new session over the source. Whatever it gives, nothing is in flight at the
+/// source afterwards.
+pub fn run_over<S: SegmentSource>(
+    alloc: Global,
+    plans: &ScanPlans,
+    scan: Scan<'_>,
+    source: &mut S,
+) -> Finished
+    requires plans { ArePlans plans.now }
+    requires unread { IsUnread scan }
+    requires handed { scan.progress.reads.handed ≡ 0 }
+    ensures { Finishes plans.now.locations.items plans.now.idle_limit scan.entry result (S.state source.old) (S.state source.new) }
+{
+    let mut session = SegmentIoSource::new(alloc, source, &plans.ranges);
+    let mut adaptor = ScanAdaptor::new(alloc, scan, plans.locations.as_slice());
+    let output = run(&mut adaptor, &mut session, plans.idle_limit);
+    session.clear();
+    let _source = session.into_source();
+    Finished {
+        output,
+        kept: adaptor.into_scan().into_kept(),
+    }
+}

@@ -1,0 +1,2 @@
+pub mod ScriptTurns
+mod Tickets

@@ -1,0 +1,10 @@
+pub mod Adapters
+pub mod Faults
+pub mod FileSources
+pub mod GateSources
+pub mod InFlight
+pub mod MemorySources
+pub mod MemoryStreams
+pub mod ScriptSources
+pub mod Sources
+pub mod Streams

@@ -1,6 +1,0 @@
-use Rattle.std.proofs.Common.{[], take}
-use Rattle.vx_words.specs.Rows.{NullsHold}
-use Rattle.vx_packed.proofs.texts.Texts.hold_none.Given as goal
-
-abbrev pub invariant-loop-row : goal.invariant-loop-row
-invariant-loop-row l = NullsHold [] (take l.row l.valid) (take l.row l.self)

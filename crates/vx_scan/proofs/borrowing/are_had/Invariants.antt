@@ -1,9 +1,0 @@
-use Rattle.std.proofs.Common.{map, take}
-use Rattle.vx_plan.specs.Refs.{number_of}
-use Rattle.vx_scan.specs.Borrowing.{AreHad}
-use Rattle.vx_scan.specs.Outcomes.{data_of}
-use Rattle.vx_scan.proofs.borrowing.are_had.Given as goal
-
--- each of the plans so far has whole values
-abbrev pub invariant-loop-node : goal.invariant-loop-node
-invariant-loop-node l = AreHad (map number_of (take l.node-index l.asked)) (data_of l.given) (data_of l.made)

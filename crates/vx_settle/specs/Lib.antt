@@ -1,0 +1,3 @@
+pub mod Executes
+pub mod Settled
+pub mod Settling

@@ -1,7 +1,0 @@
-use Rattle.std.proofs.Common.{false}
-use Rattle.vx_words.specs.Rows.{taken}
-use Rattle.vx_words.proofs.Built.{Built}
-use Rattle.vx_words.proofs.masks.Mask.take.Given as goal
-
-abbrev pub invariant-loop-index : goal.invariant-loop-index
-invariant-loop-index l = Built (taken false l.self l.places) l.index l.words.items

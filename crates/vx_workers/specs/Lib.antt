@@ -1,0 +1,11 @@
+pub mod Books
+pub mod Borrowing
+pub mod Certified
+pub mod Gathers
+pub mod Hindered
+pub mod Joins
+pub mod Limits
+pub mod Loans
+pub mod Reasons
+pub mod Unhindered
+pub mod Workers

@@ -1,0 +1,64 @@
+//! Chunks that are refused before anything is asked for them: those with a row that reads a list, or a segment without a
+//! location. So they are told for what they are, whatever bytes would come, and the lowest of them is.
+
+ghost use Rattle.vx_drive.specs.Plans.{ArePlans, IsChunkOf};
+ghost use Rattle.vx_chunks.specs.Outcomes.{CanHandOn};
+ghost use Rattle.vx_workers.specs.Hindered.{RunsIfUnhindered, TellsHindrance};
+
+use crate::books::ValueCache;
+use crate::borrowing::{Shared, run_shared};
+use std::alloc::Global;
+use std::sync::Wait;
+use vx_base::SegmentSource;
+use vx_chunks::{HandedOn, Ran};
+use vx_drive::{ScanError, ScanPlans};
+use vx_plan::PlanRef;
+use vx_splits::SelectedRows;
+use vx_steps::{Hindrance, first_hindrance};
+
+/// Why the chunk can have no piece, whatever bytes come, if it can't.
+fn hindrance_of(plans: &ScanPlans, chosen: &SelectedRows) -> Option<ScanError>
+    requires plans { ArePlans plans.now }
+    requires chunk { IsChunkOf plans.now chosen.now }
+    ensures { TellsHindrance plans.now chosen.now result }
+{
+    // The contract of `len` says that the table keeps its rules.
+    let _plans = plans.table.len();
+    let places = plans.locations.as_slice().len();
+    let rows = chosen.scope.rows.start;
+    match first_hindrance(&plans.table, plans.projection, rows, &chosen.mask, places) {
+        Some(Hindrance::List(list)) => Some(ScanError::Unsupported(PlanRef(list))),
+        Some(Hindrance::Segment(segment)) => Some(ScanError::NoLocation(segment)),
+        None => None,
+    }
+}
+
+/// Runs a chunk as [`run_shared`] does, unless one of its rows reads a list, or a segment without a location: then it is
+/// refused, and nothing is asked for it.
+pub(crate) fn run_unhindered<R: Wait, S: SegmentSource>(
+    rt: &R,
+    alloc: Global,
+    plans: &ScanPlans,
+    chosen: &SelectedRows,
+    cache: &ValueCache,
+    shares: bool,
+    source: &mut S,
+    handed: HandedOn,
+) -> Shared
+    requires plans { ArePlans plans.now }
+    requires chunk { IsChunkOf plans.now chosen.now }
+    requires handed { CanHandOn plans.now handed }
+    ensures { RunsIfUnhindered shares plans.now chosen.now handed result (S.state source.old) (S.state source.new) }
+{
+    let Some(error) = hindrance_of(plans, chosen) else {
+        return run_shared(rt, alloc, plans, chosen, cache, shares, source, handed);
+    };
+    source.clear();
+    Shared {
+        ran: Ran {
+            piece: Err(error),
+            handed,
+        },
+        borrowed: Vec::new(alloc),
+    }
+}
