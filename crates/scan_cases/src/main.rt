@@ -30,14 +30,14 @@ fn main(rt: HostRuntime) -> io::Result<()> {
 
 /// What the lines have set: the line `file`, which tells the file of those below it.
 #[derive(Clone, Copy)]
-struct Desk<'a> {
+struct CaseState<'a> {
     file: &'a str,
 }
 
 /// Keeps the line that tells the file.
-fn set<'a>(desk: &mut Desk<'a>, line: &'a str) {
+fn set<'a>(case_state: &mut CaseState<'a>, line: &'a str) {
     if line.starts_with("file ") {
-        desk.file = line;
+        case_state.file = line;
     }
 }
 
@@ -47,11 +47,11 @@ fn write_lines<R: AllocGlobal + Threads + Wait + Sync>(
     lines: &str,
     out: &mut String,
 ) -> Result<(), AllocError> {
-    let mut desk = Desk { file: "" };
+    let mut case_state = CaseState { file: "" };
     for line in lines.lines() {
-        set(&mut desk, line);
+        set(&mut case_state, line);
         out.push_str(line)
-            .and(write_answer(rt, desk, line, out))
+            .and(write_answer(rt, case_state, line, out))
             .and(out.push('\n'))?;
     }
     Ok(())
@@ -60,11 +60,11 @@ fn write_lines<R: AllocGlobal + Threads + Wait + Sync>(
 /// Appends the answer to a line that has one.
 fn write_answer<R: AllocGlobal + Threads + Wait + Sync>(
     rt: &R,
-    desk: Desk<'_>,
+    case_state: CaseState<'_>,
     line: &str,
     out: &mut String,
 ) -> Result<(), AllocError> {
-    match answer(rt, desk.file, line) {
+    match answer(rt, case_state.file, line) {
         Some(answer) => write!(out, " => {answer}"),
         None => Ok(()),
     }

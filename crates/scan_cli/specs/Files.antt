@@ -6,7 +6,7 @@ use Rattle.vx_base.specs.Sources.{SourceState}
 use Rattle.vx_base.specs.Streams.{ReadState, WriteState}
 use Rattle.vx_base.specs.declared.file_sources.FileSource.{FileSource}
 use Rattle.scan_commands.specs.Commanded.{Runs}
-use Rattle.scan_commands.specs.Runs.{World}
+use Rattle.scan_commands.specs.Runs.{LentIo}
 use Rattle.scan_words.specs.declared.commands.Command.{Command}
 use Rattle.scan_words.specs.declared.commands.Command.TheVariants.{Scan, Read, Tree, Demo}
 use Rattle.scan_words.specs.Words.{command_of}
@@ -57,10 +57,10 @@ abbrev pub source_count : ℕ
 source_count = 8
 
 -- what a run over files begins with
-abbrev pub untouched : World
+abbrev pub untouched : LentIo
 untouched = record { request = unread; sources = are_unasked source_count; sink = unwritten }
 
 -- the status is the answer to these words, whatever is left behind
 pub record IsStatusOf (words : List (List ℕ)) (status : ℕ) : Type 0 where
-  pub after : World
+  pub after : LentIo
   pub runs : Runs (command_of words) status untouched after

@@ -8,7 +8,7 @@ use Rattle.scan_request.proofs.OneRequest.{has_good_layout, has_good_projection}
 use Rattle.vx_base.specs.Sources.{Rose}
 use Rattle.scan_commands.specs.declared.endings.Ending.{Ending}
 use Rattle.scan_commands.specs.declared.endings.Ending.TheVariants.{Done, RequestTooLarge, BadRequest, BadLayout, BadProjection, ScanFailed, WriteFault, RequestFault, OutOfMemory}
-use Rattle.scan_commands.specs.Desks.{Desk}
+use Rattle.scan_commands.specs.LentStreams.{LentStreams}
 use Rattle.scan_commands.specs.Endings.{refused_ending, status_of}
 use Rattle.scan_commands.specs.PlanRuns.{Draws, IsPlanComplete, ServesPlan}
 use Rattle.scan_commands.specs.Reading.{most_bytes, ReadsAll, ReadsPieces}
@@ -16,7 +16,7 @@ use Rattle.scan_commands.proofs.Pieces.{few_in_all}
 use Rattle.scan_commands.proofs.Serving.{large_told, not_both, told_bytes, well_known}
 
 -- the request is refused
-pub request_refused : (ending : Ending) (error : RequestError) (bytes : List ℕ) (before after : Desk) → ending ≡ refused_ending error → ReadsAll bytes before.request after.request → RefusedBy bytes error → after.sink ≡ before.sink → Draws ending before after
+pub request_refused : (ending : Ending) (error : RequestError) (bytes : List ℕ) (before after : LentStreams) → ending ≡ refused_ending error → ReadsAll bytes before.request after.request → RefusedBy bytes error → after.sink ≡ before.sink → Draws ending before after
 request_refused ending error bytes before after ends reads refused same = subst (λ (e : Ending). Draws e before after) (sym ends) (by error refused)
   where
     by : (error : RequestError) → RefusedBy bytes error → Draws (refused_ending error) before after
@@ -27,7 +27,7 @@ request_refused ending error bytes before after ends reads refused same = subst 
 
 -- ---- completeness
 
-draws_well : (ending : Ending) (bytes : List ℕ) (before after : Desk) → before.request.rest ≡ Some bytes → Draws ending before after → (length bytes < suc most_bytes) → (asked : Asked) → IsRequest bytes asked
+draws_well : (ending : Ending) (bytes : List ℕ) (before after : LentStreams) → before.request.rest ≡ Some bytes → Draws ending before after → (length bytes < suc most_bytes) → (asked : Asked) → IsRequest bytes asked
     → (Rose before.request.faults after.request.faults → ⊥) → (Rose before.sink.faults after.sink.faults → ⊥) → (ending ≡ Done) ⊎ (ending ≡ OutOfMemory)
 draws_well Done bytes before after told draws few asked is request sink = inl refl
 draws_well OutOfMemory bytes before after told draws few asked is request sink = inr refl
@@ -43,7 +43,7 @@ draws_well (ScanFailed error) bytes before after told draws few asked is request
 draws_well WriteFault bytes before after told draws few asked is request sink = absurd (sink draws.rose)
 draws_well RequestFault bytes before after told draws few asked is request sink = absurd (request draws.rose)
 
-pub draws_complete : (status : ℕ) (before after : Desk) → ServesPlan status before after → IsPlanComplete status before after
+pub draws_complete : (status : ℕ) (before after : LentStreams) → ServesPlan status before after → IsPlanComplete status before after
 draws_complete status before after serves = by before.request.rest refl
   where
     by : (rest : Option (List ℕ)) → before.request.rest ≡ rest → IfSome rest (λ bytes. (length bytes ≤ most_bytes) × ((asked : Asked) × IsRequest bytes asked)
@@ -54,5 +54,5 @@ draws_complete status before after serves = by before.request.rest refl
         well_known status serves.ending serves.is (draws_well serves.ending bytes before after told serves.draws (omega (arith, few)) valid.1.0 valid.1.1 request sink)
 
 -- a run that ends so has the status of its ending
-pub draws_so : (status : ℕ) (ending : Ending) (before after : Desk) → status ≡ status_of ending → ReadsPieces before.request after.request → Draws ending before after → ServesPlan status before after
+pub draws_so : (status : ℕ) (ending : Ending) (before after : LentStreams) → status ≡ status_of ending → ReadsPieces before.request after.request → Draws ending before after → ServesPlan status before after
 draws_so status ending before after is pieces draws = record { ending = ending; is = is; draws = draws; pieces = pieces }

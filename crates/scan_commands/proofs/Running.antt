@@ -9,37 +9,37 @@ use Rattle.scan_words.specs.declared.commands.Command.TheVariants.{Scan, Read, T
 use Rattle.scan_commands.specs.declared.endings.Ending.{Ending}
 use Rattle.scan_commands.specs.declared.endings.Ending.TheVariants.{OutOfMemory}
 use Rattle.scan_commands.specs.Commanded.{have_sources, workers_of, with_first, Obeys, Runs, ScansBy, IsRefusedWith, DrawsPlan}
-use Rattle.scan_commands.specs.Desks.{Desk}
+use Rattle.scan_commands.specs.LentStreams.{LentStreams}
 use Rattle.scan_commands.specs.Endings.{status_of}
 use Rattle.scan_commands.specs.PlanRuns.{ServesPlan}
 use Rattle.scan_commands.specs.Reading.{ReadsPieces}
-use Rattle.scan_commands.specs.Runs.{Ends, Serves, World, without_sources}
+use Rattle.scan_commands.specs.Runs.{Ends, Serves, LentIo, without_sources}
 use Rattle.scan_commands.proofs.Drawing.{draws_complete}
 use Rattle.scan_commands.proofs.Pieces.{none_read}
-use Rattle.scan_commands.proofs.Serving.{ends_alike, first_back, first_whole, rest_same, serves_complete, serves_so, world}
+use Rattle.scan_commands.proofs.Serving.{ends_alike, first_back, first_whole, rest_same, serves_complete, serves_so, lent_io}
 
 no_pieces : (old : ReadState) → ReadsPieces old old
 no_pieces old = record { full = []; last = []; pieces = sym (append-nil (old.pieces ++ []) ∙ append-nil old.pieces); each = λ k d lt. absurd (omega (arith, lt)); end = inl refl; count = omega arith }
 
 -- nothing was served
-pub serves_nothing : (limit : ℕ) (before : World) → Serves limit 70 before before
+pub serves_nothing : (limit : ℕ) (before : LentIo) → Serves limit 70 before before
 serves_nothing limit before = record { ending = OutOfMemory; is = refl; ends = inl (record { few = none_read before.request; faults = refl; sink = refl }, refl); pieces = no_pieces before.request }
 
-pub draws_nothing : (before : Desk) → ServesPlan 70 before before
+pub draws_nothing : (before : LentStreams) → ServesPlan 70 before before
 draws_nothing before = record { ending = OutOfMemory; is = refl; draws = inl (record { few = none_read before.request; faults = refl; sink = refl }); pieces = no_pieces before.request }
 
-scans_nothing : (workers limit : ℕ) (before : World) → ScansBy workers limit 70 before before
+scans_nothing : (workers limit : ℕ) (before : LentIo) → ScansBy workers limit 70 before before
 scans_nothing workers limit before = record {
   serves = serves_nothing limit (with_first workers before);
   complete = serves_complete limit 70 (with_first workers before) (with_first workers before) (serves_nothing limit (with_first workers before));
   others = refl;
 }
 
-scans_or_not : (enough : Bool) (workers limit : ℕ) (before : World) → MatchBool enough (ScansBy workers limit 70 before before) (IsRefusedWith 2 70 before before)
+scans_or_not : (enough : Bool) (workers limit : ℕ) (before : LentIo) → MatchBool enough (ScansBy workers limit 70 before before) (IsRefusedWith 2 70 before before)
 scans_or_not true workers limit before = scans_nothing workers limit before
 scans_or_not false workers limit before = (inr refl, refl)
 
-pub lacks_memory : (asked : Option Command) (before : World) → Runs asked 70 before before
+pub lacks_memory : (asked : Option Command) (before : LentIo) → Runs asked 70 before before
 lacks_memory None before = (inr refl, refl)
 lacks_memory (Some (Scan segments request workers unordered idle)) before = scans_or_not (have_sources workers (length before.sources)) (workers_of workers (length before.sources)) idle before
 lacks_memory (Some (Read segments request split idle)) before = (inr refl, refl)
@@ -54,13 +54,13 @@ lacks_memory (Some (Demo number)) before = record { serves = record { ending = O
 
 -- the sources of the workers served, and the others came back behind them
 pub scans_by : {S : Type 0} (f : S → SourceState) (workers limit status : ℕ) (ending : Ending) (old new : ReadState) (sink sink_after : WriteState) (xs first ys rest : List S) → first ≡ take workers xs → rest ≡ drop workers xs → length ys ≡ workers → status ≡ status_of ending → ReadsPieces old new
-    → Ends limit ending (world old (map f first) sink) (world new (map f ys) sink_after) → ScansBy workers limit status (world old (map f xs) sink) (world new (map f (ys ++ rest)) sink_after)
+    → Ends limit ending (lent_io old (map f first) sink) (lent_io new (map f ys) sink_after) → ScansBy workers limit status (lent_io old (map f xs) sink) (lent_io new (map f (ys ++ rest)) sink_after)
 scans_by {S} f workers limit status ending old new sink sink_after xs first ys rest own others count is pieces ends =
-    let before = world old (take workers (map f xs)) sink in
-    let after = world new (take workers (map f (ys ++ rest))) sink_after in
+    let before = lent_io old (take workers (map f xs)) sink in
+    let after = lent_io new (take workers (map f (ys ++ rest))) sink_after in
     let served : Ends limit ending before after = ends_alike limit ending old new sink sink_after (map f first) (take workers (map f xs)) (map f ys) (take workers (map f (ys ++ rest))) (first_whole f workers xs first own) (first_back f workers ys rest count) ends in
     let serves : Serves limit status before after = serves_so limit status ending before after is pieces served in
     record { serves = serves; complete = serves_complete limit status before after serves; others = rest_same f workers xs ys rest count others }
 
-pub obeys_tree : (command : Command) (request : List ℕ) (status : ℕ) (before after : World) → command ≡ Tree request → DrawsPlan status before after → Obeys command status before after
+pub obeys_tree : (command : Command) (request : List ℕ) (status : ℕ) (before after : LentIo) → command ≡ Tree request → DrawsPlan status before after → Obeys command status before after
 obeys_tree command request status before after is draws = subst (λ (c : Command). Obeys c status before after) (sym is) draws

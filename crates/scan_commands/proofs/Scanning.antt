@@ -10,7 +10,7 @@ use Rattle.vx_layout.specs.Rows.{file_leaves}
 use Rattle.vx_scan.specs.declared.errors.ScanError.{ScanError}
 use Rattle.vx_scan.specs.declared.errors.ScanError.TheVariants.{Memory}
 use Rattle.vx_scan.specs.Answer.{FileScan, scan_rows, size_of}
-use Rattle.vx_scan.specs.Beginning.{Refuses}
+use Rattle.vx_scan.specs.Admission.{Refuses}
 use Rattle.vx_scan.specs.Laws.{PiecesAnswer}
 use Rattle.vx_scan.specs.Lent.{WhereAllTell}
 use Rattle.vx_scan.specs.Scanned.{AnswersScan}

@@ -12,7 +12,7 @@ use Rattle.vx_base.specs.declared.outside.StreamError.TheVariants as stream
 use Rattle.vx_layout.specs.Rows.{file_leaves}
 use Rattle.vx_scan.specs.declared.errors.ScanError.{ScanError}
 use Rattle.vx_scan.specs.declared.errors.ScanError.TheVariants as scan
-use Rattle.vx_scan.specs.Beginning.{Refuses}
+use Rattle.vx_scan.specs.Admission.{Refuses}
 use Rattle.vx_scan.specs.Lent.{AllTell, EachSource, WhereAllTell}
 use Rattle.vx_scan.specs.Plans.{IsQuiet}
 use Rattle.vx_scan.specs.Scanned.{LowestCause}
@@ -26,19 +26,19 @@ use Rattle.scan_output.specs.RowWriting.{batch_lines}
 use Rattle.scan_output.specs.Writing.{WritingGives}
 use Rattle.scan_commands.specs.declared.endings.Ending.{Ending}
 use Rattle.scan_commands.specs.declared.endings.Ending.TheVariants.{Done, RequestTooLarge, BadRequest, BadLayout, BadProjection, ScanFailed, WriteFault, RequestFault, OutOfMemory}
-use Rattle.scan_commands.specs.Desks.{ReadsBytes, ReadsRequest}
+use Rattle.scan_commands.specs.LentStreams.{ReadsBytes, ReadsRequest}
 use Rattle.scan_commands.specs.Endings.{refused_ending, scan_ending, status_of}
 use Rattle.scan_commands.specs.Reading.{most_bytes, ReadsAll, ReadsPieces}
-use Rattle.scan_commands.specs.Runs.{World, Asks, WritesFront, Ends, Serves, IsRefused, RefusesScan, FailsToScan, ScanFails, IsValid, IsComplete}
+use Rattle.scan_commands.specs.Runs.{LentIo, Asks, WritesFront, Ends, Serves, IsRefused, RefusesScan, FailsToScan, ScanFails, IsValid, IsComplete}
 use Rattle.scan_commands.specs.Scans.{scan_of, ScanGives}
 use Rattle.scan_commands.proofs.Pieces.{few_in_all}
 
-abbrev pub world : ReadState → List SourceState → WriteState → World
-world request sources sink = record { request = request; sources = sources; sink = sink }
+abbrev pub lent_io : ReadState → List SourceState → WriteState → LentIo
+lent_io request sources sink = record { request = request; sources = sources; sink = sink }
 
 -- ---- the scan
 
-asks_of : (limit : ℕ) → (asked : Asked) (result : Result (Vec ColumnData) ScanError) (old new : ReadState) (befores afters : List SourceState) (sink sink_after : WriteState) → ScanGives limit (scan_of asked) result befores afters → Asks asked (world old befores sink) (world new afters sink_after)
+asks_of : (limit : ℕ) → (asked : Asked) (result : Result (Vec ColumnData) ScanError) (old new : ReadState) (befores afters : List SourceState) (sink sink_after : WriteState) → ScanGives limit (scan_of asked) result befores afters → Asks asked (lent_io old befores sink) (lent_io new afters sink_after)
 asks_of limit asked result old new befores afters sink sink_after gives = record { gains = gives.answers.asks; lasts = gives.answers.lasts; in_flight = gives.answers.in_flight }
 
 -- why the scan failed, but for want of memory
@@ -50,7 +50,7 @@ cause_of limit asked error befores afters other (inl memory) = absurd (other mem
 cause_of limit asked error befores afters other (inr cause) = cause
 
 -- it was refused before it began
-begins_not : (limit : ℕ) → (error : ScanError) (asked : Asked) (old new : ReadState) (befores afters : List SourceState) (sink : WriteState) → (LowestCause (scan_of asked) limit error befores afters → ⊥) → ReadsRequest asked old new → ScanGives limit (scan_of asked) (Err error) befores afters → WhyScanFailed limit asked error befores afters → RefusesScan error (world old befores sink) (world new afters sink)
+begins_not : (limit : ℕ) → (error : ScanError) (asked : Asked) (old new : ReadState) (befores afters : List SourceState) (sink : WriteState) → (LowestCause (scan_of asked) limit error befores afters → ⊥) → ReadsRequest asked old new → ScanGives limit (scan_of asked) (Err error) befores afters → WhyScanFailed limit asked error befores afters → RefusesScan error (lent_io old befores sink) (lent_io new afters sink)
 begins_not limit error asked old new befores afters sink never reads gives (inl refused) = record { asked = asked; reads = reads; cause = refused; sources = (gives.refused error refused).1; sink = refl }
 begins_not limit error asked old new befores afters sink never reads gives (inr lowest) = absurd (never lowest)
 
@@ -74,7 +74,7 @@ gives_begun limit asked batches befores afters gives (cause, refuses) = by (Ok b
     by result is (inl refused) = absurd cc
     by result is (inr memory) = absurd cc
 
-fails : (limit : ℕ) → (error : ScanError) (asked : Asked) (old new : ReadState) (befores afters : List SourceState) (sink : WriteState) → (error ≡ scan.Memory → ⊥) → (Refuses (scan_of asked) error → ⊥) → ReadsRequest asked old new → ScanGives limit (scan_of asked) (Err error) befores afters → FailsToScan limit error (world old befores sink) (world new afters sink)
+fails : (limit : ℕ) → (error : ScanError) (asked : Asked) (old new : ReadState) (befores afters : List SourceState) (sink : WriteState) → (error ≡ scan.Memory → ⊥) → (Refuses (scan_of asked) error → ⊥) → ReadsRequest asked old new → ScanGives limit (scan_of asked) (Err error) befores afters → FailsToScan limit error (lent_io old befores sink) (lent_io new afters sink)
 fails limit error asked old new befores afters sink other never reads gives = record {
   not_memory = other;
   asked = asked;
@@ -86,7 +86,7 @@ fails limit error asked old new befores afters sink other never reads gives = re
   sink = refl;
 }
 
-pub scan_failed : (limit : ℕ) → (error : ScanError) (asked : Asked) (old new : ReadState) (befores afters : List SourceState) (sink : WriteState) → ReadsRequest asked old new → ScanGives limit (scan_of asked) (Err error) befores afters → Ends limit (scan_ending error) (world old befores sink) (world new afters sink)
+pub scan_failed : (limit : ℕ) → (error : ScanError) (asked : Asked) (old new : ReadState) (befores afters : List SourceState) (sink : WriteState) → ReadsRequest asked old new → ScanGives limit (scan_of asked) (Err error) befores afters → Ends limit (scan_ending error) (lent_io old befores sink) (lent_io new afters sink)
 scan_failed limit scan.OutOfRange asked old new befores afters sink reads gives = begins_not limit scan.OutOfRange asked old new befores afters sink (no_lowest (scan_of asked) limit scan.OutOfRange befores afters (λ told rows before after cause. cause)) reads gives (cause_of limit asked scan.OutOfRange befores afters (λ e. absurd cc) gives.answers.cause)
 scan_failed limit scan.OffsetOverflow asked old new befores afters sink reads gives = begins_not limit scan.OffsetOverflow asked old new befores afters sink (no_lowest (scan_of asked) limit scan.OffsetOverflow befores afters (λ told rows before after cause. cause)) reads gives (cause_of limit asked scan.OffsetOverflow befores afters (λ e. absurd cc) gives.answers.cause)
 scan_failed limit scan.BadProjection asked old new befores afters sink reads gives = fails limit scan.BadProjection asked old new befores afters sink (λ e. absurd cc) (λ unbound. unbound (projection_is_bound reads.bytes asked reads.are)) reads gives
@@ -113,10 +113,10 @@ scan_failed limit scan.Memory asked old new befores afters sink reads gives = in
 pub reads_request : (asked : Asked) (bytes : List ℕ) (old new : ReadState) → ReadsAll bytes old new → IsRequest bytes asked → ReadsRequest asked old new
 reads_request asked bytes old new reads is = record { bytes = bytes; reads = reads; are = is }
 
-front_of : (limit : ℕ) → (asked : Asked) (batches : Vec ColumnData) (old new : ReadState) (befores afters : List SourceState) (sink sink_after : WriteState) → ScanGives limit (scan_of asked) (Ok batches) befores afters → (count : ℕ) → sink_after.written ≡ option_map (λ (w : List ℕ). w ++ take count (batch_lines batches.items)) sink.written → WritesFront asked (world old befores sink) (world new afters sink_after)
+front_of : (limit : ℕ) → (asked : Asked) (batches : Vec ColumnData) (old new : ReadState) (befores afters : List SourceState) (sink sink_after : WriteState) → ScanGives limit (scan_of asked) (Ok batches) befores afters → (count : ℕ) → sink_after.written ≡ option_map (λ (w : List ℕ). w ++ take count (batch_lines batches.items)) sink.written → WritesFront asked (lent_io old befores sink) (lent_io new afters sink_after)
 front_of limit asked batches old new befores afters sink sink_after gives count is = λ file told. (batch_lines batches.items, gives.text file told, (count, is))
 
-pub all_written : (limit : ℕ) → (asked : Asked) (batches : Vec ColumnData) (old new : ReadState) (befores afters : List SourceState) (sink sink_after : WriteState) → ReadsRequest asked old new → ScanGives limit (scan_of asked) (Ok batches) befores afters → WritingGives (Ok tt) (batch_lines batches.items) sink sink_after → Ends limit Done (world old befores sink) (world new afters sink_after)
+pub all_written : (limit : ℕ) → (asked : Asked) (batches : Vec ColumnData) (old new : ReadState) (befores afters : List SourceState) (sink sink_after : WriteState) → ReadsRequest asked old new → ScanGives limit (scan_of asked) (Ok batches) befores afters → WritingGives (Ok tt) (batch_lines batches.items) sink sink_after → Ends limit Done (lent_io old befores sink) (lent_io new afters sink_after)
 all_written limit asked batches old new befores afters sink sink_after reads gives written = record {
   asked = asked;
   reads = reads;
@@ -125,7 +125,7 @@ all_written limit asked batches old new befores afters sink sink_after reads giv
   writes = record { text = λ file told. (batch_lines batches.items, gives.text file told, written.0); faults = written.1 };
 }
 
-pub not_written : (limit : ℕ) → (asked : Asked) (batches : Vec ColumnData) (old new : ReadState) (befores afters : List SourceState) (sink sink_after : WriteState) → ReadsRequest asked old new → ScanGives limit (scan_of asked) (Ok batches) befores afters → WritingGives (Err stream.Failed) (batch_lines batches.items) sink sink_after → Ends limit WriteFault (world old befores sink) (world new afters sink_after)
+pub not_written : (limit : ℕ) → (asked : Asked) (batches : Vec ColumnData) (old new : ReadState) (befores afters : List SourceState) (sink sink_after : WriteState) → ReadsRequest asked old new → ScanGives limit (scan_of asked) (Ok batches) befores afters → WritingGives (Err stream.Failed) (batch_lines batches.items) sink sink_after → Ends limit WriteFault (lent_io old befores sink) (lent_io new afters sink_after)
 not_written limit asked batches old new befores afters sink sink_after reads gives ((count, is), rose) = record {
   asked = asked;
   reads = reads;
@@ -135,7 +135,7 @@ not_written limit asked batches old new befores afters sink sink_after reads giv
   rose = rose;
 }
 
-pub lacks_writing : (limit : ℕ) → (asked : Asked) (batches : Vec ColumnData) (old new : ReadState) (befores afters : List SourceState) (sink sink_after : WriteState) → ReadsRequest asked old new → ScanGives limit (scan_of asked) (Ok batches) befores afters → WritingGives (Err stream.Memory) (batch_lines batches.items) sink sink_after → Ends limit OutOfMemory (world old befores sink) (world new afters sink_after)
+pub lacks_writing : (limit : ℕ) → (asked : Asked) (batches : Vec ColumnData) (old new : ReadState) (befores afters : List SourceState) (sink sink_after : WriteState) → ReadsRequest asked old new → ScanGives limit (scan_of asked) (Ok batches) befores afters → WritingGives (Err stream.Memory) (batch_lines batches.items) sink sink_after → Ends limit OutOfMemory (lent_io old befores sink) (lent_io new afters sink_after)
 lacks_writing limit asked batches old new befores afters sink sink_after reads gives ((count, is), same) = inr (
   asked,
   record {
@@ -151,33 +151,33 @@ lacks_writing limit asked batches old new befores afters sink sink_after reads g
 
 -- the request is refused
 pub request_refused : (limit : ℕ) (ending : Ending) (error : RequestError) (bytes : List ℕ) (old new : ReadState) (sink : WriteState) (sources : List SourceState) → ending ≡ refused_ending error → ReadsAll bytes old new → RefusedBy bytes error
-    → Ends limit ending (world old sources sink) (world new sources sink)
+    → Ends limit ending (lent_io old sources sink) (lent_io new sources sink)
 request_refused limit ending error bytes old new sink sources ends reads refused =
-    subst (λ (e : Ending). Ends limit e (world old sources sink) (world new sources sink)) (sym ends) (by error refused)
+    subst (λ (e : Ending). Ends limit e (lent_io old sources sink) (lent_io new sources sink)) (sym ends) (by error refused)
   where
-    by : (error : RequestError) → RefusedBy bytes error → Ends limit (refused_ending error) (world old sources sink) (world new sources sink)
+    by : (error : RequestError) → RefusedBy bytes error → Ends limit (refused_ending error) (lent_io old sources sink) (lent_io new sources sink)
     by requests.BadRequest refused = (record { reads = record { bytes = bytes; reads = reads; are = refused }; sink = refl }, refl)
     by (requests.BadLayout node rule) refused = (record { reads = record { bytes = bytes; reads = reads; are = refused }; sink = refl }, refl)
     by (requests.BadProjection error) refused = (record { error = error; reads = record { bytes = bytes; reads = reads; are = refused }; sink = refl }, refl)
     by requests.Memory refused = inl (record { few = few_in_all bytes old new reads; faults = reads.faults; sink = refl }, refl)
 
 pub scan_fails : (limit : ℕ) → (ending : Ending) (error : ScanError) (asked : Asked) (bytes : List ℕ) (old new : ReadState) (sink : WriteState) (befores afters : List SourceState) → ending ≡ scan_ending error → ReadsAll bytes old new → IsRequest bytes asked → ScanGives limit (scan_of asked) (Err error) befores afters
-    → Ends limit ending (world old befores sink) (world new afters sink)
+    → Ends limit ending (lent_io old befores sink) (lent_io new afters sink)
 scan_fails limit ending error asked bytes old new sink befores afters ends reads is gives =
-    subst (λ (e : Ending). Ends limit e (world old befores sink) (world new afters sink)) (sym ends) (scan_failed limit error asked old new befores afters sink (reads_request asked bytes old new reads is) gives)
+    subst (λ (e : Ending). Ends limit e (lent_io old befores sink) (lent_io new afters sink)) (sym ends) (scan_failed limit error asked old new befores afters sink (reads_request asked bytes old new reads is) gives)
 
 pub rows_written : (limit : ℕ) → (asked : Asked) (batches : Vec ColumnData) (lines bytes : List ℕ) (old new : ReadState) (sink sink_after : WriteState) (befores afters : List SourceState) → lines ≡ batch_lines batches.items → ReadsAll bytes old new → IsRequest bytes asked → ScanGives limit (scan_of asked) (Ok batches) befores afters
-    → WritingGives (Ok tt) lines sink sink_after → Ends limit Done (world old befores sink) (world new afters sink_after)
+    → WritingGives (Ok tt) lines sink sink_after → Ends limit Done (lent_io old befores sink) (lent_io new afters sink_after)
 rows_written limit asked batches lines bytes old new sink sink_after befores afters same reads is gives written =
     all_written limit asked batches old new befores afters sink sink_after (reads_request asked bytes old new reads is) gives (subst (λ (text : List ℕ). WritingGives (Ok tt) text sink sink_after) same written)
 
 pub rows_not_written : (limit : ℕ) → (asked : Asked) (batches : Vec ColumnData) (lines bytes : List ℕ) (old new : ReadState) (sink sink_after : WriteState) (befores afters : List SourceState) → lines ≡ batch_lines batches.items → ReadsAll bytes old new → IsRequest bytes asked → ScanGives limit (scan_of asked) (Ok batches) befores afters
-    → WritingGives (Err stream.Failed) lines sink sink_after → Ends limit WriteFault (world old befores sink) (world new afters sink_after)
+    → WritingGives (Err stream.Failed) lines sink sink_after → Ends limit WriteFault (lent_io old befores sink) (lent_io new afters sink_after)
 rows_not_written limit asked batches lines bytes old new sink sink_after befores afters same reads is gives written =
     not_written limit asked batches old new befores afters sink sink_after (reads_request asked bytes old new reads is) gives (subst (λ (text : List ℕ). WritingGives (Err stream.Failed) text sink sink_after) same written)
 
 pub rows_lack_memory : (limit : ℕ) → (asked : Asked) (batches : Vec ColumnData) (lines bytes : List ℕ) (old new : ReadState) (sink sink_after : WriteState) (befores afters : List SourceState) → lines ≡ batch_lines batches.items → ReadsAll bytes old new → IsRequest bytes asked → ScanGives limit (scan_of asked) (Ok batches) befores afters
-    → WritingGives (Err stream.Memory) lines sink sink_after → Ends limit OutOfMemory (world old befores sink) (world new afters sink_after)
+    → WritingGives (Err stream.Memory) lines sink sink_after → Ends limit OutOfMemory (lent_io old befores sink) (lent_io new afters sink_after)
 rows_lack_memory limit asked batches lines bytes old new sink sink_after befores afters same reads is gives written =
     lacks_writing limit asked batches old new befores afters sink sink_after (reads_request asked bytes old new reads is) gives (subst (λ (text : List ℕ). WritingGives (Err stream.Memory) text sink sink_after) same written)
 
@@ -199,25 +199,25 @@ large_told bytes None e large = absurd cc
 large_told bytes (Some all) e large = let same : all ≡ bytes = cc in subst (λ (xs : List ℕ). most_bytes < length xs) same large
 
 -- of a scan that failed
-refusal_invalid : (error : ScanError) (bytes file : List ℕ) (before after : World) → before.request.rest ≡ Some bytes → RefusesScan error before after → IsValid bytes file → ⊥
+refusal_invalid : (error : ScanError) (bytes file : List ℕ) (before after : LentIo) → before.request.rest ≡ Some bytes → RefusesScan error before after → IsValid bytes file → ⊥
 refusal_invalid error bytes file before after told refuses valid =
     let is : IsRequest bytes refuses.asked = told_bytes (λ b. IsRequest b refuses.asked) bytes before.request after.request told refuses.reads in
     let same : valid.1.0 ≡ refuses.asked = same_request bytes valid.1.0 refuses.asked valid.1.1 is in
     valid_begins (file_leaves file refuses.asked.locations) (scan_of refuses.asked) error (subst (λ (a : Asked). IsValidScan (file_leaves file a.locations) (scan_of a)) same valid.1.2) refuses.cause
 
-gives_invalid : (limit : ℕ) → (error : ScanError) (bytes file : List ℕ) (before after : World) → before.request.rest ≡ Some bytes → AllTell file before.sources → FailsToScan limit error before after → IsValid bytes file → EachSource (IsQuiet limit) before.sources after.sources → ⊥
+gives_invalid : (limit : ℕ) → (error : ScanError) (bytes file : List ℕ) (before after : LentIo) → before.request.rest ≡ Some bytes → AllTell file before.sources → FailsToScan limit error before after → IsValid bytes file → EachSource (IsQuiet limit) before.sources after.sources → ⊥
 gives_invalid limit error bytes file before after told file_told gives valid quiet =
     let is : IsRequest bytes gives.asked = told_bytes (λ b. IsRequest b gives.asked) bytes before.request after.request told gives.reads in
     let same : valid.1.0 ≡ gives.asked = same_request bytes valid.1.0 gives.asked valid.1.1 is in
     gives.invalid file file_told (subst (λ (a : Asked). IsValidScan (file_leaves file a.locations) (scan_of a)) same valid.1.2) quiet
 
-lacking_invalid : (limit : ℕ) → (error : ScanError) (bytes file : List ℕ) (before after : World) → before.request.rest ≡ Some bytes → AllTell file before.sources → ScanFails limit error before after → IsValid bytes file → EachSource (IsQuiet limit) before.sources after.sources → ⊥
+lacking_invalid : (limit : ℕ) → (error : ScanError) (bytes file : List ℕ) (before after : LentIo) → before.request.rest ≡ Some bytes → AllTell file before.sources → ScanFails limit error before after → IsValid bytes file → EachSource (IsQuiet limit) before.sources after.sources → ⊥
 lacking_invalid limit scan.OutOfRange bytes file before after told file_told lacks valid quiet = refusal_invalid scan.OutOfRange bytes file before after told lacks valid
 lacking_invalid limit scan.OffsetOverflow bytes file before after told file_told lacks valid quiet = refusal_invalid scan.OffsetOverflow bytes file before after told lacks valid
 lacking_invalid limit error bytes file before after told file_told lacks valid quiet = gives_invalid limit error bytes file before after told file_told lacks valid quiet
 
 -- a run over a valid request and file, without fault or stall, is done or out of memory
-ends_well : (limit : ℕ) → (ending : Ending) (bytes file : List ℕ) (before after : World) → before.request.rest ≡ Some bytes → AllTell file before.sources → Ends limit ending before after → IsValid bytes file
+ends_well : (limit : ℕ) → (ending : Ending) (bytes file : List ℕ) (before after : LentIo) → before.request.rest ≡ Some bytes → AllTell file before.sources → Ends limit ending before after → IsValid bytes file
     → (Rose before.request.faults after.request.faults → ⊥) → EachSource (IsQuiet limit) before.sources after.sources → (Rose before.sink.faults after.sink.faults → ⊥) → (ending ≡ Done) ⊎ (ending ≡ OutOfMemory)
 ends_well limit Done bytes file before after told file_told ends valid request quiet sink = inl refl
 ends_well limit OutOfMemory bytes file before after told file_told ends valid request quiet sink = inr refl
@@ -238,7 +238,7 @@ pub well_known : (status : ℕ) (ending : Ending) → status ≡ status_of endin
 well_known status ending is (inl done) = inl (is ∙ ap status_of done)
 well_known status ending is (inr out) = inr (is ∙ ap status_of out)
 
-pub serves_complete : (limit : ℕ) → (status : ℕ) (before after : World) → Serves limit status before after → IsComplete limit status before after
+pub serves_complete : (limit : ℕ) → (status : ℕ) (before after : LentIo) → Serves limit status before after → IsComplete limit status before after
 serves_complete limit status before after serves = by before.request.rest refl
   where
     by : (rest : Option (List ℕ)) → before.request.rest ≡ rest → IfSome rest (λ bytes. WhereAllTell before.sources (λ file. IsValid bytes file
@@ -261,11 +261,11 @@ rest_same {S} f count xs ys rest are is =
     drop-map f count (ys ++ rest) ∙ ap (λ (zs : List S). map f zs) (ap (λ (n : ℕ). drop n (ys ++ rest)) (sym are) ∙ drop-append_seam ys rest ∙ is) ∙ sym (drop-map f count xs)
 
 -- a run over such lists of sources
-pub ends_alike : (limit : ℕ) → (ending : Ending) (old new : ReadState) (sink sink_after : WriteState) (befores befores_too afters afters_too : List SourceState) → befores ≡ befores_too → afters ≡ afters_too → Ends limit ending (world old befores sink) (world new afters sink_after) → Ends limit ending (world old befores_too sink) (world new afters_too sink_after)
+pub ends_alike : (limit : ℕ) → (ending : Ending) (old new : ReadState) (sink sink_after : WriteState) (befores befores_too afters afters_too : List SourceState) → befores ≡ befores_too → afters ≡ afters_too → Ends limit ending (lent_io old befores sink) (lent_io new afters sink_after) → Ends limit ending (lent_io old befores_too sink) (lent_io new afters_too sink_after)
 ends_alike limit ending old new sink sink_after befores befores_too afters afters_too same same_after ends =
-    subst (λ (sources : List SourceState). Ends limit ending (world old befores_too sink) (world new sources sink_after)) same_after
-    (subst (λ (sources : List SourceState). Ends limit ending (world old sources sink) (world new afters sink_after)) same ends)
+    subst (λ (sources : List SourceState). Ends limit ending (lent_io old befores_too sink) (lent_io new sources sink_after)) same_after
+    (subst (λ (sources : List SourceState). Ends limit ending (lent_io old sources sink) (lent_io new afters sink_after)) same ends)
 
 -- a run that ends so serves with the status of its ending
-pub serves_so : (limit : ℕ) → (status : ℕ) (ending : Ending) (before after : World) → status ≡ status_of ending → ReadsPieces before.request after.request → Ends limit ending before after → Serves limit status before after
+pub serves_so : (limit : ℕ) → (status : ℕ) (ending : Ending) (before after : LentIo) → status ≡ status_of ending → ReadsPieces before.request after.request → Ends limit ending before after → Serves limit status before after
 serves_so limit status ending before after is pieces ends = record { ending = ending; is = is; ends = ends; pieces = pieces }

@@ -6,11 +6,11 @@ use Rattle.scan_words.specs.declared.commands.Command.TheVariants.{Scan, Read, T
 use Rattle.vx_scan.specs.Builders.{default_concurrency}
 use Rattle.scan_commands.specs.DemoRuns.{ServesDemo}
 use Rattle.scan_commands.specs.PlanRuns.{ServesPlan, IsPlanComplete}
-use Rattle.scan_commands.specs.Runs.{World, without_sources, Serves, IsComplete}
+use Rattle.scan_commands.specs.Runs.{LentIo, without_sources, Serves, IsComplete}
 use Rattle.scan_commands.specs.Statuses.{usage_status, not_yet_status, memory_status}
 
 -- Nothing was read, asked or written. Want of memory may come in place of the status.
-abbrev pub IsRefusedWith : ℕ → ℕ → World → World → Type 0
+abbrev pub IsRefusedWith : ℕ → ℕ → LentIo → LentIo → Type 0
 IsRefusedWith wanted status before after = ((status ≡ wanted) ⊎ (status ≡ memory_status)) × (after ≡ before)
 
 -- so many workers have a source each; where no number is said, there are as many as serve
@@ -25,29 +25,29 @@ workers_of None count = min default_concurrency count
 workers_of (Some workers) count = workers
 
 -- the same with the first so many of the sources
-abbrev pub with_first : ℕ → World → World
-with_first count world = record { request = world.request; sources = take count world.sources; sink = world.sink }
+abbrev pub with_first : ℕ → LentIo → LentIo
+with_first count lent_io = record { request = lent_io.request; sources = take count lent_io.sources; sink = lent_io.sink }
 
 -- The request was served from the sources of so many workers, and the others were left alone.
-pub record ScansBy (workers limit status : ℕ) (before after : World) : Type 0 where
+pub record ScansBy (workers limit status : ℕ) (before after : LentIo) : Type 0 where
   pub serves : Serves limit status (with_first workers before) (with_first workers after)
   pub complete : IsComplete limit status (with_first workers before) (with_first workers after)
   pub others : drop workers after.sources ≡ drop workers before.sources
 
 -- The plan of the request was written, and no source was asked.
-pub record DrawsPlan (status : ℕ) (before after : World) : Type 0 where
+pub record DrawsPlan (status : ℕ) (before after : LentIo) : Type 0 where
   pub serves : ServesPlan status (without_sources before) (without_sources after)
   pub complete : IsPlanComplete status (without_sources before) (without_sources after)
   pub sources : after.sources ≡ before.sources
 
 -- The demo file of so many rows was summed up. No request was read, and none of the lent sources was asked.
-pub record RunsDemo (number status : ℕ) (before after : World) : Type 0 where
+pub record RunsDemo (number status : ℕ) (before after : LentIo) : Type 0 where
   pub serves : ServesDemo number status before.sink after.sink
   pub request : after.request ≡ before.request
   pub sources : after.sources ≡ before.sources
 
 -- More workers than sources are at fault. The layout's readers serve no request yet.
-abbrev pub Obeys : Command → ℕ → World → World → Type 0
+abbrev pub Obeys : Command → ℕ → LentIo → LentIo → Type 0
 Obeys (Scan segments request workers unordered idle) status before after =
     MatchBool (have_sources workers (length before.sources)) (ScansBy (workers_of workers (length before.sources)) idle status before after) (IsRefusedWith usage_status status before after)
 Obeys (Read segments request split idle) status before after = IsRefusedWith not_yet_status status before after
@@ -55,6 +55,6 @@ Obeys (Tree request) status before after = DrawsPlan status before after
 Obeys (Demo number) status before after = RunsDemo number status before after
 
 -- words that ask nothing are at fault
-abbrev pub Runs : Option Command → ℕ → World → World → Type 0
+abbrev pub Runs : Option Command → ℕ → LentIo → LentIo → Type 0
 Runs None status before after = IsRefusedWith usage_status status before after
 Runs (Some command) status before after = Obeys command status before after

@@ -1,7 +1,7 @@
 pub mod Commanded
 pub mod DemoRuns
-pub mod Desks
 pub mod Endings
+pub mod LentStreams
 pub mod PlanRuns
 pub mod Reading
 pub mod Runs

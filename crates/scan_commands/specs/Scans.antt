@@ -8,7 +8,7 @@ use Rattle.vx_expr.specs.Mentions.{uses_row_number}
 use Rattle.vx_layout.specs.Rows.{file_leaves}
 use Rattle.vx_layout.specs.Trees.{subtree}
 use Rattle.vx_scan.specs.Answer.{FileScan, scan_rows, IsAnswer}
-use Rattle.vx_scan.specs.Beginning.{Refuses}
+use Rattle.vx_scan.specs.Admission.{Refuses}
 use Rattle.vx_scan.specs.Lent.{WhereAllTell}
 use Rattle.vx_scan.specs.Scanned.{AnswersScan}
 use Rattle.vx_scan.specs.declared.errors.ScanError.{ScanError}

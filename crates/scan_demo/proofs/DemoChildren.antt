@@ -12,7 +12,7 @@ use Rattle.scan_demo.specs.declared.stored_columns.StoredColumn.{StoredColumn}
 use Rattle.scan_demo.specs.declared.stored_columns.StoredColumn.TheVariants.{Ids, Codes, Flags}
 use Rattle.scan_demo.specs.DemoNodes.{chunked_nodes, demo_nodes, flat_node}
 use Rattle.scan_demo.specs.Flats.{chunk_count, chunk_flat}
-use Rattle.scan_demo.specs.Totals.{count_of}
+use Rattle.scan_demo.specs.Totals.{one_where}
 use Rattle.scan_demo.proofs.NodePlaces.{behind_ids, codes_nodes, flags_nodes, ids_nodes}
 
 -- ---- all children, in order
@@ -52,18 +52,18 @@ is_number n child = child == n
 abbrev reached : ℕ → ℕ → ℕ
 reached n bound = min 1 (n + 1 - bound)
 
-one_counted : (n x end : ℕ) → end ≡ x + 1 → count_of (is_number n x) + reached n end ≡ reached n x
+one_counted : (n x end : ℕ) → end ≡ x + 1 → one_where (is_number n x) + reached n end ≡ reached n x
 one_counted n x end follows =
     ⊎_elim
-    (λ tells. let is : count_of (x == n) ≡ 1 = ap count_of tells.0 in let e : x ≡ n = tells.1 in omega arith)
-    (λ tells. let is : count_of (x == n) ≡ 0 = ap count_of tells.0 in let e : x ≢ n = tells.1 in omega arith)
+    (λ tells. let is : one_where (x == n) ≡ 1 = ap one_where tells.0 in let e : x ≡ n = tells.1 in omega arith)
+    (λ tells. let is : one_where (x == n) ≡ 0 = ap one_where tells.0 in let e : x ≢ n = tells.1 in omega arith)
     (eqb_tells x n)
 
-first_counted : (n x : ℕ) (xs : List ℕ) → count_by (is_number n) (x ∷ xs) ≡ count_of (is_number n x) + count_by (is_number n) xs
-first_counted n x xs = sum_by-cons (λ (child : ℕ). count_of (is_number n child)) x xs
+first_counted : (n x : ℕ) (xs : List ℕ) → count_by (is_number n) (x ∷ xs) ≡ one_where (is_number n x) + count_by (is_number n) xs
+first_counted n x xs = sum_by-cons (λ (child : ℕ). one_where (is_number n child)) x xs
 
 both_counted : (n : ℕ) (xs ys : List ℕ) → count_by (is_number n) (xs ++ ys) ≡ count_by (is_number n) xs + count_by (is_number n) ys
-both_counted n xs ys = sum_by-append (λ (child : ℕ). count_of (is_number n child)) xs ys
+both_counted n xs ys = sum_by-append (λ (child : ℕ). one_where (is_number n child)) xs ys
 
 range_counted : (n from count end : ℕ) → end ≡ from + count → count_by (is_number n) (range_with_len from count) + reached n end ≡ reached n from
 range_counted n from zero end e = let same : end ≡ from = omega arith in omega (arith, ap (reached n) same)
@@ -89,24 +89,24 @@ child_once number n lt =
     let e = first_counted k (chunks + 3) ((chunks + 4) ∷ (codes_list ++ flags)) in
     let f = first_counted k (chunks + 4) (codes_list ++ flags) in
     let g = both_counted k codes_list flags in
-    let one : count_of (is_number k 1) + reached k 2 ≡ reached k 1 = one_counted k 1 2 (omega arith) in
+    let one : one_where (is_number k 1) + reached k 2 ≡ reached k 1 = one_counted k 1 2 (omega arith) in
     let in_ids : count_by (is_number k) ids + reached k (chunks + 2) ≡ reached k 2 = range_counted k 2 chunks (chunks + 2) (omega arith) in
-    let dict : count_of (is_number k (chunks + 2)) + reached k (chunks + 3) ≡ reached k (chunks + 2) = one_counted k (chunks + 2) (chunks + 3) (omega arith) in
-    let names : count_of (is_number k (chunks + 3)) + reached k (chunks + 4) ≡ reached k (chunks + 3) = one_counted k (chunks + 3) (chunks + 4) (omega arith) in
-    let code : count_of (is_number k (chunks + 4)) + reached k (chunks + 5) ≡ reached k (chunks + 4) = one_counted k (chunks + 4) (chunks + 5) (omega arith) in
+    let dict : one_where (is_number k (chunks + 2)) + reached k (chunks + 3) ≡ reached k (chunks + 2) = one_counted k (chunks + 2) (chunks + 3) (omega arith) in
+    let names : one_where (is_number k (chunks + 3)) + reached k (chunks + 4) ≡ reached k (chunks + 3) = one_counted k (chunks + 3) (chunks + 4) (omega arith) in
+    let code : one_where (is_number k (chunks + 4)) + reached k (chunks + 5) ≡ reached k (chunks + 4) = one_counted k (chunks + 4) (chunks + 5) (omega arith) in
     let in_codes : count_by (is_number k) codes_list + reached k (2 * chunks + 5) ≡ reached k (chunks + 5) = range_counted k (chunks + 5) chunks (2 * chunks + 5) (omega arith) in
-    let flag : count_of (is_number k (2 * chunks + 5)) + reached k (2 * chunks + 6) ≡ reached k (2 * chunks + 5) = one_counted k (2 * chunks + 5) (2 * chunks + 6) (omega arith) in
+    let flag : one_where (is_number k (2 * chunks + 5)) + reached k (2 * chunks + 6) ≡ reached k (2 * chunks + 5) = one_counted k (2 * chunks + 5) (2 * chunks + 6) (omega arith) in
     let in_flags : count_by (is_number k) flags + reached k (3 * chunks + 6) ≡ reached k (2 * chunks + 6) = range_counted k (2 * chunks + 6) chunks (3 * chunks + 6) (omega arith) in
     let start : reached k 1 ≡ 1 = omega arith in
     let stop : reached k (3 * chunks + 6) ≡ 0 = omega arith in
     all_counted ∙ telescoped
-    (count_of (is_number k 1)) (count_of (is_number k (chunks + 2))) (count_of (is_number k (2 * chunks + 5))) (count_by (is_number k) ids) (count_of (is_number k (chunks + 3)))
-    (count_of (is_number k (chunks + 4))) (count_by (is_number k) codes_list) (count_by (is_number k) flags)
+    (one_where (is_number k 1)) (one_where (is_number k (chunks + 2))) (one_where (is_number k (2 * chunks + 5))) (count_by (is_number k) ids) (one_where (is_number k (chunks + 3)))
+    (one_where (is_number k (chunks + 4))) (count_by (is_number k) codes_list) (count_by (is_number k) flags)
     (reached k 1) (reached k 2) (reached k (chunks + 2)) (reached k (chunks + 3)) (reached k (chunks + 4)) (reached k (chunks + 5)) (reached k (2 * chunks + 5)) (reached k (2 * chunks + 6)) (reached k (3 * chunks + 6))
     (count_by (is_number k) (all_children chunks))
     one in_ids dict names code in_codes flag in_flags start stop
-    (a ∙ ap (λ (m : ℕ). count_of (is_number k 1) + m) (b ∙ ap (λ (m : ℕ). count_of (is_number k (chunks + 2)) + m) (c ∙ ap (λ (m : ℕ). count_of (is_number k (2 * chunks + 5)) + m)
-    (d ∙ ap (λ (m : ℕ). count_by (is_number k) ids + m) (e ∙ ap (λ (m : ℕ). count_of (is_number k (chunks + 3)) + m) (f ∙ ap (λ (m : ℕ). count_of (is_number k (chunks + 4)) + m) g))))))
+    (a ∙ ap (λ (m : ℕ). one_where (is_number k 1) + m) (b ∙ ap (λ (m : ℕ). one_where (is_number k (chunks + 2)) + m) (c ∙ ap (λ (m : ℕ). one_where (is_number k (2 * chunks + 5)) + m)
+    (d ∙ ap (λ (m : ℕ). count_by (is_number k) ids + m) (e ∙ ap (λ (m : ℕ). one_where (is_number k (chunks + 3)) + m) (f ∙ ap (λ (m : ℕ). one_where (is_number k (chunks + 4)) + m) g))))))
   where
     telescoped : (x1 x2 x3 x4 x5 x6 x7 x8 r1 r2 r3 r4 r5 r6 r7 r8 r9 total : ℕ) → x1 + r2 ≡ r1 → x4 + r3 ≡ r2 → x2 + r4 ≡ r3 → x5 + r5 ≡ r4 → x6 + r6 ≡ r5 → x7 + r7 ≡ r6 → x3 + r8 ≡ r7 → x8 + r9 ≡ r8
         → r1 ≡ 1 → r9 ≡ 0 → total ≡ x1 + (x2 + (x3 + (x4 + (x5 + (x6 + (x7 + x8)))))) → total ≡ 1

@@ -15,7 +15,7 @@ use Rattle.vx_scan.specs.Answer.{in_front, pieces_of}
 use Rattle.scan_demo.specs.DemoRows.{demo_row, id_of, is_flagged, lacks_name, name_at}
 use Rattle.scan_demo.specs.Summary.{batches_text, demo_pieces, summary, summary_text}
 use Rattle.vx_expr.specs.Refusals.{capped}
-use Rattle.scan_demo.specs.Totals.{count_of, id_in, is_flagged_in, lacks_name_in, natural_in}
+use Rattle.scan_demo.specs.Totals.{one_where, id_in, is_flagged_in, lacks_name_in, natural_in}
 
 -- ---- the pieces join to the rows
 
@@ -62,8 +62,8 @@ lacking : (lacks : Bool) (code : ℕ) → not (is_value (if lacks then null else
 lacking true code = refl
 lacking false code = refl
 
-count_first : {X : Type 0} (p : X → Bool) (row : X) (rows : List X) → count_by p (row ∷ rows) ≡ count_of (p row) + count_by p rows
-count_first {X} p row rows = sum_by-cons (λ (x : X). count_of (p x)) row rows
+count_first : {X : Type 0} (p : X → Bool) (row : X) (rows : List X) → count_by p (row ∷ rows) ≡ one_where (p row) + count_by p rows
+count_first {X} p row rows = sum_by-cons (λ (x : X). one_where (p x)) row rows
 
 ids_summed : (number : ℕ) (rows : List ℕ) → sum_by id_in (map (demo_row number) rows) ≡ sum_by (id_of number) rows
 ids_summed number [] = refl
@@ -75,13 +75,13 @@ ids_summed number (row ∷ rows) =
 nulls_counted : (number : ℕ) (rows : List ℕ) → count_by lacks_name_in (map (demo_row number) rows) ≡ count_by lacks_name rows
 nulls_counted number [] = refl
 nulls_counted number (row ∷ rows) =
-    let here : count_of (lacks_name_in (demo_row number row)) ≡ count_of (lacks_name row) = ap count_of (lacking (lacks_name row) (row % 16)) in
+    let here : one_where (lacks_name_in (demo_row number row)) ≡ one_where (lacks_name row) = ap one_where (lacking (lacks_name row) (row % 16)) in
     count_first lacks_name_in (demo_row number row) (map (demo_row number) rows) ∙ ap₂ (λ (a b : ℕ). a + b) here (nulls_counted number rows) ∙ sym (count_first lacks_name row rows)
 
 flags_counted : (number : ℕ) (rows : List ℕ) → count_by is_flagged_in (map (demo_row number) rows) ≡ count_by is_flagged rows
 flags_counted number [] = refl
 flags_counted number (row ∷ rows) =
-    count_first is_flagged_in (demo_row number row) (map (demo_row number) rows) ∙ ap (λ (n : ℕ). count_of (is_flagged row) + n) (flags_counted number rows) ∙ sym (count_first is_flagged row rows)
+    count_first is_flagged_in (demo_row number row) (map (demo_row number) rows) ∙ ap (λ (n : ℕ). one_where (is_flagged row) + n) (flags_counted number rows) ∙ sym (count_first is_flagged row rows)
 
 sum_small : (number : ℕ) (rows : List ℕ) → sum_by (id_of number) rows ≤ 1000 * length rows
 sum_small number [] = omega arith

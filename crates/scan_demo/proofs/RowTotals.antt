@@ -8,7 +8,7 @@ use Rattle.vx_base.specs.Columns.{ColumnData}
 use Rattle.vx_base.specs.Data.{Datum}
 use Rattle.vx_expr.specs.Refusals.{capped}
 use Rattle.scan_demo.specs.declared.row_totals.Totals.{Totals}
-use Rattle.scan_demo.specs.Totals.{count_of, id_in, is_flagged_in, lacks_name_in, no_totals, totals_of, with_row, with_rows}
+use Rattle.scan_demo.specs.Totals.{one_where, id_in, is_flagged_in, lacks_name_in, no_totals, totals_of, with_row, with_rows}
 
 -- the totals with the rows from a place on
 abbrev pub with_rest : Totals → List Datum → ℕ → Totals
@@ -60,14 +60,14 @@ nulls_counted : (totals : Totals) (rows : List Datum) → totals.name_nulls < 2 
 nulls_counted totals [] small = let e : totals.name_nulls ≡ capped (totals.name_nulls + 0) = omega arith in e
 nulls_counted totals (row ∷ rows) small =
     let next : Totals = with_row totals row in
-    let more : count_by lacks_name_in (row ∷ rows) ≡ count_of (lacks_name_in row) + count_by lacks_name_in rows = sum_by-cons (λ (r : Datum). count_of (lacks_name_in r)) row rows in
+    let more : count_by lacks_name_in (row ∷ rows) ≡ one_where (lacks_name_in row) + count_by lacks_name_in rows = sum_by-cons (λ (r : Datum). one_where (lacks_name_in r)) row rows in
     nulls_counted next rows (omega arith) ∙ (let e : capped (next.name_nulls + count_by lacks_name_in rows) ≡ capped (totals.name_nulls + count_by lacks_name_in (row ∷ rows)) = omega arith in e)
 
 flags_counted : (totals : Totals) (rows : List Datum) → totals.flag_true < 2 ^ 64 → (with_rows totals rows).flag_true ≡ capped (totals.flag_true + count_by is_flagged_in rows)
 flags_counted totals [] small = let e : totals.flag_true ≡ capped (totals.flag_true + 0) = omega arith in e
 flags_counted totals (row ∷ rows) small =
     let next : Totals = with_row totals row in
-    let more : count_by is_flagged_in (row ∷ rows) ≡ count_of (is_flagged_in row) + count_by is_flagged_in rows = sum_by-cons (λ (r : Datum). count_of (is_flagged_in r)) row rows in
+    let more : count_by is_flagged_in (row ∷ rows) ≡ one_where (is_flagged_in row) + count_by is_flagged_in rows = sum_by-cons (λ (r : Datum). one_where (is_flagged_in r)) row rows in
     flags_counted next rows (omega arith) ∙ (let e : capped (next.flag_true + count_by is_flagged_in rows) ≡ capped (totals.flag_true + count_by is_flagged_in (row ∷ rows)) = omega arith in e)
 
 abbrev made : ℕ → ℕ → ℕ → Totals

@@ -31,8 +31,8 @@ lacks_name_in row = not (is_value (field_at 1 row))
 abbrev pub is_flagged_in : Datum → Bool
 is_flagged_in row = truth_in (field_at 2 row)
 
-abbrev pub count_of : Bool → ℕ
-count_of told = if told then 1 else 0
+abbrev pub one_where : Bool → ℕ
+one_where told = if told then 1 else 0
 
 -- of rows: the sum of their numbers, how many lack a name, and how many are flagged
 abbrev pub totals_of : List Datum → Totals
@@ -51,8 +51,8 @@ no_totals = record { id_sum = 0; name_nulls = 0; flag_true = 0 }
 abbrev pub with_row : Totals → Datum → Totals
 with_row totals row = record {
   id_sum = capped (totals.id_sum + id_in row);
-  name_nulls = capped (totals.name_nulls + count_of (lacks_name_in row));
-  flag_true = capped (totals.flag_true + count_of (is_flagged_in row));
+  name_nulls = capped (totals.name_nulls + one_where (lacks_name_in row));
+  flag_true = capped (totals.flag_true + one_where (is_flagged_in row));
 }
 
 -- the totals with more rows, one after another

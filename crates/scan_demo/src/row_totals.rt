@@ -9,7 +9,7 @@ ghost use Rattle.vx_arrays.specs.Fields.{field_at};
 ghost use Rattle.scan_demo.specs.Totals.{facts_of, facts_without_number, natural_in, no_totals, totals_of, with_row, with_rows};
 
 use std::alloc::{AllocError, Global};
-use vx_arrays::Parts;
+use vx_arrays::ChildArrays;
 use vx_base::{Cell, Column, Value};
 
 /// What the summary reads of a field: its number, whether there is a value, and whether that is true.
@@ -100,7 +100,7 @@ impl FieldFacts {
 
     /// The facts of the struct of a row, which is null past the last row.
     #[tactic(auto, using(crate::proofs::StructItems::struct_found, crate::proofs::StructItems::struct_past))]
-    fn of_struct(parts: &Parts, row: usize) -> FieldFacts
+    fn of_struct(parts: &ChildArrays, row: usize) -> FieldFacts
         ensures { result ≡ facts_of (struct_at parts.now.rows row) }
     {
         if row < parts.len() {
@@ -122,12 +122,12 @@ impl FieldFacts {
         }
     }
 
-    /// The facts of the field at a place of a row's struct. Where no part lies at the place, the row is taken out into
+    /// The facts of the field at a place of a row's struct. Where no array lies at the place, the row is taken out into
     /// memory of its own.
     #[tactic(auto, using(crate::proofs::StructItems::struct_past, crate::proofs::StructItems::part_inside, crate::proofs::StructItems::part_value, crate::proofs::StructItems::items_value))]
-    fn of_part(
+    fn of_child(
         alloc: Global,
-        parts: &Parts,
+        parts: &ChildArrays,
         row: usize,
         place: usize,
     ) -> Result<FieldFacts, AllocError>
@@ -136,8 +136,8 @@ impl FieldFacts {
         if parts.len() <= row {
             return Ok(FieldFacts::of_other(false));
         }
-        match parts.part(place) {
-            Some(part) => Ok(FieldFacts::of_cell(part.cell(row))),
+        match parts.array(place) {
+            Some(array) => Ok(FieldFacts::of_cell(array.cell(row))),
             None => {
                 let values = parts.get(alloc, row)?;
                 Ok(FieldFacts::of_item(values.items(), place))
@@ -150,7 +150,7 @@ impl FieldFacts {
         ensures { IfOk result (λ facts. facts ≡ facts_of (field_at place (cell_datum row.entry))) }
     {
         match row {
-            Cell::Struct(parts, row) => FieldFacts::of_part(alloc, parts, row, place),
+            Cell::Struct(parts, row) => FieldFacts::of_child(alloc, parts, row, place),
             _ => Ok(FieldFacts::of_other(false)),
         }
     }

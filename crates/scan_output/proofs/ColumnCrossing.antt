@@ -9,9 +9,9 @@ use Rattle.std.proofs.alloc.Global.TheSendSync as global
 use Rattle.std.proofs.vec.Vec.TheSendSync as vec
 use Rattle.vx_arrays.proofs.numbers.Numbers.TheSendSync as numbers
 use Rattle.vx_arrays.proofs.texts.Texts.TheSendSync as packed_texts
-use Rattle.vx_arrays.proofs.parts.Part.TheLaws.TheKnot.{crosses as parts_cross}
-use Rattle.vx_arrays.specs.contracts.parts.Part as parts
-use Rattle.vx_arrays.specs.contracts.parts.shared.SharedPart as shared
+use Rattle.vx_arrays.proofs.arrays.Array.TheLaws.TheKnot.{crosses as parts_cross}
+use Rattle.vx_arrays.specs.contracts.arrays.Array as parts
+use Rattle.vx_arrays.specs.contracts.arrays.shared.SharedArray as shared
 use Rattle.vx_base.below.vx_types.proofs.dtypes.IntKind.TheSendSync as kinds
 use Rattle.vx_base.below.vx_types.proofs.dtypes.Nullability.TheSendSync as nullable
 use Rattle.vx_base.below.vx_types.proofs.texts.Text.TheSendSync as texts

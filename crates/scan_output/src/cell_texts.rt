@@ -1,4 +1,4 @@
-//! The text of a row's value where it stands in its column, structs field by field out of their parts.
+//! The text of a row's value where it stands in its column, structs field by field out of their arrays.
 
 ghost use Rattle.std.specs.Prelude.{◌≡◌, ◌<◌, ◌++◌, length, map, OnOk};
 ghost use Rattle.vx_arrays.specs.Fields.{field_at};
@@ -11,7 +11,7 @@ use crate::field_leads::Lead;
 use crate::json_strings::append_string;
 use crate::row_texts::{append_item, append_number, append_truth};
 use std::alloc::{AllocError, Global};
-use vx_arrays::Parts;
+use vx_arrays::ChildArrays;
 use vx_base::{Cell, DType, Fields};
 
 /// Appends the field at a place of a row's struct.
@@ -21,7 +21,7 @@ fn append_field(
     alloc: Global,
     dtype: &DType,
     leads: &[Lead],
-    parts: &Parts,
+    parts: &ChildArrays,
     place: usize,
     row: usize,
     out: &mut Vec<u8>,
@@ -30,9 +30,9 @@ fn append_field(
     requires leads { map lead_data leads.now ≡ leads_in (data_type dtype.now) }
     ensures { OnOk result (out.new.items ≡ out.old.items ++ row_text (data_type dtype.now) (field_at place (struct_at parts.now.rows row))) }
 {
-    match parts.part(place) {
-        Some(part) => append_cell(alloc, dtype, leads, part.cell(row), out),
-        // No part lies at the place, so the items are taken out into memory of their own.
+    match parts.array(place) {
+        Some(array) => append_cell(alloc, dtype, leads, array.cell(row), out),
+        // No array lies at the place, so the items are taken out into memory of their own.
         None => {
             let values = parts.get(alloc, row)?;
             append_item(dtype, values.items(), place, out)
@@ -46,7 +46,7 @@ fn append_fields(
     alloc: Global,
     fields: &Fields,
     leads: &[Lead],
-    parts: &Parts,
+    parts: &ChildArrays,
     row: usize,
     out: &mut Vec<u8>,
 ) -> Result<(), AllocError>
@@ -75,7 +75,7 @@ fn append_struct(
     alloc: Global,
     dtype: &DType,
     leads: &[Lead],
-    parts: &Parts,
+    parts: &ChildArrays,
     row: usize,
     out: &mut Vec<u8>,
 ) -> Result<(), AllocError>

@@ -13,7 +13,7 @@ use crate::printed_numbers::Printed;
 use itoa::Buffer;
 use std::alloc::{AllocError, Global};
 use std::ops::Range;
-use vx_arrays::{Look, Numbers, Texts};
+use vx_arrays::{ArrayView, Numbers, Texts};
 use vx_base::{Column, Mask};
 
 /// How many bytes the line of a truth value or a null has at most.
@@ -180,15 +180,15 @@ pub fn append_row_lines(
     requires inside { rows.end ≤ length column.now.values }
     ensures { OnOk result (out.new.items ≡ out.old.items ++ lines column.now.dtype (slice_range column.now.values rows.start rows.end)) }
 {
-    let Some(part) = column.part() else {
+    let Some(array) = column.array() else {
         return append_cells(alloc, column, rows, out);
     };
     let places = rows.start as usize..rows.end as usize;
-    match part.look() {
-        Look::Truths(valid, truths) => append_truths(valid, truths, places, out),
-        Look::Numbers(valid, numbers) => append_numbers(valid, numbers, places, out),
-        Look::Texts(valid, texts) => append_texts(valid, texts, places, out),
-        Look::Structs(_, _) | Look::Lists(_, _) => append_cells(alloc, column, rows, out),
+    match array.array_view() {
+        ArrayView::Truths(valid, truths) => append_truths(valid, truths, places, out),
+        ArrayView::Numbers(valid, numbers) => append_numbers(valid, numbers, places, out),
+        ArrayView::Texts(valid, texts) => append_texts(valid, texts, places, out),
+        ArrayView::Structs(_, _) | ArrayView::Lists(_, _) => append_cells(alloc, column, rows, out),
     }
 }
 

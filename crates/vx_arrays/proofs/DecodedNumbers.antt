@@ -16,7 +16,7 @@ use Rattle.vx_types.proofs.Decoded.{Known, AreBytes, front_bytes, numbers_short,
 use Rattle.vx_types.proofs.KindNumbers.{numbers_again}
 use Rattle.vx_types.proofs.Leaves.{two_parts, all_inside, slots_of_numbers}
 use Rattle.vx_masks.specs.Rows.{NullsHold}
-use Rattle.vx_arrays.specs.Slots.{Takes}
+use Rattle.vx_arrays.specs.Buffers.{Takes}
 use Rattle.vx_arrays.proofs.ValidRows.{length-where_valid, valid_again}
 
 -- ---- the validity
@@ -50,26 +50,26 @@ pub numbers_are_values : (zs : List ℤ) → AllByRecursion (λ v. is_value v �
 numbers_are_values [] = tt
 numbers_are_values (z ∷ zs) = (refl, numbers_are_values zs)
 
-slots_are : (kind : IntKind) (mask : List Bool) (zs : List ℤ) → length mask ≡ length zs → NullsHold (pos 0) mask zs → flat_map (number_slot kind) (where_valid mask (map number zs)) ≡ flat_map (number_bytes kind) zs
-slots_are kind [] [] e h = refl
-slots_are kind (true ∷ mask) (z ∷ zs) e h = ap (λ (bs : List ℕ). number_bytes kind z ++ bs) (slots_are kind mask zs (omega arith) h)
-slots_are kind (false ∷ mask) (z ∷ zs) e h =
+buffers_are : (kind : IntKind) (mask : List Bool) (zs : List ℤ) → length mask ≡ length zs → NullsHold (pos 0) mask zs → flat_map (number_slot kind) (where_valid mask (map number zs)) ≡ flat_map (number_bytes kind) zs
+buffers_are kind [] [] e h = refl
+buffers_are kind (true ∷ mask) (z ∷ zs) e h = ap (λ (bs : List ℕ). number_bytes kind z ++ bs) (buffers_are kind mask zs (omega arith) h)
+buffers_are kind (false ∷ mask) (z ∷ zs) e h =
     let here : number_bytes kind (pos 0) ≡ number_bytes kind z = ap (number_bytes kind) (sym h.0) in
-    λ i. here i ++ slots_are kind mask zs (omega arith) h.1 i
-slots_are kind [] (z ∷ zs) e h = absurd (omega arith)
-slots_are kind (bit ∷ mask) [] e h = absurd (omega arith)
+    λ i. here i ++ buffers_are kind mask zs (omega arith) h.1 i
+buffers_are kind [] (z ∷ zs) e h = absurd (omega arith)
+buffers_are kind (bit ∷ mask) [] e h = absurd (omega arith)
 
 -- ---- what they spell
-pub numbers_spell : (kind : IntKind) (n : Nullability) (rows : ℕ) (bytes validity slots : List ℕ) (mask : List Bool) (zs : List ℤ) → bytes ≡ validity ++ slots → IsValidity n rows validity → AreBytes bytes → mask ≡ valid_bits n rows validity → length zs ≡ rows
-    → AllByRecursion (IsInside kind) zs → flat_map (number_bytes kind) zs ≡ slots → NullsHold (pos 0) mask zs → Spells (int_type kind n) rows bytes (where_valid mask (map number zs))
-numbers_spell kind n rows bytes validity slots mask zs joined ok small is count inside spelt held =
+pub numbers_spell : (kind : IntKind) (n : Nullability) (rows : ℕ) (bytes validity buffers : List ℕ) (mask : List Bool) (zs : List ℤ) → bytes ≡ validity ++ buffers → IsValidity n rows validity → AreBytes bytes → mask ≡ valid_bits n rows validity → length zs ≡ rows
+    → AllByRecursion (IsInside kind) zs → flat_map (number_bytes kind) zs ≡ buffers → NullsHold (pos 0) mask zs → Spells (int_type kind n) rows bytes (where_valid mask (map number zs))
+numbers_spell kind n rows bytes validity buffers mask zs joined ok small is count inside spelt held =
     let values = where_valid mask (map number zs) in
     let mask_len : length mask ≡ rows = ap length is ∙ valid_len n rows validity ok in
     let len : length mask ≡ length (map number zs) = omega (arith, mask_len, count, length-map zs number) in
     let taken : AllByRecursion (Takes n) mask = subst (AllByRecursion (Takes n)) (sym is) (mask_taken n rows validity) in
     let fit : AllByRecursion (Fits (int_type kind n)) values = numbers_fit kind n mask zs taken inside in
-    let front : validity_bytes n values ≡ validity = validity_is n rows validity values ok (front_bytes bytes validity slots joined small) (valid_again mask (map number zs) len (numbers_are_values zs) ∙ is) in
-    let back : flat_map (number_slot kind) values ≡ slots = slots_are kind mask zs (omega (arith, mask_len, count)) held ∙ spelt in
+    let front : validity_bytes n values ≡ validity = validity_is n rows validity values ok (front_bytes bytes validity buffers joined small) (valid_again mask (map number zs) len (numbers_are_values zs) ∙ is) in
+    let back : flat_map (number_slot kind) values ≡ buffers = buffers_are kind mask zs (omega (arith, mask_len, count)) held ∙ spelt in
     let some : List ℕ → Option (List ℕ) = λ bs. Some bs in
     record {
       count = length-where_valid mask (map number zs) len ∙ mask_len;
@@ -89,9 +89,9 @@ nulls_are_zero kind n (null ∷ vs) h = (refl, nulls_are_zero kind n vs h.1)
 nulls_are_zero kind n (number z ∷ vs) h = nulls_are_zero kind n vs h.1
 nulls_are_zero kind n (_ ∷ vs) h = absurd h.0
 
-pub spelled_zero : (kind : IntKind) (n : Nullability) (rows : ℕ) (validity slots : List ℕ) (mask : List Bool) (zs : List ℤ) (values : List Datum) → Known (int_type kind n) n rows validity slots values → mask ≡ valid_bits n rows validity → length zs ≡ rows
-    → AllByRecursion (IsInside kind) zs → flat_map (number_bytes kind) zs ≡ slots → NullsHold (pos 0) mask zs
-spelled_zero kind n rows validity slots mask zs values k is count inside spelt =
+pub spelled_zero : (kind : IntKind) (n : Nullability) (rows : ℕ) (validity buffers : List ℕ) (mask : List Bool) (zs : List ℤ) (values : List Datum) → Known (int_type kind n) n rows validity buffers values → mask ≡ valid_bits n rows validity → length zs ≡ rows
+    → AllByRecursion (IsInside kind) zs → flat_map (number_bytes kind) zs ≡ buffers → NullsHold (pos 0) mask zs
+spelled_zero kind n rows validity buffers mask zs values k is count inside spelt =
     let len : length (map number_in values) ≡ length zs = length-map values number_in ∙ k.count ∙ sym count in
     let same : map number_in values ≡ zs = same_numbers kind (map number_in values) zs len (all_inside kind n values k.fit) inside (sym (slots_of_numbers kind values) ∙ sym k.slot ∙ sym spelt) in
     let valid : map is_value values ≡ mask = sym k.valid ∙ sym is in

@@ -16,7 +16,7 @@ use Rattle.vx_types.specs.Reading.{where_valid, lengths_read}
 use Rattle.vx_types.proofs.Decoded.{AreBytes, back_bytes, front_bytes, valid_len}
 use Rattle.vx_types.proofs.Leaves.{two_parts}
 use Rattle.vx_masks.specs.Rows.{NullsHold}
-use Rattle.vx_arrays.specs.Slots.{Takes}
+use Rattle.vx_arrays.specs.Buffers.{Takes}
 use Rattle.vx_arrays.specs.Texts.{cut, AreEnds, ends_after, ends_read}
 use Rattle.vx_arrays.proofs.CutTexts.{ends_below, flat-cut, length_cut}
 use Rattle.vx_arrays.proofs.DecodedNumbers.{validity_is, mask_taken}
@@ -166,27 +166,27 @@ texts_are_values : (ts : List (List ℕ)) → AllByRecursion (λ v. is_value v �
 texts_are_values [] = tt
 texts_are_values (t ∷ ts) = (refl, texts_are_values ts)
 
-lengths_of_slots : (mask : List Bool) (ts : List (List ℕ)) → length mask ≡ length ts → NullsHold [] mask ts → flat_map length_slot (where_valid mask (map text ts)) ≡ flat_map (to_le_bytes w32) (map (λ t. length t) ts)
-lengths_of_slots [] [] e h = refl
-lengths_of_slots (true ∷ mask) (t ∷ ts) e h = ap (λ (bs : List ℕ). to_le_bytes w32 (length t) ++ bs) (lengths_of_slots mask ts (omega arith) h)
-lengths_of_slots (false ∷ mask) (t ∷ ts) e h =
+lengths_of_buffers : (mask : List Bool) (ts : List (List ℕ)) → length mask ≡ length ts → NullsHold [] mask ts → flat_map length_slot (where_valid mask (map text ts)) ≡ flat_map (to_le_bytes w32) (map (λ t. length t) ts)
+lengths_of_buffers [] [] e h = refl
+lengths_of_buffers (true ∷ mask) (t ∷ ts) e h = ap (λ (bs : List ℕ). to_le_bytes w32 (length t) ++ bs) (lengths_of_buffers mask ts (omega arith) h)
+lengths_of_buffers (false ∷ mask) (t ∷ ts) e h =
     let none : List ℕ = [] in
     let here : to_le_bytes w32 (length none) ≡ to_le_bytes w32 (length t) = ap (λ (s : List ℕ). to_le_bytes w32 (length s)) (sym h.0) in
-    λ i. here i ++ lengths_of_slots mask ts (omega arith) h.1 i
-lengths_of_slots [] (t ∷ ts) e h = absurd (omega arith)
-lengths_of_slots (bit ∷ mask) [] e h = absurd (omega arith)
+    λ i. here i ++ lengths_of_buffers mask ts (omega arith) h.1 i
+lengths_of_buffers [] (t ∷ ts) e h = absurd (omega arith)
+lengths_of_buffers (bit ∷ mask) [] e h = absurd (omega arith)
 
-texts_of_slots : (mask : List Bool) (ts : List (List ℕ)) → length mask ≡ length ts → NullsHold [] mask ts → flat_map text_in (where_valid mask (map text ts)) ≡ flat_map (λ t. t) ts
-texts_of_slots [] [] e h = refl
-texts_of_slots (true ∷ mask) (t ∷ ts) e h = ap (λ (bs : List ℕ). t ++ bs) (texts_of_slots mask ts (omega arith) h)
-texts_of_slots (false ∷ mask) (t ∷ ts) e h = λ i. sym h.0 i ++ texts_of_slots mask ts (omega arith) h.1 i
-texts_of_slots [] (t ∷ ts) e h = absurd (omega arith)
-texts_of_slots (bit ∷ mask) [] e h = absurd (omega arith)
+texts_of_buffers : (mask : List Bool) (ts : List (List ℕ)) → length mask ≡ length ts → NullsHold [] mask ts → flat_map text_in (where_valid mask (map text ts)) ≡ flat_map (λ t. t) ts
+texts_of_buffers [] [] e h = refl
+texts_of_buffers (true ∷ mask) (t ∷ ts) e h = ap (λ (bs : List ℕ). t ++ bs) (texts_of_buffers mask ts (omega arith) h)
+texts_of_buffers (false ∷ mask) (t ∷ ts) e h = λ i. sym h.0 i ++ texts_of_buffers mask ts (omega arith) h.1 i
+texts_of_buffers [] (t ∷ ts) e h = absurd (omega arith)
+texts_of_buffers (bit ∷ mask) [] e h = absurd (omega arith)
 
-pub texts_spell : (n : Nullability) (rows : ℕ) (bytes validity slots lengths texts : List ℕ) (mask : List Bool) → bytes ≡ validity ++ slots → IsValidity n rows validity → AreBytes bytes → AreBytes lengths → mask ≡ valid_bits n rows validity
-    → lengths ≡ take (4 * rows) slots → texts ≡ drop (4 * rows) slots → length lengths ≡ 4 * rows → AreEnds 0 (length texts) (ends_read rows lengths)
+pub texts_spell : (n : Nullability) (rows : ℕ) (bytes validity buffers lengths texts : List ℕ) (mask : List Bool) → bytes ≡ validity ++ buffers → IsValidity n rows validity → AreBytes bytes → AreBytes lengths → mask ≡ valid_bits n rows validity
+    → lengths ≡ take (4 * rows) buffers → texts ≡ drop (4 * rows) buffers → length lengths ≡ 4 * rows → AreEnds 0 (length texts) (ends_read rows lengths)
     → AllByRecursion IsUtf8 (cut texts 0 (ends_read rows lengths)) → NullsHold [] mask (cut texts 0 (ends_read rows lengths)) → Spells (utf8_type n) rows bytes (where_valid mask (map text (cut texts 0 (ends_read rows lengths))))
-texts_spell n rows bytes validity slots lengths texts mask joined ok small small_front is front back front_len filled utf8 held =
+texts_spell n rows bytes validity buffers lengths texts mask joined ok small small_front is front back front_len filled utf8 held =
     let ts = cut texts 0 (ends_read rows lengths) in
     let values = where_valid mask (map text ts) in
     let mask_len : length mask ≡ rows = ap length is ∙ valid_len n rows validity ok in
@@ -195,10 +195,10 @@ texts_spell n rows bytes validity slots lengths texts mask joined ok small small
     let taken : AllByRecursion (Takes n) mask = subst (AllByRecursion (Takes n)) (sym is) (mask_taken n rows validity) in
     let lens : map (λ (t : List ℕ). length t) ts ≡ lengths_read rows lengths = cut_lengths texts 0 (lengths_read rows lengths) filled in
     let shorts : AllByRecursion (λ (t : List ℕ). length t < 2 ^ 32) ts = small_lengths ts (subst (AllByRecursion (λ (k : ℕ). k < 2 ^ 32)) (sym lens) (lengths_small rows lengths small_front)) in
-    let one : validity_bytes n values ≡ validity = validity_is n rows validity values ok (front_bytes bytes validity slots joined small) (valid_again mask (map text ts) slot_len (texts_are_values ts) ∙ is) in
-    let two : flat_map length_slot values ≡ lengths = lengths_of_slots mask ts len held ∙ ap (flat_map (to_le_bytes w32)) lens ∙ lengths_spelled rows lengths front_len small_front in
-    let three : flat_map text_in values ≡ texts = texts_of_slots mask ts len held ∙ flat-cut texts 0 (ends_read rows lengths) filled in
-    let whole : lengths ++ texts ≡ slots = (λ i. front i ++ back i) ∙ take-append-drop (4 * rows) slots in
+    let one : validity_bytes n values ≡ validity = validity_is n rows validity values ok (front_bytes bytes validity buffers joined small) (valid_again mask (map text ts) slot_len (texts_are_values ts) ∙ is) in
+    let two : flat_map length_slot values ≡ lengths = lengths_of_buffers mask ts len held ∙ ap (flat_map (to_le_bytes w32)) lens ∙ lengths_spelled rows lengths front_len small_front in
+    let three : flat_map text_in values ≡ texts = texts_of_buffers mask ts len held ∙ flat-cut texts 0 (ends_read rows lengths) filled in
+    let whole : lengths ++ texts ≡ buffers = (λ i. front i ++ back i) ∙ take-append-drop (4 * rows) buffers in
     let some : List ℕ → Option (List ℕ) = λ bs. Some bs in
     record {
       count = length-where_valid mask (map text ts) slot_len ∙ mask_len;
@@ -267,9 +267,9 @@ nulls_are_empty n (null ∷ vs) h = (refl, nulls_are_empty n vs h.1)
 nulls_are_empty n (text t ∷ vs) h = nulls_are_empty n vs h.1
 nulls_are_empty n (_ ∷ vs) h = absurd h.0
 
-pub length_bytes : (bytes validity slots lengths : List ℕ) (n : ℕ) → bytes ≡ validity ++ slots → lengths ≡ take n slots → AreBytes bytes → AreBytes lengths
-length_bytes bytes validity slots lengths n joined front small =
-    subst AreBytes (sym front) (front_bytes slots (take n slots) (drop n slots) (sym (take-append-drop n slots)) (back_bytes bytes validity slots joined small))
+pub length_bytes : (bytes validity buffers lengths : List ℕ) (n : ℕ) → bytes ≡ validity ++ buffers → lengths ≡ take n buffers → AreBytes bytes → AreBytes lengths
+length_bytes bytes validity buffers lengths n joined front small =
+    subst AreBytes (sym front) (front_bytes buffers (take n buffers) (drop n buffers) (sym (take-append-drop n buffers)) (back_bytes bytes validity buffers joined small))
 
 pub bound_all : (bytes ends : List ℕ) (i : ℕ) → length ends ≤ i → AllByRecursion (IsCharBoundary bytes) (take i ends) → AllByRecursion (IsCharBoundary bytes) ends
 bound_all bytes [] i past h = tt

@@ -3,19 +3,19 @@ mod MovedTexts
 mod DecodedNumbers
 mod DecodedTexts
 mod HeldRows
-mod JoinedParts
+mod JoinedArrays
 pub mod LookedUp
-mod LookedAt
+mod ViewedArrays
 pub mod MappedRows
-pub mod PackedParts
+pub mod PackedArrays
 pub mod PackedRows
-mod PartRanges
-mod PartRows
+mod ArrayRanges
+mod ArrayRows
 mod PickedRows
 mod ReadBits
 pub mod SameRows
-mod SharedParts
-mod SlotRows
+mod SharedArrays
+mod BufferRows
 mod SpelledNumbers
 mod TextEnds
 mod TextRows

@@ -3,7 +3,7 @@ use Rattle.vx_types.specs.Columns.{ColumnData}
 use Rattle.vx_types.specs.Fits.{Fits, nullability_of}
 use Rattle.vx_types.proofs.BuiltRows.{all_found_fit}
 use Rattle.vx_arrays.specs.PackedColumns.{IsColumn}
-use Rattle.vx_arrays.specs.PartRows.{picked_at}
+use Rattle.vx_arrays.specs.ArrayRows.{picked_at}
 use Rattle.vx_arrays.proofs.PackedRows.{bare_where}
 use Rattle.std.proofs.Common.{◌≡◌, ℕ, zero, suc, min, ℤ, pos, negsuc, Bool, true, false, cond, List, [], ◌∷◌, length, map, get_or, refl, sym, ap, subst, ◌∙◌, arith}
 use Rattle.std.specs.List.{AllByRecursion}

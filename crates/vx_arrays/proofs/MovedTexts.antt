@@ -6,7 +6,7 @@ use Rattle.std.proofs.Math.Seq.{drop-append-add}
 use Rattle.std.proofs.lemmas.List.{length-append, length-drop, drop-take, drop-drop, take-take}
 use Rattle.vx_arrays.specs.Texts.{cut, start_in, moved, AreEnds, AreTexts}
 use Rattle.vx_arrays.proofs.PackedRows.{all_take, all_drop}
-use Rattle.vx_arrays.proofs.PartRows.{length-range}
+use Rattle.vx_arrays.proofs.ArrayRows.{length-range}
 use Rattle.vx_arrays.proofs.CutTexts.{start_from, start_same, ends_below, ends-append, cut-append, cut-front}
 use Rattle.vx_types.proofs.AllFit.{all-append}
 

@@ -10,15 +10,15 @@ use Rattle.vx_types.specs.Fits.{Fits, IsInside, TakesNull, nullability_of}
 use Rattle.vx_types.specs.ColumnCalls.{IsBool, made_nullable, nullable_where, IsUnsigned}
 use Rattle.vx_types.specs.Segment.{truth_in}
 use Rattle.vx_types.specs.declared.dtypes.IntKind.{IntKind}
-use Rattle.vx_arrays.proofs.SlotRows.{numbers_fit}
+use Rattle.vx_arrays.proofs.BufferRows.{numbers_fit}
 use Rattle.vx_types.proofs.AllFit.{all-append}
 use Rattle.vx_types.proofs.BuiltRows.{fits_nullable}
 use Rattle.vx_masks.specs.Masks.{chosen}
 use Rattle.vx_types.specs.Reading.{where_valid}
 use Rattle.vx_masks.specs.Rows.{NullsHold}
-use Rattle.vx_arrays.specs.Slots.{bare, Takes}
+use Rattle.vx_arrays.specs.Buffers.{bare, Takes}
 use Rattle.vx_arrays.specs.PackedColumns.{IsColumn}
-use Rattle.vx_arrays.specs.PartRows.{sliced, filtered, joined}
+use Rattle.vx_arrays.specs.ArrayRows.{sliced, filtered, joined}
 
 -- ---- what fits
 null_fits : (t : DataType) → TakesNull (nullability_of t) → Fits t null

@@ -14,11 +14,11 @@ use Rattle.vx_types.proofs.Decoded.{Known, AreBytes, truths_short, valid_len, fr
 use Rattle.vx_types.proofs.Leaves.{two_parts}
 use Rattle.vx_masks.specs.Masks.{both}
 use Rattle.vx_masks.specs.Rows.{NullsHold}
-use Rattle.vx_arrays.specs.Slots.{Takes}
+use Rattle.vx_arrays.specs.Buffers.{Takes}
 use Rattle.vx_arrays.proofs.DecodedNumbers.{validity_is, mask_taken}
 use Rattle.vx_arrays.proofs.PackedRows.{all_fit, held_truths}
-use Rattle.vx_arrays.proofs.SlotRows.{truths_fit}
-use Rattle.vx_arrays.proofs.ValidRows.{length-where_valid, valid_again, slots_again}
+use Rattle.vx_arrays.proofs.BufferRows.{truths_fit}
+use Rattle.vx_arrays.proofs.ValidRows.{length-where_valid, valid_again, buffers_again}
 use Rattle.vx_arrays.proofs.WrittenRows.{truths_in}
 
 -- ---- a mask within another
@@ -49,19 +49,19 @@ truths_are_values [] = tt
 truths_are_values (b ∷ bits) = (refl, truths_are_values bits)
 
 pub bits_again : (mask bits : List Bool) → length mask ≡ length bits → NullsHold false mask bits → map truth_in (where_valid mask (map truth bits)) ≡ bits
-bits_again mask bits len held = slots_again truth_in (truth false) mask (map truth bits) (len ∙ sym (length-map bits truth)) refl (held_truths mask bits held) ∙ truths_in bits
+bits_again mask bits len held = buffers_again truth_in (truth false) mask (map truth bits) (len ∙ sym (length-map bits truth)) refl (held_truths mask bits held) ∙ truths_in bits
 
 -- ---- what they spell
-pub truths_spell : (n : Nullability) (rows : ℕ) (bytes validity slots : List ℕ) (mask bits : List Bool) → bytes ≡ validity ++ slots → IsValidity n rows validity → AreBytes bytes → mask ≡ valid_bits n rows validity → length bits ≡ rows
-    → packed bits ≡ slots → NullsHold false mask bits → Spells (bool_type n) rows bytes (where_valid mask (map truth bits))
-truths_spell n rows bytes validity slots mask bits joined ok small is count spelt held =
+pub truths_spell : (n : Nullability) (rows : ℕ) (bytes validity buffers : List ℕ) (mask bits : List Bool) → bytes ≡ validity ++ buffers → IsValidity n rows validity → AreBytes bytes → mask ≡ valid_bits n rows validity → length bits ≡ rows
+    → packed bits ≡ buffers → NullsHold false mask bits → Spells (bool_type n) rows bytes (where_valid mask (map truth bits))
+truths_spell n rows bytes validity buffers mask bits joined ok small is count spelt held =
     let values = where_valid mask (map truth bits) in
     let mask_len : length mask ≡ rows = ap length is ∙ valid_len n rows validity ok in
     let len : length mask ≡ length (map truth bits) = omega (arith, mask_len, count, length-map bits truth) in
     let taken : AllByRecursion (Takes n) mask = subst (AllByRecursion (Takes n)) (sym is) (mask_taken n rows validity) in
     let fit : AllByRecursion (Fits (bool_type n)) values = all_fit (bool_type n) mask (map truth bits) taken (truths_fit n bits) in
-    let front : validity_bytes n values ≡ validity = validity_is n rows validity values ok (front_bytes bytes validity slots joined small) (valid_again mask (map truth bits) len (truths_are_values bits) ∙ is) in
-    let back : packed (map truth_in values) ≡ slots = ap packed (bits_again mask bits (omega (arith, mask_len, count)) held) ∙ spelt in
+    let front : validity_bytes n values ≡ validity = validity_is n rows validity values ok (front_bytes bytes validity buffers joined small) (valid_again mask (map truth bits) len (truths_are_values bits) ∙ is) in
+    let back : packed (map truth_in values) ≡ buffers = ap packed (bits_again mask bits (omega (arith, mask_len, count)) held) ∙ spelt in
     let some : List ℕ → Option (List ℕ) = λ bs. Some bs in
     record {
       count = length-where_valid mask (map truth bits) len ∙ mask_len;
@@ -77,13 +77,13 @@ nulls_are_false n (null ∷ vs) h = (refl, nulls_are_false n vs h.1)
 nulls_are_false n (truth b ∷ vs) h = nulls_are_false n vs h.1
 nulls_are_false n (_ ∷ vs) h = absurd h.0
 
-pub spelled_false : (n : Nullability) (rows : ℕ) (validity slots : List ℕ) (mask bits : List Bool) (values : List Datum) → Known (bool_type n) n rows validity slots values → mask ≡ valid_bits n rows validity → length bits ≡ rows → packed bits ≡ slots → NullsHold false mask bits
-spelled_false n rows validity slots mask bits values k is count spelt =
+pub spelled_false : (n : Nullability) (rows : ℕ) (validity buffers : List ℕ) (mask bits : List Bool) (values : List Datum) → Known (bool_type n) n rows validity buffers values → mask ≡ valid_bits n rows validity → length bits ≡ rows → packed bits ≡ buffers → NullsHold false mask bits
+spelled_false n rows validity buffers mask bits values k is count spelt =
     let len : length (map truth_in values) ≡ length bits = length-map values truth_in ∙ k.count ∙ sym count in
     let same : map truth_in values ≡ bits =
     sym (packed_read (map truth_in values)) ∙ (λ i. bits_read (len i) ((sym k.slot ∙ sym spelt) i)) ∙ packed_read bits in
     let valid : map is_value values ≡ mask = sym k.valid ∙ sym is in
     subst (λ (bs : List Bool). NullsHold false bs bits) valid (subst (λ (bs : List Bool). NullsHold false (map is_value values) bs) same (nulls_are_false n values k.fit))
 
-pub truths_spelled : (n : Nullability) (rows : ℕ) (validity slots : List ℕ) (values : List Datum) → Known (bool_type n) n rows validity slots values → (length (map truth_in values) ≡ rows) × (packed (map truth_in values) ≡ slots)
-truths_spelled n rows validity slots values k = (length-map values truth_in ∙ k.count, sym k.slot)
+pub truths_spelled : (n : Nullability) (rows : ℕ) (validity buffers : List ℕ) (values : List Datum) → Known (bool_type n) n rows validity buffers values → (length (map truth_in values) ≡ rows) × (packed (map truth_in values) ≡ buffers)
+truths_spelled n rows validity buffers values k = (length-map values truth_in ∙ k.count, sym k.slot)

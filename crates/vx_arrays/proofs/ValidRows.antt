@@ -7,31 +7,31 @@ use Rattle.vx_masks.specs.Masks.{chosen}
 use Rattle.vx_types.specs.Reading.{where_valid}
 use Rattle.vx_masks.specs.Rows.{NullsHold}
 
-pub no_slots : (mask : List Bool) → where_valid mask [] ≡ []
-no_slots [] = refl
-no_slots (bit ∷ mask) = refl
+pub no_buffers : (mask : List Bool) → where_valid mask [] ≡ []
+no_buffers [] = refl
+no_buffers (bit ∷ mask) = refl
 
 -- ---- as many rows
-pub length-where_valid : (mask : List Bool) (slots : List Datum) → length mask ≡ length slots → length (where_valid mask slots) ≡ length mask
-length-where_valid [] slots e = refl
+pub length-where_valid : (mask : List Bool) (buffers : List Datum) → length mask ≡ length buffers → length (where_valid mask buffers) ≡ length mask
+length-where_valid [] buffers e = refl
 length-where_valid (bit ∷ mask) [] e = absurd (omega arith)
-length-where_valid (bit ∷ mask) (v ∷ slots) e = omega (arith, length-where_valid mask slots (omega arith))
+length-where_valid (bit ∷ mask) (v ∷ buffers) e = omega (arith, length-where_valid mask buffers (omega arith))
 
 -- ---- a range
-take-where_valid : (n : ℕ) (mask : List Bool) (slots : List Datum) → take n (where_valid mask slots) ≡ where_valid (take n mask) (take n slots)
-take-where_valid zero mask slots = refl
-take-where_valid (suc n) [] slots = refl
+take-where_valid : (n : ℕ) (mask : List Bool) (buffers : List Datum) → take n (where_valid mask buffers) ≡ where_valid (take n mask) (take n buffers)
+take-where_valid zero mask buffers = refl
+take-where_valid (suc n) [] buffers = refl
 take-where_valid (suc n) (bit ∷ mask) [] = refl
-take-where_valid (suc n) (bit ∷ mask) (v ∷ slots) = ap (λ (vs : List Datum). cond bit v null ∷ vs) (take-where_valid n mask slots)
+take-where_valid (suc n) (bit ∷ mask) (v ∷ buffers) = ap (λ (vs : List Datum). cond bit v null ∷ vs) (take-where_valid n mask buffers)
 
-drop-where_valid : (n : ℕ) (mask : List Bool) (slots : List Datum) → drop n (where_valid mask slots) ≡ where_valid (drop n mask) (drop n slots)
-drop-where_valid zero mask slots = refl
-drop-where_valid (suc n) [] slots = refl
-drop-where_valid (suc n) (bit ∷ mask) [] = sym (no_slots (drop n mask))
-drop-where_valid (suc n) (bit ∷ mask) (v ∷ slots) = drop-where_valid n mask slots
+drop-where_valid : (n : ℕ) (mask : List Bool) (buffers : List Datum) → drop n (where_valid mask buffers) ≡ where_valid (drop n mask) (drop n buffers)
+drop-where_valid zero mask buffers = refl
+drop-where_valid (suc n) [] buffers = refl
+drop-where_valid (suc n) (bit ∷ mask) [] = sym (no_buffers (drop n mask))
+drop-where_valid (suc n) (bit ∷ mask) (v ∷ buffers) = drop-where_valid n mask buffers
 
-pub range_where_valid : (mask : List Bool) (slots : List Datum) (from to : ℕ) → slice_range (where_valid mask slots) from to ≡ where_valid (slice_range mask from to) (slice_range slots from to)
-range_where_valid mask slots from to = ap (take (to - from)) (drop-where_valid from mask slots) ∙ take-where_valid (to - from) (drop from mask) (drop from slots)
+pub range_where_valid : (mask : List Bool) (buffers : List Datum) (from to : ℕ) → slice_range (where_valid mask buffers) from to ≡ where_valid (slice_range mask from to) (slice_range buffers from to)
+range_where_valid mask buffers from to = ap (take (to - from)) (drop-where_valid from mask buffers) ∙ take-where_valid (to - from) (drop from mask) (drop from buffers)
 
 take-NullsHold : {X : Type 0} (blank : X) (n : ℕ) (mask : List Bool) (xs : List X) → NullsHold blank mask xs → NullsHold blank (take n mask) (take n xs)
 take-NullsHold blank zero mask xs h = tt
@@ -58,13 +58,13 @@ pub range-NullsHold : {X : Type 0} (blank : X) (mask : List Bool) (xs : List X) 
 range-NullsHold blank mask xs from to h = take-NullsHold blank (to - from) (drop from mask) (drop from xs) (drop-NullsHold blank from mask xs h)
 
 -- ---- chosen rows
-pub chosen-where_valid : (bits mask : List Bool) (slots : List Datum) → length mask ≡ length slots → chosen bits (where_valid mask slots) ≡ where_valid (chosen bits mask) (chosen bits slots)
-chosen-where_valid [] mask slots e = refl
+pub chosen-where_valid : (bits mask : List Bool) (buffers : List Datum) → length mask ≡ length buffers → chosen bits (where_valid mask buffers) ≡ where_valid (chosen bits mask) (chosen bits buffers)
+chosen-where_valid [] mask buffers e = refl
 chosen-where_valid (true ∷ bits) [] [] e = refl
 chosen-where_valid (false ∷ bits) [] [] e = refl
-chosen-where_valid (true ∷ bits) (bit ∷ mask) (v ∷ slots) e = ap (λ (vs : List Datum). cond bit v null ∷ vs) (chosen-where_valid bits mask slots (omega arith))
-chosen-where_valid (false ∷ bits) (bit ∷ mask) (v ∷ slots) e = chosen-where_valid bits mask slots (omega arith)
-chosen-where_valid (b ∷ bits) [] (v ∷ slots) e = absurd (omega arith)
+chosen-where_valid (true ∷ bits) (bit ∷ mask) (v ∷ buffers) e = ap (λ (vs : List Datum). cond bit v null ∷ vs) (chosen-where_valid bits mask buffers (omega arith))
+chosen-where_valid (false ∷ bits) (bit ∷ mask) (v ∷ buffers) e = chosen-where_valid bits mask buffers (omega arith)
+chosen-where_valid (b ∷ bits) [] (v ∷ buffers) e = absurd (omega arith)
 chosen-where_valid (b ∷ bits) (bit ∷ mask) [] e = absurd (omega arith)
 
 pub chosen-NullsHold : {X : Type 0} (blank : X) (bits mask : List Bool) (xs : List X) → length mask ≡ length xs → NullsHold blank mask xs → NullsHold blank (chosen bits mask) (chosen bits xs)
@@ -88,10 +88,10 @@ length-chosen (b ∷ bits) [] (y ∷ ys) e = absurd (omega arith)
 length-chosen (b ∷ bits) (x ∷ xs) [] e = absurd (omega arith)
 
 -- ---- rows behind rows
-pub append-where_valid : (mask more : List Bool) (slots others : List Datum) → length mask ≡ length slots → where_valid (mask ++ more) (slots ++ others) ≡ where_valid mask slots ++ where_valid more others
+pub append-where_valid : (mask more : List Bool) (buffers others : List Datum) → length mask ≡ length buffers → where_valid (mask ++ more) (buffers ++ others) ≡ where_valid mask buffers ++ where_valid more others
 append-where_valid [] more [] others e = refl
-append-where_valid (bit ∷ mask) more (v ∷ slots) others e = ap (λ (vs : List Datum). cond bit v null ∷ vs) (append-where_valid mask more slots others (omega arith))
-append-where_valid [] more (v ∷ slots) others e = absurd (omega arith)
+append-where_valid (bit ∷ mask) more (v ∷ buffers) others e = ap (λ (vs : List Datum). cond bit v null ∷ vs) (append-where_valid mask more buffers others (omega arith))
+append-where_valid [] more (v ∷ buffers) others e = absurd (omega arith)
 append-where_valid (bit ∷ mask) more [] others e = absurd (omega arith)
 
 pub append-NullsHold : {X : Type 0} (blank : X) (mask more : List Bool) (xs ys : List X) → length mask ≡ length xs → NullsHold blank mask xs → NullsHold blank more ys → NullsHold blank (mask ++ more) (xs ++ ys)
@@ -105,18 +105,18 @@ append-NullsHold blank (bit ∷ mask) more [] ys e g h = absurd (omega arith)
 
 -- ---- what fits
 
--- ---- the mask and the slots again
-pub valid_again : (mask : List Bool) (slots : List Datum) → length mask ≡ length slots → AllByRecursion (λ v. is_value v ≡ true) slots → map is_value (where_valid mask slots) ≡ mask
-valid_again [] slots e h = refl
-valid_again (true ∷ mask) (v ∷ slots) e h = λ i. h.0 i ∷ valid_again mask slots (omega arith) h.1 i
-valid_again (false ∷ mask) (v ∷ slots) e h = ap (λ (bits : List Bool). false ∷ bits) (valid_again mask slots (omega arith) h.1)
+-- ---- the mask and the buffers again
+pub valid_again : (mask : List Bool) (buffers : List Datum) → length mask ≡ length buffers → AllByRecursion (λ v. is_value v ≡ true) buffers → map is_value (where_valid mask buffers) ≡ mask
+valid_again [] buffers e h = refl
+valid_again (true ∷ mask) (v ∷ buffers) e h = λ i. h.0 i ∷ valid_again mask buffers (omega arith) h.1 i
+valid_again (false ∷ mask) (v ∷ buffers) e h = ap (λ (bits : List Bool). false ∷ bits) (valid_again mask buffers (omega arith) h.1)
 valid_again (bit ∷ mask) [] e h = absurd (omega arith)
 
-pub slots_again : {A : Type 0} (f : Datum → A) (blank : Datum) (mask : List Bool) (slots : List Datum) → length mask ≡ length slots → f null ≡ f blank → NullsHold blank mask slots → map f (where_valid mask slots) ≡ map f slots
-slots_again f blank [] [] e n h = refl
-slots_again {A} f blank (true ∷ mask) (v ∷ slots) e n h = ap (λ (ys : List A). f v ∷ ys) (slots_again f blank mask slots (omega arith) n h)
-slots_again f blank (false ∷ mask) (v ∷ slots) e n h =
+pub buffers_again : {A : Type 0} (f : Datum → A) (blank : Datum) (mask : List Bool) (buffers : List Datum) → length mask ≡ length buffers → f null ≡ f blank → NullsHold blank mask buffers → map f (where_valid mask buffers) ≡ map f buffers
+buffers_again f blank [] [] e n h = refl
+buffers_again {A} f blank (true ∷ mask) (v ∷ buffers) e n h = ap (λ (ys : List A). f v ∷ ys) (buffers_again f blank mask buffers (omega arith) n h)
+buffers_again f blank (false ∷ mask) (v ∷ buffers) e n h =
     let here = n ∙ ap f (sym h.0) in
-    λ i. here i ∷ slots_again f blank mask slots (omega arith) n h.1 i
-slots_again f blank [] (v ∷ slots) e n h = absurd (omega arith)
-slots_again f blank (bit ∷ mask) [] e n h = absurd (omega arith)
+    λ i. here i ∷ buffers_again f blank mask buffers (omega arith) n h.1 i
+buffers_again f blank [] (v ∷ buffers) e n h = absurd (omega arith)
+buffers_again f blank (bit ∷ mask) [] e n h = absurd (omega arith)

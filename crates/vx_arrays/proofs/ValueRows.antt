@@ -22,8 +22,8 @@ use Rattle.vx_arrays.proofs.DecodedNumbers.{nulls_are_zero}
 use Rattle.vx_arrays.proofs.DecodedTexts.{nulls_are_empty}
 use Rattle.vx_arrays.proofs.TruthBits.{nulls_are_false}
 use Rattle.vx_arrays.specs.Fields.{items_behind, first_item, field_at, columns_for}
-use Rattle.vx_arrays.specs.PartRows.{members_in, beside, rows_of, StructRows, struct_rows, HaveRows}
-use Rattle.vx_arrays.specs.Slots.{bare, bare_members}
+use Rattle.vx_arrays.specs.ArrayRows.{members_in, beside, rows_of, StructRows, struct_rows, HaveRows}
+use Rattle.vx_arrays.specs.Buffers.{bare, bare_members}
 
 -- ---- one row more
 
@@ -172,8 +172,8 @@ pub lists_rows : (s t : DataType) (n : Nullability) (vs : List Datum) (rows : �
 lists_rows s t n vs rows e h len = ap (λ (k : ℕ). replicate k null) len ∙ sym (none_but_nulls t vs (fit_as s (list_type t n) vs e h))
 
 -- ---- no rows
-pub none_valid : (mask : List Bool) (slots : List Datum) → mask ≡ [] → where_valid mask slots ≡ []
-none_valid mask slots e = ap (λ (bits : List Bool). where_valid bits slots) e
+pub none_valid : (mask : List Bool) (buffers : List Datum) → mask ≡ [] → where_valid mask buffers ≡ []
+none_valid mask buffers e = ap (λ (bits : List Bool). where_valid bits buffers) e
 
 pub none_held : {X : Type 0} (blank : X) (mask : List Bool) (xs : List X) → mask ≡ [] → NullsHold blank mask xs
 none_held blank mask xs e = subst (λ (bits : List Bool). NullsHold blank bits xs) (sym e) tt

@@ -15,4 +15,4 @@ cell_datum variants.Null = null
 cell_datum (variants.Bool b) = truth b
 cell_datum (variants.Int z) = number z
 cell_datum (variants.Text t) = text t.now
-cell_datum (variants.Struct parts row) = struct_at parts.now.rows row
+cell_datum (variants.Struct arrays row) = struct_at arrays.now.rows row

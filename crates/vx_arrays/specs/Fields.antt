@@ -2,7 +2,7 @@
 use Rattle.std.specs.Prelude.{ℕ, zero, suc, List, [], ◌∷◌, map}
 use Rattle.vx_types.specs.Columns.{ColumnData}
 use Rattle.vx_types.specs.Data.{Members, no_members, member, Datum, null, structure, Items, no_items, item}
-use Rattle.vx_arrays.specs.Slots.{bare}
+use Rattle.vx_arrays.specs.Buffers.{bare}
 
 -- the items from a place on
 abbrev pub items_behind : ℕ → Items → Items

@@ -1,12 +1,12 @@
+pub mod ArrayFalls
+pub mod ArrayRows
+pub mod ArrayViews
+pub mod Buffers
 pub mod Cells
 pub mod Fields
 pub mod LookUps
-pub mod Looks
 pub mod Numbers
 pub mod PackedColumns
-pub mod PartFalls
-pub mod PartRows
 pub mod Places
-pub mod Slots
 pub mod Texts
 pub use Rattle.vx_masks.specs.Rows

@@ -4,7 +4,7 @@ use Rattle.std.specs.List.{AllByRecursion}
 use Rattle.vx_types.specs.Data.{DataType}
 use Rattle.vx_types.specs.Columns.{ColumnData}
 use Rattle.vx_types.specs.Fits.{Fits}
-use Rattle.vx_arrays.specs.Slots.{bare}
+use Rattle.vx_arrays.specs.Buffers.{bare}
 
 -- a dtype, and rows that it takes
 pub record IsColumn (t : DataType) (rows : ColumnData) : Type 0 where

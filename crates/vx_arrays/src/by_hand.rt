@@ -6,9 +6,9 @@ ghost use Rattle.vx_types.specs.declared.dtypes.Nullability.TheVariants.{NonNull
 ghost use Rattle.vx_types.specs.Data.{bool_type, int_type, utf8_type, struct_type, list_type, no_members, member, no_items, item, null, truth, number, text, structure};
 ghost use Rattle.vx_arrays.specs.Fields.{field_at};
 ghost use Rattle.vx_arrays.specs.LookUps.{code_places};
-ghost use Rattle.vx_arrays.specs.PartRows.{beside, rows_of};
+ghost use Rattle.vx_arrays.specs.ArrayRows.{beside, rows_of};
 ghost use Rattle.vx_arrays.specs.Places.{places_in};
-ghost use Rattle.vx_arrays.specs.Slots.{bare, blank_in};
+ghost use Rattle.vx_arrays.specs.Buffers.{bare, blank_in};
 ghost use Rattle.vx_arrays.specs.Texts.{cut, ends_after, moved, start_in};
 ghost use Rattle.vx_masks.specs.Rows.{taken};
 
@@ -33,8 +33,8 @@ pub fn texts_by_hand()
     ensures moved_text { moved 10 4 9 ≡ 15 }
 {}
 
-/// What slots tell of a dtype, and the blank of each. The second item of a struct, the item that it doesn't have, and
-/// the field of a null. Parts beside one another, row by row, in the order of the fields; no parts have rows too.
+/// What buffers tell of a dtype, and the blank of each. The second item of a struct, the item that it doesn't have, and
+/// the field of a null. Arrays beside one another, row by row, in the order of the fields; no arrays have rows too.
 /// Values beside rows go as far as the shorter of them.
 pub fn structs_by_hand()
     ensures told { bare (struct_type (member (97 ∷ []) (int_type I8 Nullable) (member (98 ∷ []) (list_type (utf8_type Nullable) Nullable) no_members)) Nullable) ≡ struct_type (member [] (int_type I8 NonNullable) (member [] (list_type (bool_type NonNullable) NonNullable) no_members)) NonNullable }
@@ -43,6 +43,6 @@ pub fn structs_by_hand()
     ensures no_such_item { field_at 2 (structure (item (truth true) (item (number (negsuc 1)) no_items))) ≡ null }
     ensures field_of_null { field_at 0 null ≡ null }
     ensures in_order { rows_of 2 (record { dtype = bool_type NonNullable; values = truth true ∷ null ∷ [] } ∷ record { dtype = utf8_type NonNullable; values = text [] ∷ text (97 ∷ []) ∷ [] } ∷ []) ≡ item (truth true) (item (text []) no_items) ∷ item null (item (text (97 ∷ [])) no_items) ∷ [] }
-    ensures no_parts { rows_of 2 [] ≡ no_items ∷ no_items ∷ [] }
+    ensures no_arrays { rows_of 2 [] ≡ no_items ∷ no_items ∷ [] }
     ensures shorter { beside (truth true ∷ []) (no_items ∷ no_items ∷ []) ≡ item (truth true) no_items ∷ [] }
 {}

@@ -4,7 +4,7 @@ ghost use Rattle.std.specs.Prelude.{◌≡◌, IfOk};
 ghost use Rattle.vx_types.specs.ValueViews.{datum};
 ghost use Rattle.vx_arrays.specs.Cells.{cell_datum, struct_at};
 
-use crate::parts::Parts;
+use crate::arrays::ChildArrays;
 use std::alloc::{AllocError, Global};
 use vx_types::{Text, Value};
 
@@ -20,16 +20,16 @@ pub enum Cell<'a> {
     /// A text.
     Text(&'a str),
     /// The struct of a row, and no value where there is no such row.
-    Struct(&'a Parts, usize),
+    Struct(&'a ChildArrays, usize),
 }
 
 /// The struct of a row in memory of its own, and no value where there is no such row.
-#[tactic(auto, using(crate::proofs::PartRows::struct_here, crate::proofs::PartRows::struct_past))]
-fn struct_value(alloc: Global, parts: &Parts, row: usize) -> Result<Value, AllocError>
-    ensures { IfOk result (λ value. datum value ≡ struct_at parts.now.rows row) }
+#[tactic(auto, using(crate::proofs::ArrayRows::struct_here, crate::proofs::ArrayRows::struct_past))]
+fn struct_value(alloc: Global, arrays: &ChildArrays, row: usize) -> Result<Value, AllocError>
+    ensures { IfOk result (λ value. datum value ≡ struct_at arrays.now.rows row) }
 {
-    if row < parts.len() {
-        let values = parts.get(alloc, row)?;
+    if row < arrays.len() {
+        let values = arrays.get(alloc, row)?;
         Ok(Value::Struct(values))
     } else {
         Ok(Value::Null)
@@ -45,7 +45,7 @@ impl Cell<'_> {
             Cell::Null => Ok(Value::Null),
             Cell::Bool(truth) => Ok(Value::Bool(truth)),
             Cell::Int(number) => Ok(Value::Int(number)),
-            Cell::Struct(parts, row) => struct_value(alloc, parts, row),
+            Cell::Struct(arrays, row) => struct_value(alloc, arrays, row),
             Cell::Text(text) => {
                 let copied = String::from_str(alloc, text)?;
                 Ok(Value::Text(Text::from_string(copied)))

@@ -9,7 +9,7 @@ ghost use Rattle.vx_types.specs.Reading.{where_valid};
 ghost use Rattle.vx_types.specs.Segment.{Spells, width_of};
 ghost use Rattle.vx_arrays.specs.Numbers.{kind_in, numbers_in};
 ghost use Rattle.vx_masks.specs.Rows.{NullsHold};
-ghost use Rattle.vx_arrays.specs.Slots.{Takes};
+ghost use Rattle.vx_arrays.specs.Buffers.{Takes};
 
 use crate::decode_errors::DecodeError;
 use crate::numbers::Numbers;
@@ -44,15 +44,15 @@ pub fn decode_numbers(
     ensures spelled { IfOk result (λ read. Spells (int_type kind nullability) rows bytes.now (where_valid read.0 (map number (numbers_in read.1)))) }
     ensures refused { IsErrOf result DecodeError.BadSegment → (values : List Datum) → ¬ (Spells (int_type kind nullability) rows bytes.now values) }
 {
-    let (validity, slots) = match split_validity(nullability, rows, bytes) {
+    let (validity, buffers) = match split_validity(nullability, rows, bytes) {
         Some(parts) => parts,
         None => return Err(DecodeError::BadSegment),
     };
-    if !is_filled(kind, rows, slots) {
+    if !is_filled(kind, rows, buffers) {
         return Err(DecodeError::BadSegment);
     }
     let valid = mask_of(alloc, nullability, rows, validity)?;
-    let numbers = Numbers::read(alloc, kind, rows as usize, slots)?;
+    let numbers = Numbers::read(alloc, kind, rows as usize, buffers)?;
     let _len = numbers.len();
     if numbers.hold_zero(&valid) {
         Ok((valid, numbers))

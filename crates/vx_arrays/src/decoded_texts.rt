@@ -7,7 +7,7 @@ ghost use Rattle.vx_types.specs.Data.{Datum, utf8_type, text};
 ghost use Rattle.vx_types.specs.Reading.{where_valid};
 ghost use Rattle.vx_types.specs.Segment.{Spells};
 ghost use Rattle.vx_masks.specs.Rows.{NullsHold};
-ghost use Rattle.vx_arrays.specs.Slots.{Takes};
+ghost use Rattle.vx_arrays.specs.Buffers.{Takes};
 
 use crate::decode_errors::DecodeError;
 use crate::text_ends::ends_of;
@@ -31,14 +31,14 @@ pub fn decode_texts(
     ensures spelled { IfOk result (λ read. Spells (utf8_type nullability) rows bytes.now (where_valid read.0 (map text read.1))) }
     ensures refused { IsErrOf result DecodeError.BadSegment → (values : List Datum) → ¬ (Spells (utf8_type nullability) rows bytes.now values) }
 {
-    let (validity, slots) = match split_validity(nullability, rows, bytes) {
+    let (validity, buffers) = match split_validity(nullability, rows, bytes) {
         Some(parts) => parts,
         None => return Err(DecodeError::BadSegment),
     };
-    if ((slots.len() / 4) as u64) < rows {
+    if ((buffers.len() / 4) as u64) < rows {
         return Err(DecodeError::BadSegment);
     }
-    let (lengths, joined) = slots.split_at(4 * rows as usize);
+    let (lengths, joined) = buffers.split_at(4 * rows as usize);
     let ends = match ends_of(alloc, rows, lengths, joined.len())? {
         Some(ends) => ends,
         None => return Err(DecodeError::BadSegment),

@@ -7,7 +7,7 @@ ghost use Rattle.vx_types.specs.Data.{Datum, bool_type, truth};
 ghost use Rattle.vx_types.specs.Reading.{where_valid};
 ghost use Rattle.vx_types.specs.Segment.{Spells};
 ghost use Rattle.vx_masks.specs.Rows.{NullsHold};
-ghost use Rattle.vx_arrays.specs.Slots.{Takes};
+ghost use Rattle.vx_arrays.specs.Buffers.{Takes};
 
 use crate::decode_errors::DecodeError;
 use crate::validity::{mask_of, split_validity};
@@ -29,11 +29,11 @@ pub fn decode_truths(
     ensures spelled { IfOk result (λ read. Spells (bool_type nullability) rows bytes.now (where_valid read.0 (map truth read.1))) }
     ensures refused { IsErrOf result DecodeError.BadSegment → (values : List Datum) → ¬ (Spells (bool_type nullability) rows bytes.now values) }
 {
-    let (validity, slots) = match split_validity(nullability, rows, bytes) {
+    let (validity, buffers) = match split_validity(nullability, rows, bytes) {
         Some(parts) => parts,
         None => return Err(DecodeError::BadSegment),
     };
-    let truths = match Mask::read(alloc, rows, slots)? {
+    let truths = match Mask::read(alloc, rows, buffers)? {
         Some(truths) => truths,
         None => return Err(DecodeError::BadSegment),
     };

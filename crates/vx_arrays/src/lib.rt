@@ -3,6 +3,7 @@
 //! [`texts_by_hand`], [`structs_by_hand`].
 #![tactic(auto)]
 
+mod arrays;
 mod by_hand;
 mod cells;
 mod decode_errors;
@@ -12,7 +13,6 @@ mod decoded_truths;
 mod kinds;
 mod numbers;
 mod of_values;
-mod parts;
 mod places;
 mod primitives;
 mod rows;
@@ -20,6 +20,7 @@ mod text_ends;
 mod texts;
 mod validity;
 
+pub use arrays::{Array, ArrayView, Buffers, ChildArrays, SharedArray};
 pub use by_hand::{places_by_hand, structs_by_hand, texts_by_hand};
 pub use cells::Cell;
 pub use decode_errors::DecodeError;
@@ -28,6 +29,5 @@ pub use decoded_texts::decode_texts;
 pub use decoded_truths::decode_truths;
 pub use kinds::Kind;
 pub use numbers::Numbers;
-pub use parts::{Look, Part, Parts, SharedPart, Slots};
 pub use primitives::Primitive;
 pub use texts::Texts;

@@ -11,12 +11,12 @@ ghost use Rattle.vx_types.specs.Views.{data_type};
 ghost use Rattle.vx_types.specs.ValueViews.{datum, items_of};
 ghost use Rattle.vx_arrays.specs.Fields.{field_at, columns_for};
 ghost use Rattle.vx_arrays.specs.Numbers.{kind_in, numbers_in};
-ghost use Rattle.vx_arrays.specs.PartRows.{struct_rows};
-ghost use Rattle.vx_arrays.specs.Slots.{bare};
+ghost use Rattle.vx_arrays.specs.ArrayRows.{struct_rows};
+ghost use Rattle.vx_arrays.specs.Buffers.{bare};
 
+use crate::arrays::{Array, ChildArrays, SharedArray};
 use crate::kinds::Kind;
 use crate::numbers::Numbers;
-use crate::parts::{Part, Parts, SharedPart};
 use crate::primitives::Primitive;
 use crate::texts::Texts;
 use std::alloc::{AllocError, Global};
@@ -147,105 +147,109 @@ fn fields_of(alloc: Global, values: &[Value], place: usize) -> Result<Vec<Value>
     Ok(found)
 }
 
-impl Part {
+impl Array {
     /// The rows of these values, each of which is null or one that the dtype takes.
     #[cycle(of_values)]
-    pub fn of_values(alloc: Global, dtype: &DType, values: &[Value]) -> Result<Part, AllocError>
+    pub fn of_values(alloc: Global, dtype: &DType, values: &[Value]) -> Result<Array, AllocError>
         requires { AllByRecursion (Fits (made_nullable (data_type dtype.now))) (map datum values.now) }
-        ensures dtype { IfOk result (λ part. part.dtype ≡ bare (data_type dtype.now)) }
-        ensures values { IfOk result (λ part. part.values ≡ map datum values.now) }
+        ensures dtype { IfOk result (λ array. array.dtype ≡ bare (data_type dtype.now)) }
+        ensures values { IfOk result (λ array. array.values ≡ map datum values.now) }
     {
         let validity = validity_of(alloc, values)?;
         match dtype {
             DType::Bool(_) => {
                 let truths = truths_of(alloc, values)?;
-                Ok(Part::of_truths(validity, truths))
+                Ok(Array::of_truths(validity, truths))
             }
             DType::Int(kind, _) => {
                 let numbers = numbers_of(alloc, *kind, values)?;
-                Ok(Part::of_numbers(validity, numbers))
+                Ok(Array::of_numbers(validity, numbers))
             }
             DType::Utf8(_) => {
                 let texts = texts_of(alloc, values)?;
-                Ok(Part::of_texts(validity, texts))
+                Ok(Array::of_texts(validity, texts))
             }
             DType::Struct(fields, _) => {
-                let parts = Parts::of_values(alloc, fields, values)?;
-                Ok(Part::of_structs(validity, parts))
+                let arrays = ChildArrays::of_values(alloc, fields, values)?;
+                Ok(Array::of_structs(validity, arrays))
             }
             DType::List(_, _) => {
-                let nulls = Part::of_nulls(alloc, values.len() as u64)?;
+                let nulls = Array::of_nulls(alloc, values.len() as u64)?;
                 Ok(nulls)
             }
         }
     }
 }
 
-impl Parts {
-    /// The parts of these structs, nulls where a row has no struct.
+impl ChildArrays {
+    /// The arrays of these structs, nulls where a row has no struct.
     #[cycle(of_values)]
-    fn of_values(alloc: Global, fields: &Fields, values: &[Value]) -> Result<Parts, AllocError>
+    fn of_values(
+        alloc: Global,
+        fields: &Fields,
+        values: &[Value],
+    ) -> Result<ChildArrays, AllocError>
         requires { AllByRecursion (Fits (struct_type fields.now Nullable)) (map datum values.now) }
-        ensures { IfOk result (λ parts. parts ≡ struct_rows (length values.now) (columns_for 0 fields.now (map datum values.now))) }
+        ensures { IfOk result (λ arrays. arrays ≡ struct_rows (length values.now) (columns_for 0 fields.now (map datum values.now))) }
     {
         let members = fields.items();
-        let mut parts = Vec::with_capacity(alloc, members.len())?;
+        let mut arrays = Vec::with_capacity(alloc, members.len())?;
         for (place, field) in members.iter().enumerate() {
             let column = fields_of(alloc, values, place)?;
-            let part = Part::of_values(alloc, &field.dtype, column.as_slice())?;
-            let shared = SharedPart::new(alloc, part)?;
-            parts.push(shared)?;
+            let array = Array::of_values(alloc, &field.dtype, column.as_slice())?;
+            let shared = SharedArray::new(alloc, array)?;
+            arrays.push(shared)?;
         }
-        Ok(Parts::of(values.len(), parts))
+        Ok(ChildArrays::of(values.len(), arrays))
     }
 }
 
-impl Part {
+impl Array {
     /// No rows, with room for so many.
     #[cycle(with_room)]
-    pub fn with_room(alloc: Global, dtype: &DType, rows: usize) -> Result<Part, AllocError>
-        ensures dtype { IfOk result (λ part. part.dtype ≡ bare (data_type dtype.now)) }
-        ensures values { IfOk result (λ part. part.values ≡ []) }
+    pub fn with_room(alloc: Global, dtype: &DType, rows: usize) -> Result<Array, AllocError>
+        ensures dtype { IfOk result (λ array. array.dtype ≡ bare (data_type dtype.now)) }
+        ensures values { IfOk result (λ array. array.values ≡ []) }
     {
         let validity = Mask::with_room(alloc, rows as u64)?;
         match dtype {
             DType::Bool(_) => {
                 let truths = Mask::with_room(alloc, rows as u64)?;
-                Ok(Part::of_truths(validity, truths))
+                Ok(Array::of_truths(validity, truths))
             }
             DType::Int(kind, _) => {
                 let numbers = Numbers::with_room(alloc, *kind, rows)?;
-                Ok(Part::of_numbers(validity, numbers))
+                Ok(Array::of_numbers(validity, numbers))
             }
             DType::Utf8(_) => {
                 let texts = Texts::with_room(alloc, rows)?;
-                Ok(Part::of_texts(validity, texts))
+                Ok(Array::of_texts(validity, texts))
             }
             DType::Struct(fields, _) => {
-                let parts = Parts::with_room(alloc, fields, rows)?;
-                Ok(Part::of_structs(validity, parts))
+                let arrays = ChildArrays::with_room(alloc, fields, rows)?;
+                Ok(Array::of_structs(validity, arrays))
             }
             DType::List(_, _) => {
-                let nulls = Part::of_nulls(alloc, 0)?;
+                let nulls = Array::of_nulls(alloc, 0)?;
                 Ok(nulls)
             }
         }
     }
 }
 
-impl Parts {
+impl ChildArrays {
     /// No structs, with room for so many.
     #[cycle(with_room)]
-    fn with_room(alloc: Global, fields: &Fields, rows: usize) -> Result<Parts, AllocError>
-        ensures { IfOk result (λ parts. parts ≡ struct_rows 0 (columns_for 0 fields.now [])) }
+    fn with_room(alloc: Global, fields: &Fields, rows: usize) -> Result<ChildArrays, AllocError>
+        ensures { IfOk result (λ arrays. arrays ≡ struct_rows 0 (columns_for 0 fields.now [])) }
     {
         let members = fields.items();
-        let mut parts = Vec::with_capacity(alloc, members.len())?;
+        let mut arrays = Vec::with_capacity(alloc, members.len())?;
         for field in members {
-            let part = Part::with_room(alloc, &field.dtype, rows)?;
-            let shared = SharedPart::new(alloc, part)?;
-            parts.push(shared)?;
+            let array = Array::with_room(alloc, &field.dtype, rows)?;
+            let shared = SharedArray::new(alloc, array)?;
+            arrays.push(shared)?;
         }
-        Ok(Parts::of(0, parts))
+        Ok(ChildArrays::of(0, arrays))
     }
 }

@@ -1,8 +1,8 @@
 //! The commands.
 
 use crate::big::write_big;
+use crate::case_states::{CaseState, new_case_state};
 use crate::column_calls::write_of_columns;
-use crate::desks::{Desk, new_desk};
 use crate::dtype_calls::write_of_dtypes;
 use crate::errors::write_error;
 use crate::fields::write_bytes;
@@ -18,7 +18,7 @@ use vx_base::SegmentSource;
 /// Appends the answer to a command that asks.
 fn write_answer(
     alloc: Global,
-    desk: &mut Desk,
+    case_state: &mut CaseState,
     command: &str,
     rest: &str,
     out: &mut String,
@@ -29,43 +29,43 @@ fn write_answer(
         "dtype" | "same_dtype" | "kind" | "find" | "field" | "field_count" => {
             write_of_dtypes(alloc, command, rest, out)
         }
-        "fetch" => write_fetched(&mut desk.memory, rest, out),
-        "forget" => write_forgotten(&mut desk.memory, rest, out),
+        "fetch" => write_fetched(&mut case_state.memory, rest, out),
+        "forget" => write_forgotten(&mut case_state.memory, rest, out),
         "asked" => {
-            let memory = &desk.memory;
+            let memory = &case_state.memory;
             write_counts(memory.faults(), memory.idle(), memory.asked(), out)
         }
-        "request" => write_requested(&mut desk.script, rest, out),
-        "poll" => write_poll(&mut desk.script, rest, out),
+        "request" => write_requested(&mut case_state.script, rest, out),
+        "poll" => write_poll(&mut case_state.script, rest, out),
         "counts" => {
-            let script = &desk.script;
+            let script = &case_state.script;
             write_counts(script.faults(), script.idle(), script.asked(), out)
         }
-        "next" => write_next(&mut desk.stream, rest, out),
-        "put" => write_taken(alloc, &mut desk.sink, rest, out),
-        "written" => write_bytes(desk.sink.written(), out),
+        "next" => write_next(&mut case_state.stream, rest, out),
+        "put" => write_taken(alloc, &mut case_state.sink, rest, out),
+        "written" => write_bytes(case_state.sink.written(), out),
         "error" => write_error(rest, out),
         "big" => write_big(alloc, rest, out),
-        _ => write_of_columns(alloc, &mut desk.column, command, rest, out),
+        _ => write_of_columns(alloc, &mut case_state.column, command, rest, out),
     }
 }
 
 /// Does what a line sets, or appends the answer to it.
 fn write_line(
     alloc: Global,
-    desk: &mut Desk,
+    case_state: &mut CaseState,
     line: &str,
     out: &mut String,
 ) -> Result<(), AllocError> {
     let (command, rest) = line.split_once(' ').unwrap_or((line, ""));
     match command {
         "" | "#" => (),
-        "memory" => set_memory(alloc, &mut desk.memory, rest),
-        "script" => set_script(alloc, &mut desk.script, rest),
-        "stream" => set_stream(alloc, &mut desk.stream, rest),
-        "sink" => set_sink(alloc, &mut desk.sink, rest),
-        "clear" => desk.script.clear(),
-        _ => return write_answer(alloc, desk, command, rest, out),
+        "memory" => set_memory(alloc, &mut case_state.memory, rest),
+        "script" => set_script(alloc, &mut case_state.script, rest),
+        "stream" => set_stream(alloc, &mut case_state.stream, rest),
+        "sink" => set_sink(alloc, &mut case_state.sink, rest),
+        "clear" => case_state.script.clear(),
+        _ => return write_answer(alloc, case_state, command, rest, out),
     }
     Ok(())
 }
@@ -73,13 +73,13 @@ fn write_line(
 /// Appends each line with its answer, over what is set so far.
 fn write_all(
     alloc: Global,
-    desk: &mut Desk,
+    case_state: &mut CaseState,
     lines: &str,
     out: &mut String,
 ) -> Result<(), AllocError> {
     for line in lines.lines() {
         out.push_str(line)
-            .and(write_line(alloc, desk, line, out))
+            .and(write_line(alloc, case_state, line, out))
             .and(out.push('\n'))?;
     }
     Ok(())
@@ -91,8 +91,8 @@ pub(crate) fn write_answers(
     lines: &str,
     out: &mut String,
 ) -> Result<(), AllocError> {
-    let mut desk = new_desk(alloc)?;
-    let written = write_all(alloc, &mut desk, lines, out);
-    drop(desk);
+    let mut case_state = new_case_state(alloc)?;
+    let written = write_all(alloc, &mut case_state, lines, out);
+    drop(case_state);
     written
 }

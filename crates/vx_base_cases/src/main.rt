@@ -5,9 +5,9 @@
 
 mod big;
 mod built;
+mod case_states;
 mod column_calls;
 mod commands;
-mod desks;
 mod dtype_calls;
 mod errors;
 mod fields;

@@ -6,7 +6,7 @@ use Rattle.std.specs.List.{slice_get}
 use Rattle.vx_expr.specs.Meaning.{meaning}
 use Rattle.vx_expr.specs.Rows.{no_bound}
 use Rattle.vx_expr.specs.Packs.{struct_row}
-use Rattle.vx_rows.specs.Derivations.{Derivation, nothing, cell, list_row, given, packed, valid_where, looked_up, worked_out, read_whole, Derivations, no_more, also, Leaves, count_of, derived, derived_each}
+use Rattle.vx_rows.specs.Derivations.{Derivation, nothing, of_leaf, list_row, given, packed, valid_where, looked_up, worked_out, read_whole, Derivations, no_more, also, Leaves, derivation_count, derived, derived_each}
 use Rattle.vx_rows.specs.Given.{GivenValues, all_given, values_with, share_with, with_given, each_with_given, AreCertified, EachCertified}
 use Rattle.vx_rows.specs.Reads.{Way, inside, code_row, Found, a_code, reads_of, reads_of_each, Finds, IsPlaceAmong}
 use Rattle.vx_rows.proofs.ReadRows.{derived_count}
@@ -43,7 +43,7 @@ share_added leaves row d whole own more all child (inr (none, same)) is =
 mutual
   pub added : (leaves : Leaves) (f h g : GivenValues) → AllStand f h g → (d : Derivation) → AreCertified leaves h d → derived leaves (with_given g d) ≡ derived leaves (with_given f d)
   added leaves f h g stand nothing are = refl
-  added leaves f h g stand (cell at) are = refl
+  added leaves f h g stand (of_leaf at) are = refl
   added leaves f h g stand (list_row list row) are = refl
   added leaves f h g stand (given v) are = refl
   added leaves f h g stand (packed ds) are = ap (option_map struct_row) (added_each leaves f h g stand ds are)
@@ -67,17 +67,17 @@ mutual
 
 -- ---- how many values there are
 
-counted : (leaves : Leaves) (ds : Derivations) (vs : List Datum) → derived_each leaves ds ≡ Some vs → count_of ds ≡ length vs
-counted leaves ds vs is = sym (subst (λ (o : Option (List Datum)). IfSome o (λ vs. length vs ≡ count_of ds)) is (derived_count leaves ds))
+counted : (leaves : Leaves) (ds : Derivations) (vs : List Datum) → derived_each leaves ds ≡ Some vs → derivation_count ds ≡ length vs
+counted leaves ds vs is = sym (subst (λ (o : Option (List Datum)). IfSome o (λ vs. length vs ≡ derivation_count ds)) is (derived_count leaves ds))
 
-count_as : (leaves : Leaves) (values : Derivations) (more : Option (List Datum)) → IfSome more (λ vs. derived_each leaves values ≡ Some vs) → count_of (values_with more values) ≡ count_of values
+count_as : (leaves : Leaves) (values : Derivations) (more : Option (List Datum)) → IfSome more (λ vs. derived_each leaves values ≡ Some vs) → derivation_count (values_with more values) ≡ derivation_count values
 count_as leaves values None is = refl
 count_as leaves values (Some vs) is = counted leaves (all_given vs) vs (derived_given leaves vs) ∙ sym (counted leaves values vs is)
 
-count_added : (leaves : Leaves) (values : Derivations) (own more all : Option (List Datum)) → Stands own more all → IfSome more (λ vs. derived_each leaves values ≡ Some vs) → count_of (values_with all values) ≡ count_of (values_with own values)
-count_added leaves values own more all (inl same) is = ap (λ (o : Option (List Datum)). count_of (values_with o values)) same
+count_added : (leaves : Leaves) (values : Derivations) (own more all : Option (List Datum)) → Stands own more all → IfSome more (λ vs. derived_each leaves values ≡ Some vs) → derivation_count (values_with all values) ≡ derivation_count (values_with own values)
+count_added leaves values own more all (inl same) is = ap (λ (o : Option (List Datum)). derivation_count (values_with o values)) same
 count_added leaves values own more all (inr (none, same)) is =
-    ap (λ (o : Option (List Datum)). count_of (values_with o values)) same ∙ (count_as leaves values more is ∙ ap (λ (o : Option (List Datum)). count_of (values_with o values)) (sym none))
+    ap (λ (o : Option (List Datum)). derivation_count (values_with o values)) same ∙ (count_as leaves values more is ∙ ap (λ (o : Option (List Datum)). derivation_count (values_with o values)) (sym none))
 
 -- ---- what a row finds
 
@@ -98,7 +98,7 @@ share_found P way row d own more all (inr (none, same)) any = subst (λ (o : Opt
 mutual
   pub found_added : (P : Found → Type 0) (A : Type 0) (leaves : Leaves) (f h g : GivenValues) → AllStand f h g → KeepsCodes P A leaves f h g → (d : Derivation) (way : Way) → (A → AreCertified leaves h d) → Finds P (reads_of way (with_given g d)) → Finds P (reads_of way (with_given f d))
   found_added P A leaves f h g stand keeps nothing way are any = any
-  found_added P A leaves f h g stand keeps (cell here) way are any = any
+  found_added P A leaves f h g stand keeps (of_leaf here) way are any = any
   found_added P A leaves f h g stand keeps (list_row list row) way are any = any
   found_added P A leaves f h g stand keeps (given v) way are any = any
   found_added P A leaves f h g stand keeps (packed ds) way are any = each_found P A leaves f h g stand keeps ds way are any
@@ -131,10 +131,10 @@ bad_code_added leaves n at f h g stand d way are any = found_added (IsBadCodeAt 
     keeps : KeepsCodes (IsBadCodeAt leaves n at) (Unit {0}) leaves f h g
     keeps dictionary row code values certified is =
         let own = certified tt in
-        let count : count_of (values_with (g dictionary) values) ≡ count_of (values_with (f dictionary) values) = count_added leaves values (f dictionary) (h dictionary) (g dictionary) (stand dictionary) own.1 in
+        let count : derivation_count (values_with (g dictionary) values) ≡ derivation_count (values_with (f dictionary) values) = count_added leaves values (f dictionary) (h dictionary) (g dictionary) (stand dictionary) own.1 in
         let worth : derived leaves (with_given g code) ≡ derived leaves (with_given f code) = added leaves f h g stand code own.0 in (
           is.0,
           is.1,
-          subst (λ (o : Option Datum). IsSomeAnd o (λ c. ¬ (IsPlaceAmong (count_of (values_with (f dictionary) values)) c))) worth
+          subst (λ (o : Option Datum). IsSomeAnd o (λ c. ¬ (IsPlaceAmong (derivation_count (values_with (f dictionary) values)) c))) worth
               (subst (λ (m : ℕ). IsSomeAnd (derived leaves (with_given g code)) (λ c. ¬ (IsPlaceAmong m c))) count is.2),
         )

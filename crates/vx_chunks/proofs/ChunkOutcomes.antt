@@ -14,7 +14,7 @@ use Rattle.vx_steps.specs.Below.{HasNoEvalBelowTake, HasNoShare}
 use Rattle.vx_steps.specs.Given.{given_for}
 use Rattle.vx_steps.specs.Held.{AreMade, AreTyped, HaveLeaves}
 use Rattle.vx_steps.specs.Jobs.{IsAskedFor}
-use Rattle.vx_steps.specs.Kept.{kept_at, AreApart, IsKept}
+use Rattle.vx_steps.specs.Kept.{kept_at, AreOfDistinctPlans, IsKept}
 use Rattle.vx_steps.specs.KeptData.{Kept}
 use Rattle.vx_steps.specs.Leavings.{IsReadBehind}
 use Rattle.vx_steps.specs.Offers.{IsForPlan, Keeps}
@@ -154,7 +154,7 @@ used_or_made given used made n scan same_used same_made (inl (is, there)) = inl 
 used_or_made given used made n scan same_used same_made (inr (none, there)) = inr (none, subst (λ (ks : List Kept). IsKept ks n) (sym same_made) there)
 
 -- no plan stands twice among none
-none_apart : AreApart []
+none_apart : AreOfDistinctPlans []
 none_apart p q k l at other same = absurd cc
 
 -- none are kept among none
@@ -217,7 +217,7 @@ runs_chunk plans chosen given fitting start finished outcome before after fits i
       values = record {
         used = λ n column at. used_given fitting (data_of outcome.used.items) n column (uses used done.kept.uses gives.job) at;
         apart_used = (uses used done.kept.uses gives.job).apart none_apart;
-        apart_made = subst AreApart (sym made) done.kept.apart_made;
+        apart_made = subst AreOfDistinctPlans (sym made) done.kept.apart_made;
         asked_used = λ n kept. is_asked plans chosen fitting [] [] start n is
             (all_added (IsAskedFor start.nodes start.job) start.progress.wholes.used scan.progress.wholes.used n is.unstarted.used gives.wholes.used_only (subst (λ (ks : List Kept). IsKept ks n) used kept));
         asked_made = λ n kept. is_asked plans chosen fitting [] [] start n is
@@ -267,8 +267,8 @@ lacks_chunk plans chosen given outcome before after lacks none_used none_made_it
       content = rw lacks tt;
       values = record {
         used = λ n column at. subst (λ (ks : List Kept). kept_at ks n ≡ Some column) used at;
-        apart_used = subst AreApart (sym used) none_apart;
-        apart_made = subst AreApart (sym made) none_apart;
+        apart_used = subst AreOfDistinctPlans (sym used) none_apart;
+        apart_made = subst AreOfDistinctPlans (sym made) none_apart;
         asked_used = λ n kept. absurd (none_kept (data_of outcome.used.items) n used kept);
         asked_made = λ n kept. absurd (none_kept (data_of outcome.made.items) n made kept);
         made = λ file told. subst (λ (ks : List Kept). AreMade plans.table plans.row_offset ks (leaves_of (bytes_of plans file))) (sym made) (none_made plans.table plans.row_offset (leaves_of (bytes_of plans file)));

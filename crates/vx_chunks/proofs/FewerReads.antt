@@ -1,7 +1,7 @@
 -- What selected rows read of leaves and lists with values in place of whole ones, they read with none.
 use Rattle.std.proofs.Common.{ℕ, ◌+◌, inr, ⊎_elim, List, [], ◌++◌, Option, Some, None, sym, subst}
 use Rattle.std.specs.List.{slice_get}
-use Rattle.vx_rows.specs.Derivations.{Derivation, nothing, cell, list_row, given, packed, valid_where, looked_up, worked_out, read_whole, Derivations, no_more, also}
+use Rattle.vx_rows.specs.Derivations.{Derivation, nothing, of_leaf, list_row, given, packed, valid_where, looked_up, worked_out, read_whole, Derivations, no_more, also}
 use Rattle.vx_rows.specs.Given.{GivenValues, values_with, share_with, with_given, each_with_given}
 use Rattle.vx_rows.specs.Reads.{Way, directly, inside, CodeRow, code_row, Found, a_code, Read, reads_of, reads_of_each, Finds, IsIn}
 use Rattle.vx_rows.proofs.ReadRows.{any_either, any_left, any_right}
@@ -41,7 +41,7 @@ no_more_in P xs ys us vs f g any =
 mutual
   fewer : (P : Found → Type 0) → NoCode P → (handed : GivenValues) (d : Derivation) (way : Way) → Finds P (reads_of way (with_given handed d)) → Finds P (reads_of way d)
   fewer P out handed nothing way any = any
-  fewer P out handed (cell here) way any = any
+  fewer P out handed (of_leaf here) way any = any
   fewer P out handed (list_row list row) way any = any
   fewer P out handed (given v) way any = any
   fewer P out handed (packed ds) way any = fewer_each P out handed ds way any

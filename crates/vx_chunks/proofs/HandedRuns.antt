@@ -15,7 +15,7 @@ use Rattle.vx_steps.specs.declared.leaf_reads.LeafRead.{LeafRead}
 use Rattle.vx_steps.specs.declared.splits.Split.{Split}
 use Rattle.vx_steps.specs.Jobs.{KeepsColumns}
 use Rattle.vx_steps.specs.Held.{AreMade, AreTyped}
-use Rattle.vx_steps.specs.Kept.{AreApart, kept_at, IsKept}
+use Rattle.vx_steps.specs.Kept.{AreOfDistinctPlans, kept_at, IsKept}
 use Rattle.vx_steps.specs.KeptData.{Kept}
 use Rattle.vx_steps.specs.Leavings.{behind_all, IsLeafOf, IsReadBehind, RowReads}
 use Rattle.vx_steps.specs.Offers.{IsForLeaf, IsForPlan, Keeps}
@@ -161,7 +161,7 @@ some_row plans chosen given read is visits =
 
 pub runs_on : (plans : ScanPlans) (chosen : SelectedRows) (handed : HandedOn) (given own all leaves made : List Kept) (start : ScanData) (finished : Finished) (ran : Ran) (before after : SourceState) → IsChunkOf plans chosen → LendsLeaves chosen handed → CanHandOn plans handed → AreOwn plans chosen (data_of handed.made.items) own → Keeps (IsForPlan plans.table) (given ++ own) all
     → Keeps (IsForLeaf plans.table) (data_of handed.leaves.items) leaves → Keeps (IsForPlan plans.table) (data_of handed.made.items) made → IsChunkScan plans chosen all leaves made start → Finishes plans.locations.items plans.idle_limit start finished before after → PieceOf plans finished.output ran.piece
-    → ran.handed.leaves ≡ finished.kept.leaves → ran.handed.made ≡ finished.kept.made → AreApart (data_of ran.handed.made.items) → RunsOnly plans chosen handed given ran before after
+    → ran.handed.leaves ≡ finished.kept.leaves → ran.handed.made ≡ finished.kept.made → AreOfDistinctPlans (data_of ran.handed.made.items) → RunsOnly plans chosen handed given ran before after
 runs_on plans chosen handed given own all leaves made start finished ran before after chunk lends can are fits_all fits_leaves fits_made is done piece same_leaves same_made apart =
     let scan : ScanData = done.scan in
     let gives = done.gives in

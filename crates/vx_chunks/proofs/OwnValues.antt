@@ -7,7 +7,7 @@ use Rattle.std.proofs.lemmas.Option.{slice_get_within}
 use Rattle.vx_rows.specs.Reads.{IsAmong}
 use Rattle.vx_plan.specs.declared.children.PlanRef.{PlanRef}
 use Rattle.vx_plan.specs.Refs.{number_of}
-use Rattle.vx_steps.specs.Asked.{AreAsked}
+use Rattle.vx_steps.specs.Asked.{AreAskedPlans}
 use Rattle.vx_steps.specs.Kept.{kept_at, IsKept}
 use Rattle.vx_steps.specs.KeptData.{Kept}
 use Rattle.vx_steps.proofs.Keeping.{kept_old}
@@ -63,7 +63,7 @@ owning_next asked made own more count node at so_far gives = of_found (kept_at m
         }
 
 -- all that the chunk asks for are among them
-pub own_all : (plans : ScanPlans) (chosen : SelectedRows) (asked same : List PlanRef) (made own : List Kept) (count : ℕ) → AreAsked plans.table (number_of plans.projection) chosen.scope.rows.start chosen.mask (map number_of same) → asked ≡ same → length asked ≡ count → Owning asked made own count → AreOwn plans chosen made own
+pub own_all : (plans : ScanPlans) (chosen : SelectedRows) (asked same : List PlanRef) (made own : List Kept) (count : ℕ) → AreAskedPlans plans.table (number_of plans.projection) chosen.scope.rows.start chosen.mask (map number_of same) → asked ≡ same → length asked ≡ count → Owning asked made own count → AreOwn plans chosen made own
 own_all plans chosen asked same made own count are is all so_far = record {
   from = so_far.from;
   asked = λ n asks kept.

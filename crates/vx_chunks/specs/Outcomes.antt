@@ -4,7 +4,7 @@ use Rattle.vx_rows.specs.SegmentLeaves.{Bytes, leaves_of}
 use Rattle.vx_plan.specs.Refs.{number_of}
 use Rattle.vx_steps.specs.Below.{HasNoEvalBelowTake, HasNoShare}
 use Rattle.vx_steps.specs.Held.{AreMade, AreTyped, HaveLeaves}
-use Rattle.vx_steps.specs.Kept.{kept_at, kept_data, AreApart, IsKept}
+use Rattle.vx_steps.specs.Kept.{kept_at, kept_data, AreOfDistinctPlans, IsKept}
 use Rattle.vx_steps.specs.KeptData.{Kept}
 use Rattle.vx_steps.specs.declared.kept.KeptValue.{KeptValue}
 use Rattle.vx_steps.specs.declared.leaf_reads.LeafRead.{LeafRead}
@@ -97,8 +97,8 @@ AreAllUsedOrMade plans given chosen outcome = (n : ℕ) → ChunkAsks plans give
 -- such, where no share stands in the projection's plan and no expression below a take.
 pub record KeepsValues (plans : ScanPlans) (given : List Kept) (chosen : SelectedRows) (outcome : ChunkOutcome) (before : SourceState) : Type 0 where
   pub used : (n : ℕ) (column : ColumnData) → kept_at (data_of outcome.used.items) n ≡ Some column → kept_at given n ≡ Some column
-  pub apart_used : AreApart (data_of outcome.used.items)
-  pub apart_made : AreApart (data_of outcome.made.items)
+  pub apart_used : AreOfDistinctPlans (data_of outcome.used.items)
+  pub apart_made : AreOfDistinctPlans (data_of outcome.made.items)
   pub asked_used : (n : ℕ) → IsKept (data_of outcome.used.items) n → ChunkAsks plans given chosen n
   pub asked_made : (n : ℕ) → IsKept (data_of outcome.made.items) n → ChunkAsks plans given chosen n
   pub made : told_by plans before (λ bytes. AreMade plans.table plans.row_offset (data_of outcome.made.items) (leaves_of bytes))
@@ -132,7 +132,7 @@ pub record RunsChunk (plans : ScanPlans) (chosen : SelectedRows) (given : List K
 pub record CanHandOn (plans : ScanPlans) (handed : HandedOn) : Type 0 where
   pub leaves : AreTyped plans.table (data_of handed.leaves.items)
   pub made : AreTyped plans.table (data_of handed.made.items)
-  pub apart : AreApart (data_of handed.made.items)
+  pub apart : AreOfDistinctPlans (data_of handed.made.items)
 
 -- where a chunk has no rows, no leaves are lent to it
 abbrev pub LendsLeaves : SelectedRows → HandedOn → Type 0

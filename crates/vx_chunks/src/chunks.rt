@@ -20,22 +20,21 @@ use vx_steps::{KeptValue, Scan, ScanBuildError, ScanKept, Split, asked_wholes};
 pub(crate) fn scan_of<'a>(
     alloc: Global,
     plans: &'a ScanPlans,
-    node: PlanRef,
+    plan: PlanRef,
     chosen: &SelectedRows,
 ) -> Result<Scan<'a>, AllocError>
     requires plans { ArePlans plans.now }
-    requires known { number_of node < length plans.now.table }
-    requires chunk { IsChunkOf (with_projection plans.now node) chosen.now }
-    ensures { IfOk result (IsChunkScan (with_projection plans.now node) chosen.now [] [] []) }
+    requires known { number_of plan < length plans.now.table }
+    requires chunk { IsChunkOf (with_projection plans.now plan) chosen.now }
+    ensures { IfOk result (IsChunkScan (with_projection plans.now plan) chosen.now [] [] []) }
 {
     let mut splits = Vec::with_capacity(alloc, 1)?;
     splits.push(Split {
         rows: chosen.scope.rows.start..chosen.scope.rows.end,
         mask: chosen.mask.copy(alloc)?,
     })?;
-    // The contract of `len` says that the table keeps its rules.
-    let _plans = plans.table.len();
-    match Scan::try_new(alloc, &plans.table, node, splits) {
+    plans.table.keeps_rules();
+    match Scan::try_new(alloc, &plans.table, plan, splits) {
         Ok(scan) => Ok(scan.with_row_offset(plans.row_offset)),
         Err(ScanBuildError::OutOfRange) => unreachable!(),
     }
@@ -45,16 +44,16 @@ pub(crate) fn scan_of<'a>(
 pub(crate) fn piece_of(
     alloc: Global,
     plans: &ScanPlans,
-    node: PlanRef,
+    plan: PlanRef,
     output: Result<Option<Column>, ScanError>,
 ) -> Result<Column, ScanError>
-    requires { number_of node < length plans.now.table }
-    ensures { PieceOf (with_projection plans.now node) output result }
+    requires { number_of plan < length plans.now.table }
+    ensures { PieceOf (with_projection plans.now plan) output result }
 {
     match output {
         Ok(Some(column)) => Ok(column),
         Ok(None) => {
-            let dtype = plans.table.dtype(node).copy(alloc)?;
+            let dtype = plans.table.dtype(plan).copy(alloc)?;
             Ok(Column::empty(alloc, dtype)?)
         }
         Err(error) => Err(error),
@@ -110,8 +109,8 @@ fn made_for(
     }
     let rows = chosen.scope.rows.start;
     let asked = asked_wholes(alloc, &plans.table, plans.projection, rows, &chosen.mask)?;
-    for node in &asked {
-        give(alloc, *node, made, &mut own)?;
+    for plan in &asked {
+        give(alloc, *plan, made, &mut own)?;
     }
     Ok(own)
 }

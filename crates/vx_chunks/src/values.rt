@@ -18,20 +18,20 @@ use vx_steps::Scan;
 fn whole_scan<'a>(
     alloc: Global,
     plans: &'a ScanPlans,
-    node: PlanRef,
+    plan: PlanRef,
 ) -> Result<Scan<'a>, AllocError>
     requires plans { ArePlans plans.now }
-    requires known { number_of node < length plans.now.table }
-    ensures { IfOk result (IsChunkScan (with_projection plans.now node) (all_rows plans.now node) [] [] []) }
+    requires known { number_of plan < length plans.now.table }
+    ensures { IfOk result (IsChunkScan (with_projection plans.now plan) (all_rows plans.now plan) [] [] []) }
 {
-    let count = plans.table.row_count(node);
+    let count = plans.table.row_count(plan);
     let mask = Mask::new_true(alloc, count)?;
     let scope = WorkScope {
         file_ordinal: 0,
         rows: 0..count,
     };
     let chosen = SelectedRows { scope, mask };
-    scan_of(alloc, plans, node, &chosen)
+    scan_of(alloc, plans, plan, &chosen)
 }
 
 /// Reads all rows of a plan on a new session over the source: its whole values. Whatever it answers, nothing is in
@@ -40,17 +40,17 @@ fn whole_scan<'a>(
 pub fn run_values<S: SegmentSource>(
     alloc: Global,
     plans: &ScanPlans,
-    node: PlanRef,
+    plan: PlanRef,
     source: &mut S,
 ) -> Result<Column, ScanError>
     requires plans { ArePlans plans.now }
-    requires known { number_of node < length plans.now.table }
-    ensures { RunsValues plans.now node result (S.state source.old) (S.state source.new) }
+    requires known { number_of plan < length plans.now.table }
+    ensures { RunsValues plans.now plan result (S.state source.old) (S.state source.new) }
 {
-    let Ok(scan) = whole_scan(alloc, plans, node) else {
+    let Ok(scan) = whole_scan(alloc, plans, plan) else {
         source.clear();
         return Err(ScanError::Memory);
     };
     let Finished { output, .. } = run_over(alloc, plans, scan, source);
-    piece_of(alloc, plans, node, output)
+    piece_of(alloc, plans, plan, output)
 }

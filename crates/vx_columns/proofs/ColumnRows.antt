@@ -11,7 +11,7 @@ use Rattle.vx_types.specs.Data.{Datum, null, number}
 use Rattle.vx_types.specs.Reading.{where_valid}
 use Rattle.vx_types.specs.ValueViews.{datum}
 use Rattle.vx_masks.specs.Rows.{NullsHold}
-use Rattle.vx_arrays.specs.Slots.{Takes}
+use Rattle.vx_arrays.specs.Buffers.{Takes}
 
 -- ---- one value more
 

@@ -7,7 +7,7 @@ use Rattle.std.proofs.lemmas.List.Sums.{sum_by-cons}
 use Rattle.vx_columns.specs.RunRows.{Rise, start_of, runs_column, AreRuns, repeated, range_counts, mask_counts, kept_places, kept_ends}
 use Rattle.vx_columns.specs.Runs.{spread}
 use Rattle.vx_columns.proofs.SpreadRuns.{start_next, start_up, rise_at}
-use Rattle.vx_arrays.specs.PartRows.{picked_at}
+use Rattle.vx_arrays.specs.ArrayRows.{picked_at}
 use Rattle.vx_masks.proofs.Chosen.{chosen-append, chosen_front}
 use Rattle.vx_masks.proofs.Places.{true_count-cons}
 use Rattle.vx_masks.specs.Masks.{chosen, true_count}

@@ -6,8 +6,8 @@ use Rattle.vx_masks.specs.Rows.{taken}
 use Rattle.vx_columns.specs.Runs.{spread, IsGoodEnd, run_places}
 use Rattle.vx_columns.specs.RunRows.{runs_column}
 use Rattle.vx_arrays.specs.PackedColumns.{IsColumn}
-use Rattle.vx_arrays.specs.PartRows.{picked_at}
-use Rattle.vx_arrays.specs.Slots.{bare}
+use Rattle.vx_arrays.specs.ArrayRows.{picked_at}
+use Rattle.vx_arrays.specs.Buffers.{bare}
 use Rattle.vx_arrays.specs.Texts.{start_in}
 use Rattle.vx_types.proofs.AllFit.{all-append}
 use Rattle.vx_types.specs.Data.{DataType, Datum, null}

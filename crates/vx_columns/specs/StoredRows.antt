@@ -6,11 +6,11 @@ use Rattle.vx_columns.specs.declared.stored_rows.Rows.{Rows}
 use Rattle.vx_columns.specs.declared.stored_rows.Rows.TheVariants as variants
 
 abbrev pub row_data : Rows → ColumnData
-row_data (variants.Plain part) = part
-row_data (variants.Shared part) = part
+row_data (variants.Plain array) = array
+row_data (variants.Shared array) = array
 row_data (variants.Runs runs) = runs
 
 -- the same rows as they lie
 abbrev pub laid_data : Laid → ColumnData
-laid_data (laid.Packed part) = part.now
+laid_data (laid.Packed array) = array.now
 laid_data (laid.Runs runs) = runs.now

@@ -13,7 +13,7 @@ ghost use Rattle.vx_arrays.specs.PackedColumns.{bare_column, IsColumn};
 
 use crate::columns::Column;
 use std::alloc::{AllocError, Global};
-use vx_arrays::{Part, Parts, SharedPart};
+use vx_arrays::{Array, ChildArrays, SharedArray};
 use vx_masks::Mask;
 use vx_types::{DType, Fields, Nullability};
 
@@ -41,12 +41,12 @@ fn only_of(parts: Vec<Column>) -> Result<Column, Vec<Column>>
 }
 
 /// The rows of all parts, one part after another.
-fn joined_rows(alloc: Global, dtype: &DType, parts: Vec<Column>) -> Result<Part, AllocError>
+fn joined_rows(alloc: Global, dtype: &DType, parts: Vec<Column>) -> Result<Array, AllocError>
     requires { AllByRecursion (λ part. part.dtype ≡ data_type dtype.now) parts.items }
     ensures column { IfOk result (λ rows. IsColumn (data_type dtype.now) rows) }
     ensures values { IfOk result (λ rows. rows.values ≡ flat_map (λ part. part.values) parts.items) }
 {
-    let mut joined = Part::with_room(alloc, dtype, rows_in(&parts))?;
+    let mut joined = Array::with_room(alloc, dtype, rows_in(&parts))?;
     for part in parts {
         let longer = part.append_to(alloc, joined);
         drop(part);
@@ -67,7 +67,7 @@ fn looked_up_dtype(alloc: Global, codes: &DType, values: &DType) -> Result<DType
 }
 
 /// The rows of a part, packed and behind a handle.
-fn shared_rows(alloc: Global, part: Column) -> Result<SharedPart, AllocError>
+fn shared_rows(alloc: Global, part: Column) -> Result<SharedArray, AllocError>
     ensures rows { IfOk result (λ rows. rows ≡ bare_column part) }
     ensures fit { IsFitting part }
 {
@@ -77,7 +77,7 @@ fn shared_rows(alloc: Global, part: Column) -> Result<SharedPart, AllocError>
 }
 
 /// The rows of each part. It moves those that are packed, and copies none that are shared.
-fn all_shared_rows(alloc: Global, parts: Vec<Column>) -> Result<Vec<SharedPart>, AllocError>
+fn all_shared_rows(alloc: Global, parts: Vec<Column>) -> Result<Vec<SharedArray>, AllocError>
     ensures rows { IfOk result (λ rows. rows.items ≡ map bare_column parts.items) }
     ensures fit { OnOk result (AllByRecursion IsFitting parts.items) }
 {
@@ -100,7 +100,7 @@ fn nullability_for(validity: &Option<Mask>) -> Nullability
 }
 
 /// The rows that are valid: each row is where no validity is given.
-#[tactic(auto, using(vx_arrays::proofs::PackedParts::mask_valid, vx_arrays::proofs::PackedParts::all_rows_valid))]
+#[tactic(auto, using(vx_arrays::proofs::PackedArrays::mask_valid, vx_arrays::proofs::PackedArrays::all_rows_valid))]
 fn valid_rows(alloc: Global, validity: Option<Mask>, rows: u64) -> Result<Mask, AllocError>
     requires { ForSome validity (λ mask. length mask ≡ rows) }
     ensures rows { IfOk result (λ mask. length mask ≡ rows) }
@@ -116,8 +116,8 @@ fn valid_rows(alloc: Global, validity: Option<Mask>, rows: u64) -> Result<Mask, 
 }
 
 impl Column {
-    /// The rows of a part that a column of the same dtype can have, and copies of this column's behind them.
-    fn append_to(&self, alloc: Global, part: Part) -> Result<Part, AllocError>
+    /// The rows of an array that a column of the same dtype can have, and copies of this column's behind them.
+    fn append_to(&self, alloc: Global, part: Array) -> Result<Array, AllocError>
         requires { IsColumn self.now.dtype part }
         ensures column { IfOk result (λ made. IsColumn self.now.dtype made) }
         ensures values { IfOk result (λ made. made.values ≡ part.values ++ self.now.values) }
@@ -138,7 +138,7 @@ impl Column {
             Ok(part) => Ok(part),
             Err(parts) => {
                 let rows = joined_rows(alloc, &dtype, parts)?;
-                Ok(Column::of_part(dtype, rows))
+                Ok(Column::of_array(dtype, rows))
             }
         }
     }
@@ -156,7 +156,7 @@ impl Column {
         let places = codes.places(alloc, found.len())?;
         let dtype = looked_up_dtype(alloc, codes.dtype(), values.dtype())?;
         let rows = found.take(alloc, places.as_slice())?;
-        Ok(Column::of_part(dtype, rows))
+        Ok(Column::of_array(dtype, rows))
     }
 
     /// The codes as places of so many rows, and the place past the last one where there is none.
@@ -187,9 +187,9 @@ impl Column {
     {
         let nullability = nullability_for(&validity);
         let parts = all_shared_rows(alloc, parts)?;
-        let structs = Parts::of(rows as usize, parts);
+        let structs = ChildArrays::of(rows as usize, parts);
         let validity = valid_rows(alloc, validity, rows)?;
-        let packed = Part::of_structs(validity, structs);
-        Ok(Column::of_part(DType::Struct(fields, nullability), packed))
+        let packed = Array::of_structs(validity, structs);
+        Ok(Column::of_array(DType::Struct(fields, nullability), packed))
     }
 }

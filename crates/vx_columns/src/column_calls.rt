@@ -13,7 +13,7 @@ ghost use Rattle.vx_types.specs.Segment.{truth_in};
 use crate::columns::Column;
 use std::alloc::{AllocError, Global};
 use std::ops::Range;
-use vx_arrays::{Numbers, Part, Primitive};
+use vx_arrays::{Array, Numbers, Primitive};
 use vx_masks::Mask;
 use vx_types::{DType, IntKind, Nullability};
 
@@ -26,9 +26,9 @@ impl Column {
         let validity = Mask::new_true(alloc, numbers.len() as u64)?;
         let numbers = Numbers::U64(Primitive::of(numbers));
         let _inside = numbers.len();
-        let part = Part::of_numbers(validity, numbers);
+        let array = Array::of_numbers(validity, numbers);
         let dtype = DType::Int(IntKind::U64, Nullability::NonNullable);
-        Ok(Column::of_part(dtype, part))
+        Ok(Column::of_array(dtype, array))
     }
 
     /// The rows of a range. All rows of a column that shares them are shared again, and none is copied.

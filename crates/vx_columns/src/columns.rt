@@ -15,7 +15,7 @@ use crate::stored_rows::{Laid, Rows};
 use std::alloc::{AllocError, Global};
 use std::marker::Model;
 use thiserror::Error;
-use vx_arrays::{Cell, Part, SharedPart};
+use vx_arrays::{Array, Cell, SharedArray};
 use vx_masks::Mask;
 use vx_types::{DType, Value, fits};
 
@@ -81,14 +81,14 @@ impl Column {
     }
 
     /// The column of a dtype and of packed rows that it takes. It takes no memory.
-    pub fn of_part(dtype: DType, part: Part) -> Column
-        requires { IsColumn (data_type dtype) part }
+    pub fn of_array(dtype: DType, array: Array) -> Column
+        requires { IsColumn (data_type dtype) array }
         ensures dtype { result.dtype ≡ data_type dtype }
-        ensures values { result.values ≡ part.values }
+        ensures values { result.values ≡ array.values }
     {
         Column {
             dtype,
-            rows: Rows::Plain(part),
+            rows: Rows::Plain(array),
         }
     }
 
@@ -102,12 +102,12 @@ impl Column {
 
     /// What the rows hold, where they are packed one by one, shared or not; None where they lie in runs. It takes no
     /// memory.
-    pub fn part(&self) -> Option<&Part>
-        ensures values { IfSome result (λ part. part.now.values ≡ self.now.values) }
-        ensures column { IfSome result (λ part. IsColumn self.now.dtype part.now) }
+    pub fn array(&self) -> Option<&Array>
+        ensures values { IfSome result (λ array. array.now.values ≡ self.now.values) }
+        ensures column { IfSome result (λ array. IsColumn self.now.dtype array.now) }
     {
         match self.rows.laid() {
-            Laid::Packed(part) => Some(part),
+            Laid::Packed(array) => Some(array),
             Laid::Runs(_) => None,
         }
     }
@@ -123,14 +123,14 @@ impl Column {
     }
 
     /// What the rows hold, packed and behind a handle. It moves what is packed already, and copies no row that is shared.
-    pub(crate) fn into_shared(self, alloc: Global) -> Result<SharedPart, AllocError>
-        ensures values { IfOk result (λ part. part.values ≡ self.values) }
-        ensures column { IfOk result (λ part. IsColumn self.dtype part) }
+    pub(crate) fn into_shared(self, alloc: Global) -> Result<SharedArray, AllocError>
+        ensures values { IfOk result (λ array. array.values ≡ self.values) }
+        ensures column { IfOk result (λ array. IsColumn self.dtype array) }
     {
         let Column { dtype, rows } = self;
         drop(dtype);
-        let part = rows.into_shared(alloc)?;
-        Ok(part)
+        let array = rows.into_shared(alloc)?;
+        Ok(array)
     }
 
     /// The column of these values in this order, where the dtype takes each of them.
@@ -156,8 +156,8 @@ impl Column {
         ensures dtype { IfOk result (λ column. column.dtype ≡ data_type dtype) }
         ensures values { IfOk result (λ column. column.values ≡ map datum values.items) }
     {
-        let part = Part::of_values(alloc, &dtype, values.as_slice())?;
-        Ok(Column::of_part(dtype, part))
+        let array = Array::of_values(alloc, &dtype, values.as_slice())?;
+        Ok(Column::of_array(dtype, array))
     }
 
     /// The column of no rows.

@@ -10,7 +10,7 @@ ghost use Rattle.vx_arrays.specs.declared.decode_errors.DecodeError.TheVariants 
 
 use crate::columns::Column;
 use std::alloc::Global;
-use vx_arrays::{DecodeError, Part, decode_numbers, decode_texts, decode_truths};
+use vx_arrays::{Array, DecodeError, decode_numbers, decode_texts, decode_truths};
 use vx_types::{DType, IntKind, Nullability};
 
 /// The column of so many truth values that the bytes spell.
@@ -26,8 +26,8 @@ fn truths(
 {
     match decode_truths(alloc, nullability, rows, bytes) {
         Ok((validity, truths)) => {
-            let rows = Part::of_truths(validity, truths);
-            Ok(Column::of_part(DType::Bool(nullability), rows))
+            let rows = Array::of_truths(validity, truths);
+            Ok(Column::of_array(DType::Bool(nullability), rows))
         }
         Err(error) => Err(error),
     }
@@ -48,8 +48,8 @@ fn numbers(
     match decode_numbers(alloc, kind, nullability, rows, bytes) {
         Ok((validity, numbers)) => {
             let _inside = numbers.len();
-            let rows = Part::of_numbers(validity, numbers);
-            Ok(Column::of_part(DType::Int(kind, nullability), rows))
+            let rows = Array::of_numbers(validity, numbers);
+            Ok(Column::of_array(DType::Int(kind, nullability), rows))
         }
         Err(error) => Err(error),
     }
@@ -69,8 +69,8 @@ fn texts(
     match decode_texts(alloc, nullability, rows, bytes) {
         Ok((validity, texts)) => {
             let _utf8 = texts.len();
-            let rows = Part::of_texts(validity, texts);
-            Ok(Column::of_part(DType::Utf8(nullability), rows))
+            let rows = Array::of_texts(validity, texts);
+            Ok(Column::of_array(DType::Utf8(nullability), rows))
         }
         Err(error) => Err(error),
     }

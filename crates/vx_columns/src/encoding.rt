@@ -21,13 +21,13 @@ fn push_validity(bytes: &mut Vec<u8>, column: &Column) -> Result<(), AllocError>
 }
 
 /// Writes what the rows of a leaf have behind the validity.
-fn push_slots(alloc: Global, bytes: &mut Vec<u8>, column: &Column) -> Result<(), AllocError>
+fn push_buffers(alloc: Global, bytes: &mut Vec<u8>, column: &Column) -> Result<(), AllocError>
     requires leaf { IsLeaf column.now.dtype }
     requires short { AllByRecursion IsShort column.now.values }
     ensures { OnOk result (bytes.new.items ≡ bytes.old.items ++ slot_bytes column.now.dtype column.now.values) }
 {
     let rows = column.rows();
-    rows.write_slots(alloc, bytes)
+    rows.write_buffers(alloc, bytes)
 }
 
 /// The bytes of a segment that spell the values of a column of a leaf dtype. They are one list of
@@ -40,6 +40,6 @@ pub fn encode(alloc: Global, column: &Column) -> Result<Vec<u8>, AllocError>
     let size = column.rows().size();
     let mut bytes = Vec::with_capacity(alloc, size)?;
     push_validity(&mut bytes, column)?;
-    push_slots(alloc, &mut bytes, column)?;
+    push_buffers(alloc, &mut bytes, column)?;
     Ok(bytes)
 }

@@ -5,12 +5,12 @@ ghost use Rattle.std.specs.Prelude.{◌≡◌, ◌<◌, ◌≤◌, ◌-◌, ◌^
 ghost use Rattle.vx_types.specs.Segment.{is_value};
 ghost use Rattle.vx_columns.specs.RunRows.{Rise, HasRow, start_of, runs_column, range_counts, mask_counts, kept_places, kept_ends, repeated};
 ghost use Rattle.vx_columns.specs.Runs.{spread, run_places};
-ghost use Rattle.vx_arrays.specs.PartRows.{sliced, filtered};
+ghost use Rattle.vx_arrays.specs.ArrayRows.{sliced, filtered};
 
 use std::alloc::{AllocError, Global};
 use std::marker::Model;
 use std::ops::Range;
-use vx_arrays::Part;
+use vx_arrays::Array;
 use vx_masks::Mask;
 
 /// How many rows are added to a mask at a time.
@@ -19,7 +19,7 @@ const PIECE: u64 = 65536;
 /// Values that each fill the rows from the end before them to their own, and which rows have a value.
 pub(crate) struct Runs {
     validity: Mask,
-    values: Part,
+    values: Array,
     ends: Vec<u64>,
 }
 
@@ -181,7 +181,7 @@ fn ends_kept(alloc: Global, counts: &[u64]) -> Result<Vec<u64>, AllocError>
 fn kept_runs(
     alloc: Global,
     validity: Mask,
-    values: &Part,
+    values: &Array,
     counts: &[u64],
 ) -> Result<Runs, AllocError>
     requires runs { length counts.now ≡ length values.now.values }
@@ -215,7 +215,7 @@ fn places_of(alloc: Global, ends: &[u64]) -> Result<Vec<usize>, AllocError>
 
 impl Runs {
     /// The runs of these values, each of which fills the rows from the end before it to its own.
-    pub(crate) fn of(alloc: Global, values: Part, ends: Vec<u64>) -> Result<Runs, AllocError>
+    pub(crate) fn of(alloc: Global, values: Array, ends: Vec<u64>) -> Result<Runs, AllocError>
         requires same { length ends.items ≡ length values.values }
         requires rise { Rise 0 ends.items }
         ensures { IfOk result (λ runs. runs ≡ runs_column values ends.items) }
@@ -243,7 +243,7 @@ impl Runs {
     }
 
     /// The values of the runs, and the place among them of the value that a row has. It takes no memory.
-    pub(crate) fn value_of(&self, row: usize) -> (&Part, usize)
+    pub(crate) fn value_of(&self, row: usize) -> (&Array, usize)
         requires { row < length self.now.values }
         ensures dtype { result.0.now.dtype ≡ self.now.dtype }
         ensures there { result.1 < length result.0.now.values }
@@ -278,7 +278,7 @@ impl Runs {
     }
 
     /// All rows, each with a value of its own.
-    pub(crate) fn spread(&self, alloc: Global) -> Result<Part, AllocError>
+    pub(crate) fn spread(&self, alloc: Global) -> Result<Array, AllocError>
         ensures { IfOk result (λ rows. rows ≡ self.now) }
     {
         let places = places_of(alloc, self.ends.as_slice())?;

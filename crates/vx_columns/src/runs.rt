@@ -13,7 +13,7 @@ use crate::run_rows::Runs;
 use crate::stored_rows::Rows;
 use std::alloc::{AllocError, Global};
 use thiserror::Error;
-use vx_arrays::Part;
+use vx_arrays::Array;
 use vx_types::{DType, Value};
 
 /// Why values and ends are no runs of a dtype.
@@ -90,7 +90,7 @@ fn column_of_runs(
     ensures dtype { IfOk result (λ column. column.dtype ≡ data_type dtype) }
     ensures values { IfOk result (λ column. column.values ≡ spread 0 (map datum values.now) ends.items) }
 {
-    let values = Part::of_values(alloc, &dtype, values)?;
+    let values = Array::of_values(alloc, &dtype, values)?;
     let runs = Runs::of(alloc, values, ends)?;
     Ok(Column::of_rows(dtype, Rows::Runs(runs)))
 }

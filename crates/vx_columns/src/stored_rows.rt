@@ -11,21 +11,21 @@ ghost use Rattle.vx_types.specs.ValueViews.{datum};
 ghost use Rattle.vx_columns.specs.StoredRows.{row_data, laid_data};
 ghost use Rattle.vx_arrays.specs.Cells.{cell_datum};
 ghost use Rattle.vx_arrays.specs.LookUps.{code_places};
-ghost use Rattle.vx_arrays.specs.PartRows.{sliced, filtered, joined, picked_at};
+ghost use Rattle.vx_arrays.specs.ArrayRows.{sliced, filtered, joined, picked_at};
 
 use crate::run_rows::Runs;
 use std::alloc::{AllocError, Global};
 use std::ops::Range;
-use vx_arrays::{Cell, Part, SharedPart};
+use vx_arrays::{Array, Cell, SharedArray};
 use vx_masks::Mask;
 use vx_types::Value;
 
 /// The rows of a column.
 pub(crate) enum Rows {
     /// Packed, and this column's alone.
-    Plain(Part),
+    Plain(Array),
     /// Packed, and perhaps other columns' too.
-    Shared(SharedPart),
+    Shared(SharedArray),
     /// In runs.
     Runs(Runs),
 }
@@ -43,7 +43,7 @@ impl Drop for Rows {
 /// How rows lie, whoever has them: packed, or in runs.
 #[derive(Clone, Copy)]
 pub(crate) enum Laid<'a> {
-    Packed(&'a Part),
+    Packed(&'a Array),
     Runs(&'a Runs),
 }
 
@@ -53,8 +53,8 @@ impl Rows {
         ensures { laid_data result ≡ row_data self.now }
     {
         match self {
-            Rows::Plain(part) => Laid::Packed(part),
-            Rows::Shared(shared) => Laid::Packed(shared.part()),
+            Rows::Plain(array) => Laid::Packed(array),
+            Rows::Shared(shared) => Laid::Packed(shared.array()),
             Rows::Runs(runs) => Laid::Runs(runs),
         }
     }
@@ -65,8 +65,8 @@ impl Rows {
         ensures { IfOk result (λ rows. row_data rows ≡ row_data self) }
     {
         match self {
-            Rows::Plain(part) => {
-                let shared = SharedPart::new(alloc, part)?;
+            Rows::Plain(array) => {
+                let shared = SharedArray::new(alloc, array)?;
                 Ok(Rows::Shared(shared))
             }
             rows => Ok(rows),
@@ -78,7 +78,7 @@ impl Rows {
         ensures { result ≡ length (row_data self.now).values }
     {
         match self.laid() {
-            Laid::Packed(part) => part.len(),
+            Laid::Packed(array) => array.len(),
             Laid::Runs(runs) => runs.len(),
         }
     }
@@ -88,20 +88,20 @@ impl Rows {
         ensures { result.now ≡ map is_value (row_data self.now).values }
     {
         match self.laid() {
-            Laid::Packed(part) => part.validity(),
+            Laid::Packed(array) => array.validity(),
             Laid::Runs(runs) => runs.validity(),
         }
     }
 
     /// What holds the value of a row, and the place of the value in it. It takes no memory.
-    fn value_of(&self, row: usize) -> (&Part, usize)
+    fn value_of(&self, row: usize) -> (&Array, usize)
         requires { row < length (row_data self.now).values }
         ensures dtype { result.0.now.dtype ≡ (row_data self.now).dtype }
         ensures there { result.1 < length result.0.now.values }
         ensures value { slice_get (row_data self.now).values row ≡ slice_get result.0.now.values result.1 }
     {
         match self.laid() {
-            Laid::Packed(part) => (part, row),
+            Laid::Packed(array) => (array, row),
             Laid::Runs(runs) => runs.value_of(row),
         }
     }
@@ -111,8 +111,8 @@ impl Rows {
         requires { row < length (row_data self.now).values }
         ensures { slice_get (row_data self.now).values row ≡ Some (cell_datum result) }
     {
-        let (part, place) = self.value_of(row);
-        part.cell(place)
+        let (array, place) = self.value_of(row);
+        array.cell(place)
     }
 
     /// The value of a row, counted from 0, in memory of its own.
@@ -120,8 +120,8 @@ impl Rows {
         requires { row < length (row_data self.now).values }
         ensures { IfOk result (λ value. slice_get (row_data self.now).values row ≡ Some (datum value)) }
     {
-        let (part, place) = self.value_of(row);
-        let value = part.get(alloc, place)?;
+        let (array, place) = self.value_of(row);
+        let value = array.get(alloc, place)?;
         Ok(value)
     }
 
@@ -132,8 +132,8 @@ impl Rows {
         ensures { IfOk result (λ made. row_data made ≡ sliced rows.start rows.end (row_data self.now)) }
     {
         match self {
-            Rows::Plain(part) => {
-                let copied = part.slice(alloc, rows)?;
+            Rows::Plain(array) => {
+                let copied = array.slice(alloc, rows)?;
                 Ok(Rows::Plain(copied))
             }
             Rows::Shared(shared) => {
@@ -153,7 +153,7 @@ impl Rows {
         ensures { IfOk result (λ made. row_data made ≡ filtered mask.now (row_data self.now)) }
     {
         Ok(match self.laid() {
-            Laid::Packed(part) => Rows::Plain(part.filter(alloc, mask)?),
+            Laid::Packed(array) => Rows::Plain(array.filter(alloc, mask)?),
             Laid::Runs(runs) => Rows::Runs(runs.filter(alloc, mask)?),
         })
     }
@@ -171,17 +171,17 @@ impl Rows {
         ensures { IfOk result (λ made. row_data made ≡ filtered mask.now (sliced rows.start rows.end (row_data self.now))) }
     {
         Ok(match self.laid() {
-            Laid::Packed(part) => Rows::Plain(part.filter_range(alloc, rows, mask)?),
+            Laid::Packed(array) => Rows::Plain(array.filter_range(alloc, rows, mask)?),
             Laid::Runs(runs) => Rows::Runs(runs.slice(alloc, rows)?.filter(alloc, mask)?),
         })
     }
 
     /// The rows at these places, and null at a place past the last row.
-    pub(crate) fn take(&self, alloc: Global, places: &[usize]) -> Result<Part, AllocError>
-        ensures { IfOk result (λ part. part ≡ picked_at places.now (row_data self.now)) }
+    pub(crate) fn take(&self, alloc: Global, places: &[usize]) -> Result<Array, AllocError>
+        ensures { IfOk result (λ array. array ≡ picked_at places.now (row_data self.now)) }
     {
         match self.laid() {
-            Laid::Packed(part) => part.take(alloc, places),
+            Laid::Packed(array) => array.take(alloc, places),
             Laid::Runs(runs) => runs.spread(alloc)?.take(alloc, places),
         }
     }
@@ -192,7 +192,7 @@ impl Rows {
         ensures { IfOk result (λ places. places.items ≡ code_places past (row_data self.now).values) }
     {
         match self.laid() {
-            Laid::Packed(part) => part.places(alloc, past),
+            Laid::Packed(array) => array.places(alloc, past),
             Laid::Runs(runs) => runs.spread(alloc)?.places(alloc, past),
         }
     }
@@ -203,55 +203,55 @@ impl Rows {
         ensures { IfOk result (λ mask. mask ≡ map truth_in (row_data self.now).values) }
     {
         match self.laid() {
-            Laid::Packed(part) => part.truth(alloc),
+            Laid::Packed(array) => array.truth(alloc),
             Laid::Runs(runs) => runs.spread(alloc)?.truth(alloc),
         }
     }
 
     /// Writes what the rows of a leaf hold, as a segment has it behind the validity.
-    pub(crate) fn write_slots(&self, alloc: Global, bytes: &mut Vec<u8>) -> Result<(), AllocError>
+    pub(crate) fn write_buffers(&self, alloc: Global, bytes: &mut Vec<u8>) -> Result<(), AllocError>
         requires leaf { IsLeaf (row_data self.now).dtype }
         requires short { AllByRecursion IsShort (row_data self.now).values }
         ensures { OnOk result (bytes.new.items ≡ bytes.old.items ++ slot_bytes (row_data self.now).dtype (row_data self.now).values) }
     {
         match self.laid() {
-            Laid::Packed(part) => part.write_slots(bytes),
-            Laid::Runs(runs) => runs.spread(alloc)?.write_slots(bytes),
+            Laid::Packed(array) => array.write_buffers(bytes),
+            Laid::Runs(runs) => runs.spread(alloc)?.write_buffers(bytes),
         }
     }
 
     /// How many bytes a segment of a leaf has at most, or the most that a `usize` holds; of runs, a guess.
     pub(crate) fn size(&self) -> usize {
         match self.laid() {
-            Laid::Packed(part) => part.size(),
+            Laid::Packed(array) => array.size(),
             Laid::Runs(runs) => runs.len(),
         }
     }
 
     /// All rows, packed and behind a handle. It moves what is packed already, and copies no row that is shared.
-    pub(crate) fn into_shared(self, alloc: Global) -> Result<SharedPart, AllocError>
+    pub(crate) fn into_shared(self, alloc: Global) -> Result<SharedArray, AllocError>
         ensures { IfOk result (λ shared. shared ≡ row_data self) }
     {
         match self {
-            Rows::Plain(part) => SharedPart::new(alloc, part),
+            Rows::Plain(array) => SharedArray::new(alloc, array),
             Rows::Shared(shared) => Ok(shared),
             Rows::Runs(runs) => {
-                let part = runs.spread(alloc)?;
-                SharedPart::new(alloc, part)
+                let array = runs.spread(alloc)?;
+                SharedArray::new(alloc, array)
             }
         }
     }
 
-    /// The rows of a part of the same sort, and copies of these behind them.
-    pub(crate) fn append_to(&self, alloc: Global, part: Part) -> Result<Part, AllocError>
-        requires { (row_data self.now).dtype ≡ part.dtype }
-        ensures { IfOk result (λ made. made ≡ joined part (row_data self.now)) }
+    /// The rows of an array of the same sort, and copies of these behind them.
+    pub(crate) fn append_to(&self, alloc: Global, array: Array) -> Result<Array, AllocError>
+        requires { (row_data self.now).dtype ≡ array.dtype }
+        ensures { IfOk result (λ made. made ≡ joined array (row_data self.now)) }
     {
         match self.laid() {
-            Laid::Packed(more) => part.append(alloc, more),
+            Laid::Packed(more) => array.append(alloc, more),
             Laid::Runs(runs) => {
                 let more = runs.spread(alloc)?;
-                part.append(alloc, &more)
+                array.append(alloc, &more)
             }
         }
     }

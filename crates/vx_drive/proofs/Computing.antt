@@ -1,4 +1,4 @@
--- The step that a gathered batch and the turn behind it make.
+-- The step that a batch of fetches and the turn behind it make.
 use Rattle.std.proofs.Common.{◌≡◌, ℕ, ◌+◌, ◌-◌, ◌^◌, ◌<◌, ◌≤◌, ◌⊎◌, inl, inr, ⊎_elim, List, [], ◌∷◌, ◌++◌, Option, Some, None, Ok, Err, length, map, take, drop, true, false, refl, sym, ap, ◌∙◌, subst, arith, append-nil}
 use Rattle.std.specs.List.{All, slice_get, remove}
 use Rattle.std.specs.Global.{Vec}
@@ -23,11 +23,11 @@ use Rattle.vx_drive.specs.declared.adaptors.State.{State}
 use Rattle.vx_drive.specs.declared.adaptors.State.TheVariants.{NeedsCompute, Waiting, Done}
 use Rattle.vx_drive.specs.declared.adaptors.AdaptorStep.{AdaptorStep}
 use Rattle.vx_drive.specs.declared.adaptors.AdaptorStep.TheVariants.{Yield, NeedsIo, Piece}
-use Rattle.vx_drive.specs.AdaptorData.{AdaptorData, AreAsked, SomeOutstanding, SomeEarlierOutstanding, count_of, reads_of}
+use Rattle.vx_drive.specs.AdaptorData.{AdaptorData, AreAskedReads, SomeOutstanding, SomeEarlierOutstanding, held_count, reads_of}
 use Rattle.vx_drive.specs.Computes.{AsksNothing, AwaitsBytes, Computes, Stops}
 use Rattle.vx_drive.specs.Continues.{ComesOut, Continues, MayBeRead, splits_left}
-use Rattle.vx_drive.specs.Fetched.{AreApart, AllLocated, fetches_from, segments_in, unread}
-use Rattle.vx_drive.specs.Gathered.{BatchOr, Gathered, GatherGives, GivesTurn, IsLive, IsNoRead, StepOf, count_behind, reads_behind, work_in}
+use Rattle.vx_drive.specs.Fetched.{AreDistinctNumbers, AllLocated, fetches_from, segments_in, unread}
+use Rattle.vx_drive.specs.Batched.{BatchOr, Batched, BatchGives, GivesTurn, IsLive, IsNoRead, StepOf, count_behind, reads_behind, work_in}
 use Rattle.vx_drive.proofs.Behind.{grows_behind}
 use Rattle.vx_drive.proofs.Continuing.{continues_then}
 use Rattle.vx_drive.proofs.HandingOut.{few_asked}
@@ -50,12 +50,12 @@ none_handed turns.Waiting old new plain (inr (going, takes)) = takes.handed
 none_handed turns.Done old new plain (inr (going, takes)) = takes.handed
 
 -- so the reads stay
-turn_reads : (turn : Turn) (locations : List SegmentLocation) (first : ℕ) (old new : ScanData) → IsNoRead turn → GivesTurn turn old new → AreAsked locations first (count_behind first old.progress.reads) old.progress.reads → reads_behind first new.progress.reads ≡ reads_behind first old.progress.reads
+turn_reads : (turn : Turn) (locations : List SegmentLocation) (first : ℕ) (old new : ScanData) → IsNoRead turn → GivesTurn turn old new → AreAskedReads locations first (count_behind first old.progress.reads) old.progress.reads → reads_behind first new.progress.reads ≡ reads_behind first old.progress.reads
 turn_reads turn locations first old new plain gives asked =
     ap (λ (n : ℕ). take (n - first) (drop first new.progress.reads.wanted)) (none_handed turn old new plain gives.takes)
     ∙ take_grown (drop first old.progress.reads.wanted) (drop first new.progress.reads.wanted) (count_behind first old.progress.reads) (grows_behind old.progress.reads.wanted new.progress.reads.wanted first gives.scan.keeps.grows) asked.wanted
 
-turn_asked : (turn : Turn) (locations : List SegmentLocation) (first : ℕ) (old new : ScanData) → IsNoRead turn → GivesTurn turn old new → AreAsked locations first (count_behind first old.progress.reads) old.progress.reads → AreAsked locations first (count_behind first new.progress.reads) new.progress.reads
+turn_asked : (turn : Turn) (locations : List SegmentLocation) (first : ℕ) (old new : ScanData) → IsNoRead turn → GivesTurn turn old new → AreAskedReads locations first (count_behind first old.progress.reads) old.progress.reads → AreAskedReads locations first (count_behind first new.progress.reads) new.progress.reads
 turn_asked turn locations first old new plain gives asked =
     let same = turn_reads turn locations first old new plain gives asked in
     let none = none_handed turn old new plain gives.takes in
@@ -65,7 +65,7 @@ turn_asked turn locations first old new plain gives asked =
     record {
       all = omega (arith, all, none);
       wanted = omega (arith, few, more, none);
-      apart = subst (λ (rs : List Wanted). AreApart (segments_in rs)) (sym same) asked.apart;
+      apart = subst (λ (rs : List Wanted). AreDistinctNumbers (segments_in rs)) (sym same) asked.apart;
       located = subst (λ (rs : List Wanted). AllLocated locations (segments_in rs)) (sym same) asked.located;
     }
 
@@ -82,45 +82,45 @@ stepped first scan asked held state = record { scan = scan; first = first; asked
 
 -- What is the same for each turn behind the reads.
 pub record Stepped (locations : List SegmentLocation) (batch : List IoRequest) (old : AdaptorData) (middle new : ScanData) (asked : ℕ) : Type 0 where
-  pub gathered : Gathered locations old.first batch old.scan middle
-  pub counted : asked ≡ old.asked + length gathered.segments
-  pub batch_is : batch ≡ fetches_from locations old.asked gathered.segments
-  pub reads : take asked (drop old.first new.progress.reads.wanted) ≡ reads_of old ++ map unread gathered.segments
-  pub are_asked : AreAsked locations old.first asked new.progress.reads
-  pub wanted : All (MayBeRead old.scan) gathered.segments
+  pub batched : Batched locations old.first batch old.scan middle
+  pub counted : asked ≡ old.asked + length batched.segments
+  pub batch_is : batch ≡ fetches_from locations old.asked batched.segments
+  pub reads : take asked (drop old.first new.progress.reads.wanted) ≡ reads_of old ++ map unread batched.segments
+  pub are_asked : AreAskedReads locations old.first asked new.progress.reads
+  pub wanted : All (MayBeRead old.scan) batched.segments
   pub scan : Continues old.scan new
 
-all_stepped : (locations : List SegmentLocation) (batch : List IoRequest) (turn : Turn) (old : AdaptorData) (middle new : ScanData) (asked : ℕ) → AreAsked locations old.first old.asked old.scan.progress.reads → asked ≡ old.asked + length batch → Gathered locations old.first batch old.scan middle → GivesTurn turn middle new → IsNoRead turn →
+all_stepped : (locations : List SegmentLocation) (batch : List IoRequest) (turn : Turn) (old : AdaptorData) (middle new : ScanData) (asked : ℕ) → AreAskedReads locations old.first old.asked old.scan.progress.reads → asked ≡ old.asked + length batch → Batched locations old.first batch old.scan middle → GivesTurn turn middle new → IsNoRead turn →
     Stepped locations batch old middle new asked
-all_stepped locations batch turn old middle new asked were counted gathered gives plain =
-    let size = ap length gathered.batch_is ∙ length_fetches locations (count_behind old.first old.scan.progress.reads) gathered.segments in
+all_stepped locations batch turn old middle new asked were counted batched gives plain =
+    let size = ap length batched.batch_is ∙ length_fetches locations (count_behind old.first old.scan.progress.reads) batched.segments in
     let none = none_handed turn middle new plain gives.takes in
     let before = were.all in
-    let more = gathered.handed in
+    let more = batched.handed in
     let back : old.scan.progress.reads.handed - old.first ≡ old.asked = omega (arith, before) in
     let all : asked ≡ new.progress.reads.handed - old.first = omega (arith, counted, size, none, before, more) in
     record {
-      gathered = gathered;
+      batched = batched;
       counted = omega (arith, counted, size);
-      batch_is = gathered.batch_is ∙ ap (λ (n : ℕ). fetches_from locations n gathered.segments) back;
-      reads = ap (λ (n : ℕ). take n (drop old.first new.progress.reads.wanted)) all ∙ turn_reads turn locations old.first middle new plain gives gathered.asked ∙ gathered.reads
-          ∙ ap (λ (n : ℕ). take n (drop old.first old.scan.progress.reads.wanted) ++ map unread gathered.segments) back;
-      are_asked = subst (λ (n : ℕ). AreAsked locations old.first n new.progress.reads) (sym all) (turn_asked turn locations old.first middle new plain gives gathered.asked);
-      wanted = All-weaker (IsAsked middle.progress.reads.wanted) (MayBeRead old.scan) gathered.scan.wants gathered.segments gathered.stand;
-      scan = continues_then old.scan middle new gathered.scan gives.scan;
+      batch_is = batched.batch_is ∙ ap (λ (n : ℕ). fetches_from locations n batched.segments) back;
+      reads = ap (λ (n : ℕ). take n (drop old.first new.progress.reads.wanted)) all ∙ turn_reads turn locations old.first middle new plain gives batched.asked ∙ batched.reads
+          ∙ ap (λ (n : ℕ). take n (drop old.first old.scan.progress.reads.wanted) ++ map unread batched.segments) back;
+      are_asked = subst (λ (n : ℕ). AreAskedReads locations old.first n new.progress.reads) (sym all) (turn_asked turn locations old.first middle new plain gives batched.asked);
+      wanted = All-weaker (IsAsked middle.progress.reads.wanted) (MayBeRead old.scan) batched.scan.wants batched.segments batched.stand;
+      scan = continues_then old.scan middle new batched.scan gives.scan;
     }
 
 no_segments : (locations : List SegmentLocation) (number : ℕ) (segments : List ℕ) → [] ≡ fetches_from locations number segments → segments ≡ []
 no_segments locations number [] none = refl
 no_segments locations number (segment ∷ segments) none = absurd cc
 
-none_gathered : (locations : List SegmentLocation) (batch : List IoRequest) (old : AdaptorData) (middle new : ScanData) (asked : ℕ) (all : Stepped locations batch old middle new asked) → batch ≡ [] → all.gathered.segments ≡ []
-none_gathered locations batch old middle new asked all none = no_segments locations old.asked all.gathered.segments (sym none ∙ all.batch_is)
+none_batched : (locations : List SegmentLocation) (batch : List IoRequest) (old : AdaptorData) (middle new : ScanData) (asked : ℕ) (all : Stepped locations batch old middle new asked) → batch ≡ [] → all.batched.segments ≡ []
+none_batched locations batch old middle new asked all none = no_segments locations old.asked all.batched.segments (sym none ∙ all.batch_is)
 
 -- where the batch is empty, nothing is asked for
 asks_nothing : (locations : List SegmentLocation) (batch : List IoRequest) (old : AdaptorData) (middle new : ScanData) (asked : ℕ) (held : Option (ℕ × ColumnData)) (state : State) → Stepped locations batch old middle new asked → batch ≡ [] → AsksNothing old (stepped old.first new asked held state)
 asks_nothing locations batch old middle new asked held state all none =
-    let nothing = none_gathered locations batch old middle new asked all none in
+    let nothing = none_batched locations batch old middle new asked all none in
     record {
       first = refl;
       asked = let size = ap length nothing in let counted = all.counted in omega (arith, size, counted);
@@ -130,16 +130,16 @@ asks_nothing locations batch old middle new asked held state all none =
 -- ---- an output
 
 -- the output that came behind the reads is the next one of the scan before them
-comes_out : (locations : List SegmentLocation) (first : ℕ) (batch : List IoRequest) (old middle new : ScanData) (number : ℕ) (column : ColumnData) → Gathered locations first batch old middle → Continues middle new → GivesOutput middle.nodes middle.job middle.progress new.progress number column → ComesOut number column old new
-comes_out locations first batch old middle new number column gathered more gives = record {
+comes_out : (locations : List SegmentLocation) (first : ℕ) (batch : List IoRequest) (old middle new : ScanData) (number : ℕ) (column : ColumnData) → Batched locations first batch old middle → Continues middle new → GivesOutput middle.nodes middle.job middle.progress new.progress number column → ComesOut number column old new
+comes_out locations first batch old middle new number column batched more gives = record {
   place = gives.place;
-  at = subst (λ (left : List ℕ). slice_get left gives.place ≡ Some number) gathered.left gives.at;
-  left = ap (λ job. left_of job new.progress) more.keeps.job ∙ gives.left ∙ ap (λ (left : List ℕ). remove left gives.place) gathered.left;
+  at = subst (λ (left : List ℕ). slice_get left gives.place ≡ Some number) batched.left gives.at;
+  left = ap (λ job. left_of job new.progress) more.keeps.job ∙ gives.left ∙ ap (λ (left : List ℕ). remove left gives.place) batched.left;
   split = gives.split;
-  split_at = subst (λ job. slice_get job.splits.items number ≡ Some gives.split) gathered.scan.keeps.job gives.split_at;
-  output = output_before old middle new gives.split column gathered.scan.keeps gives.output;
-  leaves = subst (λ job. AreLeavesKept old.nodes job gives.split new.progress.leaves) gathered.scan.keeps.job
-      (subst (λ (nodes : List Node). AreLeavesKept nodes middle.job gives.split new.progress.leaves) gathered.scan.keeps.nodes gives.leaves);
+  split_at = subst (λ job. slice_get job.splits.items number ≡ Some gives.split) batched.scan.keeps.job gives.split_at;
+  output = output_before old middle new gives.split column batched.scan.keeps gives.output;
+  leaves = subst (λ job. AreLeavesKept old.nodes job gives.split new.progress.leaves) batched.scan.keeps.job
+      (subst (λ (nodes : List Node). AreLeavesKept nodes middle.job gives.split new.progress.leaves) batched.scan.keeps.nodes gives.leaves);
 }
 
 output_of : (number : ℕ) (column : ColumnData) (old new : ScanData) → TookTurn (turns.Output number column) old new → GivesOutput old.nodes old.job old.progress new.progress number column
@@ -150,10 +150,10 @@ computes_output : (locations : List SegmentLocation) (batch : Vec IoRequest) (nu
     BatchOr batch step (Some (number, column)) (Piece column) held state NeedsCompute → Computes locations (Ok step) old (stepped old.first new asked held state)
 computes_output locations batch number column step old middle new asked held state empty all gives (inl (none, is, kept, at)) =
     let fewer = gives.fewer tt in
-    let before = all.gathered.fewer in
+    let before = all.batched.fewer in
     subst (λ (s : AdaptorStep). Computes locations (Ok s) old (stepped old.first new asked held state)) (sym is) (subst (λ (h : Option (ℕ × ColumnData)). Computes locations (Ok (Piece column)) old (stepped old.first new asked h state)) (sym kept) (record {
       number = number;
-      output = inr (empty, comes_out locations old.first batch.items old.scan middle new number column all.gathered gives.scan (output_of number column middle new gives.takes));
+      output = inr (empty, comes_out locations old.first batch.items old.scan middle new number column all.batched gives.scan (output_of number column middle new gives.takes));
       scan = all.scan;
       asks = asks_nothing locations batch.items old middle new asked None state all none;
       held = refl;
@@ -162,22 +162,22 @@ computes_output locations batch number column step old middle new asked held sta
     }))
 computes_output locations batch number column step old middle new asked held state empty all gives (inr (some, is, kept, at)) =
     let fewer = gives.fewer tt in
-    let before = all.gathered.fewer in
-    let size = ap length all.batch_is ∙ length_fetches locations old.asked all.gathered.segments in
+    let before = all.batched.fewer in
+    let size = ap length all.batch_is ∙ length_fetches locations old.asked all.batched.segments in
     subst (λ (s : AdaptorStep). Computes locations (Ok s) old (stepped old.first new asked held state)) (sym is) (subst (λ (h : Option (ℕ × ColumnData)). Computes locations (Ok (NeedsIo batch)) old (stepped old.first new asked h state)) (sym kept) (record {
-      segments = all.gathered.segments;
+      segments = all.batched.segments;
       some = omega (arith, size, some);
       batch_is = all.batch_is;
       first = refl;
       asked = all.counted;
       reads = all.reads;
       apart = all.are_asked.apart;
-      located = all.gathered.located;
+      located = all.batched.located;
       wanted = all.wanted;
       scan = all.scan;
       held = empty;
       behind = λ none. absurd (let both : Some (number, column) ≡ None = none in cc);
-      holds = inr (number, column, refl, comes_out locations old.first batch.items old.scan middle new number column all.gathered gives.scan (output_of number column middle new gives.takes));
+      holds = inr (number, column, refl, comes_out locations old.first batch.items old.scan middle new number column all.batched gives.scan (output_of number column middle new gives.takes));
       state = at;
       fewer = omega (arith, fewer, before);
     }))
@@ -209,21 +209,21 @@ computes_batch : (locations : List SegmentLocation) (batch : Vec IoRequest) (ste
     0 < length batch.items → step ≡ NeedsIo batch → held ≡ None → state ≡ NeedsCompute → Computes locations (Ok step) old (stepped old.first new asked held state)
 computes_batch locations batch step old middle new asked held state empty all stays awaits some is kept at =
     let same = stays.1 in
-    let before = all.gathered.fewer in
-    let size = ap length all.batch_is ∙ length_fetches locations old.asked all.gathered.segments in
+    let before = all.batched.fewer in
+    let size = ap length all.batch_is ∙ length_fetches locations old.asked all.batched.segments in
     subst (λ (s : AdaptorStep). Computes locations (Ok s) old (stepped old.first new asked held state)) (sym is) (subst (λ (h : Option (ℕ × ColumnData)). Computes locations (Ok (NeedsIo batch)) old (stepped old.first new asked h state)) (sym kept) (record {
-      segments = all.gathered.segments;
+      segments = all.batched.segments;
       some = omega (arith, size, some);
       batch_is = all.batch_is;
       first = refl;
       asked = all.counted;
       reads = all.reads;
       apart = all.are_asked.apart;
-      located = all.gathered.located;
+      located = all.batched.located;
       wanted = all.wanted;
       scan = all.scan;
       held = empty;
-      holds = inl (refl, stays.0 ∙ all.gathered.left);
+      holds = inl (refl, stays.0 ∙ all.batched.left);
       behind = λ none. awaits;
       state = at;
       fewer = omega (arith, same, before);
@@ -232,10 +232,10 @@ computes_batch locations batch step old middle new asked held state empty all st
 -- where the batch is empty, all the work is still to be done
 none_done : (locations : List SegmentLocation) (batch : List IoRequest) (old : AdaptorData) (middle new : ScanData) (asked : ℕ) → Stepped locations batch old middle new asked → batch ≡ [] → StaysLeft middle new → StaysLeft old.scan new
 none_done locations batch old middle new asked all none stays =
-    let size = ap length (none_gathered locations batch old middle new asked all none) in
-    let more = all.gathered.handed in
+    let size = ap length (none_batched locations batch old middle new asked all none) in
+    let more = all.batched.handed in
     let handed : middle.progress.reads.handed ≡ old.scan.progress.reads.handed = omega (arith, size, more) in
-    let left = all.gathered.left in
+    let left = all.batched.left in
     (stays.0 ∙ left, stays.1 ∙ (λ i. (2 ^ 64 - handed i) + length (left i)))
 
 -- ---- the scan waits
@@ -245,7 +245,7 @@ some_of P [] some all = absurd (some refl)
 some_of P (one ∷ ones) some all = (one, all one (inl refl))
 
 -- for a read of the adaptor's, or for an earlier one
-some_outstanding : (locations : List SegmentLocation) (first asked : ℕ) (held : Option (ℕ × ColumnData)) (state : State) (middle new : ScanData) → AreAsked locations first asked new.progress.reads → IsWaiting middle.nodes middle.job middle.progress new.progress →
+some_outstanding : (locations : List SegmentLocation) (first asked : ℕ) (held : Option (ℕ × ColumnData)) (state : State) (middle new : ScanData) → AreAskedReads locations first asked new.progress.reads → IsWaiting middle.nodes middle.job middle.progress new.progress →
     SomeOutstanding (stepped first new asked held state) ⊎ SomeEarlierOutstanding (stepped first new asked held state)
 some_outstanding locations first asked held state middle new are_asked waits =
     let up = (some_of (IsHeldUp middle.progress.leaves new.progress.reads.wanted) new.progress.active.items waits.some waits.held).1 in
@@ -278,21 +278,21 @@ computes_waiting locations batch step old middle new asked held state empty all 
 computes_waiting locations batch step old middle new asked held state empty all gives (inl (none, is, kept, at)) =
     let stays = none_done locations batch.items old middle new asked all none (idle_left turns.Waiting middle new (inl refl) gives) in
     subst (λ (s : AdaptorStep). Computes locations (Ok s) old (stepped old.first new asked held state)) (sym is) (subst (λ (h : Option (ℕ × ColumnData)). Computes locations (Ok Yield) old (stepped old.first new asked h state)) (sym kept) (record {
-      waits = λ is. subst (λ (scan : ScanData). IsWaiting scan.nodes scan.job scan.progress new.progress) (all.gathered.none (none_gathered locations batch.items old middle new asked all none)) (waiting_of middle new gives.takes);
+      waits = λ is. subst (λ (scan : ScanData). IsWaiting scan.nodes scan.job scan.progress new.progress) (all.batched.none (none_batched locations batch.items old middle new asked all none)) (waiting_of middle new gives.takes);
       why = inl (at, some_outstanding locations old.first asked None state middle new all.are_asked (waiting_of middle new gives.takes));
       scan = all.scan;
       left = stays.0;
       asks = asks_nothing locations batch.items old middle new asked None state all none;
       held = empty;
       none = refl;
-      work = let same = stays.1 in let nothing = ap count_of empty in omega (arith, same, nothing);
+      work = let same = stays.1 in let nothing = ap held_count empty in omega (arith, same, nothing);
     }))
 
 -- ---- the scan is done
 
-why_done : (locations : List SegmentLocation) (first : ℕ) (batch : List IoRequest) (old middle new : ScanData) → Gathered locations first batch old middle → TookTurn turns.Done middle new → (splits_left old ≡ []) ⊎ (old.refused ≡ true)
-why_done locations first batch old middle new gathered (inl (refused, done, same)) = inr (sym gathered.scan.refused ∙ refused)
-why_done locations first batch old middle new gathered (inr (going, takes)) = inl (sym gathered.left ∙ takes.none_left)
+why_done : (locations : List SegmentLocation) (first : ℕ) (batch : List IoRequest) (old middle new : ScanData) → Batched locations first batch old middle → TookTurn turns.Done middle new → (splits_left old ≡ []) ⊎ (old.refused ≡ true)
+why_done locations first batch old middle new batched (inl (refused, done, same)) = inr (sym batched.scan.refused ∙ refused)
+why_done locations first batch old middle new batched (inr (going, takes)) = inl (sym batched.left ∙ takes.none_left)
 
 -- a scan that handed reads out is not done behind them
 not_done : (old new : ScanData) → IsLive old → TookTurn turns.Done old new → ⊥
@@ -302,19 +302,19 @@ not_done old new live (inr (going, takes)) = live.1 takes.none_left
 computes_done : (locations : List SegmentLocation) (batch : Vec IoRequest) (step : AdaptorStep) (old : AdaptorData) (middle new : ScanData) (asked : ℕ) (held : Option (ℕ × ColumnData)) (state : State) → old.held ≡ None → Stepped locations batch.items old middle new asked → GivesTurn turns.Done middle new →
     BatchOr batch step None Yield held state Done → Computes locations (Ok step) old (stepped old.first new asked held state)
 computes_done locations batch step old middle new asked held state empty all gives (inr (some, is, kept, at)) =
-    let size = ap length all.batch_is ∙ length_fetches locations old.asked all.gathered.segments in
-    absurd (not_done middle new (all.gathered.live (omega (arith, size, some))) gives.takes)
+    let size = ap length all.batch_is ∙ length_fetches locations old.asked all.batched.segments in
+    absurd (not_done middle new (all.batched.live (omega (arith, size, some))) gives.takes)
 computes_done locations batch step old middle new asked held state empty all gives (inl (none, is, kept, at)) =
     let stays = none_done locations batch.items old middle new asked all none (idle_left turns.Done middle new (inr refl) gives) in
     subst (λ (s : AdaptorStep). Computes locations (Ok s) old (stepped old.first new asked held state)) (sym is) (subst (λ (h : Option (ℕ × ColumnData)). Computes locations (Ok Yield) old (stepped old.first new asked h state)) (sym kept) (record {
       waits = λ is. absurd (let both : Waiting ≡ Done = sym is ∙ at in cc);
-      why = inr (at, why_done locations old.first batch.items old.scan middle new all.gathered gives.takes);
+      why = inr (at, why_done locations old.first batch.items old.scan middle new all.batched gives.takes);
       scan = all.scan;
       left = stays.0;
       asks = asks_nothing locations batch.items old middle new asked None state all none;
       held = empty;
       none = refl;
-      work = let same = stays.1 in let nothing = ap count_of empty in omega (arith, same, nothing);
+      work = let same = stays.1 in let nothing = ap held_count empty in omega (arith, same, nothing);
     }))
 
 -- ---- any of them
@@ -326,38 +326,38 @@ by_turn locations batch (turns.Output number column) step old middle new asked h
 by_turn locations batch turns.Waiting step old middle new asked held state empty all gives is = computes_waiting locations batch step old middle new asked held state empty all gives is
 by_turn locations batch turns.Done step old middle new asked held state empty all gives is = computes_done locations batch step old middle new asked held state empty all gives is
 
--- the step that a gathered batch and the turn behind it make
-pub computes : (locations : List SegmentLocation) (batch : Vec IoRequest) (turn : Turn) (step : AdaptorStep) (old : AdaptorData) (new : ScanData) (asked : ℕ) (held : Option (ℕ × ColumnData)) (state : State) → old.held ≡ None → AreAsked locations old.first old.asked old.scan.progress.reads → asked ≡ old.asked + length batch.items →
-    GatherGives locations old.first (Ok turn) batch.items old.scan new → StepOf batch turn step held state → Computes locations (Ok step) old (stepped old.first new asked held state)
-computes locations batch turn step old new asked held state empty were counted (middle, gathered, gives, plain) is =
-    by_turn locations batch turn step old middle new asked held state empty (all_stepped locations batch.items turn old middle new asked were counted gathered gives plain) gives is
+-- the step that a batch of fetches and the turn behind it make
+pub computes : (locations : List SegmentLocation) (batch : Vec IoRequest) (turn : Turn) (step : AdaptorStep) (old : AdaptorData) (new : ScanData) (asked : ℕ) (held : Option (ℕ × ColumnData)) (state : State) → old.held ≡ None → AreAskedReads locations old.first old.asked old.scan.progress.reads → asked ≡ old.asked + length batch.items →
+    BatchGives locations old.first (Ok turn) batch.items old.scan new → StepOf batch turn step held state → Computes locations (Ok step) old (stepped old.first new asked held state)
+computes locations batch turn step old new asked held state empty were counted (middle, batched, gives, plain) is =
+    by_turn locations batch turn step old middle new asked held state empty (all_stepped locations batch.items turn old middle new asked were counted batched gives plain) gives is
 
 -- what the adaptor holds of its reads behind it
-pub computed_asked : (locations : List SegmentLocation) (batch : List IoRequest) (turn : Turn) (old : AdaptorData) (new : ScanData) (asked : ℕ) → AreAsked locations old.first old.asked old.scan.progress.reads → asked ≡ old.asked + length batch → GatherGives locations old.first (Ok turn) batch old.scan new → AreAsked locations old.first asked new.progress.reads
-computed_asked locations batch turn old new asked were counted (middle, gathered, gives, plain) = (all_stepped locations batch turn old middle new asked were counted gathered gives plain).are_asked
+pub computed_asked : (locations : List SegmentLocation) (batch : List IoRequest) (turn : Turn) (old : AdaptorData) (new : ScanData) (asked : ℕ) → AreAskedReads locations old.first old.asked old.scan.progress.reads → asked ≡ old.asked + length batch → BatchGives locations old.first (Ok turn) batch old.scan new → AreAskedReads locations old.first asked new.progress.reads
+computed_asked locations batch turn old new asked were counted (middle, batched, gives, plain) = (all_stepped locations batch turn old middle new asked were counted batched gives plain).are_asked
 
 -- and that the number of its fetches fits
-pub computed_few : (locations : List SegmentLocation) (batch : List IoRequest) (turn : Turn) (old : AdaptorData) (new : ScanData) → AreAsked locations old.first old.asked old.scan.progress.reads → GatherGives locations old.first (Ok turn) batch old.scan new → old.asked + length batch ≤ length locations
-computed_few locations batch turn old new were (middle, gathered, gives, plain) =
-    let few = few_asked locations old.first (count_behind old.first middle.progress.reads) middle gathered.asked in
-    let size = ap length gathered.batch_is ∙ length_fetches locations (count_behind old.first old.scan.progress.reads) gathered.segments in
-    let more = gathered.handed in
+pub computed_few : (locations : List SegmentLocation) (batch : List IoRequest) (turn : Turn) (old : AdaptorData) (new : ScanData) → AreAskedReads locations old.first old.asked old.scan.progress.reads → BatchGives locations old.first (Ok turn) batch old.scan new → old.asked + length batch ≤ length locations
+computed_few locations batch turn old new were (middle, batched, gives, plain) =
+    let few = few_asked locations old.first (count_behind old.first middle.progress.reads) middle batched.asked in
+    let size = ap length batched.batch_is ∙ length_fetches locations (count_behind old.first old.scan.progress.reads) batched.segments in
+    let more = batched.handed in
     let all = were.all in
     omega (arith, few, size, more, all)
 
 -- as does the number of the reads before it
-pub computed_fits : (locations : List SegmentLocation) (batch : List IoRequest) (turn : Turn) (old : AdaptorData) (new : ScanData) (asked : ℕ) → AreAsked locations old.first old.asked old.scan.progress.reads → asked ≡ old.asked + length batch → GatherGives locations old.first (Ok turn) batch old.scan new → old.first + old.asked < 2 ^ 64 →
+pub computed_fits : (locations : List SegmentLocation) (batch : List IoRequest) (turn : Turn) (old : AdaptorData) (new : ScanData) (asked : ℕ) → AreAskedReads locations old.first old.asked old.scan.progress.reads → asked ≡ old.asked + length batch → BatchGives locations old.first (Ok turn) batch old.scan new → old.first + old.asked < 2 ^ 64 →
     old.first + asked < 2 ^ 64
-computed_fits locations batch turn old new asked were counted (middle, gathered, gives, plain) fits =
-    let size = ap length gathered.batch_is ∙ length_fetches locations (count_behind old.first old.scan.progress.reads) gathered.segments in
-    let more = gathered.handed in
+computed_fits locations batch turn old new asked were counted (middle, batched, gives, plain) fits =
+    let size = ap length batched.batch_is ∙ length_fetches locations (count_behind old.first old.scan.progress.reads) batched.segments in
+    let more = batched.handed in
     let all = were.all in
-    let fit = gathered.fits (omega (arith, all, fits)) in
+    let fit = batched.fits (omega (arith, all, fits)) in
     omega (arith, counted, size, more, all, fit)
 
 -- ---- a refusal
 
-pub stops : (locations : List SegmentLocation) (batch : List IoRequest) (error : AdaptorError) (old : AdaptorData) (new : ScanData) (held : Option (ℕ × ColumnData)) → old.held ≡ None → held ≡ None → AreAsked locations old.first old.asked old.scan.progress.reads → GatherGives locations old.first (Err error) batch old.scan new →
+pub stops : (locations : List SegmentLocation) (batch : List IoRequest) (error : AdaptorError) (old : AdaptorData) (new : ScanData) (held : Option (ℕ × ColumnData)) → old.held ≡ None → held ≡ None → AreAskedReads locations old.first old.asked old.scan.progress.reads → BatchGives locations old.first (Err error) batch old.scan new →
     Stops locations error old (stepped old.first new old.asked held Done)
 stops locations batch error old new held empty none were (keeps, cause) = record {
   cause = cause;

@@ -5,16 +5,16 @@ use Rattle.std.specs.List.{All}
 use Rattle.std.proofs.lemmas.List.Elements.{All-head, All-tail}
 use Rattle.vx_claims.proofs.Weights.{without, without_other, above_it}
 use Rattle.vx_claims.specs.Apart.{sum_below}
-use Rattle.vx_drive.specs.Fetched.{AreApart}
+use Rattle.vx_drive.specs.Fetched.{AreDistinctNumbers}
 
-apart_behind : (number : ℕ) (numbers : List ℕ) → AreApart (number ∷ numbers) → AreApart numbers
+apart_behind : (number : ℕ) (numbers : List ℕ) → AreDistinctNumbers (number ∷ numbers) → AreDistinctNumbers numbers
 apart_behind number numbers apart i j d lt within = apart (suc i) (suc j) d (omega (arith, lt)) (omega (arith, within))
 
-differ_from : (number : ℕ) (numbers : List ℕ) → AreApart (number ∷ numbers) → All (λ other. other ≢ number) numbers
+differ_from : (number : ℕ) (numbers : List ℕ) → AreDistinctNumbers (number ∷ numbers) → All (λ other. other ≢ number) numbers
 differ_from number numbers apart k d lt same = apart 0 (suc k) d (omega arith) (omega (arith, lt)) (sym same)
 
 -- where each of the numbers weighs something
-few_weights : (numbers : List ℕ) (n : ℕ) (weight : ℕ → ℕ) → AreApart numbers → All (λ number. number < n) numbers → All (λ number. 1 ≤ weight number) numbers → length numbers ≤ sum_below weight n
+few_weights : (numbers : List ℕ) (n : ℕ) (weight : ℕ → ℕ) → AreDistinctNumbers numbers → All (λ number. number < n) numbers → All (λ number. 1 ≤ weight number) numbers → length numbers ≤ sum_below weight n
 few_weights [] n weight apart below heavy = omega arith
 few_weights (number ∷ numbers) n weight apart below heavy =
     let differ = differ_from number numbers apart in
@@ -29,7 +29,7 @@ ones_below : (n : ℕ) → sum_below (λ number. 1) n ≡ n
 ones_below zero = refl
 ones_below (suc n) = let rest = ones_below n in omega (arith, rest)
 
-pub few_apart : (numbers : List ℕ) (n : ℕ) → AreApart numbers → All (λ number. number < n) numbers → length numbers ≤ n
+pub few_apart : (numbers : List ℕ) (n : ℕ) → AreDistinctNumbers numbers → All (λ number. number < n) numbers → length numbers ≤ n
 few_apart numbers n apart below =
     let sum = few_weights numbers n (λ number. 1) apart below (λ k d lt. omega arith) in
     let all = ones_below n in

@@ -17,10 +17,10 @@ use Rattle.vx_steps.proofs.SelectedRows.{length_taken}
 use Rattle.vx_steps.proofs.Needing.{asked_grows}
 use Rattle.vx_steps.proofs.Growing.{got_front, stands_by, take_got, take_grown}
 use Rattle.vx_io.specs.declared.requests.IoRequest.{IoRequest}
-use Rattle.vx_drive.specs.AdaptorData.{AreAsked}
+use Rattle.vx_drive.specs.AdaptorData.{AreAskedReads}
 use Rattle.vx_drive.specs.Computes.{LacksLocation}
-use Rattle.vx_drive.specs.Fetched.{fetch_at, location_of, fetches_from, AllLocated, AreApart, unread, segments_in}
-use Rattle.vx_drive.specs.Gathered.{count_behind, reads_behind, Gathered, GivesTurn, IsLive}
+use Rattle.vx_drive.specs.Fetched.{fetch_at, location_of, fetches_from, AllLocated, AreDistinctNumbers, unread, segments_in}
+use Rattle.vx_drive.specs.Batched.{count_behind, reads_behind, Batched, GivesTurn, IsLive}
 use Rattle.vx_drive.proofs.Behind.{got_behind, grows_behind}
 use Rattle.vx_drive.proofs.Continuing.{continues_same, continues_then}
 use Rattle.vx_drive.proofs.FewApart.{few_apart}
@@ -36,7 +36,7 @@ fetches_push locations number (one ∷ segments) segment =
     ∙ ap (λ (n : ℕ). fetches_from locations (number + 1) segments ++ fetch_at n (location_of locations segment) ∷ []) same)
 
 -- so many reads, each of another segment that has a location
-pub few_asked : (locations : List SegmentLocation) (first count : ℕ) (scan : ScanData) → AreAsked locations first count scan.progress.reads → count ≤ length locations
+pub few_asked : (locations : List SegmentLocation) (first count : ℕ) (scan : ScanData) → AreAskedReads locations first count scan.progress.reads → count ≤ length locations
 few_asked locations first count scan asked =
     let reads = take count (drop first scan.progress.reads.wanted) in
     let few = few_apart (segments_in reads) (length locations) asked.apart asked.located in
@@ -96,8 +96,8 @@ segments_push : (reads : List Wanted) (segment : ℕ) → segments_in (reads ++ 
 segments_push reads segment = map-append (λ (read : Wanted). read.segment) reads (unread segment ∷ [])
 
 -- the reads are still apart and located
-asked_push : (locations : List SegmentLocation) (first : ℕ) (request : ReadRequest) (old new : ScanData) → Grows old.progress.reads.wanted new.progress.reads.wanted → AreAsked locations first (count_behind first old.progress.reads) old.progress.reads → HandsRead old.job old.progress new.progress request → request.segment_id < length locations →
-    AreAsked locations first (count_behind first new.progress.reads) new.progress.reads
+asked_push : (locations : List SegmentLocation) (first : ℕ) (request : ReadRequest) (old new : ScanData) → Grows old.progress.reads.wanted new.progress.reads.wanted → AreAskedReads locations first (count_behind first old.progress.reads) old.progress.reads → HandsRead old.job old.progress new.progress request → request.segment_id < length locations →
+    AreAskedReads locations first (count_behind first new.progress.reads) new.progress.reads
 asked_push locations first request old new grows asked hands within =
     let segment : ℕ = request.segment_id in
     let all = asked.all in
@@ -110,14 +110,14 @@ asked_push locations first request old new grows asked hands within =
     record {
       all = omega (arith, before, handed);
       wanted = omega (arith, here, handed, before);
-      apart = subst AreApart (sym segments) (all_pairs_push (λ (one two : ℕ). one ≢ two) (segments_in (reads_behind first old.progress.reads)) segment asked.apart fresh);
+      apart = subst AreDistinctNumbers (sym segments) (all_pairs_push (λ (one two : ℕ). one ≢ two) (segments_in (reads_behind first old.progress.reads)) segment asked.apart fresh);
       located = subst (AllLocated locations) (sym segments) (All-push (λ one. one < length locations) (segments_in (reads_behind first old.progress.reads)) segment asked.located within);
     }
 
 -- ---- one read after another
 
-pub gather_none : (locations : List SegmentLocation) (first : ℕ) (batch : List IoRequest) (scan : ScanData) → batch ≡ [] → AreAsked locations first (count_behind first scan.progress.reads) scan.progress.reads → Gathered locations first batch scan scan
-gather_none locations first batch scan none asked = record {
+pub batch_none : (locations : List SegmentLocation) (first : ℕ) (batch : List IoRequest) (scan : ScanData) → batch ≡ [] → AreAskedReads locations first (count_behind first scan.progress.reads) scan.progress.reads → Batched locations first batch scan scan
+batch_none locations first batch scan none asked = record {
   segments = [];
   batch_is = none;
   located = All-nil (λ segment. segment < length locations);
@@ -145,9 +145,9 @@ no_push : (segments : List ℕ) (segment : ℕ) → segments ++ segment ∷ [] �
 no_push [] segment none = absurd cc
 no_push (one ∷ segments) segment none = absurd cc
 
-pub gather_more : (locations : List SegmentLocation) (first : ℕ) (batch more : List IoRequest) (old middle new : ScanData) (request : ReadRequest) (at : SegmentLocation) → first ≤ old.progress.reads.handed → Gathered locations first batch old middle → GivesTurn (turns.Read request) middle new →
-    request.segment_id < length locations → at ≡ location_of locations request.segment_id → more ≡ batch ++ fetch_at (request.id.0 - first) at ∷ [] → Gathered locations first more old new
-gather_more locations first batch more old middle new request at before so_far gives within place added =
+pub batch_more : (locations : List SegmentLocation) (first : ℕ) (batch more : List IoRequest) (old middle new : ScanData) (request : ReadRequest) (at : SegmentLocation) → first ≤ old.progress.reads.handed → Batched locations first batch old middle → GivesTurn (turns.Read request) middle new →
+    request.segment_id < length locations → at ≡ location_of locations request.segment_id → more ≡ batch ++ fetch_at (request.id.0 - first) at ∷ [] → Batched locations first more old new
+batch_more locations first batch more old middle new request at before so_far gives within place added =
     let segment : ℕ = request.segment_id in
     let hands = read_of request middle new gives in
     let grows = gives.scan.keeps.grows in
@@ -181,7 +181,7 @@ gather_more locations first batch more old middle new request at before so_far g
 
 -- ---- a read without a location
 
-pub lacks_location : (locations : List SegmentLocation) (first : ℕ) (batch : List IoRequest) (old middle new : ScanData) (request : ReadRequest) → Gathered locations first batch old middle → GivesTurn (turns.Read request) middle new → length locations ≤ request.segment_id → LacksLocation locations request.segment_id old new
+pub lacks_location : (locations : List SegmentLocation) (first : ℕ) (batch : List IoRequest) (old middle new : ScanData) (request : ReadRequest) → Batched locations first batch old middle → GivesTurn (turns.Read request) middle new → length locations ≤ request.segment_id → LacksLocation locations request.segment_id old new
 lacks_location locations first batch old middle new request so_far gives lacks =
     let hands = read_of request middle new gives in
     record {

@@ -8,9 +8,9 @@ use Rattle.vx_steps.specs.ScanData.{ScanData, TakesBytes}
 use Rattle.vx_steps.proofs.Growing.{got_front, take_set}
 use Rattle.vx_drive.specs.declared.adaptors.State.{State}
 use Rattle.vx_drive.specs.declared.adaptors.State.TheVariants.{Done}
-use Rattle.vx_drive.specs.AdaptorData.{AdaptorData, AreAsked, count_of, read_numbered}
+use Rattle.vx_drive.specs.AdaptorData.{AdaptorData, AreAskedReads, held_count, read_numbered}
 use Rattle.vx_drive.specs.Computes.{TakesResult, after_result}
-use Rattle.vx_drive.specs.Fetched.{AllLocated, AreApart, delivered, segments_in, unread}
+use Rattle.vx_drive.specs.Fetched.{AllLocated, AreDistinctNumbers, delivered, segments_in, unread}
 use Rattle.vx_drive.proofs.Behind.{got_behind, set_behind}
 use Rattle.vx_drive.proofs.Computing.{stepped}
 use Rattle.vx_base.specs.declared.locations.SegmentLocation.{SegmentLocation}
@@ -32,14 +32,14 @@ wanted_set first number bytes old new delivers = ap (drop first) delivers.taken 
 reads_set : (first number : ℕ) (bytes : List ℕ) (asked : ℕ) (old new : ReadsData) → number < asked → (delivers : Delivers (read_numbered (first + number)) bytes old new) → take asked (drop first new.wanted) ≡ slice_set (take asked (drop first old.wanted)) number (delivered delivers.segment bytes)
 reads_set first number bytes asked old new below delivers = ap (take asked) (wanted_set first number bytes old new delivers) ∙ take_set (drop first old.wanted) asked number (delivered delivers.segment bytes) below
 
-pub asked_delivered : (locations : List SegmentLocation) (first number : ℕ) (bytes : List ℕ) (asked : ℕ) (old new : ReadsData) → number < asked → Delivers (read_numbered (first + number)) bytes old new → AreAsked locations first asked old → AreAsked locations first asked new
+pub asked_delivered : (locations : List SegmentLocation) (first number : ℕ) (bytes : List ℕ) (asked : ℕ) (old new : ReadsData) → number < asked → Delivers (read_numbered (first + number)) bytes old new → AreAskedReads locations first asked old → AreAskedReads locations first asked new
 asked_delivered locations first number bytes asked old new below delivers were =
     let here = got_front (drop first old.wanted) asked number below ∙ got_behind old.wanted first number ∙ delivers.at in
     let same : segments_in (take asked (drop first new.wanted)) ≡ segments_in (take asked (drop first old.wanted)) = ap segments_in (reads_set first number bytes asked old new below delivers) ∙ segments_set (take asked (drop first old.wanted)) number delivers.segment bytes here in
     record {
       all = were.all ∙ sym delivers.handed;
       wanted = let size = ap length (wanted_set first number bytes old new delivers) ∙ length_set (drop first old.wanted) number (delivered delivers.segment bytes) in let few = were.wanted in omega (arith, size, few);
-      apart = subst AreApart (sym same) were.apart;
+      apart = subst AreDistinctNumbers (sym same) were.apart;
       located = subst (AllLocated locations) (sym same) were.located;
     }
 
@@ -56,5 +56,5 @@ takes_result number bytes old new state below takes at = record {
   reads = reads_set old.first number bytes old.asked old.scan.progress.reads new.progress.reads below takes.delivers;
   held = refl;
   state = at;
-  work = (λ i. ((2 ^ 64 - takes.delivers.handed i) + length (takes.left i)) + count_of old.held);
+  work = (λ i. ((2 ^ 64 - takes.delivers.handed i) + length (takes.left i)) + held_count old.held);
 }

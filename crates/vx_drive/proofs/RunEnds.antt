@@ -37,7 +37,7 @@ use Rattle.vx_drive.specs.AdaptorData.{AdaptorData, reads_of}
 use Rattle.vx_drive.specs.Asks.{AsksOnly, KeepsFaults, Lasts, TellsFaults}
 use Rattle.vx_drive.specs.Computes.{Batches, StopCause, Stops, WhyYields, Yields}
 use Rattle.vx_drive.specs.Continues.{splits_left}
-use Rattle.vx_drive.specs.Fetched.{AreApart, location_of, segments_in}
+use Rattle.vx_drive.specs.Fetched.{AreDistinctNumbers, location_of, segments_in}
 use Rattle.vx_drive.specs.Runs.{GivesOutput, IsListCause, IsReadByStart, IsStepCause, LeavesFault, LeavesRead, RunCause, RunGives, WhereScanned, row_fault, scan_error}
 use Rattle.vx_drive.specs.Starts.{IsUnread, split_of}
 use Rattle.vx_drive.specs.Waits.{SendGives, WaitFails}
@@ -171,7 +171,7 @@ get_front [] twos i d within = absurd (omega (arith, within))
 get_front (one ∷ ones) twos zero d within = refl
 get_front (one ∷ ones) twos (suc i) d within = get_front ones twos i d (omega (arith, within))
 
-apart_front : (ones twos : List ℕ) → AreApart (ones ++ twos) → AreApart ones
+apart_front : (ones twos : List ℕ) → AreDistinctNumbers (ones ++ twos) → AreDistinctNumbers ones
 apart_front ones twos apart i j d lt within same =
     let size = length-append ones twos in
     apart i j d lt (omega (arith, within, size)) (get_front ones twos i d (omega (arith, lt, within)) ∙ same ∙ sym (get_front ones twos j d within))
@@ -199,7 +199,7 @@ asks_some locations start before batch adaptor next output state new run batched
     record {
       segments = ones ++ twos;
       asks = record {
-        apart = apart_front (ones ++ twos) (drop some.count batched.segments) (subst AreApart whole batched.apart);
+        apart = apart_front (ones ++ twos) (drop some.count batched.segments) (subst AreDistinctNumbers whole batched.apart);
         located = All-append (λ segment. segment < length locations) ones twos run.ready.located (All-take (λ segment. segment < length locations) some.count batched.segments batched.located);
         asked = some.asked ∙ (λ i. asked_for (map place_of (take some.count (batched.batch_is i))) (run.asked i))
             ∙ ap (λ (places : List SegmentLocation). asked_for places (asked_for (map (location_of locations) ones) before.asked))

@@ -23,7 +23,7 @@ use Rattle.vx_drive.specs.declared.adaptor_errors.AdaptorError.TheVariants as er
 use Rattle.vx_drive.specs.declared.adaptors.AdaptorStep.{AdaptorStep}
 use Rattle.vx_drive.specs.declared.adaptors.State.{State}
 use Rattle.vx_drive.specs.declared.adaptors.State.TheVariants.{NeedsCompute, Waiting, Done}
-use Rattle.vx_drive.specs.AdaptorData.{AdaptorData, AreAsked, IsReady, reads_of, work_of}
+use Rattle.vx_drive.specs.AdaptorData.{AdaptorData, AreAskedReads, IsReady, reads_of, work_of}
 use Rattle.vx_drive.specs.Computes.{Batches, HandsOn, HoldsNext, IsNextOutput, Yields, WhyYields, Computes, ComputeGives, ResultGives, TakesResult, after_result}
 use Rattle.vx_drive.specs.Continues.{splits_left}
 use Rattle.vx_drive.specs.Fetched.{fetches_from, location_of, segments_in, unread, delivered}
@@ -57,7 +57,7 @@ pub record Running (locations : List SegmentLocation) (start : ScanData) (before
   pub scan : ScanSoFar locations start before adaptor.scan
   pub live : adaptor.state ≢ Done
   pub first : adaptor.first ≡ 0
-  pub ready : AreAsked locations adaptor.first adaptor.asked adaptor.scan.progress.reads
+  pub ready : AreAskedReads locations adaptor.first adaptor.asked adaptor.scan.progress.reads
   pub waiting : NothingWaits state.table
   pub fetches : fetches_of state.table ≡ outstanding locations 0 (reads_of adaptor)
   pub asked : state.source.asked ≡ asked_for (map (location_of locations) (segments_in (reads_of adaptor))) before.asked
@@ -67,8 +67,8 @@ pub record Running (locations : List SegmentLocation) (start : ScanData) (before
   pub so_far : OutputSoFar locations start before adaptor output
 
 -- what stands of an adaptor that is not done
-pub ready_of : (locations others : List SegmentLocation) (adaptor : AdaptorData) → IsReady others adaptor.state adaptor.first adaptor.asked adaptor.scan.progress.reads → others ≡ locations → adaptor.state ≢ Done → AreAsked locations adaptor.first adaptor.asked adaptor.scan.progress.reads
-ready_of locations others adaptor ready same live = subst (λ (ls : List SegmentLocation). AreAsked ls adaptor.first adaptor.asked adaptor.scan.progress.reads) same (ready live)
+pub ready_of : (locations others : List SegmentLocation) (adaptor : AdaptorData) → IsReady others adaptor.state adaptor.first adaptor.asked adaptor.scan.progress.reads → others ≡ locations → adaptor.state ≢ Done → AreAskedReads locations adaptor.first adaptor.asked adaptor.scan.progress.reads
+ready_of locations others adaptor ready same live = subst (λ (ls : List SegmentLocation). AreAskedReads ls adaptor.first adaptor.asked adaptor.scan.progress.reads) same (ready live)
 
 pub needs_is_live : (state : State) → state ≡ NeedsCompute → state ≢ Done
 needs_is_live state is done = let both : NeedsCompute ≡ Done = sym is ∙ done in absurd cc
@@ -112,7 +112,7 @@ output_batch locations start before batch adaptor next output fresh scan batched
     absurd (let both : None ≡ Some number = sym (ap (λ (ns : List ℕ). slice_get ns out.place) left) ∙ out.at in cc)
 
 pub run_batch : (locations : List SegmentLocation) (start : ScanData) (before : SourceState) (batch : List IoRequest) (adaptor next : AdaptorData) (output : Option ColumnData) (old new : SessionState) →
-    Running locations start before adaptor output old → Batches locations batch adaptor next → AreAsked locations next.first next.asked next.scan.progress.reads → SendGives batch (Ok tt) old new → Running locations start before next output new
+    Running locations start before adaptor output old → Batches locations batch adaptor next → AreAskedReads locations next.first next.asked next.scan.progress.reads → SendGives batch (Ok tt) old new → Running locations start before next output new
 run_batch locations start before batch adaptor next output old new run batched ready (sent, stays, faults) =
     let segments : segments_in (reads_of next) ≡ segments_in (reads_of adaptor) ++ batched.segments = ap segments_in batched.reads ∙ segments_more (reads_of adaptor) batched.segments in
     let size = length_taken (drop adaptor.first adaptor.scan.progress.reads.wanted) adaptor.asked run.ready.wanted in
@@ -141,7 +141,7 @@ run_batch locations start before batch adaptor next output old new run batched r
 
 -- a step that asks nothing leaves the session as it was
 moved_on : (locations : List SegmentLocation) (start : ScanData) (before : SourceState) (adaptor next : AdaptorData) (output later : Option ColumnData) (state : SessionState) →
-    Running locations start before adaptor output state → ScanSoFar locations start before next.scan → next.first ≡ adaptor.first → reads_of next ≡ reads_of adaptor → next.state ≢ Done → AreAsked locations next.first next.asked next.scan.progress.reads → OutputSoFar locations start before next later → Running locations start before next later state
+    Running locations start before adaptor output state → ScanSoFar locations start before next.scan → next.first ≡ adaptor.first → reads_of next ≡ reads_of adaptor → next.state ≢ Done → AreAskedReads locations next.first next.asked next.scan.progress.reads → OutputSoFar locations start before next later → Running locations start before next later state
 moved_on locations start before adaptor next output later state run scan first reads live ready is = record {
   unread = run.unread;
   scan = scan;
@@ -177,7 +177,7 @@ output_piece locations start before number column adaptor next output fresh scan
     absurd (let both : None ≡ Some number = sym (ap (λ (ns : List ℕ). slice_get ns out.place) left) ∙ out.at in cc)
 
 pub run_piece : (locations : List SegmentLocation) (start : ScanData) (before : SourceState) (column : ColumnData) (adaptor next : AdaptorData) (output : Option ColumnData) (state : SessionState) →
-    Running locations start before adaptor output state → HandsOn column adaptor next → AreAsked locations next.first next.asked next.scan.progress.reads → Running locations start before next (Some column) state
+    Running locations start before adaptor output state → HandsOn column adaptor next → AreAskedReads locations next.first next.asked next.scan.progress.reads → Running locations start before next (Some column) state
 run_piece locations start before column adaptor next output state run hands ready =
     moved_on locations start before adaptor next output (Some column) state run (so_far_then locations start before adaptor.scan next.scan run.scan hands.scan) hands.asks.first hands.asks.reads (needs_is_live next.state hands.state) ready
     (output_piece locations start before hands.number column adaptor next output run.unread run.scan hands.held hands.output run.so_far)
@@ -190,7 +190,7 @@ output_waits locations start before adaptor next output yields (inr (left, colum
     absurd (let both : None ≡ Some (number, column) = sym yields.held ∙ full in cc)
 
 pub run_waits : (locations : List SegmentLocation) (start : ScanData) (before : SourceState) (adaptor next : AdaptorData) (output : Option ColumnData) (state : SessionState) →
-    Running locations start before adaptor output state → Yields adaptor next → next.state ≢ Done → AreAsked locations next.first next.asked next.scan.progress.reads → Running locations start before next output state
+    Running locations start before adaptor output state → Yields adaptor next → next.state ≢ Done → AreAskedReads locations next.first next.asked next.scan.progress.reads → Running locations start before next output state
 run_waits locations start before adaptor next output state run yields live ready =
     moved_on locations start before adaptor next output output state run (so_far_then locations start before adaptor.scan next.scan run.scan yields.scan) yields.asks.first yields.asks.reads live ready (output_waits locations start before adaptor next output yields run.so_far)
 
@@ -216,7 +216,7 @@ completed_read locations completion reads old new fetches ended =
     outstanding_at locations 0 reads ended.place (record { owner = completion.owner; request = completion.request; at = ended.at }) (ap (λ (ws : List WantedFetch). slice_get ws ended.place) (sym fetches) ∙ ended.here)
 
 -- a result of a completion is never refused
-pub not_refused : (locations : List SegmentLocation) (completion : Completion) (adaptor next : AdaptorData) (old new : SessionState) (error : AdaptorError) → AreAsked locations adaptor.first adaptor.asked adaptor.scan.progress.reads → fetches_of old.table ≡ outstanding locations 0 (reads_of adaptor) → FetchEnded completion old new →
+pub not_refused : (locations : List SegmentLocation) (completion : Completion) (adaptor next : AdaptorData) (old new : SessionState) (error : AdaptorError) → AreAskedReads locations adaptor.first adaptor.asked adaptor.scan.progress.reads → fetches_of old.table ≡ outstanding locations 0 (reads_of adaptor) → FetchEnded completion old new →
     ResultGives (Err error) completion.request.0 completion.bytes.items adaptor next → ⊥
 not_refused locations completion adaptor next old new (errors.NoLocation segment) ready fetches ended gives = gives
 not_refused locations completion adaptor next old new (errors.Step error) ready fetches ended gives = gives
@@ -241,7 +241,7 @@ segment_or_none None = 0
 segment_or_none (Some read) = read.segment
 
 pub run_result : (locations : List SegmentLocation) (start : ScanData) (before : SourceState) (completion : Completion) (adaptor next : AdaptorData) (output : Option ColumnData) (old new : SessionState) →
-    Running locations start before adaptor output old → Completed completion old new → TakesResult completion.request.0 completion.bytes.items adaptor next → (next.state ≢ Done → AreAsked locations next.first next.asked next.scan.progress.reads) → Running locations start before next output new
+    Running locations start before adaptor output old → Completed completion old new → TakesResult completion.request.0 completion.bytes.items adaptor next → (next.state ≢ Done → AreAskedReads locations next.first next.asked next.scan.progress.reads) → Running locations start before next output new
 run_result locations start before completion adaptor next output old new run done takes ready =
     let ended = done.ended in
     let at = completed_read locations completion (reads_of adaptor) old new run.fetches ended in

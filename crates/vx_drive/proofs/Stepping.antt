@@ -15,7 +15,7 @@ use Rattle.vx_drive.specs.declared.adaptor_errors.AdaptorError.{AdaptorError}
 use Rattle.vx_drive.specs.declared.adaptor_errors.AdaptorError.TheVariants as errors
 use Rattle.vx_drive.specs.Computes.{RefusesStep, StopCause}
 use Rattle.vx_drive.specs.Continues.{KeepsScan, WantsReads}
-use Rattle.vx_drive.specs.Gathered.{work_in, GivesTurn, StepGives}
+use Rattle.vx_drive.specs.Batched.{work_in, GivesTurn, StepGives}
 use Rattle.vx_drive.specs.Refusals.{refusal_of}
 use Rattle.vx_drive.proofs.Continuing.{keeps_then}
 use Rattle.vx_base.specs.Columns.{ColumnData}

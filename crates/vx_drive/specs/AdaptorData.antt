@@ -7,7 +7,7 @@ use Rattle.vx_steps.specs.ScanData.{ScanData}
 use Rattle.vx_steps.specs.Steps.{work_left}
 use Rattle.vx_drive.specs.declared.adaptors.State.{State}
 use Rattle.vx_drive.specs.declared.adaptors.State.TheVariants.{Done}
-use Rattle.vx_drive.specs.Fetched.{AllLocated, AreApart, segments_in}
+use Rattle.vx_drive.specs.Fetched.{AllLocated, AreDistinctNumbers, segments_in}
 use Rattle.vx_base.specs.Columns.{ColumnData}
 use Rattle.vx_base.specs.declared.locations.SegmentLocation.{SegmentLocation}
 
@@ -39,22 +39,22 @@ SomeOutstanding adaptor = (number : ℕ) × IsOutstanding adaptor number
 abbrev pub SomeEarlierOutstanding : AdaptorData → Type 0
 SomeEarlierOutstanding adaptor = (number : ℕ) × (number < adaptor.first) × tables.IsOutstanding adaptor.scan.progress.reads (read_numbered number)
 
-abbrev pub count_of : Option (ℕ × ColumnData) → ℕ
-count_of None = 0
-count_of (Some output) = 1
+abbrev pub held_count : Option (ℕ × ColumnData) → ℕ
+held_count None = 0
+held_count (Some output) = 1
 
 -- how many reads and pieces can follow, at most
 abbrev pub work_of : AdaptorData → ℕ
-work_of adaptor = work_left adaptor.scan.job adaptor.scan.progress + count_of adaptor.held
+work_of adaptor = work_left adaptor.scan.job adaptor.scan.progress + held_count adaptor.held
 
 -- Each read that the scan handed out behind the first ones was asked for, each is of another segment, and each segment has
 -- a location.
-pub record AreAsked (locations : List SegmentLocation) (first asked : ℕ) (reads : ReadsData) : Type 0 where
+pub record AreAskedReads (locations : List SegmentLocation) (first asked : ℕ) (reads : ReadsData) : Type 0 where
   pub all : first + asked ≡ reads.handed
   pub wanted : asked ≤ length (drop first reads.wanted)
-  pub apart : AreApart (segments_in (take asked (drop first reads.wanted)))
+  pub apart : AreDistinctNumbers (segments_in (take asked (drop first reads.wanted)))
   pub located : AllLocated locations (segments_in (take asked (drop first reads.wanted)))
 
 -- this is so while the adaptor is not done
 abbrev pub IsReady : List SegmentLocation → State → ℕ → ℕ → ReadsData → Type 0
-IsReady locations state first asked reads = state ≢ Done → AreAsked locations first asked reads
+IsReady locations state first asked reads = state ≢ Done → AreAskedReads locations first asked reads

@@ -4,13 +4,13 @@ use Rattle.std.specs.List.{All}
 use Rattle.vx_io.specs.Fetches.{asked_for}
 use Rattle.vx_drive.specs.declared.errors.ScanError.{ScanError}
 use Rattle.vx_drive.specs.declared.errors.ScanError.TheVariants.{ReadFault}
-use Rattle.vx_drive.specs.Fetched.{AllLocated, AreApart, location_of}
+use Rattle.vx_drive.specs.Fetched.{AllLocated, AreDistinctNumbers, location_of}
 use Rattle.vx_base.specs.Sources.{SourceState}
 use Rattle.vx_base.specs.declared.locations.SegmentLocation.{SegmentLocation}
 
 -- The source was asked for the ranges of these segments, each once, in this order, and for nothing else.
 pub record AskedOnce (locations : List SegmentLocation) (segments : List ℕ) (before after : SourceState) : Type 0 where
-  pub apart : AreApart segments
+  pub apart : AreDistinctNumbers segments
   pub located : AllLocated locations segments
   pub asked : after.asked ≡ asked_for (map (location_of locations) segments) before.asked
 

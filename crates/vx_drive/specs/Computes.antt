@@ -16,7 +16,7 @@ use Rattle.vx_drive.specs.declared.adaptors.State.{State}
 use Rattle.vx_drive.specs.declared.adaptors.State.TheVariants.{NeedsCompute, Waiting, Done}
 use Rattle.vx_drive.specs.AdaptorData.{AdaptorData, reads_of, read_numbered, work_of, IsOutstanding, SomeOutstanding, SomeEarlierOutstanding}
 use Rattle.vx_drive.specs.Continues.{KeepsScan, Continues, ComesOut, MayBeRead, splits_left}
-use Rattle.vx_drive.specs.Fetched.{AllLocated, AreApart, fetches_from, unread, delivered, segments_in}
+use Rattle.vx_drive.specs.Fetched.{AllLocated, AreDistinctNumbers, fetches_from, unread, delivered, segments_in}
 use Rattle.vx_base.specs.Columns.{ColumnData}
 use Rattle.vx_base.specs.declared.locations.SegmentLocation.{SegmentLocation}
 
@@ -42,7 +42,7 @@ pub record Batches (locations : List SegmentLocation) (batch : List IoRequest) (
   pub first : new.first ≡ old.first
   pub asked : new.asked ≡ old.asked + length segments
   pub reads : reads_of new ≡ reads_of old ++ map unread segments
-  pub apart : AreApart (segments_in (reads_of new))
+  pub apart : AreDistinctNumbers (segments_in (reads_of new))
   pub located : AllLocated locations segments
   pub wanted : All (MayBeRead old.scan) segments
   pub scan : Continues old.scan new.scan

@@ -29,8 +29,8 @@ abbrev pub AreDistinct : {X : Type 0} → List X → Type 0
 AreDistinct {X} xs = AllPairs (λ (one two : X). one ≢ two) xs
 
 -- no number stands twice
-abbrev pub AreApart : List ℕ → Type 0
-AreApart numbers = AreDistinct numbers
+abbrev pub AreDistinctNumbers : List ℕ → Type 0
+AreDistinctNumbers numbers = AreDistinct numbers
 
 -- a read whose bytes did not come, and one whose bytes came
 abbrev pub unread : ℕ → Wanted

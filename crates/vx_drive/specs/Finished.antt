@@ -2,7 +2,7 @@
 use Rattle.std.specs.Prelude.{◌≡◌, ℕ, List, [], map}
 use Rattle.vx_steps.specs.declared.leavings.ScanKept.{ScanKept}
 use Rattle.vx_steps.specs.Held.{AreTyped}
-use Rattle.vx_steps.specs.Kept.{kept_data, AreApart}
+use Rattle.vx_steps.specs.Kept.{kept_data, AreOfDistinctPlans}
 use Rattle.vx_steps.specs.Leavings.{IsReadBehind}
 use Rattle.vx_steps.specs.Offers.{Keeps}
 use Rattle.vx_steps.specs.ScanData.{ScanData}
@@ -20,7 +20,7 @@ pub record LeavesKept (scan : ScanData) (kept : ScanKept) : Type 0 where
   pub uses : UsesGiven scan.job.given [] scan.progress.wholes.used
   pub typed_leaves : AreTyped scan.nodes (map kept_data kept.leaves.items)
   pub typed_made : AreTyped scan.nodes scan.progress.wholes.made
-  pub apart_made : AreApart scan.progress.wholes.made
+  pub apart_made : AreOfDistinctPlans scan.progress.wholes.made
 
 -- It gave what a run gives, and nothing is in flight at the source any more.
 pub record Finishes (locations : List SegmentLocation) (limit : ℕ) (start : ScanData) (finished : Finished) (before after : SourceState) : Type 0 where

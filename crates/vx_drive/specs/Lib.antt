@@ -1,11 +1,11 @@
 pub mod AdaptorData
 pub mod Adaptors
 pub mod Asks
+pub mod Batched
 pub mod Computes
 pub mod Continues
 pub mod Fetched
 pub mod Finished
-pub mod Gathered
 pub mod Plans
 pub mod Refusals
 pub mod Runs

@@ -3,11 +3,11 @@
 ghost use Rattle.std.specs.Prelude.{◌≡◌, ◌+◌, ◌^◌, ◌<◌, ◌≤◌, length};
 ghost use Rattle.vx_drive.specs.AdaptorData.{IsReady};
 ghost use Rattle.vx_drive.specs.Computes.{after_result};
-ghost use Rattle.vx_drive.specs.Gathered.{IsNoRead, StepOf};
+ghost use Rattle.vx_drive.specs.Batched.{IsNoRead, StepOf};
 ghost use Rattle.vx_base.specs.Limits.{most_segments};
 
 use crate::adaptor_errors::AdaptorError;
-use crate::gathering::gather;
+use crate::batching::batch_fetches;
 use std::alloc::Global;
 use std::mem::replace;
 use vx_base::{Column, SegmentLocation};
@@ -176,7 +176,7 @@ impl<'a> ScanAdaptor<'a> {
             return Ok(AdaptorStep::Piece(column));
         }
         let mut batch = Vec::new(self.alloc);
-        match gather(&mut self.scan, self.locations, self.first, &mut batch) {
+        match batch_fetches(&mut self.scan, self.locations, self.first, &mut batch) {
             Ok(turn) => {
                 self.asked += batch.len() as u64;
                 Ok(step_of(batch, turn, &mut self.held, &mut self.state))

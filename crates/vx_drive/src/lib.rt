@@ -11,8 +11,8 @@
 
 mod adaptor_errors;
 mod adaptors;
+mod batching;
 pub mod errors;
-mod gathering;
 mod plans;
 mod runs;
 mod waits;

@@ -12,7 +12,7 @@ use Rattle.vx_expr.specs.Mentions.{uses_root}
 use Rattle.vx_expr.specs.Rows.{along, front, no_bound, number_of_row, at_rows, IsFirstFault, front_at, worth}
 use Rattle.vx_expr.specs.Terms.{Term}
 use Rattle.vx_expr.specs.Types.{type_of, row_number_type}
-use Rattle.vx_expr.proofs.FittingMeaning.{worth_fits}
+use Rattle.vx_expr.proofs.FittingMeaning.{columnar_fits}
 
 -- ---- where the front ends
 pub length_along : {A B C : Type 0} (f : A → B → C) (xs : List A) (ys : List B) → length xs ≡ length ys → length (along f xs ys) ≡ length xs
@@ -53,7 +53,7 @@ row_below (structure vs) h = absurd h
 pub front_fits : (t : DataType) (e : Term) (s : DataType) (vs ns : List Datum) → type_of t e ≡ Some s → (IsTrue (uses_root e) → AllByRecursion (Fits t) vs) → AllByRecursion (Fits row_number_type) ns → AllByRecursion (Fits s) (front (at_rows t e vs (map number_of_row ns)))
 front_fits t e s [] ns h fit rows = tt
 front_fits t e s (v ∷ vs) [] h fit rows = tt
-front_fits t e s (v ∷ vs) (n ∷ ns) h fit rows = here (meaning t no_bound e v (number_of_row n)) (at_rows t e vs (map number_of_row ns)) (worth_fits t e s no_bound v (number_of_row n) h (λ u. (fit u).0) (row_below n rows.0)) (front_fits t e s vs ns h (λ u. (fit u).1) rows.1) where
+front_fits t e s (v ∷ vs) (n ∷ ns) h fit rows = here (meaning t no_bound e v (number_of_row n)) (at_rows t e vs (map number_of_row ns)) (columnar_fits t e s no_bound v (number_of_row n) h (λ u. (fit u).0) (row_below n rows.0)) (front_fits t e s vs ns h (λ u. (fit u).1) rows.1) where
   here : (m : Option Datum) (ms : List (Option Datum)) → IfSome m (Fits s) → AllByRecursion (Fits s) (front ms) → AllByRecursion (Fits s) (front (m ∷ ms))
   here None ms p q = tt
   here (Some w) ms p q = (p, q)

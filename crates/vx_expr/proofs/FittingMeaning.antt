@@ -13,7 +13,7 @@ use Rattle.vx_base.specs.Data.{DataType, bool_type, int_type, utf8_type, struct_
 use Rattle.vx_base.specs.Fits.{Fits, EachFits, TakesNull, IsInside, least_of, greatest_of}
 use Rattle.vx_base.specs.Reading.{fits_leaf}
 use Rattle.vx_base.specs.Names.{are_distinct}
-use Rattle.vx_expr.specs.declared.mentions.Part.TheVariants.{Root}
+use Rattle.vx_expr.specs.declared.mentions.Input.TheVariants.{Root}
 use Rattle.vx_operators.specs.declared.operators.CompareOp.{CompareOp}
 use Rattle.vx_operators.specs.declared.operators.ArithOp.{ArithOp}
 use Rattle.vx_expr.specs.Meaning.{meaning, meanings_in, item_in, field_of, negated, and_of, or_of, comparison_of, null_test_of, value_test_of, arithmetic_of, bound_test_of, exact, if_inside, is_null, one_more_item, struct_of}
@@ -208,21 +208,21 @@ in_right true b h = refl
 in_right false b h = h
 
 mutual
-  pub worth_fits : (t : DataType) (e : Term) (s : DataType) (bound : ℕ) (v : Datum) (row : ℕ) → type_of t e ≡ Some s → (IsTrue (uses_root e) → Fits t v) → row < 2 ^ 64 → IfSome (meaning t bound e v row) (Fits s)
-  worth_fits t root s bound v row h fit lt = subst (λ (y : DataType). Fits y v) (same_Some t s h) (fit refl)
-  worth_fits t (literal w u) s bound v row h fit lt = literal_fits (fits_leaf u w) w u s refl h
-  worth_fits t (get_field name e) s bound v row h fit lt = one_part (field_type name) (λ o. field_of o name) s (field_step name s) (type_of t e) (meaning t bound e v row) h (λ x f. worth_fits t e x bound v row f fit lt)
-  worth_fits t (pack es) s bound v row h fit lt = pack_fits (are_distinct (names_in es)) (types_in t es) (meanings_in t bound es v row) s h (λ ms f. items_fit t es ms bound v row f fit lt)
-  worth_fits t (negation e) s bound v row h fit lt = one_part negation_type (λ o. negated) s (negation_step s) (type_of t e) (meaning t bound e v row) h (λ x f. worth_fits t e x bound v row f fit lt)
-  worth_fits t (conjunction a b) s bound v row h fit lt = two_parts logic_type (λ o. and_of) s (logic_step and_of and_fits s) (type_of t a) (type_of t b) (meaning t bound a v row) (meaning t bound b v row) h (λ x f. worth_fits t a x bound v row f (λ u. fit (in_left (uses_root a) (uses_root b) u)) lt) (λ x f. worth_fits t b x bound v row f (λ u. fit (in_right (uses_root a) (uses_root b) u)) lt)
-  worth_fits t (disjunction a b) s bound v row h fit lt = two_parts logic_type (λ o. or_of) s (logic_step or_of or_fits s) (type_of t a) (type_of t b) (meaning t bound a v row) (meaning t bound b v row) h (λ x f. worth_fits t a x bound v row f (λ u. fit (in_left (uses_root a) (uses_root b) u)) lt) (λ x f. worth_fits t b x bound v row f (λ u. fit (in_right (uses_root a) (uses_root b) u)) lt)
-  worth_fits t (comparison op a b) s bound v row h fit lt = two_parts comparison_type (λ o. comparison_of op) s (comparison_step op s) (type_of t a) (type_of t b) (meaning t bound a v row) (meaning t bound b v row) h (λ x f. worth_fits t a x bound v row f (λ u. fit (in_left (uses_root a) (uses_root b) u)) lt) (λ x f. worth_fits t b x bound v row f (λ u. fit (in_right (uses_root a) (uses_root b) u)) lt)
-  worth_fits t (null_test e) s bound v row h fit lt = one_part test_type (λ o. null_test_of) s (λ x f w k. test_step is_null s x f w) (type_of t e) (meaning t bound e v row) h (λ x f. worth_fits t e x bound v row f fit lt)
-  worth_fits t (value_test e) s bound v row h fit lt = one_part test_type (λ o. value_test_of) s (λ x f w k. test_step (λ u. not (is_null u)) s x f w) (type_of t e) (meaning t bound e v row) h (λ x f. worth_fits t e x bound v row f fit lt)
-  worth_fits t (arithmetic op a b) s bound v row h fit lt = two_parts arithmetic_type (arithmetic_of op) s (arithmetic_step op s) (type_of t a) (type_of t b) (meaning t bound a v row) (meaning t bound b v row) h (λ x f. worth_fits t a x bound v row f (λ u. fit (in_left (uses_root a) (uses_root b) u)) lt) (λ x f. worth_fits t b x bound v row f (λ u. fit (in_right (uses_root a) (uses_root b) u)) lt)
-  worth_fits t row_number s bound v row h fit lt = subst (λ (y : DataType). Fits y (number (pos row))) (same_Some (int_type U64 NonNullable) s h) (row_fits row lt)
-  worth_fits t (bound_test e) s bound v row h fit lt = one_part bound_test_type (λ o. bound_test_of bound) s (bound_test_step bound s) (type_of t e) (meaning t bound e v row) h (λ x f. worth_fits t e x bound v row f fit lt)
+  pub columnar_fits : (t : DataType) (e : Term) (s : DataType) (bound : ℕ) (v : Datum) (row : ℕ) → type_of t e ≡ Some s → (IsTrue (uses_root e) → Fits t v) → row < 2 ^ 64 → IfSome (meaning t bound e v row) (Fits s)
+  columnar_fits t root s bound v row h fit lt = subst (λ (y : DataType). Fits y v) (same_Some t s h) (fit refl)
+  columnar_fits t (literal w u) s bound v row h fit lt = literal_fits (fits_leaf u w) w u s refl h
+  columnar_fits t (get_field name e) s bound v row h fit lt = one_part (field_type name) (λ o. field_of o name) s (field_step name s) (type_of t e) (meaning t bound e v row) h (λ x f. columnar_fits t e x bound v row f fit lt)
+  columnar_fits t (pack es) s bound v row h fit lt = pack_fits (are_distinct (names_in es)) (types_in t es) (meanings_in t bound es v row) s h (λ ms f. items_fit t es ms bound v row f fit lt)
+  columnar_fits t (negation e) s bound v row h fit lt = one_part negation_type (λ o. negated) s (negation_step s) (type_of t e) (meaning t bound e v row) h (λ x f. columnar_fits t e x bound v row f fit lt)
+  columnar_fits t (conjunction a b) s bound v row h fit lt = two_parts logic_type (λ o. and_of) s (logic_step and_of and_fits s) (type_of t a) (type_of t b) (meaning t bound a v row) (meaning t bound b v row) h (λ x f. columnar_fits t a x bound v row f (λ u. fit (in_left (uses_root a) (uses_root b) u)) lt) (λ x f. columnar_fits t b x bound v row f (λ u. fit (in_right (uses_root a) (uses_root b) u)) lt)
+  columnar_fits t (disjunction a b) s bound v row h fit lt = two_parts logic_type (λ o. or_of) s (logic_step or_of or_fits s) (type_of t a) (type_of t b) (meaning t bound a v row) (meaning t bound b v row) h (λ x f. columnar_fits t a x bound v row f (λ u. fit (in_left (uses_root a) (uses_root b) u)) lt) (λ x f. columnar_fits t b x bound v row f (λ u. fit (in_right (uses_root a) (uses_root b) u)) lt)
+  columnar_fits t (comparison op a b) s bound v row h fit lt = two_parts comparison_type (λ o. comparison_of op) s (comparison_step op s) (type_of t a) (type_of t b) (meaning t bound a v row) (meaning t bound b v row) h (λ x f. columnar_fits t a x bound v row f (λ u. fit (in_left (uses_root a) (uses_root b) u)) lt) (λ x f. columnar_fits t b x bound v row f (λ u. fit (in_right (uses_root a) (uses_root b) u)) lt)
+  columnar_fits t (null_test e) s bound v row h fit lt = one_part test_type (λ o. null_test_of) s (λ x f w k. test_step is_null s x f w) (type_of t e) (meaning t bound e v row) h (λ x f. columnar_fits t e x bound v row f fit lt)
+  columnar_fits t (value_test e) s bound v row h fit lt = one_part test_type (λ o. value_test_of) s (λ x f w k. test_step (λ u. not (is_null u)) s x f w) (type_of t e) (meaning t bound e v row) h (λ x f. columnar_fits t e x bound v row f fit lt)
+  columnar_fits t (arithmetic op a b) s bound v row h fit lt = two_parts arithmetic_type (arithmetic_of op) s (arithmetic_step op s) (type_of t a) (type_of t b) (meaning t bound a v row) (meaning t bound b v row) h (λ x f. columnar_fits t a x bound v row f (λ u. fit (in_left (uses_root a) (uses_root b) u)) lt) (λ x f. columnar_fits t b x bound v row f (λ u. fit (in_right (uses_root a) (uses_root b) u)) lt)
+  columnar_fits t row_number s bound v row h fit lt = subst (λ (y : DataType). Fits y (number (pos row))) (same_Some (int_type U64 NonNullable) s h) (row_fits row lt)
+  columnar_fits t (bound_test e) s bound v row h fit lt = one_part bound_test_type (λ o. bound_test_of bound) s (bound_test_step bound s) (type_of t e) (meaning t bound e v row) h (λ x f. columnar_fits t e x bound v row f fit lt)
 
   pub items_fit : (t : DataType) (es : Terms) (ms : Members) (bound : ℕ) (v : Datum) (row : ℕ) → types_in t es ≡ Some ms → (IsTrue (mentions_in Root es) → Fits t v) → row < 2 ^ 64 → IfSome (meanings_in t bound es v row) (EachFits ms)
   items_fit t no_terms ms bound v row h fit lt = subst (λ (ns : Members). EachFits ns no_items) (let p : no_members ≡ ms = cc in p) tt
-  items_fit t (named name e es) ms bound v row h fit lt = more_fits name (type_of t e) (types_in t es) (meaning t bound e v row) (meanings_in t bound es v row) ms h (λ x f. worth_fits t e x bound v row f (λ u. fit (in_left (uses_root e) (mentions_in Root es) u)) lt) (λ ns f. items_fit t es ns bound v row f (λ u. fit (in_right (uses_root e) (mentions_in Root es) u)) lt)
+  items_fit t (named name e es) ms bound v row h fit lt = more_fits name (type_of t e) (types_in t es) (meaning t bound e v row) (meanings_in t bound es v row) ms h (λ x f. columnar_fits t e x bound v row f (λ u. fit (in_left (uses_root e) (mentions_in Root es) u)) lt) (λ ns f. items_fit t es ns bound v row f (λ u. fit (in_right (uses_root e) (mentions_in Root es) u)) lt)

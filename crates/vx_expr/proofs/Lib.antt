@@ -1,6 +1,5 @@
 pub mod AppliedRows
 pub mod BuiltPairs
-pub mod CellRows
 pub mod ConjunctTruth
 pub mod Conjuncts
 pub mod DistinctNames
@@ -26,6 +25,7 @@ pub mod ReportCounts
 pub mod Reports
 pub mod RewrittenMeaning
 pub mod RewrittenTypes
+pub mod RowValueRows
 pub mod SameTerms
 pub mod StrictNull
 pub mod TermRows

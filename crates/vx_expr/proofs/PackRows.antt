@@ -3,8 +3,8 @@ use Rattle.std.specs.Prelude.{min}
 use Rattle.std.proofs.Common.{◌≡◌, ℕ, zero, suc, ◌<◌, ◌≤◌, ◌+◌, List, [], ◌∷◌, ◌++◌, length, map, take, drop, get_or, replicate, refl, sym, ap, ◌∙◌, arith, append_assoc}
 use Rattle.std.proofs.lemmas.List.{append-nil, drop_more, length-take, map-append}
 use Rattle.vx_base.specs.Data.{Datum}
-use Rattle.vx_operators.specs.declared.worths.Worth.{Worth}
-use Rattle.vx_operators.specs.Worths.{worth_rows}
+use Rattle.vx_operators.specs.declared.columnar_values.ColumnarValue.{ColumnarValue}
+use Rattle.vx_operators.specs.ColumnarValues.{columnar_rows}
 use Rattle.vx_expr.specs.Packs.{put_first, rows_along}
 use Rattle.vx_expr.specs.Rows.{along}
 use Rattle.vx_expr.specs.Steps.{appended}
@@ -26,8 +26,8 @@ pub rows_push : (n : ℕ) (columns : List (List Datum)) (column : List Datum) �
 rows_push n [] column = push_none n column
 rows_push n (one ∷ columns) column = ap (along put_first one) (rows_push n columns column) ∙ push_step one (rows_along n columns) column
 
-pub worths_push : (n : ℕ) (worths more : List Worth) (worth : Worth) → more ≡ worths ++ worth ∷ [] → rows_along n (map worth_rows more) ≡ along appended (rows_along n (map worth_rows worths)) (worth_rows worth)
-worths_push n worths more worth e = ap (λ (ws : List Worth). rows_along n (map worth_rows ws)) e ∙ ap (rows_along n) (map-append worth_rows worths (worth ∷ [])) ∙ rows_push n (map worth_rows worths) (worth_rows worth)
+pub columnar_push : (n : ℕ) (columnar_values more : List ColumnarValue) (columnar : ColumnarValue) → more ≡ columnar_values ++ columnar ∷ [] → rows_along n (map columnar_rows more) ≡ along appended (rows_along n (map columnar_rows columnar_values)) (columnar_rows columnar)
+columnar_push n columnar_values more columnar e = ap (λ (ws : List ColumnarValue). rows_along n (map columnar_rows ws)) e ∙ ap (rows_along n) (map-append columnar_rows columnar_values (columnar ∷ [])) ∙ rows_push n (map columnar_rows columnar_values) (columnar_rows columnar)
 
 -- ---- column after column
 -- the rows with the values of these columns behind their own
@@ -88,19 +88,19 @@ rows_fewer m n column columns e le = omega (arith, ap length (rows_cut m n colum
 pub rows_enough : (n : ℕ) (column : List Datum) (columns : List (List Datum)) → n ≤ length column → length (rows_along n columns) ≡ length (rows_along n (column ∷ columns))
 rows_enough n column columns le = omega (arith, along_len put_first column (rows_along n columns), rows_most n columns)
 
--- worth by worth: one with fewer rows, and one with enough
-worths_from : (n : ℕ) (worths : List Worth) (i : ℕ) (worth : Worth) → i < length worths → worth ≡ get_or worths i worth → length (rows_along n (map worth_rows (drop i worths))) ≡ length (rows_along n (worth_rows worth ∷ map worth_rows (drop (i + 1) worths)))
-worths_from n worths i worth lt e =
-    let split : drop i worths ≡ worth ∷ drop (i + 1) worths = drop_more worths i worth lt ∙ ap (λ (one : Worth). one ∷ drop (i + 1) worths) (sym e) in
-    ap (λ (ws : List Worth). length (rows_along n (map worth_rows ws))) split
+-- one columnar value after another: one with fewer rows, and one with enough
+columnar_from : (n : ℕ) (columnar_values : List ColumnarValue) (i : ℕ) (columnar : ColumnarValue) → i < length columnar_values → columnar ≡ get_or columnar_values i columnar → length (rows_along n (map columnar_rows (drop i columnar_values))) ≡ length (rows_along n (columnar_rows columnar ∷ map columnar_rows (drop (i + 1) columnar_values)))
+columnar_from n columnar_values i columnar lt e =
+    let split : drop i columnar_values ≡ columnar ∷ drop (i + 1) columnar_values = drop_more columnar_values i columnar lt ∙ ap (λ (one : ColumnarValue). one ∷ drop (i + 1) columnar_values) (sym e) in
+    ap (λ (ws : List ColumnarValue). length (rows_along n (map columnar_rows ws))) split
 
-pub next_fewer : (n found whole : ℕ) (worths : List Worth) (i : ℕ) (worth : Worth) → i < length worths → worth ≡ get_or worths i worth → found ≡ length (worth_rows worth) → found ≤ n → length (rows_along n (map worth_rows (drop i worths))) ≡ whole
-    → length (rows_along found (map worth_rows (drop (i + 1) worths))) ≡ whole
-next_fewer n found whole worths i worth lt e is le so_far = rows_fewer found n (worth_rows worth) (map worth_rows (drop (i + 1) worths)) is le ∙ sym (worths_from n worths i worth lt e) ∙ so_far
+pub next_fewer : (n found whole : ℕ) (columnar_values : List ColumnarValue) (i : ℕ) (columnar : ColumnarValue) → i < length columnar_values → columnar ≡ get_or columnar_values i columnar → found ≡ length (columnar_rows columnar) → found ≤ n → length (rows_along n (map columnar_rows (drop i columnar_values))) ≡ whole
+    → length (rows_along found (map columnar_rows (drop (i + 1) columnar_values))) ≡ whole
+next_fewer n found whole columnar_values i columnar lt e is le so_far = rows_fewer found n (columnar_rows columnar) (map columnar_rows (drop (i + 1) columnar_values)) is le ∙ sym (columnar_from n columnar_values i columnar lt e) ∙ so_far
 
-pub next_enough : (n found whole : ℕ) (worths : List Worth) (i : ℕ) (worth : Worth) → i < length worths → worth ≡ get_or worths i worth → found ≡ length (worth_rows worth) → n ≤ found → length (rows_along n (map worth_rows (drop i worths))) ≡ whole
-    → length (rows_along n (map worth_rows (drop (i + 1) worths))) ≡ whole
-next_enough n found whole worths i worth lt e is le so_far = rows_enough n (worth_rows worth) (map worth_rows (drop (i + 1) worths)) (omega (arith, is)) ∙ sym (worths_from n worths i worth lt e) ∙ so_far
+pub next_enough : (n found whole : ℕ) (columnar_values : List ColumnarValue) (i : ℕ) (columnar : ColumnarValue) → i < length columnar_values → columnar ≡ get_or columnar_values i columnar → found ≡ length (columnar_rows columnar) → n ≤ found → length (rows_along n (map columnar_rows (drop i columnar_values))) ≡ whole
+    → length (rows_along n (map columnar_rows (drop (i + 1) columnar_values))) ≡ whole
+next_enough n found whole columnar_values i columnar lt e is le so_far = rows_enough n (columnar_rows columnar) (map columnar_rows (drop (i + 1) columnar_values)) (omega (arith, is)) ∙ sym (columnar_from n columnar_values i columnar lt e) ∙ so_far
 
 -- as many rows as values are put behind them
 pub pushed_len : (rows longer : List (List Datum)) (column : List Datum) → longer ≡ along appended rows column → length column ≤ length rows → length longer ≡ length column

@@ -1,4 +1,4 @@
--- Columns beside each other, as the parts of structs of a dtype that takes them.
+-- Columns beside each other, as the arrays of structs of a dtype that takes them.
 use Rattle.std.proofs.Common.{◌≡◌, ℕ, zero, suc, ◌≤◌, true, List, [], ◌∷◌, length, map, take, replicate, refl, sym, ap, subst, ◌∙◌, arith}
 use Rattle.std.specs.List.{AllByRecursion}
 use Rattle.std.proofs.lemmas.List.{length-map, length-take, length-replicate}
@@ -9,8 +9,8 @@ use Rattle.vx_base.specs.Fits.{Fits, EachFits}
 use Rattle.vx_base.specs.Reading.{where_valid}
 use Rattle.vx_base.specs.ValueViews.{items_from}
 use Rattle.vx_base.specs.Views.{fields_in}
-use Rattle.vx_arrays.specs.PartRows.{members_in, beside, rows_of, picked_at, HaveRows}
-use Rattle.vx_arrays.specs.Slots.{bare, bare_members}
+use Rattle.vx_arrays.specs.ArrayRows.{members_in, beside, rows_of, picked_at, HaveRows}
+use Rattle.vx_arrays.specs.Buffers.{bare, bare_members}
 use Rattle.vx_masks.specs.Rows.{taken}
 use Rattle.vx_expr.specs.Packs.{put_first, rows_along, struct_row, typed_columns, FitEach, IsStructOf}
 use Rattle.vx_expr.specs.Rows.{along}
@@ -66,7 +66,7 @@ picked_first v (suc rows) = ap (λ (vs : List Datum). v ∷ vs) (picked_first v 
 pub same_picked : (v : Datum) (rows : ℕ) (one part : ColumnData) (places : List ℕ) → one.values ≡ v ∷ [] → places ≡ replicate rows 0 → part ≡ picked_at places one → part.values ≡ replicate rows v
 same_picked v rows one part places first is made = ap (λ (found : ColumnData). found.values) made ∙ (λ i. taken null (first i) (is i)) ∙ picked_first v rows
 
--- ---- parts
+-- ---- arrays
 pub members_same : (k : ℕ) (ms : Members) (columns : List (List Datum)) → length (fields_in ms) ≡ length columns → members_in (typed_columns k ms columns) ≡ bare_members ms
 members_same k no_members columns e = refl
 members_same k (member name t ms) [] e = absurd (omega arith)
@@ -100,7 +100,7 @@ first_rows k n (member name t ms) (column ∷ columns) e le =
 pub rows_same : (k n : ℕ) (ms : Members) (columns : List (List Datum)) → length (fields_in ms) ≡ length columns → k ≡ length (rows_along n columns) → rows_of k (typed_columns k ms columns) ≡ map items_from (rows_along n columns)
 rows_same k n ms columns e count = first_rows k n ms columns e (omega (arith, count)) ∙ ap (map items_from) (take_whole k (rows_along n columns) count)
 
--- ---- the part of the structs
+-- ---- the array of the structs
 all_valid : (k : ℕ) (rows : List (List Datum)) → k ≡ length rows → where_valid (replicate k true) (map structure (map items_from rows)) ≡ map struct_row rows
 all_valid zero [] e = refl
 all_valid (suc k) [] e = absurd (omega arith)

@@ -2,7 +2,7 @@
 use Rattle.std.proofs.Common.{◌≡◌, ℕ, pos, false, refl}
 use Rattle.vx_base.specs.Data.{DataType, Datum, number, structure, no_items, item}
 use Rattle.vx_expr.specs.declared.rewriting.Leaves.TheVariants.{RowIdxAsRoot, OverRowIdx}
-use Rattle.vx_expr.specs.declared.mentions.Part.TheVariants.{Root}
+use Rattle.vx_expr.specs.declared.mentions.Input.TheVariants.{Root}
 use Rattle.vx_expr.specs.Meaning.{meaning, meanings_in}
 use Rattle.vx_expr.specs.Mentions.{mentions, mentions_in, uses_root}
 use Rattle.vx_expr.specs.Rewritten.{rewritten, rewritten_in, with_row_number}

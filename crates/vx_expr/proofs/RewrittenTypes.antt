@@ -4,7 +4,7 @@ use Rattle.vx_base.specs.Data.{DataType}
 use Rattle.vx_expr.specs.declared.rewriting.Leaves.{Leaves}
 use Rattle.vx_expr.specs.declared.rewriting.Leaves.TheVariants.{RowIdxAsRoot, OverRowIdx}
 use Rattle.vx_expr.specs.Mentions.{mentions, mentions_in, uses_root}
-use Rattle.vx_expr.specs.declared.mentions.Part.TheVariants.{Root}
+use Rattle.vx_expr.specs.declared.mentions.Input.TheVariants.{Root}
 use Rattle.vx_expr.specs.Rewritten.{rewritten, rewritten_in, with_row_number}
 use Rattle.vx_expr.specs.Terms.{Term, root, literal, get_field, pack, negation, conjunction, disjunction, comparison, null_test, value_test, arithmetic, row_number, bound_test, Terms, no_terms, named}
 use Rattle.vx_expr.specs.Types.{type_of, types_in, names_in, row_number_type}

@@ -1,43 +1,43 @@
 -- What an expression looks at: the root value, the row's number, the bound, and fields of the root.
 use Rattle.std.specs.Prelude.{ℕ, Bool, true, false, not, ◌||◌, ◌++◌, List, [], ◌∷◌, filter, Option, Some, None}
 use Rattle.std.specs.Str.{bytes_eq}
-use Rattle.vx_expr.specs.declared.mentions.Part.{Part}
-use Rattle.vx_expr.specs.declared.mentions.Part.TheVariants.{Root, RowIdx, Bound}
+use Rattle.vx_expr.specs.declared.mentions.Input.{Input}
+use Rattle.vx_expr.specs.declared.mentions.Input.TheVariants.{Root, RowIdx, Bound}
 use Rattle.vx_expr.specs.Terms.{Term, root, literal, get_field, pack, negation, conjunction, disjunction, comparison, null_test, value_test, arithmetic, row_number, bound_test, Terms, no_terms, named}
 use Rattle.vx_expr.specs.Types.{on_both}
 
-abbrev pub is_root_part : Part → Bool
-is_root_part Root = true
-is_root_part part = false
+abbrev pub is_root_input : Input → Bool
+is_root_input Root = true
+is_root_input input = false
 
-abbrev pub is_row_part : Part → Bool
-is_row_part RowIdx = true
-is_row_part part = false
+abbrev pub is_row_input : Input → Bool
+is_row_input RowIdx = true
+is_row_input input = false
 
-abbrev pub is_bound_part : Part → Bool
-is_bound_part Bound = true
-is_bound_part part = false
+abbrev pub is_bound_input : Input → Bool
+is_bound_input Bound = true
+is_bound_input input = false
 
--- whether the part occurs
+-- whether the input occurs
 abbrev mutual
-  pub mentions : Part → Term → Bool
-  mentions part root = is_root_part part
-  mentions part (literal v t) = false
-  mentions part (get_field name e) = mentions part e
-  mentions part (pack es) = mentions_in part es
-  mentions part (negation e) = mentions part e
-  mentions part (conjunction a b) = mentions part a || mentions part b
-  mentions part (disjunction a b) = mentions part a || mentions part b
-  mentions part (comparison op a b) = mentions part a || mentions part b
-  mentions part (null_test e) = mentions part e
-  mentions part (value_test e) = mentions part e
-  mentions part (arithmetic op a b) = mentions part a || mentions part b
-  mentions part row_number = is_row_part part
-  mentions part (bound_test e) = is_bound_part part || mentions part e
+  pub mentions : Input → Term → Bool
+  mentions input root = is_root_input input
+  mentions input (literal v t) = false
+  mentions input (get_field name e) = mentions input e
+  mentions input (pack es) = mentions_in input es
+  mentions input (negation e) = mentions input e
+  mentions input (conjunction a b) = mentions input a || mentions input b
+  mentions input (disjunction a b) = mentions input a || mentions input b
+  mentions input (comparison op a b) = mentions input a || mentions input b
+  mentions input (null_test e) = mentions input e
+  mentions input (value_test e) = mentions input e
+  mentions input (arithmetic op a b) = mentions input a || mentions input b
+  mentions input row_number = is_row_input input
+  mentions input (bound_test e) = is_bound_input input || mentions input e
 
-  pub mentions_in : Part → Terms → Bool
-  mentions_in part no_terms = false
-  mentions_in part (named name e es) = mentions part e || mentions_in part es
+  pub mentions_in : Input → Terms → Bool
+  mentions_in input no_terms = false
+  mentions_in input (named name e es) = mentions input e || mentions_in input es
 
 abbrev pub uses_root : Term → Bool
 uses_root e = mentions Root e

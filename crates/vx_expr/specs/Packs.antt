@@ -5,7 +5,7 @@ use Rattle.vx_base.specs.Columns.{ColumnData}
 use Rattle.vx_base.specs.Data.{DataType, struct_type, Members, no_members, member, Datum, structure}
 use Rattle.vx_base.specs.Fits.{Fits}
 use Rattle.vx_base.specs.ValueViews.{items_from}
-use Rattle.vx_arrays.specs.Slots.{bare}
+use Rattle.vx_arrays.specs.Buffers.{bare}
 use Rattle.vx_expr.specs.Rows.{along}
 
 abbrev pub put_first : Datum → List Datum → List Datum
@@ -31,7 +31,7 @@ FitEach rows no_members columns = Unit {0}
 FitEach rows (member name t ms) [] = Unit {0}
 FitEach rows (member name t ms) (column ∷ columns) = ((rows ≤ length column) × AllByRecursion (Fits t) (take rows column)) × FitEach rows ms columns
 
--- the first rows of each column, as a part of the dtype of the member that it is of
+-- the first rows of each column, as an array of the dtype of the member that it is of
 abbrev pub typed_columns : ℕ → Members → List (List Datum) → List ColumnData
 typed_columns rows no_members columns = []
 typed_columns rows (member name t ms) [] = []

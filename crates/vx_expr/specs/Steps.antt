@@ -9,13 +9,13 @@ use Rattle.vx_base.specs.declared.dtypes.Nullability.TheVariants.{NonNullable}
 use Rattle.vx_base.specs.Fits.{Fits}
 use Rattle.vx_base.specs.Data.{DataType, int_type, Datum, null, truth, number, text, structure}
 use Rattle.vx_base.specs.ValueViews.{datum, data_in, items_of}
-use Rattle.vx_expr.specs.declared.cells.Cell.{Cell}
-use Rattle.vx_expr.specs.declared.cells.Cell.TheVariants as cells
+use Rattle.vx_expr.specs.declared.row_values.RowValue.{RowValue}
+use Rattle.vx_expr.specs.declared.row_values.RowValue.TheVariants as row_values
 use Rattle.vx_expr.specs.declared.evaluated.Evaluated.{Evaluated}
 use Rattle.vx_expr.specs.declared.evaluated.Evaluated.TheVariants as evaluated
 use Rattle.vx_expr.specs.declared.evaluation.Rows.{Rows}
-use Rattle.vx_expr.specs.declared.cells.Seen.{Seen}
-use Rattle.vx_expr.specs.declared.cells.Seen.TheVariants as seen
+use Rattle.vx_expr.specs.declared.row_values.Seen.{Seen}
+use Rattle.vx_expr.specs.declared.row_values.Seen.TheVariants as seen
 use Rattle.vx_expr.specs.declared.steps.OneStep.{OneStep}
 use Rattle.vx_expr.specs.declared.steps.OneStep.TheVariants.{Field, Not, IsNull, IsNotNull, AtMostBound}
 use Rattle.vx_expr.specs.declared.steps.TwoStep.{TwoStep}
@@ -27,22 +27,22 @@ use Rattle.vx_expr.specs.Rows.{no_bound, number_of_row}
 use Rattle.vx_expr.specs.Packs.{rows_along, struct_row}
 use Rattle.vx_expr.specs.declared.packing.Packing.{Packing}
 use Rattle.vx_expr.specs.declared.packing.Packing.TheVariants as packing
-use Rattle.vx_operators.specs.Worths.{worth_rows}
+use Rattle.vx_operators.specs.ColumnarValues.{columnar_rows}
 
--- the value that a cell stands for
-abbrev pub cell_datum : Cell → Datum
-cell_datum cells.Null = null
-cell_datum (cells.Truth b) = truth b
-cell_datum (cells.Number z) = number z
-cell_datum (cells.Text characters) = text characters.now
-cell_datum (cells.Borrowed value) = datum value.now
-cell_datum (cells.Owned value) = datum value
+-- the value that a row value stands for
+abbrev pub row_value_datum : RowValue → Datum
+row_value_datum row_values.Null = null
+row_value_datum (row_values.Truth b) = truth b
+row_value_datum (row_values.Number z) = number z
+row_value_datum (row_values.Text characters) = text characters.now
+row_value_datum (row_values.Borrowed value) = datum value.now
+row_value_datum (row_values.Owned value) = datum value
 
 -- the value of each row
 abbrev pub evaluated_rows : Evaluated → List Datum
-evaluated_rows (evaluated.Packed worth) = worth_rows worth
-evaluated_rows (evaluated.Structs rows worths) = map struct_row (rows_along rows (map worth_rows worths.items))
-evaluated_rows (evaluated.Cells row_cells) = map cell_datum row_cells.items
+evaluated_rows (evaluated.Packed columnar) = columnar_rows columnar
+evaluated_rows (evaluated.Structs rows columnar_values) = map struct_row (rows_along rows (map columnar_rows columnar_values.items))
+evaluated_rows (evaluated.RowValues all_row_values) = map row_value_datum all_row_values.items
 
 -- the root's value of each row that counts, and its number
 abbrev pub rows_values : Rows → List Datum
@@ -57,7 +57,7 @@ pub record AreRows (rows : Rows) : Type 0 where
   pub counted : rows.count ≤ length rows.numbers.now.values
   pub numbered : AllByRecursion (Fits row_number_type) rows.numbers.now.values
 
--- the same of a cell as it is looked at
+-- the same of a row value as it is looked at
 abbrev pub seen_datum : Seen → Datum
 seen_datum seen.Null = null
 seen_datum (seen.Truth b) = truth b
@@ -121,7 +121,7 @@ appended row v = row ++ v ∷ []
 
 -- the values of each row of what is packed so far
 abbrev pub packing_rows : Packing → List (List Datum)
-packing_rows (packing.Worths rows worths) = rows_along rows (map worth_rows worths.items)
+packing_rows (packing.ColumnarValues rows columnar_values) = rows_along rows (map columnar_rows columnar_values.items)
 packing_rows (packing.Rows rows) = map row_data rows.items
 
 -- the kind of a dtype's numbers

@@ -2,7 +2,7 @@
 
 ghost use Rattle.std.specs.Prelude.{◌≡◌, ℕ, Some, map, length, IfOk, IsErrOf, IsTrue};
 ghost use Rattle.std.specs.List.{AllByRecursion};
-ghost use Rattle.vx_arrays.specs.Slots.{bare};
+ghost use Rattle.vx_arrays.specs.Buffers.{bare};
 ghost use Rattle.vx_base.specs.Fits.{Fits};
 ghost use Rattle.vx_base.specs.Views.{data_type};
 ghost use Rattle.vx_expr.specs.declared.applying.ApplyError.TheVariants as errors;
@@ -15,11 +15,11 @@ ghost use Rattle.vx_expr.specs.Types.{row_number_type};
 use crate::bound_expressions::BoundExpression;
 use crate::evaluated::Evaluated;
 use crate::evaluation::Rows;
-use crate::fitting::{cell_part, fitting_structs, fitting_worth};
+use crate::fitting::{fitting_columnar, fitting_structs, row_value_array};
 use crate::found::Finds;
 use std::alloc::{AllocError, AllocFailed, Global};
 use thiserror::Error;
-use vx_arrays::Part;
+use vx_arrays::Array;
 use vx_base::{Column, DType};
 
 /// Why an expression has no column over these rows.
@@ -49,25 +49,25 @@ impl<T: Drop> From<AllocFailed<T>> for ApplyError {
     }
 }
 
-/// The same values as a part of a dtype that takes them, wherever they are held.
-fn part_of(alloc: Global, dtype: &DType, made: Evaluated<'_>) -> Result<Part, AllocError>
+/// The same values as an array of a dtype that takes them, wherever they are held.
+fn array_of(alloc: Global, dtype: &DType, made: Evaluated<'_>) -> Result<Array, AllocError>
     requires { AllByRecursion (Fits (data_type dtype.now)) (evaluated_rows made) }
-    ensures dtype { IfOk result (λ part. part.dtype ≡ bare (data_type dtype.now)) }
-    ensures values { IfOk result (λ part. part.values ≡ evaluated_rows made.entry) }
+    ensures dtype { IfOk result (λ array. array.dtype ≡ bare (data_type dtype.now)) }
+    ensures values { IfOk result (λ array. array.values ≡ evaluated_rows made.entry) }
 {
     match made {
         Evaluated::Packed(worth) => {
             let rows = worth.len();
-            let part = fitting_worth(alloc, dtype, worth, rows)?;
-            Ok(part)
+            let array = fitting_columnar(alloc, dtype, worth, rows)?;
+            Ok(array)
         }
-        Evaluated::Structs(rows, worths) => {
-            let part = fitting_structs(alloc, dtype, rows, worths)?;
-            Ok(part)
+        Evaluated::Structs(rows, columnar_values) => {
+            let array = fitting_structs(alloc, dtype, rows, columnar_values)?;
+            Ok(array)
         }
-        Evaluated::Cells(cells) => {
-            let part = cell_part(alloc, dtype, cells)?;
-            Ok(part)
+        Evaluated::RowValues(row_values) => {
+            let array = row_value_array(alloc, dtype, row_values)?;
+            Ok(array)
         }
     }
 }
@@ -79,11 +79,11 @@ fn column_of(alloc: Global, dtype: &DType, made: Evaluated<'_>) -> Result<Column
     ensures dtype { IfOk result (λ column. column.dtype ≡ data_type dtype.now) }
     ensures values { IfOk result (λ column. column.values ≡ evaluated_rows made.entry) }
 {
-    let part = part_of(alloc, dtype, made)?;
+    let array = array_of(alloc, dtype, made)?;
     match dtype.copy(alloc) {
-        Ok(dtype) => Ok(Column::of_part(dtype, part)),
+        Ok(dtype) => Ok(Column::of_array(dtype, array)),
         Err(error) => {
-            drop(part);
+            drop(array);
             Err(error)
         }
     }
@@ -91,21 +91,21 @@ fn column_of(alloc: Global, dtype: &DType, made: Evaluated<'_>) -> Result<Column
 
 /// The rows of a column, spread.
 #[tactic(auto, using(vx_arrays::proofs::PackedRows::all_nullable))]
-fn spread(alloc: Global, column: &Column) -> Result<Part, AllocError>
-    ensures values { IfOk result (λ part. part.values ≡ column.now.values) }
+fn spread(alloc: Global, column: &Column) -> Result<Array, AllocError>
+    ensures values { IfOk result (λ array. array.values ≡ column.now.values) }
     ensures fit { AllByRecursion (Fits column.now.dtype) column.now.values }
 {
     let values = column.to_values(alloc)?;
-    let part = Part::of_values(alloc, column.dtype(), values.as_slice())?;
-    Ok(part)
+    let array = Array::of_values(alloc, column.dtype(), values.as_slice())?;
+    Ok(array)
 }
 
-/// What the expression is worth at each row of parts.
+/// What the expression is worth at each row of arrays.
 fn applied(
     alloc: Global,
     expression: &BoundExpression,
-    root: &Part,
-    numbers: &Part,
+    root: &Array,
+    numbers: &Array,
 ) -> Result<Column, ApplyError>
     requires fit { IsTrue (uses_root expression.now.term) → AllByRecursion (Fits expression.now.root) root.now.values }
     requires numbered { AllByRecursion (Fits row_number_type) numbers.now.values }
@@ -149,7 +149,7 @@ pub fn apply(
     ensures values { IfOk result (λ column. map Some column.values ≡ worth expression.now root.now.values numbers.now.values) }
     ensures fault { (row : ℕ) → IsErrOf result (ApplyError.EvalFault row) → IsFirstFault (worth expression.now root.now.values numbers.now.values) row }
 {
-    match (root.part(), numbers.part()) {
+    match (root.array(), numbers.array()) {
         (Some(root), Some(numbers)) => applied(alloc, expression, root, numbers),
         _ => {
             let root = spread(alloc, root)?;

@@ -19,7 +19,7 @@ use crate::binding::BindError;
 use crate::expressions::Expr;
 use crate::finding::{found_over, typed_over};
 use crate::found::Found;
-use crate::mentions::Part;
+use crate::mentions::Input;
 use crate::rewriting::Leaves;
 use crate::root_fields::fields_of_root;
 use crate::typing::row_idx_dtype;
@@ -195,21 +195,21 @@ impl BoundExpression {
     pub fn uses_root(&self) -> bool
         ensures { result ≡ uses_root self.now.term }
     {
-        self.expr.mentions(Part::Root)
+        self.expr.mentions(Input::Root)
     }
 
     /// Whether the row's number occurs. It takes no memory.
     pub fn uses_row_idx(&self) -> bool
         ensures { result ≡ uses_row_number self.now.term }
     {
-        self.expr.mentions(Part::RowIdx)
+        self.expr.mentions(Input::RowIdx)
     }
 
     /// Whether the bound occurs. It takes no memory.
     pub fn uses_bound(&self) -> bool
         ensures { result ≡ uses_bound self.now.term }
     {
-        self.expr.mentions(Part::Bound)
+        self.expr.mentions(Input::Bound)
     }
 
     /// Whether the form alone shows that the expression is null or a fault on a null root. It takes no

@@ -1,87 +1,90 @@
-//! What an expression is worth at each row: packed, or cell by cell where no operator goes over the values
+//! What an expression is worth at each row: packed, or row by row where no operator goes over the values
 //! as a whole.
 
 ghost use Rattle.std.specs.Prelude.{◌≡◌, ◌≤◌, Some, length, map, replicate, IfOk, IfSome};
 ghost use Rattle.vx_base.specs.Data.{Datum};
 ghost use Rattle.vx_base.specs.ValueViews.{datum};
-ghost use Rattle.vx_operators.specs.Worths.{single_datum, worth_rows};
+ghost use Rattle.vx_operators.specs.ColumnarValues.{scalar_datum, columnar_rows};
 ghost use Rattle.vx_expr.specs.Rows.{along, front};
-ghost use Rattle.vx_expr.specs.Steps.{cell_datum, evaluated_rows, item_at, one_step, two_step};
+ghost use Rattle.vx_expr.specs.Steps.{row_value_datum, evaluated_rows, item_at, one_step, two_step};
 
-use crate::cells::Cell;
-use crate::packing::{fewest_rows, rows_of_worths, struct_cells};
+use crate::packing::{fewest_rows, rows_of_columnar, struct_row_values};
+use crate::row_values::RowValue;
 use crate::steps::{OneStep, TwoStep, one, two};
 use std::alloc::{AllocError, Global};
-use vx_arrays::{Look, Part};
+use vx_arrays::{Array, ArrayView};
 use vx_base::{DType, Value};
 use vx_operators::{
-    Single, Worth, and_worths, compare_worths, join_worths, not_worth, null_test, or_worths,
-    value_test,
+    ColumnarValue, Scalar, and_columnar, compare_columnar, join_columnar, not_columnar, null_test,
+    or_columnar, value_test,
 };
 
 /// What an expression is worth at each row.
 #[derive(Drop)]
 pub(crate) enum Evaluated<'a> {
-    Packed(Worth<'a>),
-    /// Structs of a worth for each field, as far as each of them has rows, and of so many rows at most.
-    Structs(usize, Vec<Worth<'a>>),
-    Cells(Vec<Cell<'a>>),
+    Packed(ColumnarValue<'a>),
+    /// Structs of a columnar value for each field, as far as each of them has rows, and of so many rows at most.
+    Structs(usize, Vec<ColumnarValue<'a>>),
+    RowValues(Vec<RowValue<'a>>),
 }
 
-/// The rows of a part, cell by cell: texts stay where they are.
-fn lent_cells<'a>(alloc: Global, part: &'a Part) -> Result<Vec<Cell<'a>>, AllocError>
-    ensures { IfOk result (λ cells. map cell_datum cells.items ≡ part.now.values) }
+/// The rows of an array, row by row: texts stay where they are.
+fn lent_row_values<'a>(alloc: Global, array: &'a Array) -> Result<Vec<RowValue<'a>>, AllocError>
+    ensures { IfOk result (λ row_values. map row_value_datum row_values.items ≡ array.now.values) }
 {
-    let rows = part.len();
-    let mut cells = Vec::with_capacity(alloc, rows)?;
+    let rows = array.len();
+    let mut row_values = Vec::with_capacity(alloc, rows)?;
     for row in 0..rows {
-        let cell = Cell::of_row(alloc, part.cell(row))?;
-        cells.push(cell)?;
+        let cell = RowValue::of_row(alloc, array.cell(row))?;
+        row_values.push(cell)?;
     }
-    Ok(cells)
+    Ok(row_values)
 }
 
-/// The rows of a part that goes, cell by cell.
-pub(crate) fn own_cells<'a>(alloc: Global, part: &Part) -> Result<Vec<Cell<'a>>, AllocError>
-    ensures { IfOk result (λ cells. map cell_datum cells.items ≡ part.now.values) }
-{
-    let rows = part.len();
-    let mut cells = Vec::with_capacity(alloc, rows)?;
-    for row in 0..rows {
-        let value = part.get(alloc, row)?;
-        cells.push(Cell::owned(value))?;
-    }
-    Ok(cells)
-}
-
-/// The same value at each row, cell by cell.
-fn same_cells<'a>(
+/// The rows of an array that goes, row by row.
+pub(crate) fn own_row_values<'a>(
     alloc: Global,
-    single: &Single<'a>,
-    rows: usize,
-) -> Result<Vec<Cell<'a>>, AllocError>
-    ensures { IfOk result (λ cells. map cell_datum cells.items ≡ replicate rows (single_datum single.now)) }
+    array: &Array,
+) -> Result<Vec<RowValue<'a>>, AllocError>
+    ensures { IfOk result (λ row_values. map row_value_datum row_values.items ≡ array.now.values) }
 {
-    let mut cells = Vec::with_capacity(alloc, rows)?;
-    for _row in 0..rows {
-        cells.push(Cell::single(single))?;
+    let rows = array.len();
+    let mut row_values = Vec::with_capacity(alloc, rows)?;
+    for row in 0..rows {
+        let value = array.get(alloc, row)?;
+        row_values.push(RowValue::owned(value))?;
     }
-    Ok(cells)
+    Ok(row_values)
 }
 
-/// The same value of a literal at each row, cell by cell.
-fn literal_cells<'a>(
+/// The same value at each row, row by row.
+fn same_row_values<'a>(
+    alloc: Global,
+    scalar: &Scalar<'a>,
+    rows: usize,
+) -> Result<Vec<RowValue<'a>>, AllocError>
+    ensures { IfOk result (λ row_values. map row_value_datum row_values.items ≡ replicate rows (scalar_datum scalar.now)) }
+{
+    let mut row_values = Vec::with_capacity(alloc, rows)?;
+    for _row in 0..rows {
+        row_values.push(RowValue::scalar(scalar))?;
+    }
+    Ok(row_values)
+}
+
+/// The same value of a literal at each row, row by row.
+fn literal_row_values<'a>(
     alloc: Global,
     value: &'a Value,
     rows: usize,
-) -> Result<Vec<Cell<'a>>, AllocError>
-    ensures { IfOk result (λ cells. map cell_datum cells.items ≡ replicate rows (datum value.now)) }
+) -> Result<Vec<RowValue<'a>>, AllocError>
+    ensures { IfOk result (λ row_values. map row_value_datum row_values.items ≡ replicate rows (datum value.now)) }
 {
-    let mut cells = Vec::with_capacity(alloc, rows)?;
+    let mut row_values = Vec::with_capacity(alloc, rows)?;
     for _row in 0..rows {
-        cells.push(Cell::of(value))?;
+        row_values.push(RowValue::of(value))?;
     }
-    Ok(cells)
+    Ok(row_values)
 }
 
 /// The same value of a literal at each row, which is not spread.
@@ -93,38 +96,41 @@ pub(crate) fn literal<'a>(
 ) -> Result<Evaluated<'a>, AllocError>
     ensures { IfOk result (λ made. evaluated_rows made ≡ replicate rows (datum value.now)) }
 {
-    let single = match (value, dtype) {
-        (Value::Bool(truth), _) => Single::Truth(Some(*truth)),
-        (Value::Int(number), DType::Int(kind, _)) => Single::Number(*kind, Some(*number)),
-        (Value::Text(text), _) => Single::Text(Some(text.as_str())),
-        (Value::Null, DType::Bool(_)) => Single::Truth(None),
-        (Value::Null, DType::Int(kind, _)) => Single::Number(*kind, None),
-        (Value::Null, _) => Single::Text(None),
+    let scalar = match (value, dtype) {
+        (Value::Bool(truth), _) => Scalar::Truth(Some(*truth)),
+        (Value::Int(number), DType::Int(kind, _)) => Scalar::Number(*kind, Some(*number)),
+        (Value::Text(text), _) => Scalar::Text(Some(text.as_str())),
+        (Value::Null, DType::Bool(_)) => Scalar::Truth(None),
+        (Value::Null, DType::Int(kind, _)) => Scalar::Number(*kind, None),
+        (Value::Null, _) => Scalar::Text(None),
         _ => {
-            let cells = literal_cells(alloc, value, rows)?;
-            return Ok(Evaluated::Cells(cells));
+            let row_values = literal_row_values(alloc, value, rows)?;
+            return Ok(Evaluated::RowValues(row_values));
         }
     };
-    Ok(Evaluated::Packed(Worth::Same(single, rows)))
+    Ok(Evaluated::Packed(ColumnarValue::Same(scalar, rows)))
 }
 
-/// The values of a worth, cell by cell.
-pub(crate) fn worth_cells<'a>(alloc: Global, worth: Worth<'a>) -> Result<Vec<Cell<'a>>, AllocError>
-    ensures { IfOk result (λ cells. map cell_datum cells.items ≡ worth_rows worth.entry) }
+/// The values of a columnar value, row by row.
+pub(crate) fn columnar_row_values<'a>(
+    alloc: Global,
+    columnar: ColumnarValue<'a>,
+) -> Result<Vec<RowValue<'a>>, AllocError>
+    ensures { IfOk result (λ row_values. map row_value_datum row_values.items ≡ columnar_rows columnar.entry) }
 {
-    match worth {
-        Worth::Lent(part) => {
-            let cells = lent_cells(alloc, part)?;
-            Ok(cells)
+    match columnar {
+        ColumnarValue::Lent(array) => {
+            let row_values = lent_row_values(alloc, array)?;
+            Ok(row_values)
         }
-        Worth::Made(part) => {
-            let cells = own_cells(alloc, &part);
-            drop(part);
-            cells
+        ColumnarValue::Made(array) => {
+            let row_values = own_row_values(alloc, &array);
+            drop(array);
+            row_values
         }
-        Worth::Same(single, rows) => {
-            let cells = same_cells(alloc, &single, rows)?;
-            Ok(cells)
+        ColumnarValue::Same(scalar, rows) => {
+            let row_values = same_row_values(alloc, &scalar, rows)?;
+            Ok(row_values)
         }
     }
 }
@@ -135,27 +141,30 @@ impl<'a> Evaluated<'a> {
         ensures { result ≡ length (evaluated_rows self.now) }
     {
         match self {
-            Evaluated::Packed(worth) => worth.len(),
-            Evaluated::Structs(rows, worths) => fewest_rows(*rows, worths.as_slice()),
-            Evaluated::Cells(cells) => cells.len(),
+            Evaluated::Packed(columnar) => columnar.len(),
+            Evaluated::Structs(rows, columnar_values) => fewest_rows(
+                *rows,
+                columnar_values.as_slice(),
+            ),
+            Evaluated::RowValues(row_values) => row_values.len(),
         }
     }
 
-    /// The values, cell by cell.
-    pub(crate) fn into_cells(self, alloc: Global) -> Result<Vec<Cell<'a>>, AllocError>
-        ensures { IfOk result (λ cells. map cell_datum cells.items ≡ evaluated_rows self.entry) }
+    /// The values, row by row.
+    pub(crate) fn into_row_values(self, alloc: Global) -> Result<Vec<RowValue<'a>>, AllocError>
+        ensures { IfOk result (λ row_values. map row_value_datum row_values.items ≡ evaluated_rows self.entry) }
     {
         match self {
-            Evaluated::Packed(worth) => {
-                let cells = worth_cells(alloc, worth)?;
-                Ok(cells)
+            Evaluated::Packed(columnar) => {
+                let row_values = columnar_row_values(alloc, columnar)?;
+                Ok(row_values)
             }
-            Evaluated::Structs(rows, worths) => {
-                let made = rows_of_worths(alloc, rows, worths)?;
-                let cells = struct_cells(alloc, made)?;
-                Ok(cells)
+            Evaluated::Structs(rows, columnar_values) => {
+                let made = rows_of_columnar(alloc, rows, columnar_values)?;
+                let row_values = struct_row_values(alloc, made)?;
+                Ok(row_values)
             }
-            Evaluated::Cells(cells) => Ok(cells),
+            Evaluated::RowValues(row_values) => Ok(row_values),
         }
     }
 }
@@ -164,12 +173,12 @@ impl<'a> Evaluated<'a> {
 fn one_each<'a>(
     alloc: Global,
     step: OneStep,
-    cells: Vec<Cell<'a>>,
-) -> Result<Vec<Cell<'a>>, AllocError>
-    ensures { IfOk result (λ made. map cell_datum made.items ≡ front (map (one_step step) (map cell_datum cells.entry.items))) }
+    row_values: Vec<RowValue<'a>>,
+) -> Result<Vec<RowValue<'a>>, AllocError>
+    ensures { IfOk result (λ made. map row_value_datum made.items ≡ front (map (one_step step) (map row_value_datum row_values.entry.items))) }
 {
-    let mut made = Vec::with_capacity(alloc, cells.len())?;
-    for cell in cells {
+    let mut made = Vec::with_capacity(alloc, row_values.len())?;
+    for cell in row_values {
         match one(alloc, step, cell)? {
             Some(cell) => made.push(cell)?,
             None => return Ok(made),
@@ -182,11 +191,11 @@ fn one_each<'a>(
 fn two_each<'a>(
     alloc: Global,
     step: TwoStep,
-    lefts: &[Cell<'_>],
-    rights: &[Cell<'_>],
-) -> Result<Vec<Cell<'a>>, AllocError>
+    lefts: &[RowValue<'_>],
+    rights: &[RowValue<'_>],
+) -> Result<Vec<RowValue<'a>>, AllocError>
     requires { length rights.now ≤ length lefts.now }
-    ensures { IfOk result (λ made. map cell_datum made.items ≡ front (along (two_step step) (map cell_datum lefts.now) (map cell_datum rights.now))) }
+    ensures { IfOk result (λ made. map row_value_datum made.items ≡ front (along (two_step step) (map row_value_datum lefts.now) (map row_value_datum rights.now))) }
 {
     let mut made = Vec::with_capacity(alloc, rights.len())?;
     for (row, right) in rights.iter().enumerate() {
@@ -198,15 +207,15 @@ fn two_each<'a>(
     Ok(made)
 }
 
-/// The part of a struct at a place, where it stands. None where there is none, or where some struct is
+/// The array of a struct at a place, where it stands. None where there is none, or where some struct is
 /// null.
-fn field_part(part: &Part, place: usize) -> Option<&Part>
-    ensures { IfSome result (λ found. found.now.values ≡ front (map (item_at (Some place)) part.now.values)) }
+fn field_array(array: &Array, place: usize) -> Option<&Array>
+    ensures { IfSome result (λ found. found.now.values ≡ front (map (item_at (Some place)) array.now.values)) }
 {
-    match part.look() {
-        Look::Structs(validity, parts) => {
+    match array.array_view() {
+        ArrayView::Structs(validity, parts) => {
             if validity.all_true() {
-                parts.part(place)
+                parts.array(place)
             } else {
                 None
             }
@@ -215,58 +224,66 @@ fn field_part(part: &Part, place: usize) -> Option<&Part>
     }
 }
 
-/// The step with the values of a worth, as a whole. None where there is no operator for it.
-fn whole_one(alloc: Global, step: OneStep, worth: &Worth<'_>) -> Result<Option<Part>, AllocError>
-    ensures { IfOk result (λ made. IfSome made (λ part. part.values ≡ front (map (one_step step) (worth_rows worth.now)))) }
+/// The step with the values of a columnar value, as a whole. None where there is no operator for it.
+fn whole_one(
+    alloc: Global,
+    step: OneStep,
+    columnar: &ColumnarValue<'_>,
+) -> Result<Option<Array>, AllocError>
+    ensures { IfOk result (λ made. IfSome made (λ array. array.values ≡ front (map (one_step step) (columnar_rows columnar.now)))) }
 {
     match step {
-        OneStep::Not => not_worth(alloc, worth),
-        OneStep::IsNull => null_test(alloc, worth),
-        OneStep::IsNotNull => value_test(alloc, worth),
+        OneStep::Not => not_columnar(alloc, columnar),
+        OneStep::IsNull => null_test(alloc, columnar),
+        OneStep::IsNotNull => value_test(alloc, columnar),
         OneStep::Field(_) => Ok(None),
         OneStep::AtMostBound => Ok(None),
     }
 }
 
-/// The step with the values of a worth.
-fn one_of_worth<'a>(
+/// The step with the values of a columnar value.
+fn one_of_columnar<'a>(
     alloc: Global,
     step: OneStep,
-    worth: Worth<'a>,
+    columnar: ColumnarValue<'a>,
 ) -> Result<Evaluated<'a>, AllocError>
-    ensures { IfOk result (λ made. evaluated_rows made ≡ front (map (one_step step) (worth_rows worth.entry))) }
+    ensures { IfOk result (λ made. evaluated_rows made ≡ front (map (one_step step) (columnar_rows columnar.entry))) }
 {
-    match whole_one(alloc, step, &worth) {
-        Ok(Some(part)) => {
-            drop(worth);
-            Ok(Evaluated::Packed(Worth::Made(part)))
+    match whole_one(alloc, step, &columnar) {
+        Ok(Some(array)) => {
+            drop(columnar);
+            Ok(Evaluated::Packed(ColumnarValue::Made(array)))
         }
         Ok(None) => {
-            let cells = worth_cells(alloc, worth)?;
-            let made = one_each(alloc, step, cells)?;
-            Ok(Evaluated::Cells(made))
+            let row_values = columnar_row_values(alloc, columnar)?;
+            let made = one_each(alloc, step, row_values)?;
+            Ok(Evaluated::RowValues(made))
         }
         Err(error) => {
-            drop(worth);
+            drop(columnar);
             Err(error)
         }
     }
 }
 
-/// The item at a place of the structs of a worth.
-fn item_of_worth<'a>(
+/// The item at a place of the structs of a columnar value.
+fn item_of_columnar<'a>(
     alloc: Global,
     place: usize,
-    worth: Worth<'a>,
+    columnar: ColumnarValue<'a>,
 ) -> Result<Evaluated<'a>, AllocError>
-    ensures { IfOk result (λ made. evaluated_rows made ≡ front (map (item_at (Some place)) (worth_rows worth.entry))) }
+    ensures { IfOk result (λ made. evaluated_rows made ≡ front (map (item_at (Some place)) (columnar_rows columnar.entry))) }
 {
-    match worth {
-        Worth::Lent(part) => match field_part(part, place) {
-            Some(found) => Ok(Evaluated::Packed(Worth::Lent(found))),
-            None => one_of_worth(alloc, OneStep::Field(Some(place)), Worth::Lent(part)),
+    match columnar {
+        ColumnarValue::Lent(array) => match field_array(array, place) {
+            Some(found) => Ok(Evaluated::Packed(ColumnarValue::Lent(found))),
+            None => one_of_columnar(
+                alloc,
+                OneStep::Field(Some(place)),
+                ColumnarValue::Lent(array),
+            ),
         },
-        _ => one_of_worth(alloc, OneStep::Field(Some(place)), worth),
+        _ => one_of_columnar(alloc, OneStep::Field(Some(place)), columnar),
     }
 }
 
@@ -279,59 +296,59 @@ pub(crate) fn derived<'a>(
     ensures { IfOk result (λ made. evaluated_rows made ≡ front (map (one_step step) (evaluated_rows operand.entry))) }
 {
     match operand {
-        Evaluated::Packed(worth) => match step {
-            OneStep::Field(Some(place)) => item_of_worth(alloc, place, worth),
-            _ => one_of_worth(alloc, step, worth),
+        Evaluated::Packed(columnar) => match step {
+            OneStep::Field(Some(place)) => item_of_columnar(alloc, place, columnar),
+            _ => one_of_columnar(alloc, step, columnar),
         },
         operand => {
-            let cells = operand.into_cells(alloc)?;
-            let made = one_each(alloc, step, cells)?;
-            Ok(Evaluated::Cells(made))
+            let row_values = operand.into_row_values(alloc)?;
+            let made = one_each(alloc, step, row_values)?;
+            Ok(Evaluated::RowValues(made))
         }
     }
 }
 
-/// The step with the values of two worths, as a whole. None where there is no operator for it.
+/// The step with the values of two columnar values, as a whole. None where there is no operator for it.
 fn whole_two(
     alloc: Global,
     step: TwoStep,
-    left: &Worth<'_>,
-    right: &Worth<'_>,
-) -> Result<Option<Part>, AllocError>
-    requires { length (worth_rows right.now) ≡ length (worth_rows left.now) }
-    ensures { IfOk result (λ made. IfSome made (λ part. part.values ≡ front (along (two_step step) (worth_rows left.now) (worth_rows right.now)))) }
+    left: &ColumnarValue<'_>,
+    right: &ColumnarValue<'_>,
+) -> Result<Option<Array>, AllocError>
+    requires { length (columnar_rows right.now) ≡ length (columnar_rows left.now) }
+    ensures { IfOk result (λ made. IfSome made (λ array. array.values ≡ front (along (two_step step) (columnar_rows left.now) (columnar_rows right.now)))) }
 {
     match step {
-        TwoStep::And => and_worths(alloc, left, right),
-        TwoStep::Or => or_worths(alloc, left, right),
-        TwoStep::Compare(op) => compare_worths(alloc, op, left, right),
-        TwoStep::Arith(op, Some(kind)) => join_worths(alloc, op, kind, left, right),
+        TwoStep::And => and_columnar(alloc, left, right),
+        TwoStep::Or => or_columnar(alloc, left, right),
+        TwoStep::Compare(op) => compare_columnar(alloc, op, left, right),
+        TwoStep::Arith(op, Some(kind)) => join_columnar(alloc, op, kind, left, right),
         TwoStep::Arith(_, None) => Ok(None),
     }
 }
 
-/// The step with the values of two worths of as many rows.
-fn two_of_worths<'a>(
+/// The step with the values of two columnar values of as many rows.
+fn two_of_columnar<'a>(
     alloc: Global,
     step: TwoStep,
-    left: Worth<'a>,
-    right: Worth<'a>,
+    left: ColumnarValue<'a>,
+    right: ColumnarValue<'a>,
 ) -> Result<Evaluated<'a>, AllocError>
-    requires { length (worth_rows right) ≡ length (worth_rows left) }
-    ensures { IfOk result (λ made. evaluated_rows made ≡ front (along (two_step step) (worth_rows left.entry) (worth_rows right.entry))) }
+    requires { length (columnar_rows right) ≡ length (columnar_rows left) }
+    ensures { IfOk result (λ made. evaluated_rows made ≡ front (along (two_step step) (columnar_rows left.entry) (columnar_rows right.entry))) }
 {
     match whole_two(alloc, step, &left, &right) {
-        Ok(Some(part)) => {
+        Ok(Some(array)) => {
             drop(left);
             drop(right);
-            Ok(Evaluated::Packed(Worth::Made(part)))
+            Ok(Evaluated::Packed(ColumnarValue::Made(array)))
         }
         Ok(None) => {
-            let lefts = worth_cells(alloc, left);
-            let rights = worth_cells(alloc, right)?;
+            let lefts = columnar_row_values(alloc, left);
+            let rights = columnar_row_values(alloc, right)?;
             let lefts = lefts?;
             let made = two_each(alloc, step, &lefts, &rights)?;
-            Ok(Evaluated::Cells(made))
+            Ok(Evaluated::RowValues(made))
         }
         Err(error) => {
             drop(left);
@@ -354,14 +371,14 @@ pub(crate) fn paired<'a>(
     match (left, right) {
         (Evaluated::Packed(left), Evaluated::Packed(right)) => {
             let left = left.first(alloc, right.len())?;
-            two_of_worths(alloc, step, left, right)
+            two_of_columnar(alloc, step, left, right)
         }
         (left, right) => {
-            let lefts = left.into_cells(alloc);
-            let rights = right.into_cells(alloc)?;
+            let lefts = left.into_row_values(alloc);
+            let rights = right.into_row_values(alloc)?;
             let lefts = lefts?;
             let made = two_each(alloc, step, &lefts, &rights)?;
-            Ok(Evaluated::Cells(made))
+            Ok(Evaluated::RowValues(made))
         }
     }
 }

@@ -17,9 +17,9 @@ use crate::found::Finds;
 use crate::packing::Packing;
 use crate::steps::{OneStep, TwoStep};
 use std::alloc::{AllocError, Global};
-use vx_arrays::Part;
+use vx_arrays::Array;
 use vx_base::DType;
-use vx_operators::Worth;
+use vx_operators::ColumnarValue;
 
 /// The rows that an expression is evaluated over.
 #[derive(Clone, Copy)]
@@ -27,9 +27,9 @@ pub(crate) struct Rows<'a> {
     /// The dtype of the root.
     pub(crate) dtype: &'a DType,
     /// The root's value of each row.
-    pub(crate) root: &'a Part,
+    pub(crate) root: &'a Array,
     /// The number of each row.
-    pub(crate) numbers: &'a Part,
+    pub(crate) numbers: &'a Array,
     /// How many of the rows count.
     pub(crate) count: usize,
 }
@@ -55,12 +55,12 @@ impl<'a> Rows<'a> {
     }
 }
 
-/// The first rows of a part, where they stand as far as these are all.
-fn first_rows<'a>(alloc: Global, part: &'a Part, rows: usize) -> Result<Evaluated<'a>, AllocError>
-    requires { rows ≤ length part.now.values }
-    ensures { IfOk result (λ made. evaluated_rows made ≡ take rows part.now.values) }
+/// The first rows of an array, where they stand as far as these are all.
+fn first_rows<'a>(alloc: Global, array: &'a Array, rows: usize) -> Result<Evaluated<'a>, AllocError>
+    requires { rows ≤ length array.now.values }
+    ensures { IfOk result (λ made. evaluated_rows made ≡ take rows array.now.values) }
 {
-    let worth = Worth::Lent(part).first(alloc, rows)?;
+    let worth = ColumnarValue::Lent(array).first(alloc, rows)?;
     Ok(Evaluated::Packed(worth))
 }
 

@@ -1,156 +1,156 @@
-//! Rows that a dtype takes as a part of that dtype, wherever they are held. What is packed already is moved.
+//! Rows that a dtype takes as an array of that dtype, wherever they are held. What is packed already is moved.
 
 ghost use Rattle.std.specs.Prelude.{◌≡◌, ◌≤◌, map, length, replicate, take, IfOk, IfSome, IsTrue};
 ghost use Rattle.std.specs.List.{AllByRecursion};
 ghost use Rattle.vx_base.specs.Fits.{Fits};
 ghost use Rattle.vx_base.specs.ValueViews.{datum};
 ghost use Rattle.vx_base.specs.Views.{data_type, fields_in};
-ghost use Rattle.vx_operators.specs.Worths.{single_datum, worth_rows};
+ghost use Rattle.vx_operators.specs.ColumnarValues.{scalar_datum, columnar_rows};
 ghost use Rattle.vx_expr.specs.Packs.{rows_along, struct_row, typed_columns, FitEach, IsStructOf};
-ghost use Rattle.vx_expr.specs.Steps.{cell_datum};
-ghost use Rattle.vx_arrays.specs.Slots.{bare};
+ghost use Rattle.vx_expr.specs.Steps.{row_value_datum};
+ghost use Rattle.vx_arrays.specs.Buffers.{bare};
 
-use crate::cells::Cell;
-use crate::evaluated::own_cells;
-use crate::packing::{fewest_rows, rows_of_worths, struct_cells};
+use crate::evaluated::own_row_values;
+use crate::packing::{fewest_rows, rows_of_columnar, struct_row_values};
+use crate::row_values::RowValue;
 use std::alloc::{AllocError, Global};
-use vx_arrays::{Look, Part, Parts, SharedPart};
+use vx_arrays::{Array, ArrayView, ChildArrays, SharedArray};
 use vx_base::{DType, Fields, Value};
 use vx_masks::Mask;
-use vx_operators::{Single, Worth};
+use vx_operators::{ColumnarValue, Scalar};
 
-/// The values of the cells, in memory of their own.
-fn values_of(alloc: Global, cells: Vec<Cell<'_>>) -> Result<Vec<Value>, AllocError>
-    ensures { IfOk result (λ values. map datum values.items ≡ map cell_datum cells.entry.items) }
+/// The values of the row values, in memory of their own.
+fn values_of(alloc: Global, row_values: Vec<RowValue<'_>>) -> Result<Vec<Value>, AllocError>
+    ensures { IfOk result (λ values. map datum values.items ≡ map row_value_datum row_values.entry.items) }
 {
-    let mut values = Vec::with_capacity(alloc, cells.len())?;
-    for cell in cells {
+    let mut values = Vec::with_capacity(alloc, row_values.len())?;
+    for cell in row_values {
         values.push(cell.into_value(alloc)?)?;
     }
     Ok(values)
 }
 
-/// Whether the rows of a part are those of a leaf dtype, but for nulls.
-fn is_leaf_of(dtype: &DType, part: &Part) -> bool
-    ensures { IsTrue result → part.now.dtype ≡ bare (data_type dtype.now) }
+/// Whether the rows of an array are those of a leaf dtype, but for nulls.
+fn is_leaf_of(dtype: &DType, array: &Array) -> bool
+    ensures { IsTrue result → array.now.dtype ≡ bare (data_type dtype.now) }
 {
-    match (dtype, part.look()) {
-        (DType::Bool(_), Look::Truths(_, _)) => true,
-        (DType::Int(kind, _), Look::Numbers(_, numbers)) => *kind == numbers.kind(),
-        (DType::Utf8(_), Look::Texts(_, _)) => true,
+    match (dtype, array.array_view()) {
+        (DType::Bool(_), ArrayView::Truths(_, _)) => true,
+        (DType::Int(kind, _), ArrayView::Numbers(_, numbers)) => *kind == numbers.kind(),
+        (DType::Utf8(_), ArrayView::Texts(_, _)) => true,
         _ => false,
     }
 }
 
-/// The part of values that are handed over cell by cell.
+/// The array of values that are handed over row by row.
 #[tactic(auto, using(vx_arrays::proofs::PackedRows::all_nullable))]
-pub(crate) fn cell_part(
+pub(crate) fn row_value_array(
     alloc: Global,
     dtype: &DType,
-    cells: Vec<Cell<'_>>,
-) -> Result<Part, AllocError>
-    requires { AllByRecursion (Fits (data_type dtype.now)) (map cell_datum cells.items) }
-    ensures dtype { IfOk result (λ part. part.dtype ≡ bare (data_type dtype.now)) }
-    ensures values { IfOk result (λ part. part.values ≡ map cell_datum cells.entry.items) }
+    row_values: Vec<RowValue<'_>>,
+) -> Result<Array, AllocError>
+    requires { AllByRecursion (Fits (data_type dtype.now)) (map row_value_datum row_values.items) }
+    ensures dtype { IfOk result (λ array. array.dtype ≡ bare (data_type dtype.now)) }
+    ensures values { IfOk result (λ array. array.values ≡ map row_value_datum row_values.entry.items) }
 {
-    let values = values_of(alloc, cells)?;
-    let part = Part::of_values(alloc, dtype, values.as_slice())?;
-    Ok(part)
+    let values = values_of(alloc, row_values)?;
+    let array = Array::of_values(alloc, dtype, values.as_slice())?;
+    Ok(array)
 }
 
-/// The same rows as a part of the dtype. It moves them where the dtype is a leaf.
-fn fitting_part(alloc: Global, dtype: &DType, part: Part) -> Result<Part, AllocError>
-    requires { AllByRecursion (Fits (data_type dtype.now)) part.values }
+/// The same rows as an array of the dtype. It moves them where the dtype is a leaf.
+fn fitting_array(alloc: Global, dtype: &DType, array: Array) -> Result<Array, AllocError>
+    requires { AllByRecursion (Fits (data_type dtype.now)) array.values }
     ensures dtype { IfOk result (λ fitting. fitting.dtype ≡ bare (data_type dtype.now)) }
-    ensures values { IfOk result (λ fitting. fitting.values ≡ part.values) }
+    ensures values { IfOk result (λ fitting. fitting.values ≡ array.values) }
 {
-    if is_leaf_of(dtype, &part) {
-        Ok(part)
+    if is_leaf_of(dtype, &array) {
+        Ok(array)
     } else {
-        let cells = own_cells(alloc, &part);
-        drop(part);
-        let fitting = cell_part(alloc, dtype, cells?)?;
+        let row_values = own_row_values(alloc, &array);
+        drop(array);
+        let fitting = row_value_array(alloc, dtype, row_values?)?;
         Ok(fitting)
     }
 }
 
-/// The rows of a part, in memory of their own.
+/// The rows of an array, in memory of their own.
 #[tactic(auto, using(vx_arrays::proofs::PackedRows::whole_range))]
-fn part_copy(alloc: Global, part: &Part) -> Result<Part, AllocError>
-    ensures { IfOk result (λ copied. copied.values ≡ part.now.values) }
+fn array_copy(alloc: Global, array: &Array) -> Result<Array, AllocError>
+    ensures { IfOk result (λ copied. copied.values ≡ array.now.values) }
 {
-    let copied = part.slice(alloc, 0..part.len())?;
+    let copied = array.slice(alloc, 0..array.len())?;
     Ok(copied)
 }
 
 /// The same value at each of so many rows.
-fn fitting_single(
+fn fitting_scalar(
     alloc: Global,
     dtype: &DType,
-    single: &Single<'_>,
+    scalar: &Scalar<'_>,
     rows: usize,
-) -> Result<Part, AllocError>
-    requires { AllByRecursion (Fits (data_type dtype.now)) (replicate rows (single_datum single.now)) }
-    ensures dtype { IfOk result (λ part. part.dtype ≡ bare (data_type dtype.now)) }
-    ensures values { IfOk result (λ part. part.values ≡ replicate rows (single_datum single.now)) }
+) -> Result<Array, AllocError>
+    requires { AllByRecursion (Fits (data_type dtype.now)) (replicate rows (scalar_datum scalar.now)) }
+    ensures dtype { IfOk result (λ array. array.dtype ≡ bare (data_type dtype.now)) }
+    ensures values { IfOk result (λ array. array.values ≡ replicate rows (scalar_datum scalar.now)) }
 {
     if rows == 0 {
-        let none = Part::with_room(alloc, dtype, 0)?;
+        let none = Array::with_room(alloc, dtype, 0)?;
         return Ok(none);
     }
     let places = vec![in alloc; 0; rows]?;
-    let one = cell_part(alloc, dtype, vec![in alloc; Cell::single(single)]?)?;
-    let part = one.take(alloc, places.as_slice())?;
-    Ok(part)
+    let one = row_value_array(alloc, dtype, vec![in alloc; RowValue::scalar(scalar)]?)?;
+    let array = one.take(alloc, places.as_slice())?;
+    Ok(array)
 }
 
-/// The first rows of a worth as a part of the dtype.
-pub(crate) fn fitting_worth(
+/// The first rows of a columnar value as an array of the dtype.
+pub(crate) fn fitting_columnar(
     alloc: Global,
     dtype: &DType,
-    worth: Worth<'_>,
+    columnar: ColumnarValue<'_>,
     rows: usize,
-) -> Result<Part, AllocError>
-    requires inside { rows ≤ length (worth_rows worth) }
-    requires fit { AllByRecursion (Fits (data_type dtype.now)) (take rows (worth_rows worth)) }
-    ensures dtype { IfOk result (λ part. part.dtype ≡ bare (data_type dtype.now)) }
-    ensures values { IfOk result (λ part. part.values ≡ take rows (worth_rows worth.entry)) }
+) -> Result<Array, AllocError>
+    requires inside { rows ≤ length (columnar_rows columnar) }
+    requires fit { AllByRecursion (Fits (data_type dtype.now)) (take rows (columnar_rows columnar)) }
+    ensures dtype { IfOk result (λ array. array.dtype ≡ bare (data_type dtype.now)) }
+    ensures values { IfOk result (λ array. array.values ≡ take rows (columnar_rows columnar.entry)) }
 {
-    match worth.first(alloc, rows)? {
-        Worth::Lent(part) => {
-            let copied = part_copy(alloc, part)?;
-            let fitting = fitting_part(alloc, dtype, copied)?;
+    match columnar.first(alloc, rows)? {
+        ColumnarValue::Lent(array) => {
+            let copied = array_copy(alloc, array)?;
+            let fitting = fitting_array(alloc, dtype, copied)?;
             Ok(fitting)
         }
-        Worth::Made(part) => {
-            let fitting = fitting_part(alloc, dtype, part)?;
+        ColumnarValue::Made(array) => {
+            let fitting = fitting_array(alloc, dtype, array)?;
             Ok(fitting)
         }
-        Worth::Same(single, rows) => {
-            let fitting = fitting_single(alloc, dtype, &single, rows)?;
+        ColumnarValue::Same(scalar, rows) => {
+            let fitting = fitting_scalar(alloc, dtype, &scalar, rows)?;
             Ok(fitting)
         }
     }
 }
 
-/// The first rows of each worth as a part of the dtype of its field.
-fn fitting_worths(
+/// The first rows of each columnar value as an array of the dtype of its field.
+fn fitting_columnar_values(
     alloc: Global,
     fields: &Fields,
-    worths: Vec<Worth<'_>>,
+    columnar_values: Vec<ColumnarValue<'_>>,
     rows: usize,
-) -> Result<Vec<SharedPart>, AllocError>
-    requires { FitEach rows fields.now (map worth_rows worths.items) }
-    ensures { IfOk result (λ parts. parts.items ≡ typed_columns rows fields.now (map worth_rows worths.entry.items)) }
+) -> Result<Vec<SharedArray>, AllocError>
+    requires { FitEach rows fields.now (map columnar_rows columnar_values.items) }
+    ensures { IfOk result (λ parts. parts.items ≡ typed_columns rows fields.now (map columnar_rows columnar_values.entry.items)) }
 {
     let members = fields.items();
-    let mut rest = worths.into_iter();
+    let mut rest = columnar_values.into_iter();
     let mut parts = Vec::with_capacity(alloc, members.len())?;
     for field in members {
         match rest.next() {
-            Some(worth) => {
-                let part = fitting_worth(alloc, &field.dtype, worth, rows)?;
-                let shared = SharedPart::new(alloc, part)?;
+            Some(columnar) => {
+                let array = fitting_columnar(alloc, &field.dtype, columnar, rows)?;
+                let shared = SharedArray::new(alloc, array)?;
                 parts.push(shared)?;
             }
             None => return Ok(parts),
@@ -176,47 +176,47 @@ fn fields_of(dtype: &DType, count: usize) -> Option<&Fields>
     }
 }
 
-/// The structs of the first rows of worths, one for each field.
+/// The structs of the first rows of columnar values, one for each field.
 fn fitting_fields(
     alloc: Global,
     dtype: &DType,
     fields: &Fields,
     rows: usize,
-    worths: Vec<Worth<'_>>,
-) -> Result<Part, AllocError>
+    columnar_values: Vec<ColumnarValue<'_>>,
+) -> Result<Array, AllocError>
     requires structs { IsStructOf (data_type dtype.now) fields.now }
-    requires count { length (fields_in fields.now) ≡ length worths.items }
-    requires fit { AllByRecursion (Fits (data_type dtype.now)) (map struct_row (rows_along rows (map worth_rows worths.items))) }
-    ensures dtype { IfOk result (λ part. part.dtype ≡ bare (data_type dtype.now)) }
-    ensures values { IfOk result (λ part. part.values ≡ map struct_row (rows_along rows (map worth_rows worths.entry.items))) }
+    requires count { length (fields_in fields.now) ≡ length columnar_values.items }
+    requires fit { AllByRecursion (Fits (data_type dtype.now)) (map struct_row (rows_along rows (map columnar_rows columnar_values.items))) }
+    ensures dtype { IfOk result (λ array. array.dtype ≡ bare (data_type dtype.now)) }
+    ensures values { IfOk result (λ array. array.values ≡ map struct_row (rows_along rows (map columnar_rows columnar_values.entry.items))) }
 {
-    let count = fewest_rows(rows, worths.as_slice());
-    let parts = fitting_worths(alloc, fields, worths, count)?;
+    let count = fewest_rows(rows, columnar_values.as_slice());
+    let parts = fitting_columnar_values(alloc, fields, columnar_values, count)?;
     let validity = Mask::new_true(alloc, count as u64)?;
-    Ok(Part::of_structs(validity, Parts::of(count, parts)))
+    Ok(Array::of_structs(validity, ChildArrays::of(count, parts)))
 }
 
-/// The structs of worths as a part of the dtype. It moves what the worths hold.
+/// The structs of columnar values as an array of the dtype. It moves what the columnar values hold.
 pub(crate) fn fitting_structs(
     alloc: Global,
     dtype: &DType,
     rows: usize,
-    worths: Vec<Worth<'_>>,
-) -> Result<Part, AllocError>
-    requires { AllByRecursion (Fits (data_type dtype.now)) (map struct_row (rows_along rows (map worth_rows worths.items))) }
-    ensures dtype { IfOk result (λ part. part.dtype ≡ bare (data_type dtype.now)) }
-    ensures values { IfOk result (λ part. part.values ≡ map struct_row (rows_along rows (map worth_rows worths.entry.items))) }
+    columnar_values: Vec<ColumnarValue<'_>>,
+) -> Result<Array, AllocError>
+    requires { AllByRecursion (Fits (data_type dtype.now)) (map struct_row (rows_along rows (map columnar_rows columnar_values.items))) }
+    ensures dtype { IfOk result (λ array. array.dtype ≡ bare (data_type dtype.now)) }
+    ensures values { IfOk result (λ array. array.values ≡ map struct_row (rows_along rows (map columnar_rows columnar_values.entry.items))) }
 {
-    match fields_of(dtype, worths.len()) {
+    match fields_of(dtype, columnar_values.len()) {
         Some(fields) => {
-            let part = fitting_fields(alloc, dtype, fields, rows, worths)?;
-            Ok(part)
+            let array = fitting_fields(alloc, dtype, fields, rows, columnar_values)?;
+            Ok(array)
         }
         None => {
-            let made = rows_of_worths(alloc, rows, worths)?;
-            let cells = struct_cells(alloc, made)?;
-            let part = cell_part(alloc, dtype, cells)?;
-            Ok(part)
+            let made = rows_of_columnar(alloc, rows, columnar_values)?;
+            let row_values = struct_row_values(alloc, made)?;
+            let array = row_value_array(alloc, dtype, row_values)?;
+            Ok(array)
         }
     }
 }

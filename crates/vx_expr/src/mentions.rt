@@ -8,7 +8,7 @@ use crate::expressions::{Expr, NamedExprs};
 
 /// What an expression may look at.
 #[derive(Clone, Copy)]
-pub(crate) enum Part {
+pub(crate) enum Input {
     /// The root value.
     Root,
     /// The row's number.
@@ -18,41 +18,41 @@ pub(crate) enum Part {
 }
 
 impl Expr {
-    /// Whether the part occurs in the expression.
+    /// Whether the input occurs in the expression.
     #[cycle(mentions)]
-    pub(crate) fn mentions(&self, part: Part) -> bool
-        ensures { result ≡ mentions part (term self.now) }
+    pub(crate) fn mentions(&self, input: Input) -> bool
+        ensures { result ≡ mentions input (term self.now) }
     {
         match self {
-            Expr::Root => matches!(part, Part::Root),
+            Expr::Root => matches!(input, Input::Root),
             Expr::Lit(_, _) => false,
-            Expr::RowIdx => matches!(part, Part::RowIdx),
+            Expr::RowIdx => matches!(input, Input::RowIdx),
             Expr::AtMostBound(operand) => {
-                matches!(part, Part::Bound) || operand.expr().mentions(part)
+                matches!(input, Input::Bound) || operand.expr().mentions(input)
             }
             Expr::GetField(_, operand)
             | Expr::Not(operand)
             | Expr::IsNull(operand)
-            | Expr::IsNotNull(operand) => operand.expr().mentions(part),
+            | Expr::IsNotNull(operand) => operand.expr().mentions(input),
             Expr::And(left, right)
             | Expr::Or(left, right)
             | Expr::Compare(_, left, right)
             | Expr::Arith(_, left, right) => {
-                left.expr().mentions(part) || right.expr().mentions(part)
+                left.expr().mentions(input) || right.expr().mentions(input)
             }
-            Expr::Pack(items) => items.mentions(part),
+            Expr::Pack(items) => items.mentions(input),
         }
     }
 }
 
 impl NamedExprs {
-    /// Whether the part occurs in one of the expressions.
+    /// Whether the input occurs in one of the expressions.
     #[cycle(mentions)]
-    pub(crate) fn mentions(&self, part: Part) -> bool
-        ensures { result ≡ mentions_in part self.now }
+    pub(crate) fn mentions(&self, input: Input) -> bool
+        ensures { result ≡ mentions_in input self.now }
     {
         for (_, expr) in self.items() {
-            if expr.mentions(part) {
+            if expr.mentions(input) {
                 return true;
             }
         }

@@ -1,35 +1,35 @@
-//! Structs of the values of several expressions: their worths beside each other as long as each of them is
+//! Structs of the values of several expressions: their columnar values beside each other as long as each of them is
 //! held as a whole, and otherwise the values of each row one behind the other.
 
 ghost use Rattle.std.specs.Prelude.{◌≡◌, [], map, length, replicate, IfOk};
-ghost use Rattle.vx_operators.specs.Worths.{worth_rows};
+ghost use Rattle.vx_operators.specs.ColumnarValues.{columnar_rows};
 ghost use Rattle.vx_expr.specs.Packs.{rows_along, struct_row};
 ghost use Rattle.vx_expr.specs.Rows.{along};
-ghost use Rattle.vx_expr.specs.Steps.{appended, cell_datum, evaluated_rows, packing_rows, row_data};
+ghost use Rattle.vx_expr.specs.Steps.{appended, row_value_datum, evaluated_rows, packing_rows, row_data};
 
-use crate::cells::Cell;
-use crate::evaluated::{Evaluated, worth_cells};
+use crate::evaluated::{Evaluated, columnar_row_values};
+use crate::row_values::RowValue;
 use std::alloc::{AllocError, Global};
 use std::collections::VecDeque;
 use vx_base::{Value, Values};
-use vx_operators::Worth;
+use vx_operators::ColumnarValue;
 
 /// The values of several expressions, so far.
 #[derive(Drop)]
 pub(crate) enum Packing<'a> {
-    /// A worth for each expression, as far as each of them has rows, and so many rows at most.
-    Worths(usize, Vec<Worth<'a>>),
+    /// A columnar value for each expression, as far as each of them has rows, and so many rows at most.
+    ColumnarValues(usize, Vec<ColumnarValue<'a>>),
     /// The values of each row.
     Rows(VecDeque<Vec<Value>>),
 }
 
-/// How many rows each of the worths has, and so many at most.
-pub(crate) fn fewest_rows(rows: usize, worths: &[Worth<'_>]) -> usize
-    ensures { result ≡ length (rows_along rows (map worth_rows worths.now)) }
+/// How many rows each of the columnar values has, and so many at most.
+pub(crate) fn fewest_rows(rows: usize, columnar_values: &[ColumnarValue<'_>]) -> usize
+    ensures { result ≡ length (rows_along rows (map columnar_rows columnar_values.now)) }
 {
     let mut fewest = rows;
-    for worth in worths {
-        let found = worth.len();
+    for columnar in columnar_values {
+        let found = columnar.len();
         if found < fewest {
             fewest = found;
         }
@@ -52,12 +52,12 @@ fn empty_rows(alloc: Global, rows: usize, width: usize) -> Result<VecDeque<Vec<V
 fn longer_rows(
     alloc: Global,
     mut rows: VecDeque<Vec<Value>>,
-    cells: Vec<Cell<'_>>,
+    row_values: Vec<RowValue<'_>>,
 ) -> Result<VecDeque<Vec<Value>>, AllocError>
-    ensures { IfOk result (λ longer. map row_data longer.items ≡ along appended (map row_data rows.items) (map cell_datum cells.entry.items)) }
+    ensures { IfOk result (λ longer. map row_data longer.items ≡ along appended (map row_data rows.items) (map row_value_datum row_values.entry.items)) }
 {
-    let mut longer = VecDeque::with_capacity(alloc, cells.len())?;
-    for cell in cells {
+    let mut longer = VecDeque::with_capacity(alloc, row_values.len())?;
+    for cell in row_values {
         match rows.pop_front() {
             Some(row) => longer.push_back(longer_row(alloc, row, cell)?)?,
             None => return Ok(longer),
@@ -67,41 +67,45 @@ fn longer_rows(
 }
 
 /// The row with one value more.
-fn longer_row(alloc: Global, mut row: Vec<Value>, cell: Cell<'_>) -> Result<Vec<Value>, AllocError>
-    ensures { IfOk result (λ longer. row_data longer ≡ appended (row_data row) (cell_datum cell.entry)) }
+fn longer_row(
+    alloc: Global,
+    mut row: Vec<Value>,
+    cell: RowValue<'_>,
+) -> Result<Vec<Value>, AllocError>
+    ensures { IfOk result (λ longer. row_data longer ≡ appended (row_data row) (row_value_datum cell.entry)) }
 {
     row.push(cell.into_value(alloc)?)?;
     Ok(row)
 }
 
-/// The values of the worths, row by row.
-pub(crate) fn rows_of_worths(
+/// The values of the columnar values, row by row.
+pub(crate) fn rows_of_columnar(
     alloc: Global,
     rows: usize,
-    worths: Vec<Worth<'_>>,
+    columnar_values: Vec<ColumnarValue<'_>>,
 ) -> Result<VecDeque<Vec<Value>>, AllocError>
-    ensures { IfOk result (λ made. map row_data made.items ≡ rows_along rows (map worth_rows worths.entry.items)) }
+    ensures { IfOk result (λ made. map row_data made.items ≡ rows_along rows (map columnar_rows columnar_values.entry.items)) }
 {
-    let mut made = empty_rows(alloc, rows, worths.len())?;
-    for worth in worths {
-        let cells = worth_cells(alloc, worth)?;
-        made = longer_rows(alloc, made, cells)?;
+    let mut made = empty_rows(alloc, rows, columnar_values.len())?;
+    for columnar in columnar_values {
+        let row_values = columnar_row_values(alloc, columnar)?;
+        made = longer_rows(alloc, made, row_values)?;
     }
     Ok(made)
 }
 
 /// The structs of the rows' values.
-pub(crate) fn struct_cells<'a>(
+pub(crate) fn struct_row_values<'a>(
     alloc: Global,
     rows: VecDeque<Vec<Value>>,
-) -> Result<Vec<Cell<'a>>, AllocError>
-    ensures { IfOk result (λ cells. map cell_datum cells.items ≡ map struct_row (map row_data rows.items)) }
+) -> Result<Vec<RowValue<'a>>, AllocError>
+    ensures { IfOk result (λ row_values. map row_value_datum row_values.items ≡ map struct_row (map row_data rows.items)) }
 {
-    let mut cells = Vec::with_capacity(alloc, rows.len())?;
+    let mut row_values = Vec::with_capacity(alloc, rows.len())?;
     for row in rows {
-        cells.push(Cell::Owned(Value::Struct(Values::from_vec(row))))?;
+        row_values.push(RowValue::Owned(Value::Struct(Values::from_vec(row))))?;
     }
-    Ok(cells)
+    Ok(row_values)
 }
 
 impl<'a> Packing<'a> {
@@ -109,8 +113,8 @@ impl<'a> Packing<'a> {
     pub(crate) fn none(alloc: Global, rows: usize, width: usize) -> Result<Packing<'a>, AllocError>
         ensures { IfOk result (λ made. packing_rows made ≡ replicate rows []) }
     {
-        let worths = Vec::with_capacity(alloc, width)?;
-        Ok(Packing::Worths(rows, worths))
+        let columnar_values = Vec::with_capacity(alloc, width)?;
+        Ok(Packing::ColumnarValues(rows, columnar_values))
     }
 
     /// The values of each row.
@@ -118,8 +122,8 @@ impl<'a> Packing<'a> {
         ensures { IfOk result (λ rows. map row_data rows.items ≡ packing_rows self.entry) }
     {
         match self {
-            Packing::Worths(rows, worths) => {
-                let made = rows_of_worths(alloc, rows, worths)?;
+            Packing::ColumnarValues(rows, columnar_values) => {
+                let made = rows_of_columnar(alloc, rows, columnar_values)?;
                 Ok(made)
             }
             Packing::Rows(rows) => Ok(rows),
@@ -131,14 +135,14 @@ impl<'a> Packing<'a> {
         ensures { IfOk result (λ made. packing_rows made ≡ along appended (packing_rows self.entry) (evaluated_rows found.entry)) }
     {
         match (self, found) {
-            (Packing::Worths(rows, mut worths), Evaluated::Packed(worth)) => {
-                worths.push(worth)?;
-                Ok(Packing::Worths(rows, worths))
+            (Packing::ColumnarValues(rows, mut columnar_values), Evaluated::Packed(columnar)) => {
+                columnar_values.push(columnar)?;
+                Ok(Packing::ColumnarValues(rows, columnar_values))
             }
             (made, found) => {
                 let rows = made.into_rows(alloc)?;
-                let cells = found.into_cells(alloc)?;
-                let longer = longer_rows(alloc, rows, cells)?;
+                let row_values = found.into_row_values(alloc)?;
+                let longer = longer_rows(alloc, rows, row_values)?;
                 Ok(Packing::Rows(longer))
             }
         }
@@ -149,10 +153,13 @@ impl<'a> Packing<'a> {
         ensures { IfOk result (λ made. evaluated_rows made ≡ map struct_row (packing_rows self.entry)) }
     {
         match self {
-            Packing::Worths(rows, worths) => Ok(Evaluated::Structs(rows, worths)),
+            Packing::ColumnarValues(rows, columnar_values) => Ok(Evaluated::Structs(
+                rows,
+                columnar_values,
+            )),
             Packing::Rows(rows) => {
-                let cells = struct_cells(alloc, rows)?;
-                Ok(Evaluated::Cells(cells))
+                let row_values = struct_row_values(alloc, rows)?;
+                Ok(Evaluated::RowValues(row_values))
             }
         }
     }

@@ -3,12 +3,12 @@
 ghost use Rattle.std.specs.Prelude.{◌≡◌, IfOk, option_map, option_and_then, slice_get};
 ghost use Rattle.vx_expr.specs.Meaning.{if_inside, exact, negated, and_of, or_of, comparison_of, arithmetic_of, bound_test_of};
 ghost use Rattle.vx_expr.specs.Rows.{no_bound};
-ghost use Rattle.vx_expr.specs.Steps.{cell_datum, seen_datum, one_step, two_step, number_type, item_at};
+ghost use Rattle.vx_expr.specs.Steps.{row_value_datum, seen_datum, one_step, two_step, number_type, item_at};
 ghost use Rattle.vx_base.specs.Data.{number};
 ghost use Rattle.vx_base.specs.ValueViews.{datum, data_in};
 ghost use Rattle.vx_base.specs.declared.dtypes.IntKind.{IntKind};
 
-use crate::cells::{Cell, Seen};
+use crate::row_values::{RowValue, Seen};
 use std::alloc::{AllocError, Global};
 use vx_base::{IntKind, Value, Values};
 use vx_operators::{ArithOp, CompareOp};
@@ -45,20 +45,20 @@ fn value_at(values: &Values, place: usize) -> Option<&Value>
 fn item<'a>(
     alloc: Global,
     place: Option<usize>,
-    cell: Cell<'a>,
-) -> Result<Option<Cell<'a>>, AllocError>
-    ensures { IfOk result (λ made. option_map cell_datum made ≡ item_at place (cell_datum cell.entry)) }
+    cell: RowValue<'a>,
+) -> Result<Option<RowValue<'a>>, AllocError>
+    ensures { IfOk result (λ made. option_map row_value_datum made ≡ item_at place (row_value_datum cell.entry)) }
 {
     match (place, cell) {
-        (_, Cell::Null) => Ok(Some(Cell::Null)),
-        (_, Cell::Borrowed(Value::Null)) => Ok(Some(Cell::Null)),
-        (_, Cell::Owned(Value::Null)) => Ok(Some(Cell::Null)),
-        (Some(place), Cell::Borrowed(Value::Struct(values))) => match value_at(values, place) {
-            Some(value) => Ok(Some(Cell::of(value))),
+        (_, RowValue::Null) => Ok(Some(RowValue::Null)),
+        (_, RowValue::Borrowed(Value::Null)) => Ok(Some(RowValue::Null)),
+        (_, RowValue::Owned(Value::Null)) => Ok(Some(RowValue::Null)),
+        (Some(place), RowValue::Borrowed(Value::Struct(values))) => match value_at(values, place) {
+            Some(value) => Ok(Some(RowValue::of(value))),
             None => Ok(None),
         },
-        (Some(place), Cell::Owned(Value::Struct(values))) => match value_at(&values, place) {
-            Some(value) => Ok(Some(Cell::Owned(value.copy(alloc)?))),
+        (Some(place), RowValue::Owned(Value::Struct(values))) => match value_at(&values, place) {
+            Some(value) => Ok(Some(RowValue::Owned(value.copy(alloc)?))),
             None => Ok(None),
         },
         _ => Ok(None),
@@ -66,23 +66,23 @@ fn item<'a>(
 }
 
 /// The opposite truth value. None where it is no truth value.
-fn opposite(seen: Seen<'_>) -> Option<Cell<'static>>
-    ensures { option_map cell_datum result ≡ negated (seen_datum seen.entry) }
+fn opposite(seen: Seen<'_>) -> Option<RowValue<'static>>
+    ensures { option_map row_value_datum result ≡ negated (seen_datum seen.entry) }
 {
     match seen {
-        Seen::Null => Some(Cell::Null),
-        Seen::Truth(truth) => Some(Cell::Truth(!truth)),
+        Seen::Null => Some(RowValue::Null),
+        Seen::Truth(truth) => Some(RowValue::Truth(!truth)),
         _ => None,
     }
 }
 
 /// Whether a number is at most the bound, which is the greatest number of 64 bits.
-fn at_most_bound(seen: Seen<'_>) -> Option<Cell<'static>>
-    ensures { option_map cell_datum result ≡ bound_test_of no_bound (seen_datum seen.entry) }
+fn at_most_bound(seen: Seen<'_>) -> Option<RowValue<'static>>
+    ensures { option_map row_value_datum result ≡ bound_test_of no_bound (seen_datum seen.entry) }
 {
     match seen {
-        Seen::Null => Some(Cell::Null),
-        Seen::Number(number) => Some(Cell::Truth(number <= i128::from(u64::MAX))),
+        Seen::Null => Some(RowValue::Null),
+        Seen::Number(number) => Some(RowValue::Truth(number <= i128::from(u64::MAX))),
         _ => None,
     }
 }
@@ -91,63 +91,63 @@ fn at_most_bound(seen: Seen<'_>) -> Option<Cell<'static>>
 pub(crate) fn one<'a>(
     alloc: Global,
     step: OneStep,
-    cell: Cell<'a>,
-) -> Result<Option<Cell<'a>>, AllocError>
-    ensures { IfOk result (λ made. option_map cell_datum made ≡ one_step step (cell_datum cell.entry)) }
+    cell: RowValue<'a>,
+) -> Result<Option<RowValue<'a>>, AllocError>
+    ensures { IfOk result (λ made. option_map row_value_datum made ≡ one_step step (row_value_datum cell.entry)) }
 {
     match step {
         OneStep::Field(place) => item(alloc, place, cell),
         OneStep::Not => Ok(opposite(cell.seen())),
-        OneStep::IsNull => Ok(Some(Cell::Truth(matches!(cell.seen(), Seen::Null)))),
-        OneStep::IsNotNull => Ok(Some(Cell::Truth(!matches!(cell.seen(), Seen::Null)))),
+        OneStep::IsNull => Ok(Some(RowValue::Truth(matches!(cell.seen(), Seen::Null)))),
+        OneStep::IsNotNull => Ok(Some(RowValue::Truth(!matches!(cell.seen(), Seen::Null)))),
         OneStep::AtMostBound => Ok(at_most_bound(cell.seen())),
     }
 }
 
 /// Whether both are true: false where one is false, else null where one is null.
-fn both_true(left: Seen<'_>, right: Seen<'_>) -> Option<Cell<'static>>
-    ensures { option_map cell_datum result ≡ and_of (seen_datum left.entry) (seen_datum right.entry) }
+fn both_true(left: Seen<'_>, right: Seen<'_>) -> Option<RowValue<'static>>
+    ensures { option_map row_value_datum result ≡ and_of (seen_datum left.entry) (seen_datum right.entry) }
 {
     match (left, right) {
-        (Seen::Truth(left), Seen::Truth(right)) => Some(Cell::Truth(left && right)),
+        (Seen::Truth(left), Seen::Truth(right)) => Some(RowValue::Truth(left && right)),
         (Seen::Truth(false), Seen::Null) | (Seen::Null, Seen::Truth(false)) => {
-            Some(Cell::Truth(false))
+            Some(RowValue::Truth(false))
         }
         (Seen::Truth(true), Seen::Null)
         | (Seen::Null, Seen::Truth(true))
-        | (Seen::Null, Seen::Null) => Some(Cell::Null),
+        | (Seen::Null, Seen::Null) => Some(RowValue::Null),
         _ => None,
     }
 }
 
 /// Whether one is true: true where one is true, else null where one is null.
-fn one_true(left: Seen<'_>, right: Seen<'_>) -> Option<Cell<'static>>
-    ensures { option_map cell_datum result ≡ or_of (seen_datum left.entry) (seen_datum right.entry) }
+fn one_true(left: Seen<'_>, right: Seen<'_>) -> Option<RowValue<'static>>
+    ensures { option_map row_value_datum result ≡ or_of (seen_datum left.entry) (seen_datum right.entry) }
 {
     match (left, right) {
-        (Seen::Truth(left), Seen::Truth(right)) => Some(Cell::Truth(left || right)),
+        (Seen::Truth(left), Seen::Truth(right)) => Some(RowValue::Truth(left || right)),
         (Seen::Truth(true), Seen::Null) | (Seen::Null, Seen::Truth(true)) => {
-            Some(Cell::Truth(true))
+            Some(RowValue::Truth(true))
         }
         (Seen::Truth(false), Seen::Null)
         | (Seen::Null, Seen::Truth(false))
-        | (Seen::Null, Seen::Null) => Some(Cell::Null),
+        | (Seen::Null, Seen::Null) => Some(RowValue::Null),
         _ => None,
     }
 }
 
 /// How two values compare: null where one is null.
-fn compared(op: CompareOp, left: Seen<'_>, right: Seen<'_>) -> Option<Cell<'static>>
-    ensures { option_map cell_datum result ≡ comparison_of op (seen_datum left.entry) (seen_datum right.entry) }
+fn compared(op: CompareOp, left: Seen<'_>, right: Seen<'_>) -> Option<RowValue<'static>>
+    ensures { option_map row_value_datum result ≡ comparison_of op (seen_datum left.entry) (seen_datum right.entry) }
 {
     let order = match (left, right) {
-        (Seen::Null, _) | (_, Seen::Null) => return Some(Cell::Null),
+        (Seen::Null, _) | (_, Seen::Null) => return Some(RowValue::Null),
         (Seen::Truth(left), Seen::Truth(right)) => left.cmp(&right),
         (Seen::Number(left), Seen::Number(right)) => left.cmp(&right),
         (Seen::Text(left), Seen::Text(right)) => left.cmp(right),
         _ => return None,
     };
-    Some(Cell::Truth(op.holds(order)))
+    Some(RowValue::Truth(op.holds(order)))
 }
 
 /// The exact result. None where there is none, or where it lies outside each kind.
@@ -186,21 +186,25 @@ fn joined(
     kind: Option<IntKind>,
     left: Seen<'_>,
     right: Seen<'_>,
-) -> Option<Cell<'static>>
-    ensures { option_map cell_datum result ≡ arithmetic_of op (number_type kind) (seen_datum left.entry) (seen_datum right.entry) }
+) -> Option<RowValue<'static>>
+    ensures { option_map row_value_datum result ≡ arithmetic_of op (number_type kind) (seen_datum left.entry) (seen_datum right.entry) }
 {
     match (left, right) {
-        (Seen::Null, _) | (_, Seen::Null) => Some(Cell::Null),
+        (Seen::Null, _) | (_, Seen::Null) => Some(RowValue::Null),
         (Seen::Number(left), Seen::Number(right)) => {
-            Some(Cell::Number(exact_inside(op, kind?, left, right)?))
+            Some(RowValue::Number(exact_inside(op, kind?, left, right)?))
         }
         _ => None,
     }
 }
 
 /// The step with two values. None is a fault.
-pub(crate) fn two(step: TwoStep, left: &Cell<'_>, right: &Cell<'_>) -> Option<Cell<'static>>
-    ensures { option_map cell_datum result ≡ two_step step (cell_datum left.now) (cell_datum right.now) }
+pub(crate) fn two(
+    step: TwoStep,
+    left: &RowValue<'_>,
+    right: &RowValue<'_>,
+) -> Option<RowValue<'static>>
+    ensures { option_map row_value_datum result ≡ two_step step (row_value_datum left.now) (row_value_datum right.now) }
 {
     let (left, right) = (left.seen(), right.seen());
     match step {

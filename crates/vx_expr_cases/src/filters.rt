@@ -4,7 +4,7 @@ ghost use Rattle.std.specs.Prelude.{IsTrue};
 ghost use Rattle.vx_base.specs.ColumnCalls.{IsBool};
 ghost use Rattle.vx_base.specs.Views.{data_type};
 
-use crate::desks::Desk;
+use crate::case_states::CaseState;
 use crate::queries::{write_dtype, write_text};
 use std::alloc::{AllocError, Global};
 use std::mem::replace;
@@ -157,14 +157,14 @@ pub(crate) fn write_of_filter(
 /// Sets the filter that the words spell, and tells it.
 pub(crate) fn write_new_filter(
     alloc: Global,
-    desk: &mut Desk,
+    case_state: &mut CaseState,
     words: &str,
     out: &mut String,
 ) -> Result<(), AllocError> {
-    let made = filter_of(alloc, desk.rows.dtype(), words);
-    drop(replace(&mut desk.filter, made));
-    match &desk.filter {
-        Some(filter) => write_filter(alloc, desk.rows.dtype(), filter, out),
+    let made = filter_of(alloc, case_state.rows.dtype(), words);
+    drop(replace(&mut case_state.filter, made));
+    match &case_state.filter {
+        Some(filter) => write_filter(alloc, case_state.rows.dtype(), filter, out),
         None => Ok(()),
     }
 }

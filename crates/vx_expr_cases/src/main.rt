@@ -4,8 +4,8 @@
 //! stand in `README.md`.
 #![tactic(auto)]
 
+mod case_states;
 mod commands;
-mod desks;
 mod errors;
 mod filters;
 mod queries;

@@ -1,6 +1,6 @@
 //! What is asked of an expression.
 
-use crate::desks::{Desk, numbers_of};
+use crate::case_states::{CaseState, numbers_of};
 use std::alloc::{AllocError, Global};
 use vx_base::{Column, DType, Text, Value};
 use vx_expr::{ApplyError, BoundExpression, apply};
@@ -121,13 +121,15 @@ fn write_ends(alloc: Global, column: &Column, out: &mut String) -> Result<(), Al
 }
 
 /// What the expression gives over the rows; rows that it can't be asked of are want of memory.
-fn applied(alloc: Global, desk: &Desk) -> Result<Column, ApplyError> {
-    let numbers = numbers_of(alloc, desk.first_row, desk.rows.len())?;
-    let is_bound = desk.expression.is_root_bound_to(desk.rows.dtype());
-    let given = if numbers.len() != desk.rows.len() || !is_bound {
+fn applied(alloc: Global, case_state: &CaseState) -> Result<Column, ApplyError> {
+    let numbers = numbers_of(alloc, case_state.first_row, case_state.rows.len())?;
+    let is_bound = case_state
+        .expression
+        .is_root_bound_to(case_state.rows.dtype());
+    let given = if numbers.len() != case_state.rows.len() || !is_bound {
         Err(ApplyError::Memory)
     } else {
-        apply(alloc, &desk.expression, &desk.rows, &numbers)
+        apply(alloc, &case_state.expression, &case_state.rows, &numbers)
     };
     drop(numbers);
     given
@@ -154,11 +156,11 @@ fn write_given(
 /// The column that the expression gives over the rows.
 fn write_applied(
     alloc: Global,
-    desk: &Desk,
+    case_state: &CaseState,
     whole: bool,
     out: &mut String,
 ) -> Result<(), AllocError> {
-    let given = applied(alloc, desk);
+    let given = applied(alloc, case_state);
     let written = write_given(alloc, &given, whole, out);
     drop(given);
     written
@@ -201,18 +203,18 @@ fn write_takes_written(
 /// The answer to a question about the expression.
 pub(crate) fn write_told(
     alloc: Global,
-    desk: &Desk,
+    case_state: &CaseState,
     command: &str,
     rest: &str,
     out: &mut String,
 ) -> Result<(), AllocError> {
     match command {
-        "dtype" | "rebind" => write_dtype(alloc, desk.expression.dtype(), out),
-        "text" | "as_root" | "over_row_idx" => write_text(alloc, &desk.expression, out),
-        "looks" => write_looks(&desk.expression, out),
-        "fields" => write_fields(alloc, &desk.expression, out),
-        "gives" | "ends" => write_applied(alloc, desk, command == "gives", out),
-        "takes" => write_takes_written(alloc, &desk.expression, rest, out),
+        "dtype" | "rebind" => write_dtype(alloc, case_state.expression.dtype(), out),
+        "text" | "as_root" | "over_row_idx" => write_text(alloc, &case_state.expression, out),
+        "looks" => write_looks(&case_state.expression, out),
+        "fields" => write_fields(alloc, &case_state.expression, out),
+        "gives" | "ends" => write_applied(alloc, case_state, command == "gives", out),
+        "takes" => write_takes_written(alloc, &case_state.expression, rest, out),
         _ => Ok(()),
     }
 }

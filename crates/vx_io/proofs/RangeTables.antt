@@ -9,7 +9,7 @@ use Rattle.std.proofs.lemmas.List.{take_more, length-take-le}
 use Rattle.vx_base.specs.declared.locations.SegmentLocation.{SegmentLocation}
 use Rattle.vx_base.specs.declared.locations.AskedRange.{AskedRange}
 use Rattle.vx_base.specs.Sources.{range_of}
-use Rattle.vx_io.specs.Ranges.{RangeTable, range_cmp, has_range, last_with, AreApart, IsTableOf}
+use Rattle.vx_io.specs.Ranges.{RangeTable, range_cmp, has_range, last_with, HaveOwnSegments, IsTableOf}
 
 -- a key of the table is at a range where its location has the range
 is_range : (at : SegmentLocation) (range : AskedRange) → is_at (range_cmp (range_of at)) range ≡ has_range at range
@@ -86,5 +86,5 @@ number_apart (at ∷ locations) first number one two is_one is_two =
         let same : first ≡ number = cc in let low = later two (Some n) number behind_two is_two in absurd (omega (arith, same, low))
 
 -- a table of locations keeps its ranges apart
-pub table_apart : (segments : RangeTable) (locations : List SegmentLocation) → IsTableOf segments locations → AreApart segments
+pub table_apart : (segments : RangeTable) (locations : List SegmentLocation) → IsTableOf segments locations → HaveOwnSegments segments
 table_apart segments locations table one two segment is_one is_two = number_apart locations 0 segment one two (sym (table one) ∙ is_one) (sym (table two) ∙ is_two)

@@ -13,7 +13,7 @@ use Rattle.vx_io.specs.declared.requests.IoIntent.TheVariants.{Announce, Prefetc
 use Rattle.vx_io.specs.declared.requests.IoOwnerId.{IoOwnerId}
 use Rattle.vx_base.specs.declared.locations.AskedRange.{AskedRange}
 use Rattle.vx_io.specs.declared.requests.IoRequest.{IoRequest}
-use Rattle.vx_io.specs.Ranges.{RangeTable, segment_of, AreApart}
+use Rattle.vx_io.specs.Ranges.{RangeTable, segment_of, HaveOwnSegments}
 use Rattle.vx_io.specs.Session.{Waiting, Table, Flight, SessionState, has_none, asks, waiting_after, fetched_read, if_fetch, fetch_of, put_at, requested_at, location_of_target, range_of_target}
 use Rattle.vx_io.specs.Sound.{IsSound, IsFetchRead, times, times_waiting, times_fetched, times_kept}
 use Rattle.vx_io.specs.Waits.{AsksWhere}
@@ -159,7 +159,7 @@ read_taken (read ∷ announced) None new =
 read_taken [] None new = inr (refl, refl)
 
 -- the location of a read that waits has the range of its segment
-same_range : (ranges : RangeTable) → AreApart ranges → (one : Option SegmentLocation) (range : AskedRange) (segment : ℕ) → segment_of ranges range ≡ Some segment → option_map (λ (at : SegmentLocation). segment_of ranges (range_of at)) one ≡ Some (Some segment) → option_map (λ (at : SegmentLocation). range_of at) one ≡ Some range
+same_range : (ranges : RangeTable) → HaveOwnSegments ranges → (one : Option SegmentLocation) (range : AskedRange) (segment : ℕ) → segment_of ranges range ≡ Some segment → option_map (λ (at : SegmentLocation). segment_of ranges (range_of at)) one ≡ Some (Some segment) → option_map (λ (at : SegmentLocation). range_of at) one ≡ Some range
 same_range ranges apart None range segment known is = absurd cc
 same_range ranges apart (Some at) range segment known is =
     let here : segment_of ranges (range_of at) ≡ Some segment = cc in

@@ -34,8 +34,8 @@ abbrev pub segment_of : RangeTable → AskedRange → Option ℕ
 segment_of ranges range = lookup (is_at (range_cmp range)) ranges
 
 -- no two ranges have one segment
-abbrev pub AreApart : RangeTable → Type 0
-AreApart ranges = (one two : AskedRange) (segment : ℕ) → segment_of ranges one ≡ Some segment → segment_of ranges two ≡ Some segment → one ≡ two
+abbrev pub HaveOwnSegments : RangeTable → Type 0
+HaveOwnSegments ranges = (one two : AskedRange) (segment : ℕ) → segment_of ranges one ≡ Some segment → segment_of ranges two ≡ Some segment → one ≡ two
 
 -- the table tells of each range the last location that has it
 abbrev pub IsTableOf : RangeTable → List SegmentLocation → Type 0

@@ -5,7 +5,7 @@ use Rattle.std.specs.List.{All, count_by}
 use Rattle.std.specs.Option.{option_to_list}
 use Rattle.vx_base.specs.Sources.{SourceState, location_of, range_of}
 use Rattle.vx_base.specs.declared.locations.SegmentLocation.{SegmentLocation}
-use Rattle.vx_io.specs.Ranges.{RangeTable, segment_of, AreApart}
+use Rattle.vx_io.specs.Ranges.{RangeTable, segment_of, HaveOwnSegments}
 use Rattle.vx_io.specs.Session.{Waiting, Table, Flight, SessionState}
 
 -- how often a ticket stands in a list
@@ -29,7 +29,7 @@ abbrev pub IsFetchRead : SourceState → Flight → Type 0
 IsFetchRead source fetch = option_map (λ at. range_of at) (location_of fetch.ticket source.in_flight) ≡ Some (range_of fetch.at)
 
 pub record IsSound (ranges : RangeTable) (state : SessionState) : Type 0 where
-  pub apart : AreApart ranges
+  pub apart : HaveOwnSegments ranges
   pub once : (segment ticket : ℕ) → times_kept (Some segment) ticket state.table ≤ 1
   pub waiting_in_flight : (segment ticket : ℕ) → 0 < times_waiting ticket (state.table.waiting segment) →
       option_map (λ at. segment_of ranges (range_of at)) (location_of ticket state.source.in_flight) ≡ Some (Some segment)

@@ -16,13 +16,13 @@ pub struct SegmentRanges {
 }
 
 impl Model for SegmentRanges {
-    ghost use Rattle.vx_io.specs.Ranges.{RangeTable, AreApart};
+    ghost use Rattle.vx_io.specs.Ranges.{RangeTable, HaveOwnSegments};
 
     ghost Value = { RangeTable };
 
     ghost view = { λ ranges. ranges.segments.entries };
 
-    ghost invariant = { λ ranges. AreApart ranges.segments.entries };
+    ghost invariant = { λ ranges. HaveOwnSegments ranges.segments.entries };
 }
 
 /// The table of the locations: a segment's number is the place of its location. Of equal ranges the last
@@ -46,7 +46,7 @@ pub fn segment_ranges(
 }
 
 impl SegmentRanges {
-    ghost use Rattle.vx_io.specs.Ranges.{range_at, segment_of, AreApart};
+    ghost use Rattle.vx_io.specs.Ranges.{range_at, segment_of, HaveOwnSegments};
 
     /// The segment that has exactly this range. None where none has it.
     pub fn find(&self, offset: u64, len: u32) -> Option<u32>
@@ -61,7 +61,7 @@ impl SegmentRanges {
 
     /// No two ranges have one segment.
     pub(crate) fn are_apart(&self)
-        ensures { AreApart self.now }
+        ensures { HaveOwnSegments self.now }
     {
         let _ = &self.segments;
     }

@@ -37,9 +37,9 @@ get_fits P [] row each = tt
 get_fits P (v ∷ values) zero each = each.0
 get_fits P (v ∷ values) (suc row) each = get_fits P values row each.1
 
-cell_fits : (P : Datum → Type 0) (values : Option (List Datum)) (row : ℕ) → IfSome values (AllByRecursion P) → IfSome (option_and_then (λ found. slice_get found row) values) P
-cell_fits P None row each = tt
-cell_fits P (Some values) row each = get_fits P values row each
+leaf_row_fits : (P : Datum → Type 0) (values : Option (List Datum)) (row : ℕ) → IfSome values (AllByRecursion P) → IfSome (option_and_then (λ found. slice_get found row) values) P
+leaf_row_fits P None row each = tt
+leaf_row_fits P (Some values) row each = get_fits P values row each
 
 if_some_at : (P Q : Datum → Type 0) → ((v : Datum) → P v → Q v) → (o : Option Datum) → IfSome o P → IfSome o Q
 if_some_at P Q f None h = tt
@@ -122,7 +122,7 @@ Fitting leaves t d = IfSome (derived leaves d) (Fits t)
 mutual
   pub fits_row : (leaves : Leaves) → GiveFitting leaves → (t : Tree) (row : ℕ) → IsSound t → IfSome (derived leaves (derivation t all row)) (Fits (head_of t).dtype)
   fits_row leaves fitting (missing head) row sound = tt
-  fits_row leaves fitting (leaf head segment) row sound = cell_fits (Fits head.dtype) (leaves head.dtype head.rows segment) row (fitting head.dtype head.rows segment)
+  fits_row leaves fitting (leaf head segment) row sound = leaf_row_fits (Fits head.dtype) (leaves head.dtype head.rows segment) row (fitting head.dtype head.rows segment)
   fits_row leaves fitting (chunks head forest) row sound = fits_in leaves fitting head.dtype forest row sound.0
   fits_row leaves fitting (fields head forest validity) row sound =
       validity_fits leaves (nullability_of head.dtype) head.rows validity row (packed (field_derivations (struct_members head.dtype) forest all row)) (Fits head.dtype) sound.2

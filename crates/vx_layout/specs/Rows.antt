@@ -7,7 +7,7 @@ use Rattle.vx_base.specs.Data.{DataType, bool_type, int_type, utf8_type, struct_
 use Rattle.vx_base.specs.Sources.{bytes_at}
 use Rattle.vx_layout.specs.Trees.{Tree, missing, leaf, chunks, fields, dict, lists, zoned, Forest, no_trees, tree, Validity, always, valid_by, head_of}
 use Rattle.vx_layout.specs.Kept.{KeptFields, all, is_kept}
-use Rattle.vx_rows.specs.Derivations.{Derivation, nothing, cell, list_row, given, packed, valid_where, looked_up, Derivations, no_more, also, each_row, Leaves, derived}
+use Rattle.vx_rows.specs.Derivations.{Derivation, nothing, of_leaf, list_row, given, packed, valid_where, looked_up, Derivations, no_more, also, each_row, Leaves, derived}
 use Rattle.vx_rows.specs.SegmentLeaves.{leaves_of}
 use Rattle.vx_rows.specs.Reads.{Way, directly, Read, Found, reads_of, Finds, IsIn}
 
@@ -26,7 +26,7 @@ struct_members (list_type t n) = no_members
 abbrev mutual
   pub derivation : Tree → KeptFields → ℕ → Derivation
   derivation (missing head) kept row = nothing
-  derivation (leaf head segment) kept row = cell (record { dtype = head.dtype; rows = head.rows; segment = segment; row = row })
+  derivation (leaf head segment) kept row = of_leaf (record { dtype = head.dtype; rows = head.rows; segment = segment; row = row })
   derivation (chunks head forest) kept row = derivation_in forest kept row
   derivation (fields head forest validity) kept row =
       where_valid_by validity row (packed (field_derivations (struct_members head.dtype) forest kept row))

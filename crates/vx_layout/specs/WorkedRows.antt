@@ -6,7 +6,7 @@ use Rattle.vx_base.specs.declared.dtypes.Nullability.TheVariants.{NonNullable, N
 use Rattle.vx_base.specs.Data.{DataType, bool_type, int_type, utf8_type, struct_type, list_type, no_members, member, Datum, null, truth, number, structure, no_items, item}
 use Rattle.vx_expr.specs.declared.statistics.Statistic.TheVariants.{Min, Max}
 use Rattle.vx_rows.specs.Derivations.{Leaves}
-use Rattle.vx_rows.specs.Reads.{Way, directly, Found, a_cell, a_code, a_list_row, Read}
+use Rattle.vx_rows.specs.Reads.{Way, directly, Found, a_leaf_row, a_code, a_list_row, Read}
 use Rattle.vx_layout.specs.declared.nodes.LayoutKind.TheVariants as kinds
 use Rattle.vx_layout.specs.Nodes.{Node, parent_node}
 use Rattle.vx_layout.specs.Trees.{leaf, Forest, no_trees, tree, head_at, subtree}
@@ -44,7 +44,7 @@ worth file locations nodes kept rows = map (value (file_leaves file locations) (
 
 -- the segments whose cells a row of the root reads, each with the way to it
 abbrev segment_in : Way → Found → List (Way × ℕ)
-segment_in way (a_cell found) = (way, found.segment) ∷ []
+segment_in way (a_leaf_row found) = (way, found.segment) ∷ []
 segment_in way (a_code found) = []
 segment_in way (a_list_row list row) = []
 

@@ -28,7 +28,6 @@ mod rules;
 mod shape;
 mod trees;
 mod type_rules;
-mod zones;
 
 pub use by_hand::{
     dictionaries_by_hand, kept_by_hand, structs_by_hand, trees_by_hand, zones_by_hand,

@@ -8,9 +8,9 @@ ghost use Rattle.vx_layout.specs.Shape.{most_rows, rows_of, AreZones, RowsAt, Ro
 
 use crate::children::{child_at, has_rows_at, have_all_rows, node_of};
 use crate::nodes::{LayoutKind, LayoutNode};
-use crate::zones::{stand_over, zones_type};
 use std::alloc::{AllocError, Global};
 use vx_expr::Statistic;
+use vx_rows::{stand_over, zones_type};
 
 /// The rows of the node of that number, 0 where there is none.
 fn rows_of(nodes: &[LayoutNode], number: u32) -> u64

@@ -72,6 +72,14 @@ impl LayoutTree {
         self.nodes.len() as u32
     }
 
+    /// The tree keeps its rules, and the number of its nodes its limit: a call that is made for this alone.
+    pub fn keeps_rules(&self)
+        ensures few { length self.now < node_limit }
+        ensures good { IsGoodTree self.now }
+    {
+        let _count = self.nodes.len();
+    }
+
     /// The dtype of the root.
     pub fn dtype(&self) -> &DType
         ensures { IsSomeAnd (slice_get self.now 0) (λ root. data_type result.now ≡ root.dtype) }

@@ -5,8 +5,8 @@ use Rattle.vx_plan.specs.Alike.{SameHead, IsAlike, AreAlike, ValidityIsAlike}
 use Rattle.vx_plan.specs.Plans.{Plan, no_plan, concat_plan, eval_plan, filter_plan, pack_plan, take_plan, share_plan, list_plan, row_idx_plan, scan_plan, zoned_plan, Plans, no_plans, plan, PlanValidity, all_valid, valid_as}
 use Rattle.vx_plan.specs.PlanRows.{plan_derivation, plan_value, plan_reads}
 use Rattle.vx_plan.proofs.AlikePlans.{concat_alike, pack_alike, take_alike, eval_alike, zoned_alike, list_alike, alike_values, alike_reads}
-use Rattle.vx_rows.specs.Derivations.{Derivation, nothing, cell, list_row, given, packed, valid_where, looked_up, worked_out, read_whole, Derivations, no_more, also, Leaves}
-use Rattle.vx_rows.specs.Reads.{Way, directly, through, Found, a_cell, a_code, a_list_row, Read}
+use Rattle.vx_rows.specs.Derivations.{Derivation, nothing, of_leaf, list_row, given, packed, valid_where, looked_up, worked_out, read_whole, Derivations, no_more, also, Leaves}
+use Rattle.vx_rows.specs.Reads.{Way, directly, through, Found, a_leaf_row, a_code, a_list_row, Read}
 use Rattle.vx_rows.specs.Renumbered.{renumbered, each_renumbered, way_renumbered, found_renumbered, read_renumbered}
 use Rattle.vx_rows.specs.Heads.{Head}
 use Rattle.vx_lower.specs.Numbered.{head_with, numbered, each_numbered, validity_numbered}
@@ -147,7 +147,7 @@ numbered_alike offset first p =
 mutual
   same_numbers : (d : Derivation) → renumbered itself d ≡ d
   same_numbers nothing = refl
-  same_numbers (cell at) = refl
+  same_numbers (of_leaf at) = refl
   same_numbers (list_row list row) = refl
   same_numbers (given v) = refl
   same_numbers (packed ds) = ap packed (each_same_numbers ds)
@@ -165,7 +165,7 @@ same_way directly = refl
 same_way (through dictionary) = refl
 
 same_found : (found : Found) → found_renumbered itself found ≡ found
-same_found (a_cell at) = refl
+same_found (a_leaf_row at) = refl
 same_found (a_code at) = let p : renumbered itself at.code ≡ at.code = same_numbers at.code in λ i. a_code (record { dictionary = at.dictionary; row = at.row; code = p i; count = at.count })
 same_found (a_list_row list row) = refl
 

@@ -92,20 +92,20 @@ is_the_root row_number is = absurd cc
 is_the_root (bound_test e) is = absurd cc
 
 -- what a tree's row is worth under an expression
-abbrev Worth : Leaves → ℕ → Tree → Term → KeptFields → ℕ → Option Datum
-Worth leaves offset t e kept row = option_and_then (λ v. meaning (head_of t).dtype no_bound e v (offset + row)) (cond (uses_root e) (value leaves t kept row) (Some null))
+abbrev ValueOver : Leaves → ℕ → Tree → Term → KeptFields → ℕ → Option Datum
+ValueOver leaves offset t e kept row = option_and_then (λ v. meaning (head_of t).dtype no_bound e v (offset + row)) (cond (uses_root e) (value leaves t kept row) (Some null))
 
 whole_value : (t : DataType) (v : Option Datum) → option_map (kept_value all t) v ≡ option_and_then Some v
 whole_value t None = refl
 whole_value t (Some v) = refl
 
-root_worth : (leaves : Leaves) → GiveFitting leaves → (offset : ℕ) (t : Tree) (row : ℕ) → IsSound t → HasDistinctNames (head_of t).dtype → plan_value leaves offset (lowered t all) row ≡ Worth leaves offset t root all row
+root_worth : (leaves : Leaves) → GiveFitting leaves → (offset : ℕ) (t : Tree) (row : ℕ) → IsSound t → HasDistinctNames (head_of t).dtype → plan_value leaves offset (lowered t all) row ≡ ValueOver leaves offset t root all row
 root_worth leaves fitting offset t row sound distinct = lowered_values leaves fitting offset t all row sound distinct tt ∙ whole_value (head_of t).dtype (value leaves t all row)
 
-root_values : (leaves : Leaves) → GiveFitting leaves → (offset : ℕ) (t : Tree) (e : Term) (row : ℕ) → e ≡ root → IsSound t → HasDistinctNames (head_of t).dtype → plan_value leaves offset (lowered t (kept_fields (head_of t).dtype e)) row ≡ Worth leaves offset t e (kept_fields (head_of t).dtype e) row
+root_values : (leaves : Leaves) → GiveFitting leaves → (offset : ℕ) (t : Tree) (e : Term) (row : ℕ) → e ≡ root → IsSound t → HasDistinctNames (head_of t).dtype → plan_value leaves offset (lowered t (kept_fields (head_of t).dtype e)) row ≡ ValueOver leaves offset t e (kept_fields (head_of t).dtype e) row
 root_values leaves fitting offset t e row is sound distinct =
-    subst (λ (f : Term). plan_value leaves offset (lowered t (kept_fields (head_of t).dtype f)) row ≡ Worth leaves offset t f (kept_fields (head_of t).dtype f) row) (sym is)
-    (subst (λ (kept : KeptFields). plan_value leaves offset (lowered t kept) row ≡ Worth leaves offset t root kept row) (sym (root_keeps (head_of t).dtype)) (root_worth leaves fitting offset t row sound distinct))
+    subst (λ (f : Term). plan_value leaves offset (lowered t (kept_fields (head_of t).dtype f)) row ≡ ValueOver leaves offset t f (kept_fields (head_of t).dtype f) row) (sym is)
+    (subst (λ (kept : KeptFields). plan_value leaves offset (lowered t kept) row ≡ ValueOver leaves offset t root kept row) (sym (root_keeps (head_of t).dtype)) (root_worth leaves fitting offset t row sound distinct))
 
 root_reads : (offset : ℕ) (t : Tree) (e : Term) (kept : KeptFields) (row : ℕ) → e ≡ root → IsSound t → plan_reads offset (lowered t kept) row ≡ cond (uses_root e) (reads t directly kept row) []
 root_reads offset t e kept row is sound =

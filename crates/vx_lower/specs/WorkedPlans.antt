@@ -13,7 +13,7 @@ use Rattle.vx_layout.specs.Trees.{Tree, leaf, chunks, fields, dict, lists, zoned
 use Rattle.vx_plan.specs.Plans.{Plan, concat_plan, eval_plan, filter_plan, pack_plan, take_plan, list_plan, scan_plan, zoned_plan, no_plans, plan, all_valid, valid_as}
 use Rattle.vx_plan.specs.PlanRows.{plan_value, plan_reads}
 use Rattle.vx_rows.specs.Derivations.{Leaves}
-use Rattle.vx_rows.specs.Reads.{Found, a_cell, a_code, a_list_row, Read}
+use Rattle.vx_rows.specs.Reads.{Found, a_leaf_row, a_code, a_list_row, Read}
 use Rattle.vx_rows.specs.Heads.{Head}
 use Rattle.vx_rows.specs.Zones.{zones_of}
 use Rattle.vx_lower.specs.Planned.{planned}
@@ -160,7 +160,7 @@ abbrev pub projected : List Datum → Projection → List (Option Datum)
 projected values p = map (projected_at (all_have values) p) three_rows
 
 abbrev segment_in : Found → List ℕ
-segment_in (a_cell found) = found.segment ∷ []
+segment_in (a_leaf_row found) = found.segment ∷ []
 segment_in (a_code found) = []
 segment_in (a_list_row list row) = []
 

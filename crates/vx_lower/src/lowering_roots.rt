@@ -73,7 +73,7 @@ pub fn lower(alloc: Global, tree: &LayoutTree, kept: &Kept) -> Result<Lowered, A
     ensures values { IfOk result (λ made. HasTreeValues (subtree tree.now 0) (kept_data kept.now) (plan_at made.table (number_of made.root))) }
     ensures reads { IfOk result (λ made. HasTreeReads (subtree tree.now 0) (kept_data kept.now) (plan_at made.table (number_of made.root))) }
 {
-    let _count = tree.len();
+    tree.keeps_rules();
     let mut table = PlanTable::with_capacity(alloc, room(tree, kept))?;
     let root = lower_root(alloc, tree, kept, &mut table)?;
     Ok(Lowered { table, root })

@@ -16,7 +16,7 @@ use vx_tree_notation::{dtype_in, lowered, tree_of};
 
 /// The tree, and the plans that it was lowered to, of which the root is spoken of.
 #[derive(Drop)]
-struct Desk {
+struct CaseState {
     tree: Option<LayoutTree>,
     plans: Lowered,
 }
@@ -109,12 +109,12 @@ fn write_on_plans(
 /// Takes the tree of the nodes, of which there are few, and says how many they are.
 fn write_tree(
     alloc: Global,
-    desk: &mut Desk,
+    case_state: &mut CaseState,
     words: &str,
     out: &mut String,
 ) -> Result<(), AllocError> {
-    drop(replace(&mut desk.tree, tree_of(alloc, words)));
-    match &desk.tree {
+    drop(replace(&mut case_state.tree, tree_of(alloc, words)));
+    match &case_state.tree {
         Some(tree) => write!(out, " {} nodes", tree.len()),
         None => out.push_str(" no tree"),
     }
@@ -123,36 +123,36 @@ fn write_tree(
 /// Lowers the tree, where there is one, and appends the text of its plan.
 fn write_lowered(
     alloc: Global,
-    desk: &mut Desk,
+    case_state: &mut CaseState,
     words: &str,
     out: &mut String,
 ) -> Result<(), AllocError> {
-    if let Some(tree) = &desk.tree {
+    if let Some(tree) = &case_state.tree {
         let made = lowered(alloc, tree, words)?;
-        drop(replace(&mut desk.plans, made));
+        drop(replace(&mut case_state.plans, made));
     }
-    write_on_plans(alloc, &mut desk.plans, "lower", "", out)
+    write_on_plans(alloc, &mut case_state.plans, "lower", "", out)
 }
 
 /// Appends the answer to a command.
 fn write_answer(
     alloc: Global,
-    desk: &mut Desk,
+    case_state: &mut CaseState,
     line: &str,
     out: &mut String,
 ) -> Result<(), AllocError> {
     let (command, words) = line.split_once(' ').unwrap_or((line, ""));
     match command {
-        "tree" => write_tree(alloc, desk, words, out),
-        "lower" => write_lowered(alloc, desk, words, out),
-        _ => write_on_plans(alloc, &mut desk.plans, command, words, out),
+        "tree" => write_tree(alloc, case_state, words, out),
+        "lower" => write_lowered(alloc, case_state, words, out),
+        _ => write_on_plans(alloc, &mut case_state.plans, command, words, out),
     }
 }
 
 /// Appends the answer to a line that has one.
 fn write_line(
     alloc: Global,
-    desk: &mut Desk,
+    case_state: &mut CaseState,
     line: &str,
     out: &mut String,
 ) -> Result<(), AllocError> {
@@ -160,19 +160,19 @@ fn write_line(
         return Ok(());
     }
     out.push_str(" =>")
-        .and(write_answer(alloc, desk, line, out))
+        .and(write_answer(alloc, case_state, line, out))
 }
 
 /// Appends each line with its answer.
 fn write_lines(
     alloc: Global,
-    desk: &mut Desk,
+    case_state: &mut CaseState,
     lines: &str,
     out: &mut String,
 ) -> Result<(), AllocError> {
     for line in lines.lines() {
         out.push_str(line)
-            .and(write_line(alloc, desk, line, out))
+            .and(write_line(alloc, case_state, line, out))
             .and(out.push('\n'))?;
     }
     Ok(())
@@ -187,8 +187,8 @@ pub(crate) fn write_answers(
     let table = PlanTable::new(alloc);
     let root = PlanRef(0);
     let plans = Lowered { table, root };
-    let mut desk = Desk { tree: None, plans };
-    let written = write_lines(alloc, &mut desk, lines, out);
-    drop(desk);
+    let mut case_state = CaseState { tree: None, plans };
+    let written = write_lines(alloc, &mut case_state, lines, out);
+    drop(case_state);
     written
 }

@@ -1,8 +1,8 @@
 pub mod LiftedRows
 pub mod LogicRows
 mod NumberRows
+mod ScalarRows
 pub mod SideRows
-mod SingleRows
 pub mod Somes
 pub mod Steps
 mod TestedRows

@@ -13,7 +13,7 @@ use Rattle.vx_operators.specs.Operators.{arithmetic_of, comparison_of}
 use Rattle.vx_operators.specs.Rows.{along, front}
 use Rattle.vx_operators.specs.Kernels.{of_two, compares, exact_inside}
 use Rattle.vx_operators.proofs.LiftedRows.{lifted_two, blank_of_two, comparison_lifts, arithmetic_lifts}
-use Rattle.vx_operators.proofs.TestedRows.{tested_part}
+use Rattle.vx_operators.proofs.TestedRows.{tested_array}
 
 -- ---- how many rows
 pub both_len : (xs ys : List Bool) → length ys ≡ length xs → length (both xs ys) ≡ length xs
@@ -106,17 +106,17 @@ take_len (suc n) (b ∷ mask) e = omega (arith, take_len n mask (omega arith))
 pub made_rows : {X : Type 0} (seen : X → ℤ) (known validity : List Bool) (made : List X) (numbers : List ℤ) (n : ℕ) → validity ≡ take n known → numbers ≡ map seen made → n ≡ length made → length made ≤ length known → length validity ≡ length numbers
 made_rows seen known validity made numbers n v e k le = omega (arith, ap length v, take_len n known (omega (arith, k, le)), ap length e, length-map made seen, k)
 
--- ---- the parts that are made
-pub compared_part : (op : CompareOp) (lv rv validity truths values : List Bool) (ls rs : List ℤ) → validity ≡ both lv rv → truths ≡ along (compares op) ls rs → values ≡ both validity truths → length lv ≡ length ls → length rv ≡ length rs
+-- ---- the arrays that are made
+pub compared_array : (op : CompareOp) (lv rv validity truths values : List Bool) (ls rs : List ℤ) → validity ≡ both lv rv → truths ≡ along (compares op) ls rs → values ≡ both validity truths → length lv ≡ length ls → length rv ≡ length rs
     → where_valid validity (map truth values) ≡ front (along (comparison_of op) (where_valid lv (map number ls)) (where_valid rv (map number rs)))
-compared_part op = tested_part number number (compares op) (comparison_of op) (comparison_lifts op)
+compared_array op = tested_array number number (compares op) (comparison_of op) (comparison_lifts op)
 
-pub joined_part : (kind : IntKind) (nullability : Nullability) (op : ArithOp) (lv rv known validity : List Bool) (ls rs numbers : List ℤ) (n : ℕ) → known ≡ both lv rv → validity ≡ take n known → numbers ≡ front (of_two (exact_inside kind op) (pos 0) known ls rs) → n ≡ length numbers → length lv ≡ length ls → length rv ≡ length rs
+pub joined_array : (kind : IntKind) (nullability : Nullability) (op : ArithOp) (lv rv known validity : List Bool) (ls rs numbers : List ℤ) (n : ℕ) → known ≡ both lv rv → validity ≡ take n known → numbers ≡ front (of_two (exact_inside kind op) (pos 0) known ls rs) → n ≡ length numbers → length lv ≡ length ls → length rv ≡ length rs
     → where_valid validity (map number numbers) ≡ front (along (arithmetic_of op (Some (int_type kind nullability))) (where_valid lv (map number ls)) (where_valid rv (map number rs)))
-joined_part kind nullability op lv rv known validity ls rs numbers n valid cut made count c d =
+joined_array kind nullability op lv rv known validity ls rs numbers n valid cut made count c d =
     ap (λ (mask : List Bool). where_valid mask (map number numbers)) (cut ∙ ap (take n) valid)
     ∙ joined_columns kind nullability op lv rv ls rs numbers n (made ∙ ap (λ (mask : List Bool). front (of_two (exact_inside kind op) (pos 0) mask ls rs)) valid) count c d
 
-pub joined_part_held : (kind : IntKind) (op : ArithOp) (known validity : List Bool) (ls rs numbers : List ℤ) (n : ℕ) → validity ≡ take n known → numbers ≡ front (of_two (exact_inside kind op) (pos 0) known ls rs) → NullsHold (pos 0) validity numbers
-joined_part_held kind op known validity ls rs numbers n cut made =
+pub joined_array_held : (kind : IntKind) (op : ArithOp) (known validity : List Bool) (ls rs numbers : List ℤ) (n : ℕ) → validity ≡ take n known → numbers ≡ front (of_two (exact_inside kind op) (pos 0) known ls rs) → NullsHold (pos 0) validity numbers
+joined_array_held kind op known validity ls rs numbers n cut made =
     subst (λ (mask : List Bool). NullsHold (pos 0) mask numbers) (sym cut) (joined_held kind op known ls rs numbers n made)

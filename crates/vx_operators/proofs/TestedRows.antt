@@ -32,11 +32,11 @@ tested_sides seen other f step lifts lv rv truths ls rs e c d =
     let same : both (both lv rv) truths ≡ front (of_two (λ x y. Some (f x y)) false (both lv rv) ls rs) = sym (front_somes (both (both lv rv) truths)) ∙ ap front (ap (λ (bits : List Bool). map Some (both (both lv rv) bits)) e ∙ masked f (both lv rv) ls rs) in
     ap (λ (ts : List Bool). where_valid (both lv rv) (map truth ts)) same ∙ sym (lifted_two seen other truth (λ x y. Some (f x y)) step false lifts lv rv ls rs c d)
 
--- the part that is made
-pub tested_part : {X Y : Type 0} (seen : X → Datum) (other : Y → Datum) (f : X → Y → Bool) (step : Datum → Datum → Option Datum) → LiftsTwo seen other truth (λ x y. Some (f x y)) step
+-- the array that is made
+pub tested_array : {X Y : Type 0} (seen : X → Datum) (other : Y → Datum) (f : X → Y → Bool) (step : Datum → Datum → Option Datum) → LiftsTwo seen other truth (λ x y. Some (f x y)) step
     → (lv rv validity truths values : List Bool) (ls : List X) (rs : List Y) → validity ≡ both lv rv → truths ≡ along f ls rs → values ≡ both validity truths → length lv ≡ length ls → length rv ≡ length rs
     → where_valid validity (map truth values) ≡ front (along step (where_valid lv (map seen ls)) (where_valid rv (map other rs)))
-tested_part seen other f step lifts lv rv validity truths values ls rs valid made held c d =
+tested_array seen other f step lifts lv rv validity truths values ls rs valid made held c d =
     ap (λ (bits : List Bool). where_valid validity (map truth bits)) held ∙ ap (λ (mask : List Bool). where_valid mask (map truth (both mask truths))) valid ∙ tested_sides seen other f step lifts lv rv truths ls rs made c d
 
 -- ---- truth values by whole masks

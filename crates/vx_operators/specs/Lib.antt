@@ -1,6 +1,6 @@
+pub mod ColumnarValues
 pub mod Kernels
 pub mod Operators
 pub mod Rows
 pub mod Sides
 pub mod TextSides
-pub mod Worths

@@ -2,11 +2,12 @@
 //! whole column at a time.
 //!
 //! - The operators: [`CompareOp`], [`ArithOp`].
-//! - What a part of an expression is worth at each row: [`Worth`], with [`Single`].
+//! - What a part of an expression is worth at each row: [`ColumnarValue`], with [`Scalar`].
 //! - The definitions on literals: [`truth_by_hand`], [`comparisons_by_hand`], [`arithmetic_by_hand`].
 #![tactic(auto)]
 
 mod by_hand;
+mod columnar_values;
 mod dispatch;
 mod integers;
 mod number_operators;
@@ -19,12 +20,11 @@ mod texts;
 mod truth_operators;
 mod truths;
 mod valid_rows;
-mod worths;
 
 pub use by_hand::{arithmetic_by_hand, comparisons_by_hand, truth_by_hand};
+pub use columnar_values::{ColumnarValue, Scalar};
 pub use dispatch::{
-    and_worths, compare_worths, join_worths, not_worth, null_test, or_worths, value_test,
+    and_columnar, compare_columnar, join_columnar, not_columnar, null_test, or_columnar, value_test,
 };
 pub use integers::Integer;
 pub use operators::{ArithOp, CompareOp};
-pub use worths::{Single, Worth};

@@ -14,7 +14,7 @@ use crate::integers::Integer;
 use crate::operators::{ArithOp, CompareOp};
 use crate::sides::Side;
 use std::alloc::{AllocError, Global};
-use vx_arrays::Part;
+use vx_arrays::Array;
 use vx_masks::Mask;
 
 /// How two numbers compare.
@@ -51,19 +51,19 @@ pub fn compare_numbers<T: Integer>(
     op: CompareOp,
     left: Side<'_, T>,
     right: Side<'_, T>,
-) -> Result<Part, AllocError>
+) -> Result<Array, AllocError>
     requires left { IsSide left }
     requires right { IsSide right }
     requires rows { length (side_numbers T.number right) ≡ length (side_numbers T.number left) }
-    ensures dtype { IfOk result (λ part. part.dtype ≡ bool_type NonNullable) }
-    ensures values { IfOk result (λ part. part.values ≡ front (along (comparison_of op) (side_rows T.number left.entry) (side_rows T.number right.entry))) }
+    ensures dtype { IfOk result (λ array. array.dtype ≡ bool_type NonNullable) }
+    ensures values { IfOk result (λ array. array.values ≡ front (along (comparison_of op) (side_rows T.number left.entry) (side_rows T.number right.entry))) }
 {
     let _rows = (left.len(), right.len());
     let validity = left.both_valid(alloc, &right)?;
     let truths = compared_rows(alloc, op, left, right)?;
     let truths = Mask::of(alloc, truths)?;
     let values = validity.and(alloc, &truths)?;
-    Ok(Part::of_truths(validity, values))
+    Ok(Array::of_truths(validity, values))
 }
 
 /// The exact result in a row that is valid. A row that is not holds 0. None is a fault.
@@ -122,17 +122,17 @@ pub fn join_numbers<T: Integer>(
     op: ArithOp,
     left: Side<'_, T>,
     right: Side<'_, T>,
-) -> Result<Part, AllocError>
+) -> Result<Array, AllocError>
     requires left { IsSide left }
     requires right { IsSide right }
     requires rows { length (side_numbers T.number right) ≡ length (side_numbers T.number left) }
-    ensures dtype { IfOk result (λ part. part.dtype ≡ int_type T.kind NonNullable) }
-    ensures values { IfOk result (λ part. (n : Nullability) → part.values ≡ front (along (arithmetic_of op (Some (int_type T.kind n))) (side_rows T.number left.entry) (side_rows T.number right.entry))) }
+    ensures dtype { IfOk result (λ array. array.dtype ≡ int_type T.kind NonNullable) }
+    ensures values { IfOk result (λ array. (n : Nullability) → array.values ≡ front (along (arithmetic_of op (Some (int_type T.kind n))) (side_rows T.number left.entry) (side_rows T.number right.entry))) }
 {
     let _rows = (left.len(), right.len());
     let known = left.both_valid(alloc, &right)?;
     let made = joined_rows(alloc, op, &known, left, right)?;
     let validity = first_rows(alloc, known, made.as_slice().len())?;
     let numbers = T::as_numbers(made);
-    Ok(Part::of_numbers(validity, numbers))
+    Ok(Array::of_numbers(validity, numbers))
 }

@@ -11,7 +11,7 @@ ghost use Rattle.vx_operators.specs.TextSides.{text_valid, side_texts, text_rows
 use crate::operators::CompareOp;
 use crate::text_sides::TextSide;
 use std::alloc::{AllocError, Global};
-use vx_arrays::Part;
+use vx_arrays::Array;
 use vx_masks::Mask;
 
 /// How two texts compare.
@@ -47,17 +47,17 @@ pub(crate) fn compare_texts(
     op: CompareOp,
     left: TextSide<'_>,
     right: TextSide<'_>,
-) -> Result<Part, AllocError>
+) -> Result<Array, AllocError>
     requires left { IsTextSide left }
     requires right { IsTextSide right }
     requires rows { length (side_texts right) ≡ length (side_texts left) }
-    ensures dtype { IfOk result (λ part. part.dtype ≡ bool_type NonNullable) }
-    ensures values { IfOk result (λ part. part.values ≡ front (along (comparison_of op) (text_rows left.entry) (text_rows right.entry))) }
+    ensures dtype { IfOk result (λ array. array.dtype ≡ bool_type NonNullable) }
+    ensures values { IfOk result (λ array. array.values ≡ front (along (comparison_of op) (text_rows left.entry) (text_rows right.entry))) }
 {
     let _rows = (left.len(), right.len());
     let validity = left.both_valid(alloc, &right)?;
     let truths = compared_texts(alloc, op, left, right)?;
     let truths = Mask::of(alloc, truths)?;
     let values = validity.and(alloc, &truths)?;
-    Ok(Part::of_truths(validity, values))
+    Ok(Array::of_truths(validity, values))
 }

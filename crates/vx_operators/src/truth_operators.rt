@@ -7,24 +7,24 @@ ghost use Rattle.vx_types.specs.Reading.{where_valid};
 ghost use Rattle.vx_masks.specs.Rows.{Holds, NullsHold};
 ghost use Rattle.vx_operators.specs.Operators.{and_of, comparison_of, or_of, negated, null_test_of, value_test_of};
 ghost use Rattle.vx_operators.specs.Rows.{along, front};
-ghost use Rattle.vx_operators.specs.Worths.{worth_type, worth_rows};
+ghost use Rattle.vx_operators.specs.ColumnarValues.{columnar_type, columnar_rows};
 
+use crate::columnar_values::{ColumnarValue, Scalar};
 use crate::operators::CompareOp;
 use crate::truths::{Truths, and, compare, is_not_null, is_null, not, or};
-use crate::worths::{Single, Worth};
 use std::alloc::{AllocError, Global};
-use vx_arrays::{Look, Part};
+use vx_arrays::{Array, ArrayView};
 use vx_masks::Mask;
 
-/// The truth values of a part, in memory of their own.
-fn part_truths(alloc: Global, part: &Part) -> Result<Truths, AllocError>
-    requires { part.now.dtype ≡ bool_type NonNullable }
+/// The truth values of an array, in memory of their own.
+fn array_truths(alloc: Global, array: &Array) -> Result<Truths, AllocError>
+    requires { array.now.dtype ≡ bool_type NonNullable }
     ensures rows { IfOk result (λ truths. length truths.validity ≡ length truths.values) }
     ensures held { IfOk result (λ truths. NullsHold false truths.validity truths.values) }
-    ensures values { IfOk result (λ truths. where_valid truths.validity (map truth truths.values) ≡ part.now.values) }
+    ensures values { IfOk result (λ truths. where_valid truths.validity (map truth truths.values) ≡ array.now.values) }
 {
-    match part.look() {
-        Look::Truths(validity, values) => {
+    match array.array_view() {
+        ArrayView::Truths(validity, values) => {
             let validity = validity.copy(alloc)?;
             let values = values.copy(alloc)?;
             Ok(Truths { validity, values })
@@ -59,81 +59,81 @@ fn same_truths(alloc: Global, valid: bool, bit: bool, rows: usize) -> Result<Tru
     Ok(Truths { validity, values })
 }
 
-/// The truth values of a worth, in memory of their own.
-fn truths_of(alloc: Global, worth: &Worth<'_>) -> Result<Truths, AllocError>
-    requires { worth_type worth.now ≡ bool_type NonNullable }
+/// The truth values of a columnar value, in memory of their own.
+fn truths_of(alloc: Global, columnar: &ColumnarValue<'_>) -> Result<Truths, AllocError>
+    requires { columnar_type columnar.now ≡ bool_type NonNullable }
     ensures rows { IfOk result (λ truths. length truths.validity ≡ length truths.values) }
     ensures held { IfOk result (λ truths. NullsHold false truths.validity truths.values) }
-    ensures values { IfOk result (λ truths. where_valid truths.validity (map truth truths.values) ≡ worth_rows worth.now) }
+    ensures values { IfOk result (λ truths. where_valid truths.validity (map truth truths.values) ≡ columnar_rows columnar.now) }
 {
-    match worth {
-        Worth::Lent(part) => {
-            let truths = part_truths(alloc, part)?;
+    match columnar {
+        ColumnarValue::Lent(array) => {
+            let truths = array_truths(alloc, array)?;
             Ok(truths)
         }
-        Worth::Made(part) => {
-            let truths = part_truths(alloc, part)?;
+        ColumnarValue::Made(array) => {
+            let truths = array_truths(alloc, array)?;
             Ok(truths)
         }
-        Worth::Same(Single::Truth(Some(bit)), rows) => {
+        ColumnarValue::Same(Scalar::Truth(Some(bit)), rows) => {
             let truths = same_truths(alloc, true, *bit, *rows)?;
             Ok(truths)
         }
-        Worth::Same(Single::Truth(None), rows) => {
+        ColumnarValue::Same(Scalar::Truth(None), rows) => {
             let truths = same_truths(alloc, false, false, *rows)?;
             Ok(truths)
         }
-        Worth::Same(_, _) => unreachable!(),
+        ColumnarValue::Same(_, _) => unreachable!(),
     }
 }
 
-/// The part of the truth values.
-fn part_of(truths: Truths) -> Part
+/// The array of the truth values.
+fn array_of(truths: Truths) -> Array
     requires rows { length truths.validity ≡ length truths.values }
     requires held { NullsHold false truths.validity truths.values }
     ensures dtype { result.dtype ≡ bool_type NonNullable }
     ensures values { result.values ≡ where_valid truths.validity (map truth truths.values) }
 {
     let Truths { validity, values } = truths;
-    Part::of_truths(validity, values)
+    Array::of_truths(validity, values)
 }
 
 /// Whether both are true, row by row.
 #[tactic(auto, using(crate::proofs::LogicRows::truths_count))]
 pub(crate) fn and_truths(
     alloc: Global,
-    left: &Worth<'_>,
-    right: &Worth<'_>,
-) -> Result<Part, AllocError>
-    requires left { worth_type left.now ≡ bool_type NonNullable }
-    requires right { worth_type right.now ≡ bool_type NonNullable }
-    requires rows { length (worth_rows right.now) ≡ length (worth_rows left.now) }
-    ensures dtype { IfOk result (λ part. part.dtype ≡ bool_type NonNullable) }
-    ensures values { IfOk result (λ part. map Some part.values ≡ along and_of (worth_rows left.now) (worth_rows right.now)) }
+    left: &ColumnarValue<'_>,
+    right: &ColumnarValue<'_>,
+) -> Result<Array, AllocError>
+    requires left { columnar_type left.now ≡ bool_type NonNullable }
+    requires right { columnar_type right.now ≡ bool_type NonNullable }
+    requires rows { length (columnar_rows right.now) ≡ length (columnar_rows left.now) }
+    ensures dtype { IfOk result (λ array. array.dtype ≡ bool_type NonNullable) }
+    ensures values { IfOk result (λ array. map Some array.values ≡ along and_of (columnar_rows left.now) (columnar_rows right.now)) }
 {
     let left = truths_of(alloc, left)?;
     let right = truths_of(alloc, right)?;
     let made = and(alloc, &left, &right)?;
-    Ok(part_of(made))
+    Ok(array_of(made))
 }
 
 /// Whether one is true, row by row.
 #[tactic(auto, using(crate::proofs::LogicRows::truths_count))]
 pub(crate) fn or_truths(
     alloc: Global,
-    left: &Worth<'_>,
-    right: &Worth<'_>,
-) -> Result<Part, AllocError>
-    requires left { worth_type left.now ≡ bool_type NonNullable }
-    requires right { worth_type right.now ≡ bool_type NonNullable }
-    requires rows { length (worth_rows right.now) ≡ length (worth_rows left.now) }
-    ensures dtype { IfOk result (λ part. part.dtype ≡ bool_type NonNullable) }
-    ensures values { IfOk result (λ part. map Some part.values ≡ along or_of (worth_rows left.now) (worth_rows right.now)) }
+    left: &ColumnarValue<'_>,
+    right: &ColumnarValue<'_>,
+) -> Result<Array, AllocError>
+    requires left { columnar_type left.now ≡ bool_type NonNullable }
+    requires right { columnar_type right.now ≡ bool_type NonNullable }
+    requires rows { length (columnar_rows right.now) ≡ length (columnar_rows left.now) }
+    ensures dtype { IfOk result (λ array. array.dtype ≡ bool_type NonNullable) }
+    ensures values { IfOk result (λ array. map Some array.values ≡ along or_of (columnar_rows left.now) (columnar_rows right.now)) }
 {
     let left = truths_of(alloc, left)?;
     let right = truths_of(alloc, right)?;
     let made = or(alloc, &left, &right)?;
-    Ok(part_of(made))
+    Ok(array_of(made))
 }
 
 /// How the truth values of both compare, row by row.
@@ -141,46 +141,46 @@ pub(crate) fn or_truths(
 pub(crate) fn compare_truths(
     alloc: Global,
     op: CompareOp,
-    left: &Worth<'_>,
-    right: &Worth<'_>,
-) -> Result<Part, AllocError>
-    requires left { worth_type left.now ≡ bool_type NonNullable }
-    requires right { worth_type right.now ≡ bool_type NonNullable }
-    requires rows { length (worth_rows right.now) ≡ length (worth_rows left.now) }
-    ensures dtype { IfOk result (λ part. part.dtype ≡ bool_type NonNullable) }
-    ensures values { IfOk result (λ part. part.values ≡ front (along (comparison_of op) (worth_rows left.now) (worth_rows right.now))) }
+    left: &ColumnarValue<'_>,
+    right: &ColumnarValue<'_>,
+) -> Result<Array, AllocError>
+    requires left { columnar_type left.now ≡ bool_type NonNullable }
+    requires right { columnar_type right.now ≡ bool_type NonNullable }
+    requires rows { length (columnar_rows right.now) ≡ length (columnar_rows left.now) }
+    ensures dtype { IfOk result (λ array. array.dtype ≡ bool_type NonNullable) }
+    ensures values { IfOk result (λ array. array.values ≡ front (along (comparison_of op) (columnar_rows left.now) (columnar_rows right.now))) }
 {
     let left = truths_of(alloc, left)?;
     let right = truths_of(alloc, right)?;
     let made = compare(alloc, op, &left, &right)?;
-    Ok(part_of(made))
+    Ok(array_of(made))
 }
 
 /// The opposite of each truth value.
-pub(crate) fn not_truths(alloc: Global, worth: &Worth<'_>) -> Result<Part, AllocError>
-    requires { worth_type worth.now ≡ bool_type NonNullable }
-    ensures dtype { IfOk result (λ part. part.dtype ≡ bool_type NonNullable) }
-    ensures values { IfOk result (λ part. map Some part.values ≡ map negated (worth_rows worth.now)) }
+pub(crate) fn not_truths(alloc: Global, columnar: &ColumnarValue<'_>) -> Result<Array, AllocError>
+    requires { columnar_type columnar.now ≡ bool_type NonNullable }
+    ensures dtype { IfOk result (λ array. array.dtype ≡ bool_type NonNullable) }
+    ensures values { IfOk result (λ array. map Some array.values ≡ map negated (columnar_rows columnar.now)) }
 {
-    let truths = truths_of(alloc, worth)?;
+    let truths = truths_of(alloc, columnar)?;
     let made = not(alloc, &truths)?;
-    Ok(part_of(made))
+    Ok(array_of(made))
 }
 
-/// Which rows of a part have no value.
-pub(crate) fn null_rows(alloc: Global, part: &Part) -> Result<Part, AllocError>
+/// Which rows of an array have no value.
+pub(crate) fn null_rows(alloc: Global, array: &Array) -> Result<Array, AllocError>
     ensures dtype { IfOk result (λ made. made.dtype ≡ bool_type NonNullable) }
-    ensures values { IfOk result (λ made. map Some made.values ≡ map null_test_of part.now.values) }
+    ensures values { IfOk result (λ made. map Some made.values ≡ map null_test_of array.now.values) }
 {
-    let made = is_null(alloc, part.validity())?;
-    Ok(part_of(made))
+    let made = is_null(alloc, array.validity())?;
+    Ok(array_of(made))
 }
 
-/// Which rows of a part have a value.
-pub(crate) fn value_rows(alloc: Global, part: &Part) -> Result<Part, AllocError>
+/// Which rows of an array have a value.
+pub(crate) fn value_rows(alloc: Global, array: &Array) -> Result<Array, AllocError>
     ensures dtype { IfOk result (λ made. made.dtype ≡ bool_type NonNullable) }
-    ensures values { IfOk result (λ made. map Some made.values ≡ map value_test_of part.now.values) }
+    ensures values { IfOk result (λ made. map Some made.values ≡ map value_test_of array.now.values) }
 {
-    let made = is_not_null(alloc, part.validity())?;
-    Ok(part_of(made))
+    let made = is_not_null(alloc, array.validity())?;
+    Ok(array_of(made))
 }

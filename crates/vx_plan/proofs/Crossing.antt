@@ -13,9 +13,9 @@ use Rattle.std.below.std_heap.proofs.GlobalAllocator.TheSendSync as heap
 use Rattle.vx_masks.proofs.Mask.TheSendSync as masks
 use Rattle.vx_arrays.proofs.numbers.Numbers.TheSendSync as numbers
 use Rattle.vx_arrays.proofs.texts.Texts.TheSendSync as packed_texts
-use Rattle.vx_arrays.proofs.parts.Part.TheLaws.TheKnot.{crosses as parts_cross}
-use Rattle.vx_arrays.specs.contracts.parts.Part as parts
-use Rattle.vx_arrays.specs.contracts.parts.shared.SharedPart as shared
+use Rattle.vx_arrays.proofs.arrays.Array.TheLaws.TheKnot.{crosses as parts_cross}
+use Rattle.vx_arrays.specs.contracts.arrays.Array as parts
+use Rattle.vx_arrays.specs.contracts.arrays.shared.SharedArray as shared
 use Rattle.vx_expr.below.vx_operators.proofs.operators.ArithOp.TheSendSync as ariths
 use Rattle.vx_expr.below.vx_operators.proofs.operators.CompareOp.TheSendSync as compares
 use Rattle.vx_expr.proofs.found.Found.TheSendSync as found

@@ -5,7 +5,7 @@ use Rattle.std.specs.List.{slice_get}
 use Rattle.std.proofs.lemmas.Bool.{lt-ltb, le-ltb, cases_lt}
 use Rattle.std.proofs.lemmas.Option.{slice_get_within}
 use Rattle.vx_base.specs.Data.{DataType}
-use Rattle.vx_rows.specs.Derivations.{Derivation, nothing, cell, packed, looked_up, read_whole, Derivations, each_row}
+use Rattle.vx_rows.specs.Derivations.{Derivation, nothing, of_leaf, packed, looked_up, read_whole, Derivations, each_row}
 use Rattle.vx_rows.specs.Reads.{Way, directly, inside, Read, reads_of, reads_of_each, AnyOf, IsIn}
 use Rattle.vx_plan.specs.declared.reaching.Reach.{Reach}
 use Rattle.vx_plan.specs.declared.reaching.SegmentReach.{SegmentReach}
@@ -198,7 +198,7 @@ share_whole segment offset number child way start bits any some = record {
   holds = behind (InSegment segment) (reads_of way (plan_derivation offset child (start + any.row))) (reads_of_each way (each_row (plan_derivation offset child) 0 (plan_head child).rows)) (each_row_reads (InSegment segment) way (plan_derivation offset child) 0 (plan_head child).rows some.row (within_all (plan_head child).rows some.row some.chosen) some.holds);
 }
 
-scan_read : (segment other : ℕ) (way : Way) (dtype : DataType) (rows start : ℕ) (bits : List Bool) (entry : SegmentReach) → entry.segment ≡ other → IsReached segment (if any_row bits then entry ∷ [] else []) → SomeRow (λ row. Reads segment way (cell (record { dtype = dtype; rows = rows; segment = other; row = row }))) start bits
+scan_read : (segment other : ℕ) (way : Way) (dtype : DataType) (rows start : ℕ) (bits : List Bool) (entry : SegmentReach) → entry.segment ≡ other → IsReached segment (if any_row bits then entry ∷ [] else []) → SomeRow (λ row. Reads segment way (of_leaf (record { dtype = dtype; rows = rows; segment = other; row = row }))) start bits
 scan_read segment other way dtype rows start bits entry is any =
     let enter : IsEntered segment (any_row bits) (entry ∷ []) = entered_if segment (any_row bits) (entry ∷ []) any in
     let some : HasRow bits = has_row bits enter.test in

@@ -2,7 +2,7 @@
 -- the kinds of plan are to a row.
 use Rattle.std.specs.Prelude.{ℕ, ◌+◌, ◌-◌, nat_lt, pos, if◌then◌else◌, List, Option}
 use Rattle.vx_base.specs.Data.{Datum, number}
-use Rattle.vx_rows.specs.Derivations.{Derivation, nothing, cell, list_row, given, packed, valid_where, looked_up, worked_out, read_whole, Derivations, no_more, also, each_row, Leaves, derived}
+use Rattle.vx_rows.specs.Derivations.{Derivation, nothing, of_leaf, list_row, given, packed, valid_where, looked_up, worked_out, read_whole, Derivations, no_more, also, each_row, Leaves, derived}
 use Rattle.vx_rows.specs.Reads.{directly, Read, reads_of}
 use Rattle.vx_plan.specs.Plans.{Plan, no_plan, concat_plan, eval_plan, filter_plan, pack_plan, take_plan, share_plan, list_plan, row_idx_plan, scan_plan, zoned_plan, Plans, no_plans, plan, PlanValidity, all_valid, valid_as, plan_head}
 
@@ -21,7 +21,7 @@ abbrev mutual
   plan_derivation offset (share_plan head child) row = read_whole head.number row (plan_derivation offset child row) (each_row (plan_derivation offset child) 0 (plan_head child).rows)
   plan_derivation offset (list_plan head elements offsets validity) row = list_row head.number row
   plan_derivation offset (row_idx_plan head) row = given (number (pos (row + offset)))
-  plan_derivation offset (scan_plan head segment) row = cell (record { dtype = head.dtype; rows = head.rows; segment = segment; row = row })
+  plan_derivation offset (scan_plan head segment) row = of_leaf (record { dtype = head.dtype; rows = head.rows; segment = segment; row = row })
   plan_derivation offset (zoned_plan head zones content table) row = plan_derivation offset content row
 
   -- the row of plans one after another

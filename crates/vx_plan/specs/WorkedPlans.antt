@@ -7,7 +7,7 @@ use Rattle.vx_base.specs.Data.{DataType, bool_type, int_type, struct_type, list_
 use Rattle.vx_expr.specs.declared.operators.ArithOp.TheVariants.{Add, Div}
 use Rattle.vx_expr.specs.Terms.{root, literal, get_field, arithmetic}
 use Rattle.vx_rows.specs.Derivations.{Leaves}
-use Rattle.vx_rows.specs.Reads.{Way, Found, a_cell, a_code, a_list_row, Read}
+use Rattle.vx_rows.specs.Reads.{Way, Found, a_leaf_row, a_code, a_list_row, Read}
 use Rattle.vx_rows.specs.Heads.{Head}
 use Rattle.vx_plan.specs.declared.reaching.SegmentReach.{SegmentReach}
 use Rattle.vx_plan.specs.Plans.{Plan, concat_plan, eval_plan, filter_plan, pack_plan, take_plan, share_plan, list_plan, row_idx_plan, scan_plan, no_plans, plan, all_valid, valid_as}
@@ -62,7 +62,7 @@ abbrev pub worth : List Datum → ℕ → Plan → List ℕ → List (Option Dat
 worth values offset p rows = map (plan_value (all_have values) offset p) rows
 
 abbrev segment_in : Way → Found → List (Way × ℕ)
-segment_in way (a_cell found) = (way, found.segment) ∷ []
+segment_in way (a_leaf_row found) = (way, found.segment) ∷ []
 segment_in way (a_code found) = []
 segment_in way (a_list_row list row) = []
 

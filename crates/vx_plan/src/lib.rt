@@ -33,7 +33,6 @@ mod tables;
 mod taking_plans;
 mod zone_checks;
 mod zoned_plans;
-mod zones;
 
 pub use by_hand::{reach_by_hand, rows_by_hand};
 pub use children::{PlanChildren, PlanRef};

@@ -91,6 +91,13 @@ impl PlanTable {
         self.nodes.len() as u32
     }
 
+    /// The table keeps its rules: a call that is made for this alone.
+    pub fn keeps_rules(&self)
+        ensures { IsGoodTable self.now }
+    {
+        let _count = self.nodes.len();
+    }
+
     /// A plan of the table.
     pub(crate) fn node(&self, plan: u32) -> &PlanNode
         requires { plan < length self.now }

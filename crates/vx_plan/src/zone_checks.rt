@@ -7,9 +7,9 @@ ghost use Rattle.vx_plan.specs.Tables.{AreIn};
 
 use crate::checks::child_in;
 use crate::nodes::{PlanKind, PlanNode};
-use crate::zones::{stand_over, zones_type};
 use std::alloc::{AllocError, Global};
 use vx_expr::Statistic;
+use vx_rows::{stand_over, zones_type};
 
 /// Whether the zones are a table of these statistics of the node's rows, with a row for each zone.
 fn are_zones(

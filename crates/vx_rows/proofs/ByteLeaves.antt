@@ -7,7 +7,7 @@ use Rattle.vx_base.specs.Fits.{Fits}
 use Rattle.vx_base.specs.Segment.{Spells}
 use Rattle.vx_base.specs.Reading.{decoded}
 use Rattle.vx_base.proofs.Spelled.{reads_spelled}
-use Rattle.vx_rows.specs.Reads.{Found, a_cell, a_code, a_list_row, Read, FindsOnly, LacksValues}
+use Rattle.vx_rows.specs.Reads.{Found, a_leaf_row, a_code, a_list_row, Read, FindsOnly, LacksValues}
 use Rattle.vx_rows.specs.SegmentLeaves.{Bytes, leaves_of, LacksBytes, IsTorn, SameBytesFor}
 use Rattle.vx_rows.specs.Whole.{GiveEachRow, GiveFitting, AgreeOn}
 
@@ -31,7 +31,7 @@ cause_by t rows None e = inl refl
 cause_by t rows (Some bytes) e = inr e
 
 pub lacking_caused : (bytes : Bytes) (found : Found) → LacksValues (leaves_of bytes) found → LacksBytes bytes found ⊎ IsTorn bytes found
-lacking_caused bytes (a_cell at) lacks = cause_by at.dtype at.rows (bytes at.segment) lacks
+lacking_caused bytes (a_leaf_row at) lacks = cause_by at.dtype at.rows (bytes at.segment) lacks
 lacking_caused bytes (a_code at) lacks = absurd lacks
 lacking_caused bytes (a_list_row list row) lacks = absurd lacks
 
@@ -40,12 +40,12 @@ torn_by t rows None torn = absurd torn
 torn_by t rows (Some bytes) torn = torn
 
 pub torn_lacks : (bytes : Bytes) (found : Found) → IsTorn bytes found → LacksValues (leaves_of bytes) found
-torn_lacks bytes (a_cell at) torn = torn_by at.dtype at.rows (bytes at.segment) torn
+torn_lacks bytes (a_leaf_row at) torn = torn_by at.dtype at.rows (bytes at.segment) torn
 torn_lacks bytes (a_code at) torn = absurd torn
 torn_lacks bytes (a_list_row list row) torn = absurd torn
 
 bytes_agree : (ones others : Bytes) (found : Found) → SameBytesFor ones others found → AgreeOn (leaves_of ones) (leaves_of others) found
-bytes_agree ones others (a_cell at) same = ap (option_and_then (decoded at.dtype at.rows)) same
+bytes_agree ones others (a_leaf_row at) same = ap (option_and_then (decoded at.dtype at.rows)) same
 bytes_agree ones others (a_code at) same = tt
 bytes_agree ones others (a_list_row list row) same = tt
 

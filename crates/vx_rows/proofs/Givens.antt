@@ -6,8 +6,8 @@ use Rattle.vx_base.specs.Data.{Datum}
 use Rattle.vx_expr.specs.Meaning.{meaning}
 use Rattle.vx_expr.specs.Rows.{no_bound}
 use Rattle.vx_expr.specs.Packs.{struct_row}
-use Rattle.vx_rows.specs.Derivations.{Cell, Derivation, nothing, cell, list_row, given, packed, valid_where, looked_up, worked_out, read_whole, Derivations, no_more, also, Leaves, derived, derived_each}
-use Rattle.vx_rows.specs.Reads.{Way, inside, CodeRow, code_row, a_cell, a_code, Read, ReadsCell, reads_of, reads_of_each}
+use Rattle.vx_rows.specs.Derivations.{LeafRow, Derivation, nothing, of_leaf, list_row, given, packed, valid_where, looked_up, worked_out, read_whole, Derivations, no_more, also, Leaves, derived, derived_each}
+use Rattle.vx_rows.specs.Reads.{Way, inside, CodeRow, code_row, a_leaf_row, a_code, Read, ReadsLeafRow, reads_of, reads_of_each}
 use Rattle.vx_rows.specs.Given.{GivenValues, all_given, values_with, given_row, share_with, with_given, each_with_given, AreCertified, EachCertified}
 use Rattle.vx_rows.proofs.ReadRows.{any_either, any_left, any_right}
 
@@ -16,7 +16,7 @@ use Rattle.vx_rows.proofs.ReadRows.{any_either, any_left, any_right}
 mutual
   pub none_given : (d : Derivation) → with_given (λ _. None) d ≡ d
   none_given nothing = refl
-  none_given (cell at) = refl
+  none_given (of_leaf at) = refl
   none_given (list_row list row) = refl
   none_given (given v) = refl
   none_given (packed ds) = ap packed (none_given_each ds)
@@ -56,7 +56,7 @@ share_same leaves share row d ds (Some vs) is = row_same leaves (slice_get vs ro
 mutual
   pub certified : (leaves : Leaves) (values_for : GivenValues) (d : Derivation) → AreCertified leaves values_for d → derived leaves (with_given values_for d) ≡ derived leaves d
   certified leaves values_for nothing are = refl
-  certified leaves values_for (cell at) are = refl
+  certified leaves values_for (of_leaf at) are = refl
   certified leaves values_for (list_row list row) are = refl
   certified leaves values_for (given v) are = refl
   certified leaves values_for (packed ds) are = ap (option_map struct_row) (certified_each leaves values_for ds are)
@@ -80,37 +80,37 @@ mutual
 
 -- ---- reads
 
-nothing_given : (way other : Way) (at : Cell) (vs : List Datum) → ReadsCell other at (reads_of_each way (all_given vs)) → ⊥
+nothing_given : (way other : Way) (at : LeafRow) (vs : List Datum) → ReadsLeafRow other at (reads_of_each way (all_given vs)) → ⊥
 nothing_given way other at [] any = any
 nothing_given way other at (v ∷ vs) any = nothing_given way other at vs any
 
-values_read : (way other : Way) (at : Cell) (values : Derivations) (handed : Option (List Datum)) → ReadsCell other at (reads_of_each way (values_with handed values)) → ReadsCell other at (reads_of_each way values)
+values_read : (way other : Way) (at : LeafRow) (values : Derivations) (handed : Option (List Datum)) → ReadsLeafRow other at (reads_of_each way (values_with handed values)) → ReadsLeafRow other at (reads_of_each way values)
 values_read way other at values None any = any
 values_read way other at values (Some vs) any = absurd (nothing_given way other at vs any)
 
-row_unread : (way other : Way) (at : Cell) (v : Option Datum) → ReadsCell other at (reads_of way (given_row v)) → ⊥
+row_unread : (way other : Way) (at : LeafRow) (v : Option Datum) → ReadsLeafRow other at (reads_of way (given_row v)) → ⊥
 row_unread way other at None any = any
 row_unread way other at (Some v) any = any
 
-share_read : (way other : Way) (at : Cell) (row : ℕ) (d : Derivation) (handed : Option (List Datum)) → ReadsCell other at (reads_of way (share_with handed row d)) → ReadsCell other at (reads_of way d)
+share_read : (way other : Way) (at : LeafRow) (row : ℕ) (d : Derivation) (handed : Option (List Datum)) → ReadsLeafRow other at (reads_of way (share_with handed row d)) → ReadsLeafRow other at (reads_of way d)
 share_read way other at row d None any = any
 share_read way other at row d (Some vs) any = absurd (row_unread way other at (slice_get vs row) any)
 
-no_cell : (code : CodeRow) (at : Cell) → a_code code ≡ a_cell at → ⊥
-no_cell code at e = cc
+no_leaf_row : (code : CodeRow) (at : LeafRow) → a_code code ≡ a_leaf_row at → ⊥
+no_leaf_row code at e = cc
 
-abbrev IsRead : Way → Cell → Read → Type 0
-IsRead way at read = (read.way ≡ way) × (read.found ≡ a_cell at)
+abbrev IsRead : Way → LeafRow → Read → Type 0
+IsRead way at read = (read.way ≡ way) × (read.found ≡ a_leaf_row at)
 
 -- in two lists, each of which reads no more
-no_more_in : (way : Way) (at : Cell) (xs ys us vs : List Read) → (ReadsCell way at xs → ReadsCell way at us) → (ReadsCell way at ys → ReadsCell way at vs) → ReadsCell way at (xs ++ ys) → ReadsCell way at (us ++ vs)
+no_more_in : (way : Way) (at : LeafRow) (xs ys us vs : List Read) → (ReadsLeafRow way at xs → ReadsLeafRow way at us) → (ReadsLeafRow way at ys → ReadsLeafRow way at vs) → ReadsLeafRow way at (xs ++ ys) → ReadsLeafRow way at (us ++ vs)
 no_more_in way at xs ys us vs f g any =
-    ⊎_elim (λ (left : ReadsCell way at xs). any_left (IsRead way at) us vs (f left)) (λ (right : ReadsCell way at ys). any_right (IsRead way at) us vs (g right)) (any_either (IsRead way at) xs ys any)
+    ⊎_elim (λ (left : ReadsLeafRow way at xs). any_left (IsRead way at) us vs (f left)) (λ (right : ReadsLeafRow way at ys). any_right (IsRead way at) us vs (g right)) (any_either (IsRead way at) xs ys any)
 
 mutual
-  pub reads_no_more : (values_for : GivenValues) (d : Derivation) (way other : Way) (at : Cell) → ReadsCell other at (reads_of way (with_given values_for d)) → ReadsCell other at (reads_of way d)
+  pub reads_no_more : (values_for : GivenValues) (d : Derivation) (way other : Way) (at : LeafRow) → ReadsLeafRow other at (reads_of way (with_given values_for d)) → ReadsLeafRow other at (reads_of way d)
   reads_no_more values_for nothing way other at any = any
-  reads_no_more values_for (cell here) way other at any = any
+  reads_no_more values_for (of_leaf here) way other at any = any
   reads_no_more values_for (list_row list row) way other at any = any
   reads_no_more values_for (given v) way other at any = any
   reads_no_more values_for (packed ds) way other at any = each_reads_no_more values_for ds way other at any
@@ -118,14 +118,14 @@ mutual
       no_more_in other at (reads_of way (with_given values_for d)) (reads_of way (with_given values_for validity)) (reads_of way d) (reads_of way validity)
       (reads_no_more values_for d way other at) (reads_no_more values_for validity way other at) any
   reads_no_more values_for (looked_up dictionary row code values) way other at any =
-      ⊎_elim (λ (here : (way ≡ other) × (a_code (code_row dictionary row (with_given values_for code) (values_with (values_for dictionary) values)) ≡ a_cell at)). absurd (no_cell (code_row dictionary row (with_given values_for code) (values_with (values_for dictionary) values)) at here.1))
-      (λ (rest : ReadsCell other at (reads_of way (with_given values_for code) ++ reads_of_each (inside dictionary way) (values_with (values_for dictionary) values))).
+      ⊎_elim (λ (here : (way ≡ other) × (a_code (code_row dictionary row (with_given values_for code) (values_with (values_for dictionary) values)) ≡ a_leaf_row at)). absurd (no_leaf_row (code_row dictionary row (with_given values_for code) (values_with (values_for dictionary) values)) at here.1))
+      (λ (rest : ReadsLeafRow other at (reads_of way (with_given values_for code) ++ reads_of_each (inside dictionary way) (values_with (values_for dictionary) values))).
       inr (no_more_in other at (reads_of way (with_given values_for code)) (reads_of_each (inside dictionary way) (values_with (values_for dictionary) values)) (reads_of way code) (reads_of_each (inside dictionary way) values)
       (reads_no_more values_for code way other at) (values_read (inside dictionary way) other at values (values_for dictionary)) rest)) any
   reads_no_more values_for (worked_out t e d) way other at any = reads_no_more values_for d way other at any
   reads_no_more values_for (read_whole share row d ds) way other at any = share_read way other at row (read_whole share row d ds) (values_for share) any
 
-  each_reads_no_more : (values_for : GivenValues) (ds : Derivations) (way other : Way) (at : Cell) → ReadsCell other at (reads_of_each way (each_with_given values_for ds)) → ReadsCell other at (reads_of_each way ds)
+  each_reads_no_more : (values_for : GivenValues) (ds : Derivations) (way other : Way) (at : LeafRow) → ReadsLeafRow other at (reads_of_each way (each_with_given values_for ds)) → ReadsLeafRow other at (reads_of_each way ds)
   each_reads_no_more values_for no_more way other at any = any
   each_reads_no_more values_for (also d ds) way other at any =
       no_more_in other at (reads_of way (with_given values_for d)) (reads_of_each way (each_with_given values_for ds)) (reads_of way d) (reads_of_each way ds)

@@ -7,8 +7,8 @@ use Rattle.vx_expr.specs.Types.{on_both}
 use Rattle.vx_expr.specs.Meaning.{meaning}
 use Rattle.vx_expr.specs.Rows.{no_bound}
 use Rattle.vx_expr.specs.Packs.{struct_row}
-use Rattle.vx_rows.specs.Derivations.{Cell, Derivation, nothing, cell, list_row, given, packed, valid_where, looked_up, worked_out, read_whole, Derivations, no_more, also, count_of, Leaves, where_valid, look_up, one_more, derived, derived_each}
-use Rattle.vx_rows.specs.Reads.{Way, through, inside, Found, a_cell, a_code, Read, code_row, reads_of, reads_of_each, AnyOf, Finds, FindsOnly, found_in, IsPlaceAmong, IsBadCode, IsFaulty, IsFine}
+use Rattle.vx_rows.specs.Derivations.{LeafRow, Derivation, nothing, of_leaf, list_row, given, packed, valid_where, looked_up, worked_out, read_whole, Derivations, no_more, also, derivation_count, Leaves, where_valid, look_up, one_more, derived, derived_each}
+use Rattle.vx_rows.specs.Reads.{Way, through, inside, Found, a_leaf_row, a_code, Read, code_row, reads_of, reads_of_each, AnyOf, Finds, FindsOnly, found_in, IsPlaceAmong, IsBadCode, IsFaulty, IsFine}
 use Rattle.vx_rows.specs.Whole.{IsWhole, AreWhole, IsStrict, AreStrict, GiveEachRow, AgreeOn}
 
 -- ---- reads one after another
@@ -41,7 +41,7 @@ any_right P (x ∷ xs) ys any = inr (any_right P xs ys any)
 mutual
   pub agree : (ones others : Leaves) (way : Way) (d : Derivation) → FindsOnly (AgreeOn ones others) (reads_of way d) → derived ones d ≡ derived others d
   agree ones others way nothing each = refl
-  agree ones others way (cell at) each = ap (option_and_then (λ (values : List Datum). slice_get values at.row)) each.0
+  agree ones others way (of_leaf at) each = ap (option_and_then (λ (values : List Datum). slice_get values at.row)) each.0
   agree ones others way (list_row list row) each = refl
   agree ones others way (given v) each = refl
   agree ones others way (packed ds) each = ap (option_map struct_row) (agree_each ones others way ds each)
@@ -97,9 +97,9 @@ count_by None ds count each = tt
 count_by (Some v) None count each = tt
 count_by (Some v) (Some vs) count each = omega arith
 
-pub derived_count : (leaves : Leaves) (ds : Derivations) → IfSome (derived_each leaves ds) (HasCount (count_of ds))
+pub derived_count : (leaves : Leaves) (ds : Derivations) → IfSome (derived_each leaves ds) (HasCount (derivation_count ds))
 derived_count leaves no_more = refl
-derived_count leaves (also d ds) = count_by (derived leaves d) (derived_each leaves ds) (count_of ds) (derived_count leaves ds)
+derived_count leaves (also d ds) = count_by (derived leaves d) (derived_each leaves ds) (derivation_count ds) (derived_count leaves ds)
 
 bad_code : (values : Option (List Datum)) (code : Option Datum) (count : ℕ) → IfSome values (HasCount count) → IsSomeAnd code (λ c. ¬ (IsPlaceAmong count c)) → on_both look_up values code ≡ None
 bad_code None code count size bad = refl
@@ -109,16 +109,16 @@ bad_code (Some values) (Some code) count size bad = bad_look_up values count cod
 faulty_code : (leaves : Leaves) (dictionary row : ℕ) (code : Derivation) (values : Derivations) → IsFaulty leaves (a_code (code_row dictionary row code values)) → derived leaves (looked_up dictionary row code values) ≡ None
 faulty_code leaves dictionary row code values fault =
     ⊎_elim (λ (no : ⊥). absurd no) (λ (rest : IsBadCode leaves (a_code (code_row dictionary row code values)) ⊎ ⊥).
-    ⊎_elim (λ (bad : IsBadCode leaves (a_code (code_row dictionary row code values))). bad_code (derived_each leaves values) (derived leaves code) (count_of values) (derived_count leaves values) bad) (λ (no : ⊥). absurd no) rest) fault
+    ⊎_elim (λ (bad : IsBadCode leaves (a_code (code_row dictionary row code values))). bad_code (derived_each leaves values) (derived leaves code) (derivation_count values) (derived_count leaves values) bad) (λ (no : ⊥). absurd no) rest) fault
 
-faulty_cell : (leaves : Leaves) (at : Cell) → IsFaulty leaves (a_cell at) → derived leaves (cell at) ≡ None
-faulty_cell leaves at fault =
+faulty_leaf_row : (leaves : Leaves) (at : LeafRow) → IsFaulty leaves (a_leaf_row at) → derived leaves (of_leaf at) ≡ None
+faulty_leaf_row leaves at fault =
     ⊎_elim (λ (lacks : leaves at.dtype at.rows at.segment ≡ None). ap (option_and_then (λ (values : List Datum). slice_get values at.row)) lacks) (λ (rest : ⊥ ⊎ ⊥). ⊎_elim (λ (no : ⊥). absurd no) (λ (no : ⊥). absurd no) rest) fault
 
 mutual
   pub faulty : (leaves : Leaves) (way : Way) (d : Derivation) → IsStrict d → Finds (IsFaulty leaves) (reads_of way d) → derived leaves d ≡ None
   faulty leaves way nothing strict any = refl
-  faulty leaves way (cell at) strict any = ⊎_elim (λ (fault : IsFaulty leaves (a_cell at)). faulty_cell leaves at fault) (λ (no : ⊥). absurd no) any
+  faulty leaves way (of_leaf at) strict any = ⊎_elim (λ (fault : IsFaulty leaves (a_leaf_row at)). faulty_leaf_row leaves at fault) (λ (no : ⊥). absurd no) any
   faulty leaves way (list_row list row) strict any = refl
   faulty leaves way (given v) strict any = absurd any
   faulty leaves way (packed ds) strict any = ap (option_map struct_row) (faulty_each leaves way ds strict any)
@@ -149,9 +149,9 @@ get_there [] row lt = absurd (omega arith)
 get_there (v ∷ values) zero lt = refl
 get_there (v ∷ values) (suc row) lt = get_there values row (omega arith)
 
-cell_there : (values : Option (List Datum)) (rows row : ℕ) → row < rows → IfSome values (HasCount rows) → IsSome values → IsSome (option_and_then (λ found. slice_get found row) values)
-cell_there None rows row lt size some = absurd cc
-cell_there (Some values) rows row lt size some = get_there values row (omega arith)
+leaf_row_there : (values : Option (List Datum)) (rows row : ℕ) → row < rows → IfSome values (HasCount rows) → IsSome values → IsSome (option_and_then (λ found. slice_get found row) values)
+leaf_row_there None rows row lt size some = absurd cc
+leaf_row_there (Some values) rows row lt size some = get_there values row (omega arith)
 
 packed_there : (ds : Option (List Datum)) → IsSome ds → IsSome (option_map struct_row ds)
 packed_there None some = absurd cc
@@ -191,7 +191,7 @@ one_more_there (Some v) (Some vs) some also_some = refl
 mutual
   pub complete : (leaves : Leaves) → GiveEachRow leaves → (way : Way) (d : Derivation) → IsWhole d → FindsOnly (IsFine leaves) (reads_of way d) → IsSome (derived leaves d)
   complete leaves each_row way nothing whole fine = absurd whole
-  complete leaves each_row way (cell at) whole fine = cell_there (leaves at.dtype at.rows at.segment) at.rows at.row whole (each_row at.dtype at.rows at.segment) fine.0
+  complete leaves each_row way (of_leaf at) whole fine = leaf_row_there (leaves at.dtype at.rows at.segment) at.rows at.row whole (each_row at.dtype at.rows at.segment) fine.0
   complete leaves each_row way (list_row list row) whole fine = absurd fine.0
   complete leaves each_row way (given v) whole fine = refl
   complete leaves each_row way (packed ds) whole fine = packed_there (derived_each leaves ds) (complete_each leaves each_row way ds whole fine)
@@ -200,7 +200,7 @@ mutual
       (complete leaves each_row way d whole.0 (only_left (IsFine leaves) (reads_of way d) (reads_of way validity) fine))
       (complete leaves each_row way validity whole.1 (only_right (IsFine leaves) (reads_of way d) (reads_of way validity) fine))
   complete leaves each_row way (looked_up dictionary row code values) whole fine =
-      looked_up_there (derived_each leaves values) (derived leaves code) (count_of values) (derived_count leaves values) fine.0
+      looked_up_there (derived_each leaves values) (derived leaves code) (derivation_count values) (derived_count leaves values) fine.0
       (complete_each leaves each_row (inside dictionary way) values whole.1 (only_right (IsFine leaves) (reads_of way code) (reads_of_each (inside dictionary way) values) fine.1))
       (complete leaves each_row way code whole.0 (only_left (IsFine leaves) (reads_of way code) (reads_of_each (inside dictionary way) values) fine.1))
   complete leaves each_row way (worked_out t e d) whole fine = absurd whole
@@ -228,7 +228,7 @@ join_found (x ∷ xs) ys (y ∷ xs') ys' p q =
 mutual
   pub found_same : (p q : Way) (d : Derivation) → found_in (reads_of p d) ≡ found_in (reads_of q d)
   found_same p q nothing = refl
-  found_same p q (cell at) = refl
+  found_same p q (of_leaf at) = refl
   found_same p q (list_row list row) = refl
   found_same p q (given v) = refl
   found_same p q (packed ds) = found_same_each p q ds
@@ -265,7 +265,7 @@ each_join P (x ∷ xs) ys each more = (each.0, each_join P xs ys each.1 more)
 mutual
   pub lies_through : (n : ℕ) (d : Derivation) → AllByRecursion (LiesIn (through n)) (reads_of (through n) d)
   lies_through n nothing = tt
-  lies_through n (cell at) = (refl, tt)
+  lies_through n (of_leaf at) = (refl, tt)
   lies_through n (list_row list row) = (refl, tt)
   lies_through n (given v) = tt
   lies_through n (packed ds) = each_lies_through n ds

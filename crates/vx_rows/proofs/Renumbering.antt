@@ -6,14 +6,14 @@ use Rattle.vx_base.specs.Data.{Datum}
 use Rattle.vx_expr.specs.Meaning.{meaning}
 use Rattle.vx_expr.specs.Rows.{no_bound}
 use Rattle.vx_expr.specs.Packs.{struct_row}
-use Rattle.vx_rows.specs.Derivations.{Derivation, nothing, cell, list_row, given, packed, valid_where, looked_up, worked_out, read_whole, Derivations, no_more, also, count_of, Leaves, derived, derived_each}
+use Rattle.vx_rows.specs.Derivations.{Derivation, nothing, of_leaf, list_row, given, packed, valid_where, looked_up, worked_out, read_whole, Derivations, no_more, also, derivation_count, Leaves, derived, derived_each}
 use Rattle.vx_rows.specs.Reads.{Way, directly, through, inside, a_code, Read, read_by, code_row, reads_of, reads_of_each}
 use Rattle.vx_rows.specs.Renumbered.{renumbered, each_renumbered, way_renumbered, read_renumbered}
 
 mutual
   pub same_worth : (leaves : Leaves) (f : ℕ → ℕ) (d : Derivation) → derived leaves (renumbered f d) ≡ derived leaves d
   same_worth leaves f nothing = refl
-  same_worth leaves f (cell at) = refl
+  same_worth leaves f (of_leaf at) = refl
   same_worth leaves f (list_row list row) = refl
   same_worth leaves f (given v) = refl
   same_worth leaves f (packed ds) = ap (option_map struct_row) (same_worth_each leaves f ds)
@@ -35,7 +35,7 @@ mutual
       let q : derived_each leaves (each_renumbered f ds) ≡ derived_each leaves ds = same_worth_each leaves f ds in
       cc
 
-same_count : (f : ℕ → ℕ) (ds : Derivations) → count_of (each_renumbered f ds) ≡ count_of ds
+same_count : (f : ℕ → ℕ) (ds : Derivations) → derivation_count (each_renumbered f ds) ≡ derivation_count ds
 same_count f no_more = refl
 same_count f (also d ds) = ap (λ (n : ℕ). suc n) (same_count f ds)
 
@@ -49,7 +49,7 @@ reads_join f xs ys us vs p q = let e : map (read_renumbered f) (xs ++ ys) ≡ ma
 mutual
   pub reads_moved : (f : ℕ → ℕ) (way : Way) (d : Derivation) → reads_of (way_renumbered f way) (renumbered f d) ≡ map (read_renumbered f) (reads_of way d)
   reads_moved f way nothing = refl
-  reads_moved f way (cell at) = refl
+  reads_moved f way (of_leaf at) = refl
   reads_moved f way (list_row list row) = refl
   reads_moved f way (given v) = refl
   reads_moved f way (packed ds) = reads_moved_each f way ds

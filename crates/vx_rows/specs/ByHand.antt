@@ -4,16 +4,16 @@ use Rattle.vx_base.specs.declared.dtypes.IntKind.TheVariants.{I64}
 use Rattle.vx_base.specs.declared.dtypes.Nullability.TheVariants.{Nullable}
 use Rattle.vx_base.specs.ColumnCalls.{natural}
 use Rattle.vx_base.specs.Data.{Datum, null, truth, int_type}
-use Rattle.vx_rows.specs.Derivations.{Cell, Derivation, cell, Leaves}
+use Rattle.vx_rows.specs.Derivations.{LeafRow, Derivation, of_leaf, Leaves}
 use Rattle.vx_rows.specs.Given.{GivenValues}
-use Rattle.vx_rows.specs.Reads.{Way, a_cell, a_code, Read, read_by}
+use Rattle.vx_rows.specs.Reads.{Way, a_leaf_row, a_code, Read, read_by}
 
 -- a row of a leaf of three rows in a segment
-abbrev pub cell_at : ℕ → ℕ → Cell
-cell_at segment row = record { dtype = int_type I64 Nullable; rows = 3; segment = segment; row = row }
+abbrev pub leaf_row_at : ℕ → ℕ → LeafRow
+leaf_row_at segment row = record { dtype = int_type I64 Nullable; rows = 3; segment = segment; row = row }
 
 abbrev pub leaf_row : ℕ → ℕ → Derivation
-leaf_row segment row = cell (cell_at segment row)
+leaf_row segment row = of_leaf (leaf_row_at segment row)
 
 -- the values of each segment, in their order; behind them no segment has any
 abbrev pub leaves_in : List (List Datum) → Leaves
@@ -23,8 +23,8 @@ leaves_in segments t rows segment = slice_get segments segment
 abbrev pub two_leaves : Leaves
 two_leaves = leaves_in ((natural 5 ∷ null ∷ natural 7 ∷ []) ∷ (truth true ∷ truth false ∷ null ∷ []) ∷ [])
 
-abbrev pub cell_read : Way → ℕ → ℕ → Read
-cell_read way segment row = read_by way (a_cell (cell_at segment row))
+abbrev pub leaf_row_read : Way → ℕ → ℕ → Read
+leaf_row_read way segment row = read_by way (a_leaf_row (leaf_row_at segment row))
 
 -- the code of a row of a dictionary, among so many values
 abbrev pub code_read : Way → ℕ → ℕ → Derivation → ℕ → Read

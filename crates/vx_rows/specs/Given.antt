@@ -2,7 +2,7 @@
 use Rattle.std.specs.Prelude.{◌≡◌, ℕ, List, [], ◌∷◌, Option, Some, None, IfSome}
 use Rattle.std.specs.List.{slice_get}
 use Rattle.vx_base.specs.Data.{Datum}
-use Rattle.vx_rows.specs.Derivations.{Derivation, nothing, cell, list_row, given, packed, valid_where, looked_up, worked_out, read_whole, Derivations, no_more, also, Leaves, derived, derived_each}
+use Rattle.vx_rows.specs.Derivations.{Derivation, nothing, of_leaf, list_row, given, packed, valid_where, looked_up, worked_out, read_whole, Derivations, no_more, also, Leaves, derived, derived_each}
 
 -- the values that are handed in for a dictionary or a share of a number, if any
 abbrev pub GivenValues : Type 0
@@ -31,7 +31,7 @@ share_with (Some vs) row d = given_row (slice_get vs row)
 abbrev mutual
   pub with_given : GivenValues → Derivation → Derivation
   with_given values_for nothing = nothing
-  with_given values_for (cell at) = cell at
+  with_given values_for (of_leaf at) = of_leaf at
   with_given values_for (list_row list row) = list_row list row
   with_given values_for (given v) = given v
   with_given values_for (packed ds) = packed (each_with_given values_for ds)
@@ -49,7 +49,7 @@ abbrev mutual
 abbrev mutual
   pub AreCertified : Leaves → GivenValues → Derivation → Type 0
   AreCertified leaves values_for nothing = Unit {0}
-  AreCertified leaves values_for (cell at) = Unit {0}
+  AreCertified leaves values_for (of_leaf at) = Unit {0}
   AreCertified leaves values_for (list_row list row) = Unit {0}
   AreCertified leaves values_for (given v) = Unit {0}
   AreCertified leaves values_for (packed ds) = EachCertified leaves values_for ds

@@ -1,7 +1,7 @@
 -- What holds of derivations, whatever tree or plan they come from.
 use Rattle.std.specs.Prelude.{◌≡◌, ℕ, ◌⊎◌, map, None, IsSome}
-use Rattle.vx_rows.specs.Derivations.{Cell, Derivation, Leaves, derived}
-use Rattle.vx_rows.specs.Reads.{Way, through, Found, reads_of, Finds, FindsOnly, found_in, AreComeToBy, ReadsCell, LacksValues, IsFaulty, IsFine}
+use Rattle.vx_rows.specs.Derivations.{LeafRow, Derivation, Leaves, derived}
+use Rattle.vx_rows.specs.Reads.{Way, through, Found, reads_of, Finds, FindsOnly, found_in, AreComeToBy, ReadsLeafRow, LacksValues, IsFaulty, IsFine}
 use Rattle.vx_rows.specs.SegmentLeaves.{Bytes, leaves_of, LacksBytes, IsTorn, SameBytesFor}
 use Rattle.vx_rows.specs.Whole.{IsWhole, IsStrict, GiveEachRow, GiveFitting, AgreeOn}
 use Rattle.vx_rows.specs.Renumbered.{renumbered, way_renumbered, read_renumbered}
@@ -81,5 +81,5 @@ CertifiedIsSame = (leaves : Leaves) (values_for : GivenValues) (d : Derivation)
 
 -- and whatever is handed in, no cell is read that wasn't
 abbrev pub GivenReadsNoMore : Type 0
-GivenReadsNoMore = (values_for : GivenValues) (d : Derivation) (way other : Way) (at : Cell)
-    → ReadsCell other at (reads_of way (with_given values_for d)) → ReadsCell other at (reads_of way d)
+GivenReadsNoMore = (values_for : GivenValues) (d : Derivation) (way other : Way) (at : LeafRow)
+    → ReadsLeafRow other at (reads_of way (with_given values_for d)) → ReadsLeafRow other at (reads_of way d)

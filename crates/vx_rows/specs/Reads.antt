@@ -1,9 +1,9 @@
--- What a row reads: cells of leaves, codes of dictionaries, and rows of lists, in order. A row reads what is
+-- What a row reads: rows of leaves, codes of dictionaries, and rows of lists, in order. A row reads what is
 -- itself first; then fields before their validity, and a code before the values.
 use Rattle.std.specs.Prelude.{◌≡◌, ℕ, ◌<◌, ◌⊎◌, pos, List, [], ◌∷◌, ◌++◌, map, None, IfSome, IsSome, IsSomeAnd}
 use Rattle.std.specs.List.{AllByRecursion}
 use Rattle.vx_base.specs.Data.{Datum, null, number}
-use Rattle.vx_rows.specs.Derivations.{Cell, Derivation, nothing, cell, list_row, given, packed, valid_where, looked_up, worked_out, read_whole, Derivations, no_more, also, count_of, Leaves, derived}
+use Rattle.vx_rows.specs.Derivations.{LeafRow, Derivation, nothing, of_leaf, list_row, given, packed, valid_where, looked_up, worked_out, read_whole, Derivations, no_more, also, derivation_count, Leaves, derived}
 
 -- how a read is come to: directly, or through the values of an outermost dictionary of that number
 pub data Way : Type 0 where
@@ -23,7 +23,7 @@ pub record CodeRow : Type 0 where
   pub count : ℕ
 
 pub data Found : Type 0 where
-  a_cell : Cell → Found
+  a_leaf_row : LeafRow → Found
   a_code : CodeRow → Found
   a_list_row : ℕ → ℕ → Found
 
@@ -32,7 +32,7 @@ pub record Read : Type 0 where
   pub found : Found
 
 abbrev pub code_row : ℕ → ℕ → Derivation → Derivations → CodeRow
-code_row dictionary row code values = record { dictionary = dictionary; row = row; code = code; count = count_of values }
+code_row dictionary row code values = record { dictionary = dictionary; row = row; code = code; count = derivation_count values }
 
 abbrev pub read_by : Way → Found → Read
 read_by way found = record { way = way; found = found }
@@ -40,7 +40,7 @@ read_by way found = record { way = way; found = found }
 abbrev mutual
   pub reads_of : Way → Derivation → List Read
   reads_of way nothing = []
-  reads_of way (cell at) = read_by way (a_cell at) ∷ []
+  reads_of way (of_leaf at) = read_by way (a_leaf_row at) ∷ []
   reads_of way (list_row list row) = read_by way (a_list_row list row) ∷ []
   reads_of way (given v) = []
   reads_of way (packed ds) = reads_of_each way ds
@@ -89,13 +89,13 @@ FindsOnly P reads = AllByRecursion (λ read. P read.found) reads
 abbrev pub AreComeToBy : Way → List Read → Type 0
 AreComeToBy way reads = AllByRecursion (λ read. read.way ≡ way) reads
 
--- the cell is read, and come to this way
-abbrev pub ReadsCell : Way → Cell → List Read → Type 0
-ReadsCell way at reads = FindsBy way (λ found. found ≡ a_cell at) reads
+-- the row of the leaf is read, and come to this way
+abbrev pub ReadsLeafRow : Way → LeafRow → List Read → Type 0
+ReadsLeafRow way at reads = FindsBy way (λ found. found ≡ a_leaf_row at) reads
 
--- a cell of a leaf whose values lie in the segment
+-- a row of a leaf whose values lie in the segment
 abbrev pub IsIn : ℕ → Found → Type 0
-IsIn segment (a_cell at) = at.segment ≡ segment
+IsIn segment (a_leaf_row at) = at.segment ≡ segment
 IsIn segment found = ⊥
 
 abbrev pub IsListRow : Found → Type 0
@@ -122,7 +122,7 @@ IsBadCode leaves found = ⊥
 
 -- a leaf has no values: its segment has no bytes, or they spell none
 abbrev pub LacksValues : Leaves → Found → Type 0
-LacksValues leaves (a_cell at) = leaves at.dtype at.rows at.segment ≡ None
+LacksValues leaves (a_leaf_row at) = leaves at.dtype at.rows at.segment ≡ None
 LacksValues leaves found = ⊥
 
 -- A read that makes the row a fault.
@@ -132,6 +132,6 @@ IsFaulty leaves found = LacksValues leaves found ⊎ (IsBadCode leaves found ⊎
 -- A read that is as it should be: the leaf has values, the code is null or the place of a value, and no row
 -- of a list is read. Of a code that is a fault the cell that it lacks is read besides.
 abbrev pub IsFine : Leaves → Found → Type 0
-IsFine leaves (a_cell at) = IsSome (leaves at.dtype at.rows at.segment)
+IsFine leaves (a_leaf_row at) = IsSome (leaves at.dtype at.rows at.segment)
 IsFine leaves (a_code at) = IfSome (derived leaves at.code) (IsPlaceAmong at.count)
 IsFine leaves (a_list_row list row) = ⊥

@@ -1,12 +1,12 @@
 -- Derivations and reads with other numbers for dictionaries and lists, as a table of plans has them.
 use Rattle.std.specs.Prelude.{ℕ}
-use Rattle.vx_rows.specs.Derivations.{Derivation, nothing, cell, list_row, given, packed, valid_where, looked_up, worked_out, read_whole, Derivations, no_more, also}
-use Rattle.vx_rows.specs.Reads.{Way, directly, through, CodeRow, Found, a_cell, a_code, a_list_row, Read}
+use Rattle.vx_rows.specs.Derivations.{Derivation, nothing, of_leaf, list_row, given, packed, valid_where, looked_up, worked_out, read_whole, Derivations, no_more, also}
+use Rattle.vx_rows.specs.Reads.{Way, directly, through, CodeRow, Found, a_leaf_row, a_code, a_list_row, Read}
 
 abbrev mutual
   pub renumbered : (ℕ → ℕ) → Derivation → Derivation
   renumbered number_of nothing = nothing
-  renumbered number_of (cell at) = cell at
+  renumbered number_of (of_leaf at) = of_leaf at
   renumbered number_of (list_row list row) = list_row (number_of list) row
   renumbered number_of (given v) = given v
   renumbered number_of (packed ds) = packed (each_renumbered number_of ds)
@@ -30,7 +30,7 @@ code_renumbered number_of at =
     record { dictionary = number_of at.dictionary; row = at.row; code = renumbered number_of at.code; count = at.count }
 
 abbrev pub found_renumbered : (ℕ → ℕ) → Found → Found
-found_renumbered number_of (a_cell at) = a_cell at
+found_renumbered number_of (a_leaf_row at) = a_leaf_row at
 found_renumbered number_of (a_code at) = a_code (code_renumbered number_of at)
 found_renumbered number_of (a_list_row list row) = a_list_row (number_of list) row
 

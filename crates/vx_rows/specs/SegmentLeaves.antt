@@ -2,7 +2,7 @@
 use Rattle.std.specs.Prelude.{◌≡◌, ℕ, List, Option, None, option_and_then, IsSomeAnd}
 use Rattle.vx_base.specs.Reading.{decoded}
 use Rattle.vx_rows.specs.Derivations.{Leaves}
-use Rattle.vx_rows.specs.Reads.{Found, a_cell, a_code, a_list_row}
+use Rattle.vx_rows.specs.Reads.{Found, a_leaf_row, a_code, a_list_row}
 
 -- the bytes of each segment, where it has any
 abbrev pub Bytes : Type 0
@@ -14,16 +14,16 @@ leaves_of bytes dtype rows segment = option_and_then (decoded dtype rows) (bytes
 
 -- a leaf whose segment has no bytes
 abbrev pub LacksBytes : Bytes → Found → Type 0
-LacksBytes bytes (a_cell at) = bytes at.segment ≡ None
+LacksBytes bytes (a_leaf_row at) = bytes at.segment ≡ None
 LacksBytes bytes found = ⊥
 
 -- a leaf whose segment has bytes that spell no values for it
 abbrev pub IsTorn : Bytes → Found → Type 0
-IsTorn bytes (a_cell at) = IsSomeAnd (bytes at.segment) (λ found. decoded at.dtype at.rows found ≡ None)
+IsTorn bytes (a_leaf_row at) = IsSomeAnd (bytes at.segment) (λ found. decoded at.dtype at.rows found ≡ None)
 IsTorn bytes found = ⊥
 
 -- two families of bytes have the same for the segment of what was found
 abbrev pub SameBytesFor : Bytes → Bytes → Found → Type 0
-SameBytesFor ones others (a_cell at) = ones at.segment ≡ others at.segment
+SameBytesFor ones others (a_leaf_row at) = ones at.segment ≡ others at.segment
 SameBytesFor ones others (a_code at) = Unit {0}
 SameBytesFor ones others (a_list_row list row) = Unit {0}

@@ -3,14 +3,14 @@ use Rattle.std.specs.Prelude.{◌≡◌, ℕ, ◌<◌, length, IfSome}
 use Rattle.std.specs.List.{AllByRecursion}
 use Rattle.vx_base.specs.Data.{DataType}
 use Rattle.vx_base.specs.Fits.{Fits}
-use Rattle.vx_rows.specs.Derivations.{Derivation, nothing, cell, list_row, given, packed, valid_where, looked_up, worked_out, read_whole, Derivations, no_more, also, Leaves}
-use Rattle.vx_rows.specs.Reads.{Found, a_cell, a_code, a_list_row}
+use Rattle.vx_rows.specs.Derivations.{Derivation, nothing, of_leaf, list_row, given, packed, valid_where, looked_up, worked_out, read_whole, Derivations, no_more, also, Leaves}
+use Rattle.vx_rows.specs.Reads.{Found, a_leaf_row, a_code, a_list_row}
 
 -- No node is missing, each cell's row is one of its leaf, and no expression is worked out, which may be a fault.
 abbrev mutual
   pub IsWhole : Derivation → Type 0
   IsWhole nothing = ⊥
-  IsWhole (cell at) = at.row < at.rows
+  IsWhole (of_leaf at) = at.row < at.rows
   IsWhole (list_row list row) = Unit {0}
   IsWhole (given v) = Unit {0}
   IsWhole (packed ds) = AreWhole ds
@@ -27,7 +27,7 @@ abbrev mutual
 abbrev mutual
   pub IsStrict : Derivation → Type 0
   IsStrict nothing = Unit {0}
-  IsStrict (cell at) = Unit {0}
+  IsStrict (of_leaf at) = Unit {0}
   IsStrict (list_row list row) = Unit {0}
   IsStrict (given v) = Unit {0}
   IsStrict (packed ds) = AreStrict ds
@@ -46,7 +46,7 @@ GiveEachRow leaves = (t : DataType) (rows segment : ℕ) → IfSome (leaves t ro
 
 -- two families of leaves have the same values for what was found
 abbrev pub AgreeOn : Leaves → Leaves → Found → Type 0
-AgreeOn ones others (a_cell at) = ones at.dtype at.rows at.segment ≡ others at.dtype at.rows at.segment
+AgreeOn ones others (a_leaf_row at) = ones at.dtype at.rows at.segment ≡ others at.dtype at.rows at.segment
 AgreeOn ones others (a_code at) = Unit {0}
 AgreeOn ones others (a_list_row list row) = Unit {0}
 

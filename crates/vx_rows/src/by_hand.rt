@@ -3,7 +3,7 @@
 ghost use Rattle.std.specs.Prelude.{◌≡◌, ◌+◌, ◌∷◌, [], negsuc, None, Some, false};
 ghost use Rattle.vx_base.specs.ColumnCalls.{natural};
 ghost use Rattle.vx_base.specs.Data.{item, no_items, null, number, structure, truth};
-ghost use Rattle.vx_rows.specs.ByHand.{cell_read, code_read, handed_for, leaf_row, two_leaves};
+ghost use Rattle.vx_rows.specs.ByHand.{leaf_row_read, code_read, handed_for, leaf_row, two_leaves};
 ghost use Rattle.vx_rows.specs.Derivations.{also, derived, each_row, given, list_row, looked_up, no_more, nothing, packed, read_whole, valid_where};
 ghost use Rattle.vx_rows.specs.Given.{with_given};
 ghost use Rattle.vx_rows.specs.Reads.{a_list_row, directly, read_by, reads_of, through};
@@ -39,10 +39,10 @@ pub fn codes_by_hand()
 /// dictionary. A row that is read whole is itself read first. A row of a list is one read, and a value that is given
 /// none.
 pub fn reads_by_hand()
-    ensures validity_last { reads_of directly (valid_where (packed (also (leaf_row 0 1) (also (leaf_row 2 1) no_more))) (leaf_row 1 1)) ≡ cell_read directly 0 1 ∷ cell_read directly 2 1 ∷ cell_read directly 1 1 ∷ [] }
-    ensures code_first { reads_of directly (looked_up 9 1 (leaf_row 0 1) (also (leaf_row 1 0) (also (leaf_row 1 1) no_more))) ≡ code_read directly 9 1 (leaf_row 0 1) 2 ∷ cell_read directly 0 1 ∷ cell_read (through 9) 1 0 ∷ cell_read (through 9) 1 1 ∷ [] }
-    ensures outermost { reads_of directly (looked_up 9 0 (leaf_row 0 0) (also (looked_up 8 0 (leaf_row 1 0) (also (leaf_row 2 0) no_more)) no_more)) ≡ code_read directly 9 0 (leaf_row 0 0) 1 ∷ cell_read directly 0 0 ∷ code_read (through 9) 8 0 (leaf_row 1 0) 1 ∷ cell_read (through 9) 1 0 ∷ cell_read (through 9) 2 0 ∷ [] }
-    ensures itself_first { reads_of directly (read_whole 9 1 (leaf_row 0 1) (also (leaf_row 0 0) (also (leaf_row 0 1) no_more))) ≡ cell_read directly 0 1 ∷ cell_read directly 0 0 ∷ cell_read directly 0 1 ∷ [] }
+    ensures validity_last { reads_of directly (valid_where (packed (also (leaf_row 0 1) (also (leaf_row 2 1) no_more))) (leaf_row 1 1)) ≡ leaf_row_read directly 0 1 ∷ leaf_row_read directly 2 1 ∷ leaf_row_read directly 1 1 ∷ [] }
+    ensures code_first { reads_of directly (looked_up 9 1 (leaf_row 0 1) (also (leaf_row 1 0) (also (leaf_row 1 1) no_more))) ≡ code_read directly 9 1 (leaf_row 0 1) 2 ∷ leaf_row_read directly 0 1 ∷ leaf_row_read (through 9) 1 0 ∷ leaf_row_read (through 9) 1 1 ∷ [] }
+    ensures outermost { reads_of directly (looked_up 9 0 (leaf_row 0 0) (also (looked_up 8 0 (leaf_row 1 0) (also (leaf_row 2 0) no_more)) no_more)) ≡ code_read directly 9 0 (leaf_row 0 0) 1 ∷ leaf_row_read directly 0 0 ∷ code_read (through 9) 8 0 (leaf_row 1 0) 1 ∷ leaf_row_read (through 9) 1 0 ∷ leaf_row_read (through 9) 2 0 ∷ [] }
+    ensures itself_first { reads_of directly (read_whole 9 1 (leaf_row 0 1) (also (leaf_row 0 0) (also (leaf_row 0 1) no_more))) ≡ leaf_row_read directly 0 1 ∷ leaf_row_read directly 0 0 ∷ leaf_row_read directly 0 1 ∷ [] }
     ensures lists { reads_of directly (list_row 4 2) ≡ read_by directly (a_list_row 4 2) ∷ [] }
     ensures no_read { reads_of directly (given null) ≡ [] }
 {}

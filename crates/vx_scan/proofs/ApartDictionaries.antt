@@ -25,7 +25,7 @@ use Rattle.vx_plan.specs.Plans.{Plan, no_plan, take_plan, Plans, plan}
 use Rattle.vx_rows.specs.Heads.{Head}
 use Rattle.vx_rows.specs.Zones.{Zones}
 use Rattle.vx_lower.proofs.TreeSizes.{children_at, all_children, IsBelow, children_below, above_zero, below_count, once_of, zero_more, children_sizes}
-use Rattle.vx_scan.specs.Preparing.{TakesAreApart}
+use Rattle.vx_scan.specs.FilePlans.{TakesAreApart}
 use Rattle.vx_scan.proofs.ApartTakes.{one_at, takes_at, takes_among, takes_valid, takes_apart}
 
 -- ---- how many dictionaries have the number

@@ -7,7 +7,7 @@ use Rattle.vx_lower.specs.Sizes.{plan_size, plans_size}
 use Rattle.vx_lower.proofs.OldNumbers.{count_numbers, count_each, Gives, front, back, given_from}
 use Rattle.vx_plan.specs.Plans.{Plan, no_plan, concat_plan, eval_plan, filter_plan, pack_plan, take_plan, share_plan, list_plan, row_idx_plan, scan_plan, zoned_plan, Plans, no_plans, plan, PlanValidity, all_valid, valid_as}
 use Rattle.vx_steps.specs.Below.{StandsIn, StandsAmong, StandsInValidity}
-use Rattle.vx_scan.specs.Preparing.{IsTakeAs}
+use Rattle.vx_scan.specs.FilePlans.{IsTakeAs}
 
 -- ---- how many takes and shares have the number
 

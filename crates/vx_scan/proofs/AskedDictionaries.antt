@@ -4,7 +4,7 @@ use Rattle.std.specs.Prelude.{if◌then◌else◌, nat_lt}
 use Rattle.std.specs.Bool.{MatchBool}
 use Rattle.vx_rows.specs.Derivations.{Derivation, packed, Derivations, each_row}
 use Rattle.vx_rows.specs.Given.{GivenValues}
-use Rattle.vx_rows.specs.Reads.{directly, inside, Found, a_cell, a_code, a_list_row, Read, reads_of, reads_of_each, AnyOf, FindsBy, IsCodeOf}
+use Rattle.vx_rows.specs.Reads.{directly, inside, Found, a_leaf_row, a_code, a_list_row, Read, reads_of, reads_of_each, AnyOf, FindsBy, IsCodeOf}
 use Rattle.vx_rows.specs.Renumbered.{found_renumbered, read_renumbered, way_renumbered}
 use Rattle.vx_rows.proofs.ReadRows.{any_left, any_right}
 use Rattle.vx_lower.specs.Projected.{scan_reads}
@@ -18,10 +18,10 @@ use Rattle.vx_steps.specs.Visits.{Visits, VisitsIn, VisitsField, IsWholeRead}
 use Rattle.vx_drive.specs.declared.plans.ScanPlans.{ScanPlans}
 use Rattle.vx_drive.specs.Plans.{projection_plan}
 use Rattle.vx_chunks.proofs.Ways.{none_inside, SeesOutside}
-use Rattle.vx_workers.specs.Loans.{AsksForWholes}
+use Rattle.vx_workers.specs.Borrowers.{AsksForWholes}
 use Rattle.vx_scan.specs.Answer.{FileScan, row_count}
 use Rattle.vx_scan.specs.Causes.{ReadsDictionary}
-use Rattle.vx_scan.specs.Preparing.{node_of, ArePlansOf, LiesInside}
+use Rattle.vx_scan.specs.FilePlans.{node_of, ArePlansOf, LiesInside}
 use Rattle.vx_scan.proofs.ScanReads.{some_chosen}
 use Rattle.vx_scan.proofs.UnsharedPlans.{none_shared}
 
@@ -97,7 +97,7 @@ mutual
 -- ---- rows of a scan
 
 code_moved : (f : ℕ → ℕ) (take : ℕ) (found : Found) → IsCodeOf take found → IsCodeOf (f take) (found_renumbered f found)
-code_moved f take (a_cell at) is = is
+code_moved f take (a_leaf_row at) is = is
 code_moved f take (a_code code) is = ap f is
 code_moved f take (a_list_row list row) is = is
 

@@ -38,7 +38,7 @@ use Rattle.vx_chunks.proofs.AddedVisits.{AreBehind, all_stand, lacks_as, first_o
 use Rattle.vx_chunks.proofs.ChunkScanning.{IsGoodChunk, good_chunk}
 use Rattle.vx_chunks.proofs.FewerReads.{NoCode}
 use Rattle.vx_chunks.proofs.HandedRuns.{error_as}
-use Rattle.vx_workers.proofs.SettledCauses.{cause_free}
+use Rattle.vx_workers.proofs.ValidatedCauses.{cause_free}
 use Rattle.vx_scan.specs.ChunkLaws.{told_whole}
 use Rattle.vx_scan.proofs.CarriedVisits.{carried, fault_alike}
 use Rattle.vx_scan.proofs.ChunkLaws.{served, wholes_of}

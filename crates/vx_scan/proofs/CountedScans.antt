@@ -9,10 +9,10 @@ use Rattle.vx_rows.specs.Reads.{Way, directly, through, IsAmong}
 use Rattle.vx_rows.specs.Renumbered.{way_renumbered}
 use Rattle.vx_chunks.specs.Lent.{EachSourceBy, FirstSource}
 use Rattle.vx_workers.specs.Reasons.{Reason}
-use Rattle.vx_settle.specs.Settling.{direct_and_segment, IsDirectAmong}
+use Rattle.vx_execute.specs.Validating.{direct_and_segment, IsDirectAmong}
 use Rattle.vx_scan.specs.Answer.{FileScan}
 use Rattle.vx_scan.specs.Counts.{times_asked, asked_times, all_asked_times, PieceReaches, IsDirectPair, IsDirectPairOf, IsSharedPair, AreAllOf}
-use Rattle.vx_scan.specs.Preparing.{node_of}
+use Rattle.vx_scan.specs.FilePlans.{node_of}
 use Rattle.vx_scan.specs.Scanned.{AreReasonsFor, Gains, GainsAgain, GainsOver, IsReasonFor, dictionary_and_segment}
 use Rattle.vx_scan.proofs.Counting.{ArePairs, Counted, AreBacked, counted, counted_most, direct_once, gained_times, no_pairs, pairs_most, pairs_then, reason_reaches, scan_backed}
 

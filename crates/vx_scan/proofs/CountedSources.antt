@@ -14,7 +14,7 @@ use Rattle.vx_drive.proofs.Sessions.{located_at}
 use Rattle.vx_workers.specs.Reasons.{Reason, segment_of, chunk_and_segment, taken_by, take_and_segment, IsReasonAmong}
 use Rattle.vx_workers.specs.Workers.{RunsSource}
 use Rattle.vx_workers.proofs.Certifying.{each_weaker}
-use Rattle.vx_settle.specs.Settling.{direct_and_segment, AsksAgain, IsDirectAmong}
+use Rattle.vx_execute.specs.Validating.{direct_and_segment, AsksAgain, IsDirectAmong}
 use Rattle.vx_scan.specs.Counts.{is_range, times_asked, asked_times, AreAllOf}
 use Rattle.vx_scan.specs.SourceCounts.{ChunkReads, IsDirectRead, IsReadOf, IsSharedRead}
 use Rattle.vx_scan.proofs.Counting.{ArePairs, AreBacked, counted_most, direct_once, gained_times, is_same, no_pairs, one_more, one_passed, pairs_most, taken_as}

@@ -13,10 +13,10 @@ use Rattle.vx_rows.specs.Renumbered.{way_renumbered}
 use Rattle.vx_drive.specs.Fetched.{AreDistinct}
 use Rattle.vx_drive.proofs.Distinct.{differs, distinct_behind, distinct_none, distinct_then}
 use Rattle.vx_workers.specs.Reasons.{Reason, chunk_and_segment, taken_by}
-use Rattle.vx_settle.specs.Settling.{direct_by, direct_and_segment}
+use Rattle.vx_execute.specs.Validating.{direct_by, direct_and_segment}
 use Rattle.vx_scan.specs.Answer.{FileScan}
 use Rattle.vx_scan.specs.Counts.{is_range, times_asked, times_in, asked_times, PieceReaches, IsDirectPair, IsSharedPair, AreAllOf}
-use Rattle.vx_scan.specs.Preparing.{node_of}
+use Rattle.vx_scan.specs.FilePlans.{node_of}
 use Rattle.vx_scan.specs.Scanned.{AreReasonsFor, IsReasonFor, dictionary_and_segment}
 
 -- ---- what is apart and among others is no more than they are

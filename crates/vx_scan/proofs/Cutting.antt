@@ -16,7 +16,7 @@ use Rattle.vx_splits.proofs.ChunkRows.{joins, row_chunks-tile}
 use Rattle.vx_drive.specs.Plans.{AreInOrder}
 use Rattle.vx_workers.proofs.NewReasons.{end_of, end_next, follow_more}
 use Rattle.vx_scan.specs.Answer.{pieces_of}
-use Rattle.vx_scan.specs.Preparing.{IsCutBy, LiesInside}
+use Rattle.vx_scan.specs.FilePlans.{IsCutBy, LiesInside}
 use Rattle.vx_scan.proofs.Pieces.{nonempty}
 use Rattle.vx_scan.proofs.ChunkPieces.{selected_of, chunk_pieces}
 

@@ -16,7 +16,7 @@ use Rattle.vx_chunks.specs.Ways.{IsReadThrough, ReadsBy}
 use Rattle.vx_workers.specs.Reasons.{Reason, read_for, taken_by, take_and_segment}
 use Rattle.vx_scan.specs.Answer.{FileScan}
 use Rattle.vx_scan.specs.PlanTexts.{held_tree}
-use Rattle.vx_scan.specs.Preparing.{node_of, IsTakeAs, TakesAreApart}
+use Rattle.vx_scan.specs.FilePlans.{node_of, IsTakeAs, TakesAreApart}
 use Rattle.vx_scan.specs.Scanned.{AreReasonsFor, dictionary_and_segment}
 
 -- ---- a take that a leaf is read through stands in the plan

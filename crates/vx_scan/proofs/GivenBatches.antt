@@ -31,18 +31,18 @@ use Rattle.vx_drive.proofs.Sessions.{asked_nothing}
 use Rattle.vx_chunks.specs.ChunkRows.{IsPiece}
 use Rattle.vx_chunks.specs.Lent.{EachSource, EachSourceBy, FirstSource, SomeSourceBy}
 use Rattle.vx_chunks.proofs.LentSources.{each_by, each_clear, each_first, each_lasts, first_by, first_same, first_there}
-use Rattle.vx_workers.specs.declared.lanes.ChunkError.{ChunkError}
-use Rattle.vx_workers.specs.declared.lanes.Piece.{Piece}
-use Rattle.vx_workers.specs.Gathers.{no_memory}
-use Rattle.vx_workers.specs.Loans.{AsksForWholes, IsAsking}
+use Rattle.vx_workers.specs.declared.worker_states.ChunkError.{ChunkError}
+use Rattle.vx_workers.specs.declared.worker_states.Piece.{Piece}
+use Rattle.vx_workers.specs.Merges.{no_memory}
+use Rattle.vx_workers.specs.Borrowers.{AsksForWholes, IsAsking}
 use Rattle.vx_workers.specs.Reasons.{Reason, chunk_and_segment}
 use Rattle.vx_workers.specs.Unhindered.{IsUnhindered, IsUnhinderedAt}
 use Rattle.vx_workers.specs.Workers.{HasDtype, HasItsRows, IsPieceOf, numbers_of, IsLast, AsksReached, RunsSource, FailsLast}
-use Rattle.vx_workers.proofs.LaneEnds.{among_stands}
+use Rattle.vx_workers.proofs.WorkerEnds.{among_stands}
 use Rattle.vx_workers.proofs.Certifying.{each_weaker}
-use Rattle.vx_settle.specs.declared.outcomes.Outcome.{Outcome}
-use Rattle.vx_settle.specs.Executes.{stretch, AskedAgain, FailsAgain, FailsLowest, FaultsAtLast, MayHaveBorrowed, StopsAtLast, Executed, Executes}
-use Rattle.vx_settle.specs.Settling.{rerun_chunks, AsksAgain}
+use Rattle.vx_execute.specs.declared.outcomes.Outcome.{Outcome}
+use Rattle.vx_execute.specs.Executes.{stretch, AskedAgain, FailsAgain, FailsLowest, FaultsAtLast, MayHaveBorrowed, StopsAtLast, Executed, Executes}
+use Rattle.vx_execute.specs.Validating.{rerun_chunks, AsksAgain}
 use Rattle.vx_scan.specs.BatchColumns.{Told, TakesBatches}
 use Rattle.vx_scan.specs.Batches.{AreBatches, AreUnhinderedButLast, FaultsFrom, HasPiece, HavePiecesButLast, Share, reasons_in, AsksOver, LowestFailure, GivesBatches}
 

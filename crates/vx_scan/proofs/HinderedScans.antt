@@ -3,7 +3,7 @@ use Rattle.std.proofs.Common.{ℕ, zero, suc, ◌+◌, ◌<◌, inl, inr, Bool, 
 use Rattle.std.specs.Prelude.{IsSomeAnd}
 use Rattle.std.specs.List.{slice_get, AllByRecursion}
 use Rattle.vx_rows.specs.Derivations.{Derivation}
-use Rattle.vx_rows.specs.Reads.{directly, Found, a_cell, a_code, a_list_row, Read, reads_of, AnyOf, Finds, IsIn}
+use Rattle.vx_rows.specs.Reads.{directly, Found, a_leaf_row, a_code, a_list_row, Read, reads_of, AnyOf, Finds, IsIn}
 use Rattle.vx_rows.specs.Renumbered.{found_renumbered, read_renumbered}
 use Rattle.vx_lower.specs.Projected.{scan_reads}
 use Rattle.vx_plan.specs.PlanRows.{plan_derivation, plan_reads}
@@ -20,7 +20,7 @@ use Rattle.vx_chunks.specs.ChunkRows.{given_to, ChunkReaches}
 use Rattle.vx_workers.specs.Unhindered.{IsUnhindered}
 use Rattle.vx_scan.specs.Answer.{FileScan, row_count}
 use Rattle.vx_scan.specs.Causes.{ReadsList, ScanReaches}
-use Rattle.vx_scan.specs.Preparing.{node_of, ArePlansOf, LiesInside}
+use Rattle.vx_scan.specs.FilePlans.{node_of, ArePlansOf, LiesInside}
 use Rattle.vx_scan.specs.Scanned.{AreUnhindered}
 use Rattle.vx_scan.proofs.ScanReads.{chunk_rows}
 
@@ -39,7 +39,7 @@ chosen_some P count chunk inside any = among_some P chunk.mask chunk.scope.rows.
 -- ---- other numbers
 
 in_before : (f : ℕ → ℕ) (segment : ℕ) (found : Found) → IsIn segment (found_renumbered f found) → IsIn segment found
-in_before f segment (a_cell at) is = is
+in_before f segment (a_leaf_row at) is = is
 in_before f segment (a_code at) is = is
 in_before f segment (a_list_row list row) is = is
 
@@ -50,7 +50,7 @@ finds_before f segment (read ∷ reads) (inr later) = inr (finds_before f segmen
 
 -- the number that the list has in the plan
 list_before : (f : ℕ → ℕ) (number : ℕ) (found : Found) → IsRowOf number (found_renumbered f found) → (n : ℕ) × IsRowOf n found
-list_before f number (a_cell at) is = absurd is
+list_before f number (a_leaf_row at) is = absurd is
 list_before f number (a_code at) is = absurd is
 list_before f number (a_list_row list row) is = (list, refl)
 

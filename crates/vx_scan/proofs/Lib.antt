@@ -1,8 +1,8 @@
+mod AdmittedRows
 mod Answered
 mod ApartDictionaries
 mod ApartTakes
 mod AskedDictionaries
-mod BeginningRows
 mod CarriedVisits
 mod ChunkCauses
 mod ChunkLaws
@@ -12,7 +12,7 @@ mod CountedSources
 mod Counting
 mod Cutting
 mod DictionaryReasons
-mod FilePreparing
+mod FilePlanning
 mod GivenBatches
 mod HinderedScans
 mod LeafPlaces

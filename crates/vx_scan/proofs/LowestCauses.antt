@@ -18,16 +18,16 @@ use Rattle.vx_drive.specs.Plans.{bytes_of}
 use Rattle.vx_chunks.specs.Lent.{FirstSource, SomeSourceBy}
 use Rattle.vx_chunks.specs.Outcomes.{Causes, told_by, told_by_all}
 use Rattle.vx_chunks.proofs.LentSources.{each_by, first_by, some_by}
-use Rattle.vx_workers.specs.declared.lanes.ChunkError.{ChunkError}
-use Rattle.vx_workers.specs.Gathers.{no_memory}
-use Rattle.vx_workers.specs.Loans.{AsksForWholes, IsAsking}
+use Rattle.vx_workers.specs.declared.worker_states.ChunkError.{ChunkError}
+use Rattle.vx_workers.specs.Merges.{no_memory}
+use Rattle.vx_workers.specs.Borrowers.{AsksForWholes, IsAsking}
 use Rattle.vx_workers.specs.Unhindered.{IsUnhindered, IsUnhinderedAt}
 use Rattle.vx_workers.specs.Workers.{IsLast, FailsLast, RunsSource}
-use Rattle.vx_settle.specs.Executes.{AskedAgain, FailsAgain}
+use Rattle.vx_execute.specs.Executes.{AskedAgain, FailsAgain}
 use Rattle.vx_scan.specs.Answer.{FileScan, row_count, scan_pieces}
 use Rattle.vx_scan.specs.Batches.{AreUnhinderedButLast, HasPiece, HavePiecesButLast, LowestFailure}
 use Rattle.vx_scan.specs.Causes.{ReadsDictionary}
-use Rattle.vx_scan.specs.Preparing.{ArePlansOf, AreChunksOf, LiesInside}
+use Rattle.vx_scan.specs.FilePlans.{ArePlansOf, AreChunksOf, LiesInside}
 use Rattle.vx_scan.specs.Scanned.{AreUnhindered, FailsPiece, FailsPieceAgain, HasAnswer, HaveAnswersButLast, LowestCause, PieceReadsDictionary, PiecesUnhinderedButLast, RunsAgain, RunsPieces}
 use Rattle.vx_scan.proofs.AskedDictionaries.{asks_reads}
 use Rattle.vx_scan.proofs.HinderedScans.{first_unhindered, unhindered_there}

@@ -3,9 +3,9 @@ use Rattle.std.proofs.Common.{◌≡◌, ℕ, ◌+◌, ◌-◌, zero, suc, ◌�
 use Rattle.std.specs.Prelude.{if◌then◌else◌, nat_lt}
 use Rattle.vx_expr.specs.Bound.{Bound}
 use Rattle.vx_expr.specs.Mentions.{is_root, uses_root, uses_row_number}
-use Rattle.vx_rows.specs.Derivations.{Cell, Derivation, packed, Derivations, each_row, Leaves}
+use Rattle.vx_rows.specs.Derivations.{LeafRow, Derivation, packed, Derivations, each_row, Leaves}
 use Rattle.vx_rows.specs.Heads.{Head}
-use Rattle.vx_rows.specs.Reads.{Way, directly, inside, CodeRow, code_row, Found, a_cell, a_code, a_list_row, Read, reads_of, reads_of_each, Finds}
+use Rattle.vx_rows.specs.Reads.{Way, directly, inside, CodeRow, code_row, Found, a_leaf_row, a_code, a_list_row, Read, reads_of, reads_of_each, Finds}
 use Rattle.vx_rows.proofs.ReadRows.{any_either}
 use Rattle.vx_lower.specs.Projected.{Projection}
 use Rattle.vx_lower.specs.RowIndex.{row_index_plan_from_by}
@@ -14,14 +14,14 @@ use Rattle.vx_plan.specs.PlanRows.{plan_derivation, plan_derivation_in, plan_der
 use Rattle.vx_steps.specs.Below.{StandsIn, StandsAmong, StandsInValidity}
 use Rattle.vx_steps.specs.Laws.{IsRowOf, IsBadCodeAt}
 use Rattle.vx_scan.specs.PlanTexts.{held_tree, IsProjectionPlan, IsProjectionPlanBy}
-use Rattle.vx_scan.specs.Preparing.{IsTakeAs}
+use Rattle.vx_scan.specs.FilePlans.{IsTakeAs}
 use Rattle.vx_scan.specs.Scanned.{IsListAs}
 
 -- ---- what is found tells a plan
 
 -- what is found of a plan's own row tells the plan, and no cell does
 record Shows (P : Found → Type 0) (F : Plan → Type 0) : Type 0 where
-  cells : (at : Cell) → P (a_cell at) → ⊥
+  cells : (at : LeafRow) → P (a_leaf_row at) → ⊥
   lists : (head : Head) (elements offsets : Plan) (validity : PlanValidity) (row : ℕ) → P (a_list_row head.number row) → F (list_plan head elements offsets validity)
   takes : (head : Head) (codes values : Plan) (code : CodeRow) → code.dictionary ≡ head.number → P (a_code code) → F (take_plan head codes values)
 

@@ -43,7 +43,7 @@ use Rattle.vx_steps.proofs.VisitedParts.{term_worked}
 use Rattle.vx_steps.proofs.VisitedReads.{none_served}
 use Rattle.vx_scan.specs.Causes.{IsFaultAt}
 use Rattle.vx_scan.specs.PlanTexts.{held_tree, IsProjectionPlanBy}
-use Rattle.vx_scan.specs.Preparing.{node_of, IsPlanOf, IsProjectedBy}
+use Rattle.vx_scan.specs.FilePlans.{node_of, IsPlanOf, IsProjectedBy}
 use Rattle.vx_scan.proofs.PlainPlans.{lowered_plain, plain_sound}
 use Rattle.vx_scan.proofs.SoundParts.{kept_sound, part_also, part_back, part_renumbered, HasFault}
 use Rattle.vx_scan.proofs.Answered.{fault_by}

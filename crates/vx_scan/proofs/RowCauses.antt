@@ -16,10 +16,10 @@ use Rattle.vx_drive.specs.Plans.{WhereTold}
 use Rattle.vx_drive.proofs.Lasting.{rose_from, rose_on}
 use Rattle.vx_chunks.specs.Lent.{EachSource, EachSourceBy, FirstSource, SomeSource, SomeSourceBy, AllTell, WhereAllTell}
 use Rattle.vx_scan.specs.Answer.{FileScan, scan_rows, scan_pieces, size_of}
-use Rattle.vx_scan.specs.Beginning.{Refuses}
+use Rattle.vx_scan.specs.Admission.{Refuses}
 use Rattle.vx_scan.specs.Causes.{ReadsTorn, FaultsAt}
 use Rattle.vx_scan.specs.PlainCauses.{PlainCause, ErrorsHavePlainCauses}
-use Rattle.vx_scan.specs.Preparing.{node_of}
+use Rattle.vx_scan.specs.FilePlans.{node_of}
 use Rattle.vx_scan.specs.Scanned.{CausedIn, FailsPiece, FailsPieceAgain, FileClaims, LowestCause, ReadsBadCodePlan, RunsPieces}
 use Rattle.vx_scan.proofs.Answered.{pieces_join}
 use Rattle.vx_scan.proofs.ScanValid.{all_last}

@@ -21,18 +21,18 @@ use Rattle.vx_splits.specs.Trimmed.{chosen_rows}
 use Rattle.vx_steps.specs.Held.{FitsOffset}
 use Rattle.vx_drive.specs.declared.plans.ScanPlans.{ScanPlans}
 use Rattle.vx_drive.specs.Plans.{projection_node, projection_plan, ArePlans, FollowFrom, IsChunkOf}
-use Rattle.vx_settle.specs.Executes.{CanRun}
+use Rattle.vx_execute.specs.Executes.{CanRun}
 use Rattle.vx_scan.specs.declared.files.ScanFile.{ScanFile}
 use Rattle.vx_scan.specs.declared.settings.Settings.{Settings}
 use Rattle.vx_scan.specs.Answer.{FileScan, row_count}
-use Rattle.vx_scan.specs.Beginning.{BeginsOver, Overflows}
+use Rattle.vx_scan.specs.Admission.{BeginsOver, Overflows}
 use Rattle.vx_scan.specs.Prepared.{IsPreparedFor}
-use Rattle.vx_scan.specs.Preparing.{ArePlansOf, AreChunksOf, IsCutBy, LiesInside}
+use Rattle.vx_scan.specs.FilePlans.{ArePlansOf, AreChunksOf, IsCutBy, LiesInside}
 use Rattle.vx_scan.specs.Settings.{scan_by}
 use Rattle.vx_scan.specs.Valid.{HasRows}
-use Rattle.vx_scan.proofs.BeginningRows.{no_pieces, no_rows}
+use Rattle.vx_scan.proofs.AdmittedRows.{no_pieces, no_rows}
 use Rattle.vx_scan.proofs.Cutting.{cut_has_rows}
-use Rattle.vx_scan.proofs.FilePreparing.{root_head}
+use Rattle.vx_scan.proofs.FilePlanning.{root_head}
 use Rattle.vx_scan.proofs.ScanAsks.{lie_together}
 use Rattle.vx_scan.proofs.UnsharedPlans.{none_below, none_shared}
 use Rattle.vx_base.specs.Limits.{most_segments}

@@ -29,12 +29,12 @@ use Rattle.vx_chunks.proofs.TakenReads.{read_below}
 use Rattle.vx_chunks.proofs.Ways.{found_by}
 use Rattle.vx_workers.specs.Reasons.{Reason, read_for, segment_of, chunk_and_segment, IsReasonAmong}
 use Rattle.vx_workers.specs.Workers.{AsksReached}
-use Rattle.vx_settle.specs.Settling.{AsksAgain}
+use Rattle.vx_execute.specs.Validating.{AsksAgain}
 use Rattle.vx_scan.specs.Answer.{FileScan, row_count, scan_pieces, scan_rows, size_of}
 use Rattle.vx_scan.specs.Batches.{AsksOver, Share, reasons_in}
 use Rattle.vx_scan.specs.Causes.{ScanReaches}
 use Rattle.vx_scan.specs.PlanTexts.{held_tree}
-use Rattle.vx_scan.specs.Preparing.{node_of, ArePlansOf, LiesInside, AreChunksOf}
+use Rattle.vx_scan.specs.FilePlans.{node_of, ArePlansOf, LiesInside, AreChunksOf}
 use Rattle.vx_scan.specs.Scanned.{AreReasonsFor, Gains, GainsAgain, GainsOver, IsReasonFor, ReachesRange, ScanReachesBy, way_in}
 use Rattle.vx_scan.proofs.Answered.{pieces_join}
 use Rattle.vx_scan.proofs.DictionaryReasons.{once_a_dictionary}

@@ -37,7 +37,7 @@ use Rattle.vx_scan.specs.Answer.{FileScan, row_count, IsAnswer, ArePieces}
 use Rattle.vx_scan.specs.Batches.{AreBatches, HasPiece}
 use Rattle.vx_scan.specs.Causes.{ScanFinds, ReadsTorn, IsFaultAt, FaultsAt}
 use Rattle.vx_scan.specs.PlanTexts.{held_tree}
-use Rattle.vx_scan.specs.Preparing.{node_of, ArePlansOf, IsTakeAs, LiesInside}
+use Rattle.vx_scan.specs.FilePlans.{node_of, ArePlansOf, IsTakeAs, LiesInside}
 use Rattle.vx_scan.specs.Scanned.{CausedBy, CausedByAll, CausedIn, HasAnswer, ReadsBadCodePlan}
 use Rattle.vx_scan.proofs.NamedPlans.{list_stands, take_stands}
 use Rattle.vx_scan.proofs.ScanReads.{chunk_rows, some_chosen, chunk_finds, in_moved, torn_moved, row_moved, code_moved}

@@ -5,7 +5,7 @@ use Rattle.std.specs.List.{slice_get, range_with_len}
 use Rattle.vx_base.specs.Data.{Datum}
 use Rattle.vx_base.specs.Masks.{chosen}
 use Rattle.vx_rows.specs.Derivations.{Leaves}
-use Rattle.vx_rows.specs.Reads.{Found, a_cell, a_code, a_list_row, Read, AnyOf, Finds, IsIn, IsPlaceAmong}
+use Rattle.vx_rows.specs.Reads.{Found, a_leaf_row, a_code, a_list_row, Read, AnyOf, Finds, IsIn, IsPlaceAmong}
 use Rattle.vx_rows.specs.Renumbered.{found_renumbered, read_renumbered}
 use Rattle.vx_rows.specs.SegmentLeaves.{Bytes}
 use Rattle.vx_rows.proofs.Renumbering.{same_worth}
@@ -18,7 +18,7 @@ use Rattle.vx_steps.specs.Laws.{IsRowOf, IsBadCodeAt}
 use Rattle.vx_steps.specs.Rows.{rows_of, SomeRow}
 use Rattle.vx_steps.specs.ScanLaws.{IsTornIn}
 use Rattle.vx_scan.specs.Causes.{ScanFinds}
-use Rattle.vx_scan.specs.Preparing.{node_of, IsPlanOf, LiesInside}
+use Rattle.vx_scan.specs.FilePlans.{node_of, IsPlanOf, LiesInside}
 
 -- ---- the rows of a chunk
 
@@ -65,22 +65,22 @@ chunk_finds p q is P Q moved count chunk inside some =
     (some_chosen (λ (row : ℕ). Finds P (plan_reads p.offset q row)) count chunk inside some)
 
 pub in_moved : (f : ℕ → ℕ) (segment : ℕ) (found : Found) → IsIn segment found → IsIn segment (found_renumbered f found)
-in_moved f segment (a_cell at) is = is
+in_moved f segment (a_leaf_row at) is = is
 in_moved f segment (a_code at) is = is
 in_moved f segment (a_list_row list row) is = is
 
 pub torn_moved : (f : ℕ → ℕ) (bytes : Bytes) (segment : ℕ) (found : Found) → IsTornIn bytes segment found → IsTornIn bytes segment (found_renumbered f found)
-torn_moved f bytes segment (a_cell at) is = is
+torn_moved f bytes segment (a_leaf_row at) is = is
 torn_moved f bytes segment (a_code at) is = is
 torn_moved f bytes segment (a_list_row list row) is = is
 
 pub row_moved : (f : ℕ → ℕ) (number : ℕ) (found : Found) → IsRowOf number found → IsRowOf (f number) (found_renumbered f found)
-row_moved f number (a_cell at) is = is
+row_moved f number (a_leaf_row at) is = is
 row_moved f number (a_code at) is = is
 row_moved f number (a_list_row list row) is = ap f is
 
 pub code_moved : (f : ℕ → ℕ) (leaves : Leaves) (number at : ℕ) (found : Found) → IsBadCodeAt leaves number at found → IsBadCodeAt leaves (f number) at (found_renumbered f found)
-code_moved f leaves number at (a_cell cell) is = is
+code_moved f leaves number at (a_leaf_row cell) is = is
 code_moved f leaves number at (a_code code) is =
     (ap f is.0, is.1, subst (λ (v : Option Datum). IsSomeAnd v (λ worth. ¬ (IsPlaceAmong code.count worth))) (sym (same_worth leaves f code.code)) is.2)
 code_moved f leaves number at (a_list_row list row) is = is

@@ -13,8 +13,8 @@ use Rattle.vx_layout.specs.Rows.{file_leaves, segment_bytes}
 use Rattle.vx_layout.specs.Trees.{head_of}
 use Rattle.vx_lower.specs.Projected.{Projection, root_value, projected_at, scan_reads}
 use Rattle.vx_plan.specs.Refs.{number_of}
-use Rattle.vx_rows.specs.Derivations.{Cell, Leaves, derived}
-use Rattle.vx_rows.specs.Reads.{Found, a_cell, a_code, a_list_row, Read, IsAmong, Finds, FindsOnly, IsIn, IsFine, IsPlaceAmong}
+use Rattle.vx_rows.specs.Derivations.{LeafRow, Leaves, derived}
+use Rattle.vx_rows.specs.Reads.{Found, a_leaf_row, a_code, a_list_row, Read, IsAmong, Finds, FindsOnly, IsIn, IsFine, IsPlaceAmong}
 use Rattle.vx_rows.specs.SegmentLeaves.{Bytes, leaves_of}
 use Rattle.vx_steps.specs.Laws.{IsRowOf, IsBadCodeAt}
 use Rattle.vx_steps.specs.ScanLaws.{IsTornIn}
@@ -26,9 +26,9 @@ use Rattle.vx_drive.proofs.Lasting.{rose_from, rose_on}
 use Rattle.vx_chunks.specs.Lent.{EachSource, EachSourceBy, FirstSource, SomeSourceBy, AllTell, WhereAllTell}
 use Rattle.vx_chunks.proofs.LentSources.{each_lasts, first_there, none_by}
 use Rattle.vx_scan.specs.Answer.{FileScan, scan_rows, scan_pieces, size_of}
-use Rattle.vx_scan.specs.Beginning.{Refuses}
+use Rattle.vx_scan.specs.Admission.{Refuses}
 use Rattle.vx_scan.specs.Causes.{ScanFinds, ReadsTorn, IsFaultAt, FaultsAt}
-use Rattle.vx_scan.specs.Preparing.{node_of}
+use Rattle.vx_scan.specs.FilePlans.{node_of}
 use Rattle.vx_scan.specs.Scanned.{CausedIn, FailsPiece, FailsPieceAgain, FileClaims, LowestCause, ReadsBadCodePlan, RunsAgain, RunsPieces}
 use Rattle.vx_scan.specs.Valid.{IsValidScan}
 use Rattle.vx_scan.proofs.Answered.{pieces_join, fault_by}
@@ -50,16 +50,16 @@ rows_fine leaves p P amiss (row ∷ rows) fine (inl here) = none_amiss leaves P 
 rows_fine leaves p P amiss (row ∷ rows) fine (inr later) = rows_fine leaves p P amiss rows fine.1 later
 
 row_amiss : (leaves : Leaves) (number : ℕ) → IsAmiss leaves (IsRowOf number)
-row_amiss leaves number (a_cell at) is fine = is
+row_amiss leaves number (a_leaf_row at) is fine = is
 row_amiss leaves number (a_code at) is fine = is
 row_amiss leaves number (a_list_row list row) is fine = fine
 
-torn_leaf : (bytes : Bytes) (at : Cell) (found : Option (List ℕ)) → bytes at.segment ≡ found → IsSomeAnd found (λ them. decoded at.dtype at.rows them ≡ None) → IsSome (option_and_then (decoded at.dtype at.rows) found) → ⊥
+torn_leaf : (bytes : Bytes) (at : LeafRow) (found : Option (List ℕ)) → bytes at.segment ≡ found → IsSomeAnd found (λ them. decoded at.dtype at.rows them ≡ None) → IsSome (option_and_then (decoded at.dtype at.rows) found) → ⊥
 torn_leaf bytes at None is torn fine = torn
 torn_leaf bytes at (Some them) is torn fine = let p : decoded at.dtype at.rows them ≡ None = torn in let q : IsSome {T = List Datum} None = subst IsSome p fine in cc
 
 torn_amiss : (bytes : Bytes) (segment : ℕ) → IsAmiss (leaves_of bytes) (IsTornIn bytes segment)
-torn_amiss bytes segment (a_cell at) is fine = torn_leaf bytes at (bytes at.segment) refl is.1 fine
+torn_amiss bytes segment (a_leaf_row at) is fine = torn_leaf bytes at (bytes at.segment) refl is.1 fine
 torn_amiss bytes segment (a_code at) is fine = is
 torn_amiss bytes segment (a_list_row list row) is fine = is
 
@@ -68,7 +68,7 @@ bad_code count None bad fine = bad
 bad_code count (Some v) bad fine = bad fine
 
 code_amiss : (leaves : Leaves) (number at : ℕ) → IsAmiss leaves (IsBadCodeAt leaves number at)
-code_amiss leaves number at (a_cell one) is fine = is
+code_amiss leaves number at (a_leaf_row one) is fine = is
 code_amiss leaves number at (a_code one) is fine = bad_code one.count (derived leaves one.code) is.2 fine
 code_amiss leaves number at (a_list_row list row) is fine = is
 
@@ -81,7 +81,7 @@ no_bytes : (file : List ℕ) (locations : List SegmentLocation) (segment : ℕ) 
 no_bytes file locations segment past = ap (option_and_then (bytes_at file)) (no_place locations segment past)
 
 unplaced_amiss : (file : List ℕ) (locations : List SegmentLocation) (segment : ℕ) → ¬ (segment < length locations) → IsAmiss (file_leaves file locations) (IsIn segment)
-unplaced_amiss file locations segment past (a_cell at) is fine =
+unplaced_amiss file locations segment past (a_leaf_row at) is fine =
     let none : segment_bytes file locations at.segment ≡ None = ap (segment_bytes file locations) is ∙ no_bytes file locations segment past in
     let gone : file_leaves file locations at.dtype at.rows at.segment ≡ None = ap (option_and_then (decoded at.dtype at.rows)) none in
     let some : IsSome {T = List Datum} None = subst IsSome gone fine in

@@ -25,18 +25,18 @@ use Rattle.vx_drive.proofs.Sessions.{asked_nothing}
 use Rattle.vx_chunks.specs.Lent.{EachSource, AllTell}
 use Rattle.vx_chunks.proofs.LentSources.{each_clear, each_lasts, each_same, each_same_by, first_same, for_each, joined_none}
 use Rattle.vx_workers.specs.Reasons.{Reason, chunk_and_segment}
-use Rattle.vx_settle.specs.declared.outcomes.Outcome.{Outcome}
-use Rattle.vx_settle.specs.Executes.{Executes}
-use Rattle.vx_scan.specs.declared.prepares.Prepared.{Prepared}
+use Rattle.vx_execute.specs.declared.outcomes.Outcome.{Outcome}
+use Rattle.vx_execute.specs.Executes.{Executes}
+use Rattle.vx_scan.specs.declared.prepared_scans.Prepared.{Prepared}
 use Rattle.vx_scan.specs.Answer.{FileScan, row_count, scan_rows, scan_pieces, ArePieces}
 use Rattle.vx_scan.specs.BatchColumns.{TakesBatches}
 use Rattle.vx_scan.specs.Batches.{LowestFailure, GivesBatches}
-use Rattle.vx_scan.specs.Beginning.{Refuses}
+use Rattle.vx_scan.specs.Admission.{Refuses}
 use Rattle.vx_scan.specs.Prepared.{IsPreparedFor}
-use Rattle.vx_scan.specs.Preparing.{ArePlansOf, AreChunksOf, LiesInside}
+use Rattle.vx_scan.specs.FilePlans.{ArePlansOf, AreChunksOf, LiesInside}
 use Rattle.vx_scan.specs.Scanned.{AreUnhindered, Gains, GainsAgain, GainsOver, LowestCause, AnswersScan}
 use Rattle.vx_scan.specs.Valid.{HasRows, IsValidScan}
-use Rattle.vx_scan.proofs.BeginningRows.{no_pieces}
+use Rattle.vx_scan.proofs.AdmittedRows.{no_pieces}
 use Rattle.vx_scan.proofs.GivenBatches.{gives_batches, is_memory}
 use Rattle.vx_scan.proofs.HinderedScans.{all_unhindered}
 use Rattle.vx_scan.proofs.LowestCauses.{lowest_of}

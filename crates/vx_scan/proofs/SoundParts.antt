@@ -19,7 +19,7 @@ use Rattle.vx_lower.proofs.LoweredRows.{lowered_all, zones_same}
 use Rattle.vx_lower.proofs.LoweredValues.{lowered_kept}
 use Rattle.vx_plan.specs.Plans.{Plan, Plans, plan, take_plan, plan_head}
 use Rattle.vx_plan.specs.PlanRows.{plan_derivation, plan_derivation_in}
-use Rattle.vx_rows.specs.Derivations.{Derivation, nothing, cell, list_row, given, packed, valid_where, looked_up, worked_out, read_whole, Derivations, no_more, also, Leaves, derived}
+use Rattle.vx_rows.specs.Derivations.{Derivation, nothing, of_leaf, list_row, given, packed, valid_where, looked_up, worked_out, read_whole, Derivations, no_more, also, Leaves, derived}
 use Rattle.vx_rows.specs.Renumbered.{renumbered, each_renumbered}
 use Rattle.vx_rows.specs.Whole.{GiveFitting}
 use Rattle.vx_rows.proofs.Renumbering.{same_worth}
@@ -34,7 +34,7 @@ HasFault leaves d = HasPart (IsFaultyTerm leaves) d
 mutual
   pub part_also : (P Q : Derivation → Type 0) → ((d : Derivation) → P d → Q d) → (d : Derivation) → HasPart P d → HasPart Q d
   part_also P Q also_is nothing is = also_is nothing is
-  part_also P Q also_is (cell at) is = also_is (cell at) is
+  part_also P Q also_is (of_leaf at) is = also_is (of_leaf at) is
   part_also P Q also_is (list_row list row) is = also_is (list_row list row) is
   part_also P Q also_is (given v) is = also_is (given v) is
   part_also P Q also_is (packed ds) (inl here) = inl (also_is (packed ds) here)
@@ -67,7 +67,7 @@ fault_back leaves f t e d is = subst (λ (v : Option Datum). IsSomeAnd v (λ w. 
 mutual
   pub part_renumbered : (leaves : Leaves) (f : ℕ → ℕ) (d : Derivation) → HasFault leaves d → HasFault leaves (renumbered f d)
   part_renumbered leaves f nothing is = is
-  part_renumbered leaves f (cell at) is = is
+  part_renumbered leaves f (of_leaf at) is = is
   part_renumbered leaves f (list_row list row) is = is
   part_renumbered leaves f (given v) is = is
   part_renumbered leaves f (packed ds) (inl here) = inl here
@@ -92,7 +92,7 @@ mutual
 mutual
   pub part_back : (leaves : Leaves) (f : ℕ → ℕ) (d : Derivation) → HasFault leaves (renumbered f d) → HasFault leaves d
   part_back leaves f nothing is = is
-  part_back leaves f (cell at) is = is
+  part_back leaves f (of_leaf at) is = is
   part_back leaves f (list_row list row) is = is
   part_back leaves f (given v) is = is
   part_back leaves f (packed ds) (inl here) = inl here

@@ -3,9 +3,9 @@ use Rattle.std.specs.Prelude.{◌≡◌, map, Result, Ok, Err, ◌⊎◌, Some, 
 use Rattle.std.specs.Global.{Vec}
 use Rattle.vx_drive.specs.declared.errors.ScanError.{ScanError}
 use Rattle.vx_drive.specs.declared.errors.ScanError.TheVariants.{Memory}
-use Rattle.vx_workers.specs.declared.lanes.ChunkError.{ChunkError}
-use Rattle.vx_workers.specs.declared.lanes.Piece.{Piece}
-use Rattle.vx_settle.specs.declared.outcomes.Outcome.{Outcome}
+use Rattle.vx_workers.specs.declared.worker_states.ChunkError.{ChunkError}
+use Rattle.vx_workers.specs.declared.worker_states.Piece.{Piece}
+use Rattle.vx_execute.specs.declared.outcomes.Outcome.{Outcome}
 use Rattle.vx_base.specs.Columns.{ColumnData}
 
 -- the workers told that error of some chunk

@@ -18,12 +18,12 @@ use Rattle.vx_drive.specs.Fetched.{AreDistinct}
 use Rattle.vx_drive.specs.Plans.{bytes_of, projection_node}
 use Rattle.vx_chunks.specs.ChunkRows.{IsPiece}
 use Rattle.vx_chunks.specs.Lent.{EachSource, EachSourceBy, FirstSource, SomeSourceBy, WhereAllTell}
-use Rattle.vx_workers.specs.Loans.{IsAsking}
+use Rattle.vx_workers.specs.Borrowers.{IsAsking}
 use Rattle.vx_workers.specs.Reasons.{Reason, chunk_and_segment}
 use Rattle.vx_workers.specs.Unhindered.{IsUnhindered, IsUnhinderedAt}
 use Rattle.vx_workers.specs.Workers.{AsksReached, IsLast, FailsLast, RunsSource}
-use Rattle.vx_settle.specs.Executes.{AskedAgain, FailsAgain}
-use Rattle.vx_settle.specs.Settling.{AsksAgain}
+use Rattle.vx_execute.specs.Executes.{AskedAgain, FailsAgain}
+use Rattle.vx_execute.specs.Validating.{AsksAgain}
 
 -- each batch is the piece of its chunk
 abbrev pub AreBatches : Leaves → ScanPlans → List SelectedRows → List ColumnData → Type 0

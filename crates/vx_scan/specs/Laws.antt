@@ -7,7 +7,7 @@ use Rattle.vx_rows.specs.Derivations.{Leaves}
 use Rattle.vx_rows.specs.Reads.{IsFaulty}
 use Rattle.vx_drive.specs.declared.errors.ScanError.{ScanError}
 use Rattle.vx_scan.specs.Answer.{FileScan, scan_rows, IsAnswer, pieces_of, ArePieces}
-use Rattle.vx_scan.specs.Beginning.{Refuses}
+use Rattle.vx_scan.specs.Admission.{Refuses}
 use Rattle.vx_scan.specs.Causes.{ScanFinds, FaultsAt}
 use Rattle.vx_scan.specs.PlanTexts.{IsPlanText}
 use Rattle.vx_scan.specs.Valid.{IsValidScan}

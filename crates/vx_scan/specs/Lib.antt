@@ -1,16 +1,16 @@
+pub mod Admission
 pub mod Answer
 pub mod BatchColumns
 pub mod Batches
-pub mod Beginning
 pub mod Builders
 pub mod Causes
 pub mod ChunkLaws
 pub mod Counts
+pub mod FilePlans
 pub mod Laws
 pub mod PlainCauses
 pub mod PlanTexts
 pub mod Prepared
-pub mod Preparing
 pub mod ScanLeaves
 pub mod Scanned
 pub mod Settings
@@ -20,5 +20,5 @@ pub mod WorkedScans
 pub use Rattle.vx_chunks.specs.Lent
 pub use Rattle.vx_drive.specs.Asks
 pub use Rattle.vx_drive.specs.Plans
-pub use Rattle.vx_settle.specs.Executes
+pub use Rattle.vx_execute.specs.Executes
 pub use Rattle.vx_workers.specs.Limits

@@ -9,7 +9,7 @@ use Rattle.vx_drive.specs.declared.errors.ScanError.{ScanError}
 use Rattle.vx_drive.specs.declared.errors.ScanError.TheVariants.{BadProjection, OffsetOverflow, OutOfRange, Unsupported, NoLocation, ReadFault, Stalled, BadSegment, BadCode, EvalFault, Memory}
 use Rattle.vx_chunks.specs.Lent.{SomeSource, WhereAllTell}
 use Rattle.vx_scan.specs.Answer.{FileScan, scan_rows}
-use Rattle.vx_scan.specs.Beginning.{Refuses}
+use Rattle.vx_scan.specs.Admission.{Refuses}
 use Rattle.vx_scan.specs.Causes.{LacksLocation, ReadsTorn, FaultsAt}
 use Rattle.vx_scan.specs.Scanned.{ReadsListPlan, ReadsBadCodePlan, AnswersScan}
 

@@ -6,10 +6,10 @@ use Rattle.vx_splits.specs.Trimmed.{chosen_rows}
 use Rattle.vx_steps.specs.Below.{HasNoEvalBelowTake, HasNoShare}
 use Rattle.vx_drive.specs.Plans.{projection_plan, ArePlans}
 use Rattle.vx_chunks.specs.LeafRows.{LeavesLieTogether}
-use Rattle.vx_settle.specs.Executes.{CanRun}
-use Rattle.vx_scan.specs.declared.prepares.Prepared.{Prepared}
+use Rattle.vx_execute.specs.Executes.{CanRun}
+use Rattle.vx_scan.specs.declared.prepared_scans.Prepared.{Prepared}
 use Rattle.vx_scan.specs.Answer.{FileScan, row_count, scan_pieces}
-use Rattle.vx_scan.specs.Preparing.{ArePlansOf, AreChunksOf, IsCutBy}
+use Rattle.vx_scan.specs.FilePlans.{ArePlansOf, AreChunksOf, IsCutBy}
 use Rattle.vx_scan.specs.Valid.{HasRows}
 
 -- the numbers of rows count for the scan: its projection uses them, and its range isn't empty

@@ -24,13 +24,13 @@ use Rattle.vx_drive.specs.Plans.{WhereTold, IsQuiet}
 use Rattle.vx_chunks.specs.Lent.{EachSource, EachSourceBy, FirstSource, SomeSourceBy, WhereAllTell}
 use Rattle.vx_workers.specs.Reasons.{Reason, read_for, leaf_of, chunk_and_segment, taken_by}
 use Rattle.vx_workers.specs.Workers.{IsLast}
-use Rattle.vx_settle.specs.Settling.{direct_and_segment, IsDirectAmong}
+use Rattle.vx_execute.specs.Validating.{direct_and_segment, IsDirectAmong}
 use Rattle.vx_scan.specs.Answer.{FileScan, scan_rows, scan_pieces, IsAnswer, ArePieces}
 use Rattle.vx_scan.specs.Batches.{FaultsFrom}
-use Rattle.vx_scan.specs.Beginning.{Refuses}
+use Rattle.vx_scan.specs.Admission.{Refuses}
 use Rattle.vx_scan.specs.Causes.{ScanReaches, ReadsDictionary, ReadsList, LacksLocation, ReadsTorn, ReadsBadCode, FaultsAt}
 use Rattle.vx_scan.specs.PlanTexts.{held_tree}
-use Rattle.vx_scan.specs.Preparing.{node_of, IsTakeAs}
+use Rattle.vx_scan.specs.FilePlans.{node_of, IsTakeAs}
 use Rattle.vx_scan.specs.Valid.{IsValidScan}
 use Rattle.vx_scan.specs.ScanLeaves.{ScanReadsLeaf}
 

@@ -10,7 +10,7 @@ use Rattle.vx_drive.specs.declared.plans.ScanPlans.{ScanPlans}
 use Rattle.vx_drive.specs.Plans.{projection_plan}
 use Rattle.vx_chunks.specs.Ways.{ReadsBy}
 use Rattle.vx_workers.specs.Workers.{RunsSource}
-use Rattle.vx_settle.specs.Settling.{AsksAgain}
+use Rattle.vx_execute.specs.Validating.{AsksAgain}
 use Rattle.vx_scan.specs.Counts.{asked_times, AreAllOf}
 
 -- A selected row of the chunk of that number reads a leaf in the segment that way; the segment's location has the range.

@@ -5,7 +5,7 @@ ghost use Rattle.vx_scan.specs.BatchColumns.{TakesBatches};
 use std::alloc::Global;
 use vx_base::Column;
 use vx_drive::ScanError;
-use vx_settle::Outcome;
+use vx_execute::Outcome;
 
 /// The columns of all pieces in their order, or the error of the lowest chunk that failed.
 pub(crate) fn batches_of(alloc: Global, outcome: Outcome) -> Result<Vec<Column>, ScanError>

@@ -8,17 +8,17 @@ ghost use Rattle.vx_drive.specs.declared.errors.ScanError.{ScanError as Refusal}
 ghost use Rattle.vx_drive.specs.declared.errors.ScanError.TheVariants.{Memory as lacking};
 ghost use Rattle.vx_workers.specs.Limits.{most_workers};
 ghost use Rattle.vx_scan.specs.Answer.{row_count};
-ghost use Rattle.vx_scan.specs.Beginning.{Refuses};
+ghost use Rattle.vx_scan.specs.Admission.{Refuses};
 ghost use Rattle.vx_scan.specs.Builders.{new_building, scan_of};
 ghost use Rattle.vx_scan.specs.Prepared.{IsPreparedFor};
 ghost use Rattle.vx_scan.specs.Scanned.{AnswersScan};
 ghost use Rattle.vx_scan.specs.Settings.{scan_by};
 ghost use Rattle.vx_scan.specs.Valid.{HasRows, IsBound};
 
+use crate::admission::begin;
 use crate::batches::batches_of;
-use crate::beginning::begin;
 use crate::files::ScanFile;
-use crate::prepares::{Prepared, prepare_nothing, prepare_rows};
+use crate::prepared_scans::{Prepared, prepare_nothing, prepare_rows};
 use crate::settings::Settings;
 use std::alloc::{AllocError, Global};
 use std::marker::Model;
@@ -29,7 +29,7 @@ use std::thread::Threads;
 use vx_base::{Column, DType, SegmentSource};
 use vx_drive::ScanError;
 use vx_expr::BoundExpression;
-use vx_settle::execute;
+use vx_execute::execute;
 use vx_splits::{Selection, StrictSorted};
 use vx_workers::ValueCache;
 
@@ -63,8 +63,7 @@ impl ScanBuilder {
     pub fn new(alloc: Global, file: ScanFile) -> Result<ScanBuilder, AllocError>
         ensures { IfOk result (λ builder. builder ≡ new_building file.layout file.locations.items) }
     {
-        // The contract of `len` says that the tree keeps its rules.
-        let _count = file.layout.len();
+        file.layout.keeps_rules();
         let dtype = file.layout.dtype().copy(alloc)?;
         let settings = Settings::new(alloc, dtype)?;
         Ok(ScanBuilder { file, settings })

@@ -14,18 +14,18 @@
 //!   that were used: [`used_values_serve_chunks`]; of asks: [`asks_are_counted`], [`claimed_asks_are_counted`]; of texts:
 //!   [`plans_have_one_text`]; by hand: [`answers_by_hand`], [`faults_by_hand`], [`pieces_by_hand`].
 //!
-//! It exports what callers need of `vx_drive`, `vx_chunks`, `vx_workers` and `vx_settle`.
+//! It exports what callers need of `vx_drive`, `vx_chunks`, `vx_workers` and `vx_validate`.
 #![tactic(auto)]
 
+mod admission;
 mod batches;
-mod beginning;
 mod builders;
 mod by_hand;
+mod file_plans;
 mod files;
 mod laws;
 mod plan_texts;
-mod prepares;
-mod preparing;
+mod prepared_scans;
 mod settings;
 
 pub use builders::ScanBuilder;
@@ -36,9 +36,9 @@ pub use laws::{
     plans_have_one_text, scans_have_answers, used_values_serve_chunks,
 };
 pub use plan_texts::plan_text;
-pub use prepares::Prepared;
+pub use prepared_scans::Prepared;
 pub use vx_chunks::{ChunkOutcome, run_chunk, run_values};
 pub use vx_claims::{ClaimSeat, Claiming, Claims};
 pub use vx_drive::{AdaptorError, AdaptorStep, ScanAdaptor, ScanError, ScanPlans, State, errors};
-pub use vx_settle::{Outcome, Rerun, execute};
+pub use vx_execute::{Outcome, Rerun, execute};
 pub use vx_workers::{Book, ChunkError, ClaimList, Piece, ValueCache};

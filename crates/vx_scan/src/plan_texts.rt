@@ -5,7 +5,7 @@ ghost use Rattle.vx_expr.specs.Bound.{IsBoundTo};
 ghost use Rattle.vx_layout.specs.Trees.{head_of, subtree};
 ghost use Rattle.vx_scan.specs.PlanTexts.{projection_of, IsPlanText};
 
-use crate::preparing::plan_layout;
+use crate::file_plans::plan_layout;
 use std::alloc::{AllocError, Global};
 use vx_expr::BoundExpression;
 use vx_layout::LayoutTree;
@@ -22,7 +22,6 @@ pub fn plan_text(
     ensures { IfOk result (λ text. IsPlanText (projection_of layout.now projection.now) text.items) }
 {
     let Lowered { table, root } = plan_layout(alloc, layout, projection)?;
-    // The contract of `len` says that the table keeps its rules.
-    let _plans = table.len();
+    table.keeps_rules();
     PlanTreeDisplay::default_display(alloc, &table, root).text()
 }

@@ -5,7 +5,7 @@ ghost use Rattle.vx_base.specs.Limits.{most_segments};
 ghost use Rattle.vx_plan.specs.Refs.{number_of};
 
 use crate::answers::{write_column, write_error};
-use crate::commands::Desk;
+use crate::commands::CaseState;
 use crate::files::{bytes_of, places_of};
 use crate::splits::splits_of;
 use crate::trees::lowered_of;
@@ -173,14 +173,14 @@ fn write_told(
 /// Appends the story of an adaptor over the tree.
 pub(crate) fn write_adaptor(
     alloc: Global,
-    desk: Desk<'_>,
+    case_state: CaseState<'_>,
     words: &str,
     out: &mut String,
 ) -> Result<(), AllocError> {
-    let Some(plans) = lowered_of(alloc, desk.nodes) else {
+    let Some(plans) = lowered_of(alloc, case_state.nodes) else {
         return out.push_str(" no tree;");
     };
-    let written = write_told(alloc, &plans, desk.places, words, out);
+    let written = write_told(alloc, &plans, case_state.places, words, out);
     drop(plans);
     written
 }

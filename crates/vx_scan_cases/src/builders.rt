@@ -3,7 +3,7 @@
 ghost use Rattle.std.specs.Prelude.{◌≤◌, length, IfOk, IfSome};
 ghost use Rattle.vx_base.specs.Limits.{most_segments};
 
-use crate::commands::Desk;
+use crate::commands::CaseState;
 use crate::files::{numbers_of, places_of};
 use std::alloc::{AllocError, Global};
 use std::ops::Range;
@@ -23,11 +23,11 @@ fn scan_of(alloc: Global, layout: LayoutTree, places: &str) -> Result<ScanBuilde
 }
 
 /// The builder of a scan of the whole file; none where its nodes are no tree.
-pub(crate) fn builder_of(alloc: Global, desk: Desk<'_>) -> Option<ScanBuilder>
+pub(crate) fn builder_of(alloc: Global, case_state: CaseState<'_>) -> Option<ScanBuilder>
     ensures { IfSome result (λ builder. length builder.locations ≤ most_segments) }
 {
-    let layout = tree_of(alloc, desk.nodes)?;
-    scan_of(alloc, layout, desk.places).ok()
+    let layout = tree_of(alloc, case_state.nodes)?;
+    scan_of(alloc, layout, case_state.places).ok()
 }
 
 /// The row's number for `row`, the root less the row's number for `less`, and the root for any other word.
@@ -62,15 +62,15 @@ fn projection_of(alloc: Global, dtype: &DType, word: &str) -> Option<BoundExpres
 }
 
 /// The scan of the file with the projection of that word; none where there is no tree, or it can't be bound.
-fn projected(alloc: Global, desk: Desk<'_>, word: &str) -> Option<ScanBuilder>
+fn projected(alloc: Global, case_state: CaseState<'_>, word: &str) -> Option<ScanBuilder>
     ensures { IfSome result (λ builder. length builder.locations ≤ most_segments) }
 {
-    let layout = tree_of(alloc, desk.nodes)?;
+    let layout = tree_of(alloc, case_state.nodes)?;
     let Some(projection) = projection_of(alloc, layout.dtype(), word) else {
         drop(layout);
         return None;
     };
-    let Ok(builder) = scan_of(alloc, layout, desk.places) else {
+    let Ok(builder) = scan_of(alloc, layout, case_state.places) else {
         drop(projection);
         return None;
     };
@@ -99,7 +99,7 @@ fn range_of(words: &str) -> Range<u64> {
 /// The scan of the file with settings that are written so: `1..4 0,3 7 row` is of the rows 0 and 3 in a range, counted
 /// from 7, and projects their numbers; `1..4 all 7 row` is of all rows of the range. None where there is no tree, or they
 /// can't be set.
-pub(crate) fn set_of(alloc: Global, desk: Desk<'_>, words: &str) -> Option<ScanBuilder>
+pub(crate) fn set_of(alloc: Global, case_state: CaseState<'_>, words: &str) -> Option<ScanBuilder>
     ensures { IfSome result (λ builder. length builder.locations ≤ most_segments) }
 {
     let (range, words) = words.split_once(' ').unwrap_or((words, ""));
@@ -107,7 +107,7 @@ pub(crate) fn set_of(alloc: Global, desk: Desk<'_>, words: &str) -> Option<ScanB
     let (offset, root) = words.split_once(' ').unwrap_or((words, ""));
     let offset = offset.parse::<u64>().unwrap_or(0);
     let selection = selection_of(alloc, indices)?;
-    let Some(builder) = projected(alloc, desk, root) else {
+    let Some(builder) = projected(alloc, case_state, root) else {
         drop(selection);
         return None;
     };

@@ -4,7 +4,7 @@ ghost use Rattle.std.specs.Prelude.{IfSome, IsTrue};
 ghost use Rattle.vx_scan.specs.Plans.{ArePlans, IsChunkOf};
 
 use crate::answers::{write_column, write_columns, write_error, write_source};
-use crate::commands::Desk;
+use crate::commands::CaseState;
 use crate::files::{places_of, source_of};
 use crate::splits::split_of;
 use crate::trees::lowered_of;
@@ -19,11 +19,11 @@ use vx_splits::{SelectedRows, WorkScope};
 use vx_steps::{KeptValue, Split};
 
 /// What the chunks of the tree share; none where its nodes are no tree.
-pub(crate) fn plans_of(alloc: Global, desk: Desk<'_>) -> Option<ScanPlans>
+pub(crate) fn plans_of(alloc: Global, case_state: CaseState<'_>) -> Option<ScanPlans>
     ensures { IfSome result ArePlans }
 {
-    let Lowered { table, root } = lowered_of(alloc, desk.nodes)?;
-    let locations = places_of(alloc, desk.places);
+    let Lowered { table, root } = lowered_of(alloc, case_state.nodes)?;
+    let locations = places_of(alloc, case_state.places);
     let Ok(ranges) = segment_ranges(alloc, &locations) else {
         drop(table);
         drop(locations);
@@ -35,7 +35,7 @@ pub(crate) fn plans_of(alloc: Global, desk: Desk<'_>) -> Option<ScanPlans>
         locations,
         ranges,
         row_offset: 0,
-        idle_limit: desk.limit,
+        idle_limit: case_state.limit,
     })
 }
 
@@ -121,7 +121,7 @@ fn write_run(
 /// Appends what a run of the chunk gives, where it is one, and what its source was asked.
 fn write_chosen(
     alloc: Global,
-    desk: Desk<'_>,
+    case_state: CaseState<'_>,
     plans: &ScanPlans,
     chosen: &SelectedRows,
     words: &str,
@@ -132,7 +132,7 @@ fn write_chosen(
     if !is_chunk(plans, chosen) {
         return out.push_str(" out of range;");
     }
-    let mut source = source_of(alloc, desk.bytes, desk.script);
+    let mut source = source_of(alloc, case_state.bytes, case_state.script);
     let ran = write_run(alloc, plans, chosen, &mut source, words, out);
     let written = ran.and(write_source(&source, out));
     drop(source);
@@ -142,7 +142,7 @@ fn write_chosen(
 /// Appends what the chunk of those rows gives over the plans.
 fn write_over(
     alloc: Global,
-    desk: Desk<'_>,
+    case_state: CaseState<'_>,
     plans: &ScanPlans,
     words: &str,
     out: &mut String,
@@ -151,7 +151,7 @@ fn write_over(
 {
     let (rows, words) = words.split_once(" | ").unwrap_or((words, ""));
     let chosen = chosen_of(alloc, rows)?;
-    let written = write_chosen(alloc, desk, plans, &chosen, words, out);
+    let written = write_chosen(alloc, case_state, plans, &chosen, words, out);
     drop(chosen);
     written
 }
@@ -159,14 +159,14 @@ fn write_over(
 /// Appends what a run of the chunk of those rows gives, and what its source was asked.
 pub(crate) fn write_chunk(
     alloc: Global,
-    desk: Desk<'_>,
+    case_state: CaseState<'_>,
     words: &str,
     out: &mut String,
 ) -> Result<(), AllocError> {
-    let Some(plans) = plans_of(alloc, desk) else {
+    let Some(plans) = plans_of(alloc, case_state) else {
         return out.push_str(" no tree;");
     };
-    let written = write_over(alloc, desk, &plans, words, out);
+    let written = write_over(alloc, case_state, &plans, words, out);
     drop(plans);
     written
 }

@@ -16,7 +16,7 @@ use std::thread::Threads;
 /// The file in words: the nodes of its tree, where its segments lie, its bytes, and the script that its source keeps
 /// to; and how often that may answer that a read goes on.
 #[derive(Clone, Copy)]
-pub(crate) struct Desk<'a> {
+pub(crate) struct CaseState<'a> {
     pub(crate) nodes: &'a str,
     pub(crate) places: &'a str,
     pub(crate) bytes: &'a str,
@@ -25,13 +25,13 @@ pub(crate) struct Desk<'a> {
 }
 
 /// Keeps what a line says of the file.
-fn set<'a>(desk: &mut Desk<'a>, command: &str, words: &'a str) {
+fn set<'a>(case_state: &mut CaseState<'a>, command: &str, words: &'a str) {
     match command {
-        "tree" => desk.nodes = words,
-        "at" => desk.places = words,
-        "file" => desk.bytes = words,
-        "script" => desk.script = words,
-        "limit" => desk.limit = words.parse::<u64>().unwrap_or(0),
+        "tree" => case_state.nodes = words,
+        "at" => case_state.places = words,
+        "file" => case_state.bytes = words,
+        "script" => case_state.script = words,
+        "limit" => case_state.limit = words.parse::<u64>().unwrap_or(0),
         _ => {}
     }
 }
@@ -39,7 +39,7 @@ fn set<'a>(desk: &mut Desk<'a>, command: &str, words: &'a str) {
 /// Appends the answer to a line.
 fn write_answer<R: AllocGlobal + Threads + Wait + Sync>(
     rt: &R,
-    desk: Desk<'_>,
+    case_state: CaseState<'_>,
     command: &str,
     words: &str,
     out: &mut String,
@@ -48,18 +48,18 @@ fn write_answer<R: AllocGlobal + Threads + Wait + Sync>(
     match command {
         "at" | "file" | "script" | "limit" => Ok(()),
         "tree" => write_tree(alloc, words, out),
-        "dtype" => write_dtype(alloc, desk, out),
-        "scan" => write_scan(rt, desk, out),
-        "select" => write_selected(rt, desk, words, out),
-        "chunk" => write_chunk(alloc, desk, words, out),
-        "asks" => write_asks(alloc, desk, words, out),
-        "values" => write_values(alloc, desk, words, out),
-        "prepare" => write_prepared(alloc, desk, words, out),
-        "execute" => write_executed(rt, desk, words, out),
-        "share" => write_shared(rt, desk, words, out),
+        "dtype" => write_dtype(alloc, case_state, out),
+        "scan" => write_scan(rt, case_state, out),
+        "select" => write_selected(rt, case_state, words, out),
+        "chunk" => write_chunk(alloc, case_state, words, out),
+        "asks" => write_asks(alloc, case_state, words, out),
+        "values" => write_values(alloc, case_state, words, out),
+        "prepare" => write_prepared(alloc, case_state, words, out),
+        "execute" => write_executed(rt, case_state, words, out),
+        "share" => write_shared(rt, case_state, words, out),
         "book" => write_book(alloc, words, out),
         "cache" => write_cache(rt, words, out),
-        "adaptor" => write_adaptor(alloc, desk, words, out),
+        "adaptor" => write_adaptor(alloc, case_state, words, out),
         "error" => write_text(words, out),
         _ => out.push_str(" no command"),
     }
@@ -71,7 +71,7 @@ pub(crate) fn write_lines<R: AllocGlobal + Threads + Wait + Sync>(
     lines: &str,
     out: &mut String,
 ) -> Result<(), AllocError> {
-    let mut desk = Desk {
+    let mut case_state = CaseState {
         nodes: "",
         places: "",
         bytes: "",
@@ -83,8 +83,8 @@ pub(crate) fn write_lines<R: AllocGlobal + Threads + Wait + Sync>(
         if !line.is_empty() && !line.starts_with("# ") {
             out.push_str(" =>")?;
             let (command, words) = line.split_once(' ').unwrap_or((line, ""));
-            set(&mut desk, command, words);
-            write_answer(rt, desk, command, words, out)?;
+            set(&mut case_state, command, words);
+            write_answer(rt, case_state, command, words, out)?;
         }
         out.push('\n')?;
     }

@@ -5,7 +5,7 @@ ghost use Rattle.vx_base.specs.Limits.{most_segments};
 
 use crate::answers::{write_column, write_error, write_source};
 use crate::builders::{builder_of, set_of};
-use crate::commands::Desk;
+use crate::commands::CaseState;
 use crate::files::source_of;
 use std::alloc::{AllocError, Global};
 use std::sync::Wait;
@@ -35,14 +35,14 @@ fn write_batches(
 /// Appends the batches of a scan of the file, and what its source was asked.
 fn write_run<R: AllocGlobal + Threads + Wait + Sync>(
     rt: &R,
-    desk: Desk<'_>,
+    case_state: CaseState<'_>,
     builder: ScanBuilder,
     out: &mut String,
 ) -> Result<(), AllocError>
     requires { length builder.locations ≤ most_segments }
 {
     let alloc = rt.alloc();
-    let mut sources = [source_of(alloc, desk.bytes, desk.script)];
+    let mut sources = [source_of(alloc, case_state.bytes, case_state.script)];
     let batches = builder.into_batches(rt, alloc, &mut sources);
     let written = write_batches(alloc, &batches, out).and(write_source(&sources[0], out));
     drop(batches);
@@ -53,11 +53,16 @@ fn write_run<R: AllocGlobal + Threads + Wait + Sync>(
 /// Appends the batches of a scan of the file, and what its source was asked.
 pub(crate) fn write_scan<R: AllocGlobal + Threads + Wait + Sync>(
     rt: &R,
-    desk: Desk<'_>,
+    case_state: CaseState<'_>,
     out: &mut String,
 ) -> Result<(), AllocError> {
-    match builder_of(rt.alloc(), desk) {
-        Some(builder) => write_run(rt, desk, builder.with_idle_limit(desk.limit.max(1)), out),
+    match builder_of(rt.alloc(), case_state) {
+        Some(builder) => write_run(
+            rt,
+            case_state,
+            builder.with_idle_limit(case_state.limit.max(1)),
+            out,
+        ),
         None => out.push_str(" no tree;"),
     }
 }
@@ -65,12 +70,12 @@ pub(crate) fn write_scan<R: AllocGlobal + Threads + Wait + Sync>(
 /// Appends the batches of a scan of the file with these settings, and what its source was asked.
 pub(crate) fn write_selected<R: AllocGlobal + Threads + Wait + Sync>(
     rt: &R,
-    desk: Desk<'_>,
+    case_state: CaseState<'_>,
     words: &str,
     out: &mut String,
 ) -> Result<(), AllocError> {
-    match set_of(rt.alloc(), desk, words) {
-        Some(builder) => write_run(rt, desk, builder, out),
+    match set_of(rt.alloc(), case_state, words) {
+        Some(builder) => write_run(rt, case_state, builder, out),
         None => out.push_str(" not set;"),
     }
 }
@@ -84,10 +89,10 @@ fn write_type(alloc: Global, dtype: &DType, out: &mut String) -> Result<(), Allo
 /// Appends the dtype of the batches.
 pub(crate) fn write_dtype(
     alloc: Global,
-    desk: Desk<'_>,
+    case_state: CaseState<'_>,
     out: &mut String,
 ) -> Result<(), AllocError> {
-    let Some(builder) = builder_of(alloc, desk) else {
+    let Some(builder) = builder_of(alloc, case_state) else {
         return out.push_str(" no tree;");
     };
     let written = write_type(alloc, builder.dtype(), out);

@@ -8,7 +8,7 @@ ghost use Rattle.vx_scan.specs.Plans.{ArePlans};
 use crate::answers::{write_column, write_error};
 use crate::builders::set_of;
 use crate::caches::{keep_all, write_kept};
-use crate::commands::Desk;
+use crate::commands::CaseState;
 use crate::workers::{sources_of, write_outcome};
 use std::alloc::{AllocError, Global};
 use std::sync::Wait;
@@ -105,7 +105,7 @@ fn write_lent<R: AllocGlobal + Threads + Wait + Sync>(
 /// Runs a prepared scan over so many sources of the file and a cache that has the given values.
 fn write_over<R: AllocGlobal + Threads + Wait + Sync>(
     rt: &R,
-    desk: Desk<'_>,
+    case_state: CaseState<'_>,
     prepared: &Prepared,
     count: u64,
     given: &str,
@@ -116,7 +116,7 @@ fn write_over<R: AllocGlobal + Threads + Wait + Sync>(
 {
     let cache = ValueCache::new(rt.alloc());
     let kept = keep_all(rt, &cache, given);
-    let mut sources = sources_of(rt.alloc(), desk, count);
+    let mut sources = sources_of(rt.alloc(), case_state, count);
     let written = write_lent(rt, prepared, sources.as_mut_slice(), &cache, out);
     drop(sources);
     drop(cache);
@@ -127,7 +127,7 @@ fn write_over<R: AllocGlobal + Threads + Wait + Sync>(
 /// the cache has then, and what all sources together were asked.
 pub(crate) fn write_shared<R: AllocGlobal + Threads + Wait + Sync>(
     rt: &R,
-    desk: Desk<'_>,
+    case_state: CaseState<'_>,
     words: &str,
     out: &mut String,
 ) -> Result<(), AllocError> {
@@ -135,10 +135,10 @@ pub(crate) fn write_shared<R: AllocGlobal + Threads + Wait + Sync>(
     let (words, given) = words.split_once(" | ").unwrap_or((words, ""));
     let (count, words) = words.split_once(' ').unwrap_or((words, ""));
     let count = count.parse::<u64>().unwrap_or(1);
-    match set_of(alloc, desk, words) {
+    match set_of(alloc, case_state, words) {
         Some(builder) => match builder.prepare(alloc) {
             Ok(prepared) => {
-                let written = write_over(rt, desk, &prepared, count, given, out);
+                let written = write_over(rt, case_state, &prepared, count, given, out);
                 drop(prepared);
                 written
             }

@@ -6,7 +6,7 @@ ghost use Rattle.vx_scan.specs.Plans.{ArePlans};
 
 use crate::answers::{write_column, write_error, write_source};
 use crate::chunks::{chosen_of, is_chunk, plans_of};
-use crate::commands::Desk;
+use crate::commands::CaseState;
 use crate::files::source_of;
 use std::alloc::{AllocError, Global};
 use vx_base::Column;
@@ -33,7 +33,7 @@ fn write_read(
 /// Appends the whole values of a plan, or why there are none, and what their source was asked.
 fn write_plan(
     alloc: Global,
-    desk: Desk<'_>,
+    case_state: CaseState<'_>,
     plans: &ScanPlans,
     node: PlanRef,
     out: &mut String,
@@ -41,7 +41,7 @@ fn write_plan(
     requires plans { ArePlans plans.now }
     requires known { number_of node < length plans.now.table }
 {
-    let mut source = source_of(alloc, desk.bytes, desk.script);
+    let mut source = source_of(alloc, case_state.bytes, case_state.script);
     let values = run_values(alloc, plans, node, &mut source);
     let written = write_read(alloc, &values, out).and(write_source(&source, out));
     drop(values);
@@ -52,7 +52,7 @@ fn write_plan(
 /// Appends what a reading of the plan of that number gives, where there is one.
 fn write_numbered(
     alloc: Global,
-    desk: Desk<'_>,
+    case_state: CaseState<'_>,
     plans: &ScanPlans,
     number: u32,
     out: &mut String,
@@ -62,21 +62,21 @@ fn write_numbered(
     if plans.table.len() <= number {
         return out.push_str(" no plan;");
     }
-    write_plan(alloc, desk, plans, PlanRef(number), out)
+    write_plan(alloc, case_state, plans, PlanRef(number), out)
 }
 
 /// Appends what a reading of the plan of that number gives, where the tree has one.
 pub(crate) fn write_values(
     alloc: Global,
-    desk: Desk<'_>,
+    case_state: CaseState<'_>,
     words: &str,
     out: &mut String,
 ) -> Result<(), AllocError> {
-    let Some(plans) = plans_of(alloc, desk) else {
+    let Some(plans) = plans_of(alloc, case_state) else {
         return out.push_str(" no tree;");
     };
     let number = words.parse::<u32>().unwrap_or(0);
-    let written = write_numbered(alloc, desk, &plans, number, out);
+    let written = write_numbered(alloc, case_state, &plans, number, out);
     drop(plans);
     written
 }
@@ -127,11 +127,11 @@ fn write_over(
 /// Appends which whole values the rows of a split ask for.
 pub(crate) fn write_asks(
     alloc: Global,
-    desk: Desk<'_>,
+    case_state: CaseState<'_>,
     words: &str,
     out: &mut String,
 ) -> Result<(), AllocError> {
-    let Some(plans) = plans_of(alloc, desk) else {
+    let Some(plans) = plans_of(alloc, case_state) else {
         return out.push_str(" no tree;");
     };
     let written = write_over(alloc, &plans, words, out);

@@ -6,7 +6,7 @@ ghost use Rattle.vx_scan.specs.Plans.{ArePlans};
 use crate::answers::{write_column, write_error};
 use crate::builders::set_of;
 use crate::chunks::value_of;
-use crate::commands::Desk;
+use crate::commands::CaseState;
 use crate::files::source_of;
 use std::alloc::{AllocError, Global};
 use std::sync::Wait;
@@ -27,11 +27,11 @@ fn write_chunks(prepared: &Prepared, out: &mut String) -> Result<(), AllocError>
 /// Appends the chunks of a scan that is prepared, or why it is refused.
 pub(crate) fn write_prepared(
     alloc: Global,
-    desk: Desk<'_>,
+    case_state: CaseState<'_>,
     words: &str,
     out: &mut String,
 ) -> Result<(), AllocError> {
-    match set_of(alloc, desk, words) {
+    match set_of(alloc, case_state, words) {
         Some(builder) => match builder.prepare(alloc) {
             Ok(prepared) => {
                 let written = write_chunks(&prepared, out);
@@ -84,10 +84,16 @@ pub(crate) fn write_outcome(
 }
 
 /// Sources of the file, so many, and one at least. Those that have no room are left out.
-pub(crate) fn sources_of(alloc: Global, desk: Desk<'_>, count: u64) -> Vec<ScriptSource> {
+pub(crate) fn sources_of(
+    alloc: Global,
+    case_state: CaseState<'_>,
+    count: u64,
+) -> Vec<ScriptSource> {
     let mut sources = Vec::new(alloc);
     for _source in 0..count.clamp(1, 64) {
-        let _pushed = sources.push(source_of(alloc, desk.bytes, desk.script)).ok();
+        let _pushed = sources
+            .push(source_of(alloc, case_state.bytes, case_state.script))
+            .ok();
     }
     sources
 }
@@ -124,7 +130,7 @@ fn write_run<R: AllocGlobal + Threads + Wait + Sync>(
 /// Runs a prepared scan over so many sources of the file.
 fn write_over<R: AllocGlobal + Threads + Wait + Sync>(
     rt: &R,
-    desk: Desk<'_>,
+    case_state: CaseState<'_>,
     prepared: &Prepared,
     count: u64,
     out: &mut String,
@@ -132,7 +138,7 @@ fn write_over<R: AllocGlobal + Threads + Wait + Sync>(
     requires plans { ArePlans prepared.now.plans }
     requires chunks { CanRun prepared.now.plans prepared.now.chunks.items }
 {
-    let mut sources = sources_of(rt.alloc(), desk, count);
+    let mut sources = sources_of(rt.alloc(), case_state, count);
     let written = write_run(rt, prepared, sources.as_mut_slice(), out);
     drop(sources);
     written
@@ -141,17 +147,17 @@ fn write_over<R: AllocGlobal + Threads + Wait + Sync>(
 /// Appends what a prepared scan gives over so many sources.
 pub(crate) fn write_executed<R: AllocGlobal + Threads + Wait + Sync>(
     rt: &R,
-    desk: Desk<'_>,
+    case_state: CaseState<'_>,
     words: &str,
     out: &mut String,
 ) -> Result<(), AllocError> {
     let alloc = rt.alloc();
     let (count, words) = words.split_once(' ').unwrap_or((words, ""));
     let count = count.parse::<u64>().unwrap_or(1);
-    match set_of(alloc, desk, words) {
+    match set_of(alloc, case_state, words) {
         Some(builder) => match builder.prepare(alloc) {
             Ok(prepared) => {
-                let written = write_over(rt, desk, &prepared, count, out);
+                let written = write_over(rt, case_state, &prepared, count, out);
                 drop(prepared);
                 written
             }

@@ -14,7 +14,7 @@ use Rattle.vx_plan.proofs.Growing.{below_known}
 use Rattle.vx_plan.proofs.Unfolding.{Known, known}
 use Rattle.vx_rows.specs.Reads.{IsAmong}
 use Rattle.vx_rows.specs.Heads.{Head}
-use Rattle.vx_steps.specs.Asked.{AreAsked}
+use Rattle.vx_steps.specs.Asked.{AreAskedPlans}
 use Rattle.vx_steps.specs.Given.{Handed, handed_by}
 use Rattle.vx_steps.specs.Visits.{IsWholeRead}
 use Rattle.vx_steps.specs.Wholes.{Asks}
@@ -59,7 +59,7 @@ asked_known nodes good n start bits number there (place, at, v) =
     asked_kind node.kind nodes good one.handed (head_at m node) node node.children number one.row one.there k.good.made (below_known nodes m node.children (omega (arith, one.there)) k.good.below) (subst F k.law one.is)
 
 -- and so are all that are listed
-pub are_known : (nodes : List Node) → IsGoodTable nodes → (n start : ℕ) (bits : List Bool) (listed : List ℕ) → n < length nodes → AreAsked nodes n start bits listed → AreIn nodes listed
+pub are_known : (nodes : List Node) → IsGoodTable nodes → (n start : ℕ) (bits : List Bool) (listed : List ℕ) → n < length nodes → AreAskedPlans nodes n start bits listed → AreIn nodes listed
 are_known nodes good n start bits listed there are i d less =
     let here : IsAmong (get_or listed i d) listed = among_is (get_or listed i d) listed (at_among listed i d less) in
     asked_known nodes good n start bits (get_or listed i d) there ((are (get_or listed i d)).0 here)

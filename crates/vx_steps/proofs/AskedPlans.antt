@@ -7,7 +7,7 @@ use Rattle.vx_plan.specs.Plans.{Plan, plan_at, filter_plan, take_plan, share_pla
 use Rattle.vx_plan.specs.Rules.{node_at}
 use Rattle.vx_plan.specs.Tables.{IsGoodTable}
 use Rattle.vx_steps.specs.declared.chunks.Chunk.{Chunk}
-use Rattle.vx_steps.specs.Asked.{AreAsked, AreSame}
+use Rattle.vx_steps.specs.Asked.{AreAskedPlans, AreSame}
 use Rattle.vx_steps.specs.Chunks.{IsChunk}
 use Rattle.vx_steps.specs.Given.{Handed, handed_by}
 use Rattle.vx_steps.specs.Needs.{Adds, Among}
@@ -180,7 +180,7 @@ chunks_asked nodes n start done bits all old new added =
 -- ---- the list of them
 
 -- what was added to none is listed once
-pub are_asked : (nodes : List Node) (n start : ℕ) (bits : List Bool) (numbers listed : List ℕ) → Adds (Asks nodes [] n start bits) [] numbers → AreSame listed numbers → AreAsked nodes n start bits listed
+pub are_asked : (nodes : List Node) (n start : ℕ) (bits : List Bool) (numbers listed : List ℕ) → Adds (Asks nodes [] n start bits) [] numbers → AreSame listed numbers → AreAskedPlans nodes n start bits listed
 are_asked nodes n start bits numbers listed added same m = (
   λ h. ⊎_elim (λ (none : Among m []). absurd none) (λ (asks : Asks nodes [] n start bits m). asks) (added.only m (is_among m numbers ((same m).0 h))),
   λ asks. (same m).1 (among_is m numbers (added.all m asks)),

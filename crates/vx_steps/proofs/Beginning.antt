@@ -10,7 +10,7 @@ use Rattle.vx_steps.specs.declared.jobs.Progress.{Progress}
 use Rattle.vx_steps.specs.Held.{AreTyped, FitsOffset}
 use Rattle.vx_steps.specs.Jobs.{IsActive, IsGood, IsUnstarted}
 use Rattle.vx_steps.specs.KeptData.{Kept}
-use Rattle.vx_steps.specs.Kept.{kept_at, AreApart}
+use Rattle.vx_steps.specs.Kept.{kept_at, AreOfDistinctPlans}
 use Rattle.vx_steps.specs.Needs.{Among}
 use Rattle.vx_steps.specs.Releasing.{ServesAll}
 use Rattle.vx_steps.specs.ScanData.{ScanData, StaysTold}
@@ -33,7 +33,7 @@ actives_none : (nodes : List Node) (job : Job) (progress : Progress) → progres
 actives_none nodes job progress none active among = absurd (subst (λ (actives : List ActiveSplit). Among active actives) none among)
 
 -- Before the first step a scan is good whatever is handed in, where that is typed and the numbers of rows fit.
-pub good_unstarted : (nodes : List Node) (job : Job) (progress : Progress) → IsUnstarted progress → job.plan < length nodes → AllByRecursion (IsInside (node_at nodes job.plan).rows) job.splits.items → FitsOffset nodes job.offset → AreTyped nodes job.given → AreTyped nodes progress.leaves → AreTyped nodes progress.wholes.made → AreApart progress.wholes.made → ServesAll nodes job progress → IsGood nodes job progress
+pub good_unstarted : (nodes : List Node) (job : Job) (progress : Progress) → IsUnstarted progress → job.plan < length nodes → AllByRecursion (IsInside (node_at nodes job.plan).rows) job.splits.items → FitsOffset nodes job.offset → AreTyped nodes job.given → AreTyped nodes progress.leaves → AreTyped nodes progress.wholes.made → AreOfDistinctPlans progress.wholes.made → ServesAll nodes job progress → IsGood nodes job progress
 good_unstarted nodes job progress unstarted known inside fits given leaves made apart serves = record {
   known = known;
   inside = inside;
@@ -89,7 +89,7 @@ good_with_leaves nodes job progress new leaves unstarted good typed is =
     subst (λ (p : Progress). IsGood nodes job p) (sym is)
     (good_unstarted nodes job (record { next = progress.next; active = progress.active; reads = progress.reads; leaves = leaves; wholes = progress.wholes }) still good.known good.inside good.fits good.typed_given typed good.typed_made good.apart_made (serves_handed nodes job progress leaves unstarted.next good.serves))
 
-pub good_with_made : (nodes : List Node) (job : Job) (progress new : Progress) (made : List Kept) → IsUnstarted progress → IsGood nodes job progress → AreTyped nodes made → AreApart made → new ≡ record { next = progress.next; active = progress.active; reads = progress.reads; leaves = progress.leaves; wholes = record { made = made; used = progress.wholes.used } } → IsGood nodes job new
+pub good_with_made : (nodes : List Node) (job : Job) (progress new : Progress) (made : List Kept) → IsUnstarted progress → IsGood nodes job progress → AreTyped nodes made → AreOfDistinctPlans made → new ≡ record { next = progress.next; active = progress.active; reads = progress.reads; leaves = progress.leaves; wholes = record { made = made; used = progress.wholes.used } } → IsGood nodes job new
 good_with_made nodes job progress new made unstarted good typed apart is =
     let still : IsUnstarted (record { next = progress.next; active = progress.active; reads = progress.reads; leaves = progress.leaves; wholes = record { made = made; used = progress.wholes.used } }) = record { next = unstarted.next; active = unstarted.active; wanted = unstarted.wanted; used = unstarted.used } in
     subst (λ (p : Progress). IsGood nodes job p) (sym is)

@@ -2,7 +2,7 @@
 use Rattle.std.proofs.Common.{◌≡◌, ℕ, zero, suc, ◌+◌, ◌-◌, ◌<◌, inl, inr, List, [], ◌∷◌, Option, Some, None, length, refl, sym, ap, ◌∙◌, subst}
 use Rattle.std.specs.Prelude.{nat_lt, IfSome, IsSomeAnd}
 use Rattle.vx_base.specs.Data.{Datum}
-use Rattle.vx_rows.specs.Derivations.{Derivation, Leaves, count_of, each_row}
+use Rattle.vx_rows.specs.Derivations.{Derivation, Leaves, derivation_count, each_row}
 use Rattle.vx_rows.specs.Reads.{Way, a_code, code_row, CodeRow, IsPlaceAmong}
 use Rattle.vx_rows.specs.Given.{all_given, values_with, with_given}
 use Rattle.vx_rows.specs.Heads.{Head}
@@ -63,15 +63,15 @@ mutual
 
 -- ---- as many values
 
-rows_counted : (f : ℕ → Derivation) (from count : ℕ) → count_of (each_row f from count) ≡ count
+rows_counted : (f : ℕ → Derivation) (from count : ℕ) → derivation_count (each_row f from count) ≡ count
 rows_counted f from zero = refl
 rows_counted f from (suc count) = ap suc (rows_counted f (from + 1) count)
 
-given_counted : (vs : List Datum) → count_of (all_given vs) ≡ length vs
+given_counted : (vs : List Datum) → derivation_count (all_given vs) ≡ length vs
 given_counted [] = refl
 given_counted (v ∷ vs) = ap suc (given_counted vs)
 
-values_counted : (handed : Option (List Datum)) (f : ℕ → Derivation) (rows : ℕ) → IfSome handed (λ vs. length vs ≡ rows) → count_of (values_with handed (each_row f 0 rows)) ≡ rows
+values_counted : (handed : Option (List Datum)) (f : ℕ → Derivation) (rows : ℕ) → IfSome handed (λ vs. length vs ≡ rows) → derivation_count (values_with handed (each_row f 0 rows)) ≡ rows
 values_counted None f rows is = rows_counted f 0 rows
 values_counted (Some vs) f rows is = given_counted vs ∙ is
 

@@ -19,7 +19,7 @@ use Rattle.vx_plan.specs.Tables.{IsGoodTable}
 use Rattle.vx_rows.specs.Given.{each_with_given}
 use Rattle.vx_steps.specs.Rows.{rows_of, AreOf}
 use Rattle.vx_steps.specs.Structs.{field_parts, front_parts, last_part, structs_at, truths_of, validity_part}
-use Rattle.vx_steps.proofs.SelectedRows.{count_of, rows_count}
+use Rattle.vx_steps.proofs.SelectedRows.{count_of_rows, rows_count}
 use Rattle.vx_base.specs.Columns.{ColumnData}
 use Rattle.vx_plan.specs.Plans.{Plan, plan_at, plans_from, field_plans, front_plans, last_plan, last_validity, pack_plan}
 use Rattle.vx_plan.specs.Rules.{field_count, node_at, nodes_at, IsValidityType, ValidityFits}
@@ -193,7 +193,7 @@ struct_here h leaves start bits true (n ∷ ns) (part ∷ parts) head all fit va
     let s : Datum = structure (items_at (front_parts (part ∷ parts)) k) in
     let v : Datum = slice_index_or t.last.values k null in
     let less : k < length (rows_of start bits) = slice_get_within (rows_of start bits) k r at in
-    let long : length t.last.values ≡ length (rows_of start bits) = count_of (row_value leaves (handed_in h) h.offset (last_plan (map (plan_at h.nodes) (n ∷ ns)))) (rows_of start bits) t.last.values t.values in
+    let long : length t.last.values ≡ length (rows_of start bits) = count_of_rows (row_value leaves (handed_in h) h.offset (last_plan (map (plan_at h.nodes) (n ∷ ns)))) (rows_of start bits) t.last.values t.values in
     let B : DataType → Type 0 = λ t. Fits t v in
     let is_truth : Fits (bool_type NonNullable) v = subst B t.dtype (fits_there t.last.dtype t.last.values k t.fit (omega arith)) in
     let own : row_value leaves (handed_in h) h.offset (last_plan (map (plan_at h.nodes) (n ∷ ns))) r ≡ Some v = value_there (row_value leaves (handed_in h) h.offset (last_plan (map (plan_at h.nodes) (n ∷ ns)))) (rows_of start bits) t.last.values t.values k r at in

@@ -11,7 +11,7 @@ use Rattle.vx_steps.specs.KeptData.{Kept}
 use Rattle.vx_steps.specs.declared.kept.KeptValue.{KeptValue}
 use Rattle.vx_steps.specs.declared.places.PlaceTable.{PlaceTable}
 use Rattle.vx_plan.specs.Refs.{number_of}
-use Rattle.vx_steps.specs.Kept.{kept_at, kept_data, AreApart, ArePlaces, IsPlace}
+use Rattle.vx_steps.specs.Kept.{kept_at, kept_data, AreOfDistinctPlans, ArePlaces, IsPlace}
 use Rattle.vx_steps.specs.Needs.{Among}
 use Rattle.vx_steps.specs.Offers.{IsForPlan, Keeps}
 use Rattle.vx_steps.specs.Places.{place_in}
@@ -110,10 +110,10 @@ kept_place P (x ∷ xs) kept place k (inr (not, keeps)) at =
 zero_apart : (n : ℕ) → 0 ≡ suc n → ⊥
 zero_apart n e = absurd (omega arith)
 
-apart_tail : (x : Kept) (xs : List Kept) → AreApart (x ∷ xs) → AreApart xs
+apart_tail : (x : Kept) (xs : List Kept) → AreOfDistinctPlans (x ∷ xs) → AreOfDistinctPlans xs
 apart_tail x xs apart p q k l at_p at_q same = let e : suc p ≡ suc q = apart (suc p) (suc q) k l at_p at_q same in omega arith
 
-apart_first : (x : Kept) (xs rest : List Kept) → AreApart (x ∷ xs) → AreApart rest → ((place : ℕ) (k : Kept) → slice_get rest place ≡ Some k → (from : ℕ) × (slice_get xs from ≡ Some k)) → AreApart (x ∷ rest)
+apart_first : (x : Kept) (xs rest : List Kept) → AreOfDistinctPlans (x ∷ xs) → AreOfDistinctPlans rest → ((place : ℕ) (k : Kept) → slice_get rest place ≡ Some k → (from : ℕ) × (slice_get xs from ≡ Some k)) → AreOfDistinctPlans (x ∷ rest)
 apart_first x xs rest apart before more zero zero k l at_p at_q same = refl
 apart_first x xs rest apart before more zero (suc q) k l at_p at_q same =
     let found = more q l at_q in
@@ -123,10 +123,10 @@ apart_first x xs rest apart before more (suc p) zero k l at_p at_q same =
     absurd (zero_apart found.0 (apart 0 (suc found.0) l k at_q found.1 (sym same)))
 apart_first x xs rest apart before more (suc p) (suc q) k l at_p at_q same = ap suc (before p q k l at_p at_q same)
 
-pub apart_kept : (P : Kept → Type 0) (offered kept : List Kept) → Keeps P offered kept → AreApart offered → AreApart kept
-apart_kept P [] kept none apart = subst AreApart (sym none) apart
+pub apart_kept : (P : Kept → Type 0) (offered kept : List Kept) → Keeps P offered kept → AreOfDistinctPlans offered → AreOfDistinctPlans kept
+apart_kept P [] kept none apart = subst AreOfDistinctPlans (sym none) apart
 apart_kept P (x ∷ xs) kept (inl (p, (rest, are, keeps))) apart =
-    subst AreApart (sym are) (apart_first x xs rest apart (apart_kept P xs rest keeps (apart_tail x xs apart)) (λ place k at. kept_place P xs rest place k keeps at))
+    subst AreOfDistinctPlans (sym are) (apart_first x xs rest apart (apart_kept P xs rest keeps (apart_tail x xs apart)) (λ place k at. kept_place P xs rest place k keeps at))
 apart_kept P (x ∷ xs) kept (inr (not, keeps)) apart = apart_kept P xs kept keeps (apart_tail x xs apart)
 
 -- ---- what is kept for numbers that are so

@@ -6,8 +6,8 @@ use Rattle.std.specs.List.{slice_get}
 use Rattle.std.proofs.lemmas.Bool.{ltb-true}
 use Rattle.std.proofs.lemmas.Option.{slice_get_within}
 use Rattle.vx_base.specs.Data.{Datum}
-use Rattle.vx_rows.specs.Derivations.{Cell, Derivation, packed, read_whole, Derivations, each_row}
-use Rattle.vx_rows.specs.Reads.{Way, directly, inside, Found, a_cell, a_code, a_list_row, code_row, Read, reads_of, reads_of_each, Finds, ReadsCell, IsIn}
+use Rattle.vx_rows.specs.Derivations.{LeafRow, Derivation, packed, read_whole, Derivations, each_row}
+use Rattle.vx_rows.specs.Reads.{Way, directly, inside, Found, a_leaf_row, a_code, a_list_row, code_row, Read, reads_of, reads_of_each, Finds, ReadsLeafRow, IsIn}
 use Rattle.vx_rows.specs.Given.{GivenValues, all_given, given_row, values_with, share_with, with_given, each_with_given}
 use Rattle.vx_rows.specs.Heads.{Head}
 use Rattle.vx_rows.proofs.Givens.{reads_no_more}
@@ -28,41 +28,41 @@ use Rattle.vx_steps.proofs.VisitedReads.{RowReads, alone_same, leaf_found, none_
 
 -- ---- cells of a segment
 
-record IsCell (segment : ℕ) (found : Found) : Type 0 where
-  at : Cell
-  is : found ≡ a_cell at
+record IsLeafRow (segment : ℕ) (found : Found) : Type 0 where
+  at : LeafRow
+  is : found ≡ a_leaf_row at
   segment_is : at.segment ≡ segment
 
-cell_in : (segment : ℕ) (found : Found) → IsIn segment found → IsCell segment found
-cell_in segment (a_cell at) is = record { at = at; is = refl; segment_is = is }
+cell_in : (segment : ℕ) (found : Found) → IsIn segment found → IsLeafRow segment found
+cell_in segment (a_leaf_row at) is = record { at = at; is = refl; segment_is = is }
 cell_in segment (a_code code) is = absurd is
 cell_in segment (a_list_row list row) is = absurd is
 
-record SomeCell (segment : ℕ) (reads : List Read) : Type 0 where
+record SomeLeafRow (segment : ℕ) (reads : List Read) : Type 0 where
   way : Way
-  at : Cell
+  at : LeafRow
   segment_is : at.segment ≡ segment
-  read : ReadsCell way at reads
+  read : ReadsLeafRow way at reads
 
-some_cell : (segment : ℕ) (reads : List Read) → Finds (IsIn segment) reads → SomeCell segment reads
-some_cell segment [] any = absurd any
-some_cell segment (read ∷ reads) (inl here) =
-    let one : IsCell segment read.found = cell_in segment read.found here in
+some_leaf_row : (segment : ℕ) (reads : List Read) → Finds (IsIn segment) reads → SomeLeafRow segment reads
+some_leaf_row segment [] any = absurd any
+some_leaf_row segment (read ∷ reads) (inl here) =
+    let one : IsLeafRow segment read.found = cell_in segment read.found here in
     record { way = read.way; at = one.at; segment_is = one.segment_is; read = inl (refl, one.is) }
-some_cell segment (read ∷ reads) (inr later) =
-    let one : SomeCell segment reads = some_cell segment reads later in
+some_leaf_row segment (read ∷ reads) (inr later) =
+    let one : SomeLeafRow segment reads = some_leaf_row segment reads later in
     record { way = one.way; at = one.at; segment_is = one.segment_is; read = inr one.read }
 
-cell_some : (segment : ℕ) (way : Way) (at : Cell) (reads : List Read) → at.segment ≡ segment → ReadsCell way at reads → Finds (IsIn segment) reads
-cell_some segment way at [] is any = absurd any
-cell_some segment way at (read ∷ reads) is (inl here) = inl (subst (IsIn segment) (sym here.1) is)
-cell_some segment way at (read ∷ reads) is (inr later) = inr (cell_some segment way at reads is later)
+leaf_row_some : (segment : ℕ) (way : Way) (at : LeafRow) (reads : List Read) → at.segment ≡ segment → ReadsLeafRow way at reads → Finds (IsIn segment) reads
+leaf_row_some segment way at [] is any = absurd any
+leaf_row_some segment way at (read ∷ reads) is (inl here) = inl (subst (IsIn segment) (sym here.1) is)
+leaf_row_some segment way at (read ∷ reads) is (inr later) = inr (leaf_row_some segment way at reads is later)
 
 -- whatever is handed in, no more segments are read
 pub no_more_segments : (values : GivenValues) (d : Derivation) (way : Way) (segment : ℕ) → Finds (IsIn segment) (reads_of way (with_given values d)) → Finds (IsIn segment) (reads_of way d)
 no_more_segments values d way segment any =
-    let one : SomeCell segment (reads_of way (with_given values d)) = some_cell segment (reads_of way (with_given values d)) any in
-    cell_some segment one.way one.at (reads_of way d) one.segment_is (reads_no_more values d way one.way one.at one.read)
+    let one : SomeLeafRow segment (reads_of way (with_given values d)) = some_leaf_row segment (reads_of way (with_given values d)) any in
+    leaf_row_some segment one.way one.at (reads_of way d) one.segment_is (reads_no_more values d way one.way one.at one.read)
 
 -- ---- where values are handed in nothing is read for them
 
@@ -122,7 +122,7 @@ whole_of Q way f count any = shown (row_of Q way f 0 count any)
 
 -- what a row itself has read is a visit of it, by some test of several
 pub record IsOwn {X : Type 0} (P : X → Test) (Q : Found → Type 0) (offset : ℕ) : Type 0 where
-  pub of_cell : (handed : Handed) (head : Head) (segment row : ℕ) → Q (a_cell (record { dtype = head.dtype; rows = head.rows; segment = segment; row = row })) → (x : X) × P x handed (scan_plan head segment) row
+  pub of_cell : (handed : Handed) (head : Head) (segment row : ℕ) → Q (a_leaf_row (record { dtype = head.dtype; rows = head.rows; segment = segment; row = row })) → (x : X) × P x handed (scan_plan head segment) row
   pub of_list : (handed : Handed) (head : Head) (elements offsets : Plan) (validity : PlanValidity) (row : ℕ) → Q (a_list_row head.number row) → (x : X) × P x handed (list_plan head elements offsets validity) row
   pub of_code : (handed : Handed) (head : Head) (codes values : Plan) (row : ℕ) → Q (a_code (code_row head.number row (with_given (values_for handed) (plan_derivation offset codes row)) (values_with (values_for handed head.number) (each_row (plan_derivation offset values) 0 (plan_head values).rows)))) →
       (x : X) × P x handed (take_plan head codes values) row

@@ -123,8 +123,8 @@ rows_count start [] = refl
 rows_count start (true ∷ bits) = omega (arith, rows_count (start + 1) bits, true_first bits)
 rows_count start (false ∷ bits) = rows_count (start + 1) bits ∙ sym (false_first bits)
 
-pub count_of : (f : ℕ → Option Datum) (rows : List ℕ) (values : List Datum) → AreOf f rows values → length values ≡ length rows
-count_of f rows values are = sym (length-map values Some) ∙ sym (ap length are) ∙ length-map rows f
+pub count_of_rows : (f : ℕ → Option Datum) (rows : List ℕ) (values : List Datum) → AreOf f rows values → length values ≡ length rows
+count_of_rows f rows values are = sym (length-map values Some) ∙ sym (ap length are) ∙ length-map rows f
 
 pub count_none : (bits : List Bool) → SelectsNone bits → true_count bits ≡ 0
 count_none bits none = sym (rows_count 0 bits) ∙ ap length (rows_none 0 bits none)

@@ -3,7 +3,7 @@ use Rattle.std.proofs.Common.{◌≡◌, ℕ, zero, suc, ◌+◌, ◌-◌, ◌<�
 use Rattle.std.specs.Prelude.{nat_lt}
 use Rattle.vx_base.specs.Data.{Datum}
 use Rattle.vx_expr.specs.Terms.{Term}
-use Rattle.vx_rows.specs.Derivations.{Derivation, nothing, cell, list_row, given, packed, valid_where, looked_up, worked_out, read_whole, Derivations, each_row, Leaves}
+use Rattle.vx_rows.specs.Derivations.{Derivation, nothing, of_leaf, list_row, given, packed, valid_where, looked_up, worked_out, read_whole, Derivations, each_row, Leaves}
 use Rattle.vx_rows.specs.Reads.{directly}
 use Rattle.vx_rows.specs.Given.{values_with, share_with, with_given, each_with_given}
 use Rattle.vx_rows.specs.Heads.{Head}
@@ -24,7 +24,7 @@ use Rattle.vx_steps.proofs.VisitedReads.{alone_same, by_test, list_found}
 -- a derivation that is so has a part that is
 part_of : (F : Derivation → Type 0) (d : Derivation) → F d → HasPart F d
 part_of F nothing is = is
-part_of F (cell at) is = is
+part_of F (of_leaf at) is = is
 part_of F (list_row list row) is = is
 part_of F (given v) is = is
 part_of F (packed ds) is = inl is

@@ -3,7 +3,7 @@ use Rattle.std.proofs.Common.{◌≡◌, ℕ, zero, suc, ◌+◌, ◌<◌, inl, 
 use Rattle.std.specs.Prelude.{if◌then◌else◌, nat_lt, ◌-◌}
 use Rattle.std.specs.Bool.{MatchBool}
 use Rattle.vx_base.specs.Data.{Datum}
-use Rattle.vx_rows.specs.Derivations.{Derivation, nothing, cell, list_row, given, packed, valid_where, looked_up, worked_out, read_whole, Derivations, no_more, also, each_row}
+use Rattle.vx_rows.specs.Derivations.{Derivation, nothing, of_leaf, list_row, given, packed, valid_where, looked_up, worked_out, read_whole, Derivations, no_more, also, each_row}
 use Rattle.vx_rows.specs.Reads.{Way, inside, Found, reads_of, reads_of_each, Finds, IsIn}
 use Rattle.vx_rows.specs.Given.{GivenValues, values_with, share_with, with_given, each_with_given}
 use Rattle.vx_rows.proofs.ReadRows.{any_left, any_right, Meets}
@@ -19,7 +19,7 @@ use Rattle.vx_steps.specs.Visits.{Test, Visits, VisitsIn, VisitsField, VisitsVal
 mutual
   pub none_served : (values : GivenValues) → ((n : ℕ) → values n ≡ None) → (d : Derivation) → with_given values d ≡ d
   none_served values none nothing = refl
-  none_served values none (cell at) = refl
+  none_served values none (of_leaf at) = refl
   none_served values none (list_row list row) = refl
   none_served values none (given v) = refl
   none_served values none (packed ds) = ap packed (none_served_each values none ds)

@@ -6,8 +6,8 @@ use Rattle.vx_steps.specs.Wholes.{Asks}
 
 -- The plans of exactly those numbers are listed whose whole values the selected rows ask for: those of the values of
 -- outermost takes, and outermost shares.
-abbrev pub AreAsked : List Node → ℕ → ℕ → List Bool → List ℕ → Type 0
-AreAsked nodes plan start bits asked = (n : ℕ) → IsAmong n asked ↔ Asks nodes [] plan start bits n
+abbrev pub AreAskedPlans : List Node → ℕ → ℕ → List Bool → List ℕ → Type 0
+AreAskedPlans nodes plan start bits asked = (n : ℕ) → IsAmong n asked ↔ Asks nodes [] plan start bits n
 
 -- the same numbers, however often each stands there
 abbrev pub AreSame : List ℕ → List ℕ → Type 0

@@ -15,7 +15,7 @@ use Rattle.vx_steps.specs.declared.wholes.Wholes.{Wholes}
 use Rattle.vx_steps.specs.Delivered.{IsOf}
 use Rattle.vx_steps.specs.Held.{AreTyped, FitsOffset}
 use Rattle.vx_steps.specs.KeptData.{Kept}
-use Rattle.vx_steps.specs.Kept.{kept_at, AreApart}
+use Rattle.vx_steps.specs.Kept.{kept_at, AreOfDistinctPlans}
 use Rattle.vx_steps.specs.Needs.{Among, AreAmong, AreLeaves}
 use Rattle.vx_steps.specs.ReadTableData.{Wanted}
 use Rattle.vx_steps.specs.Releasing.{ServesAll}
@@ -57,8 +57,8 @@ pub record IsGood (nodes : List Node) (job : Job) (progress : Progress) : Type 0
   pub typed_given : AreTyped nodes job.given
   pub typed_leaves : AreTyped nodes progress.leaves
   pub typed_made : AreTyped nodes progress.wholes.made
-  pub apart_made : AreApart progress.wholes.made
-  pub apart_used : AreApart progress.wholes.used
+  pub apart_made : AreOfDistinctPlans progress.wholes.made
+  pub apart_used : AreOfDistinctPlans progress.wholes.used
   pub uses : UsesGiven job.given [] progress.wholes.used
   pub actives : (active : ActiveSplit) → Among active progress.active.items → IsActive nodes job progress.leaves progress.reads.wanted active
   pub serves : ServesAll nodes job progress

@@ -31,8 +31,8 @@ pub record AreIndexed (places : PlaceTable) (indexed : ℕ) (kept : List Kept) :
   pub placed : ArePlaces places (take indexed kept)
 
 -- no plan stands twice: two places whose columns are for one plan are the same
-abbrev pub AreApart : List Kept → Type 0
-AreApart kept = (p q : ℕ) (k l : Kept) → slice_get kept p ≡ Some k → slice_get kept q ≡ Some l → k.node ≡ l.node → p ≡ q
+abbrev pub AreOfDistinctPlans : List Kept → Type 0
+AreOfDistinctPlans kept = (p q : ℕ) (k l : Kept) → slice_get kept p ≡ Some k → slice_get kept q ≡ Some l → k.node ≡ l.node → p ≡ q
 
 -- the whole values that are kept, by the number of the plan
 abbrev pub values_of : Option ColumnData → Option (List Datum)

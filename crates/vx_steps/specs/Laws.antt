@@ -3,7 +3,7 @@ use Rattle.std.specs.List.{slice_get}
 use Rattle.std.specs.Prelude.{◌≡◌, ℕ, ◌+◌, ◌<◌, ◌≤◌, ◌⊎◌, [], Bool, List, Some, None, IfSome, IsSomeAnd, length}
 use Rattle.vx_expr.specs.Meaning.{meaning}
 use Rattle.vx_expr.specs.Rows.{no_bound}
-use Rattle.vx_rows.specs.Derivations.{Derivation, nothing, cell, list_row, given, packed, valid_where, looked_up, worked_out, read_whole, Derivations, no_more, also, Leaves, derived}
+use Rattle.vx_rows.specs.Derivations.{Derivation, nothing, of_leaf, list_row, given, packed, valid_where, looked_up, worked_out, read_whole, Derivations, no_more, also, Leaves, derived}
 use Rattle.vx_rows.specs.Given.{GivenValues, with_given}
 use Rattle.vx_rows.specs.Reads.{directly, Found, a_code, a_list_row, Read, reads_of, Finds, FindsBy, IsIn, IsCodeOf, IsBadCode}
 use Rattle.vx_plan.specs.FittingRows.{HasFittingRows}
@@ -136,7 +136,7 @@ ReadIsBadCode = (leaves : Leaves) (handed : Handed) (offset : ℕ) (p : Plan) (r
 abbrev mutual
   pub HasPart : (Derivation → Type 0) → Derivation → Type 0
   HasPart P nothing = P nothing
-  HasPart P (cell at) = P (cell at)
+  HasPart P (of_leaf at) = P (of_leaf at)
   HasPart P (list_row list row) = P (list_row list row)
   HasPart P (given v) = P (given v)
   HasPart P (packed ds) = P (packed ds) ⊎ HavePart P ds

@@ -28,17 +28,17 @@ abbrev pub AreCounted : List Node → List Kept → OpenSegments → Type 0
 AreCounted nodes leaves segments = (segment count : ℕ) → get nat_cmp segments.left segment ≡ Some count → AtMost count (IsOpenLeaf nodes leaves segment)
 
 -- the count of a segment, none where it has none
-abbrev pub count_of : BTreeMap ℕ ℕ → ℕ → ℕ
-count_of left segment = unwrap_or (get nat_cmp left segment) 0
+abbrev pub open_count : BTreeMap ℕ ℕ → ℕ → ℕ
+open_count left segment = unwrap_or (get nat_cmp left segment) 0
 
 -- The open leaves among the first so many plans are counted, and no segment has a greater count than that of these plans.
 pub record AreCountedTo (nodes : List Node) (leaves : List Kept) (plans : ℕ) (left : BTreeMap ℕ ℕ) : Type 0 where
-  pub bounded : (segment : ℕ) → count_of left segment ≤ plans
-  pub counted : (segment : ℕ) → AtMost (count_of left segment) (λ n. (n < plans) × IsOpenLeaf nodes leaves segment n)
+  pub bounded : (segment : ℕ) → open_count left segment ≤ plans
+  pub counted : (segment : ℕ) → AtMost (open_count left segment) (λ n. (n < plans) × IsOpenLeaf nodes leaves segment n)
 
 -- the count of the segment is one more than it was, and those of others stay
 abbrev pub AddsOne : ℕ → BTreeMap ℕ ℕ → BTreeMap ℕ ℕ → Type 0
-AddsOne segment old new = (s : ℕ) → get nat_cmp new s ≡ (if segment == s then Some (count_of old segment + 1) else get nat_cmp old s)
+AddsOne segment old new = (s : ℕ) → get nat_cmp new s ≡ (if segment == s then Some (open_count old segment + 1) else get nat_cmp old s)
 
 -- each count was the same before, unless it is that of the segment, which may be one less
 abbrev pub TakesOne : ℕ → OpenSegments → OpenSegments → Type 0

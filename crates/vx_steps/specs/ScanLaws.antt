@@ -1,7 +1,7 @@
 -- What the visits of a split's selected rows are to the reads that the plan's own definition gives.
 use Rattle.std.specs.Prelude.{◌≡◌, ℕ, ◌<◌, List, length, Some}
 use Rattle.std.specs.List.{slice_get}
-use Rattle.vx_rows.specs.Reads.{Found, a_cell, IsIn}
+use Rattle.vx_rows.specs.Reads.{Found, a_leaf_row, IsIn}
 use Rattle.vx_rows.specs.SegmentLeaves.{Bytes, leaves_of, IsTorn}
 use Rattle.vx_plan.specs.Laws.{IsReadBy}
 use Rattle.vx_plan.specs.Nodes.{Node}
@@ -39,7 +39,7 @@ WantedIsRead = (nodes : List Node) (job : Job) (leaves : List Kept) (segment : �
 
 -- a leaf of the segment, whose bytes spell no values for it
 abbrev pub IsTornIn : Bytes → ℕ → Found → Type 0
-IsTornIn bytes segment (a_cell at) = (at.segment ≡ segment) × IsTorn bytes (a_cell at)
+IsTornIn bytes segment (a_leaf_row at) = (at.segment ≡ segment) × IsTorn bytes (a_leaf_row at)
 IsTornIn bytes segment found = ⊥
 
 -- Why a split has no column: a selected row reads a torn leaf of the segment, a row of the list or the bad code, or is

@@ -15,7 +15,7 @@ use Rattle.vx_steps.specs.Computed.{whole_in, ComputesWhole, UnlessList}
 use Rattle.vx_steps.specs.Given.{Handed, handed_by}
 use Rattle.vx_steps.specs.Held.{Held, handed_in, AreMade, AreTyped, HaveLeaves, IsBy}
 use Rattle.vx_steps.specs.KeptData.{Kept}
-use Rattle.vx_steps.specs.Kept.{kept_at, AreApart, IsKept}
+use Rattle.vx_steps.specs.Kept.{kept_at, AreOfDistinctPlans, IsKept}
 use Rattle.vx_steps.specs.Visits.{Test, SomeVisit, HasBadCode, HasEvalFault, IsListRead, IsWholeRead}
 
 -- what columns are computed from, with these whole values
@@ -26,14 +26,14 @@ held_with grounds wholes = record { nodes = grounds.table.now; leaves = grounds.
 pub record KeepsValues (nodes : List Node) (leaves : List Kept) (offset : ℕ) (old new : List Kept) : Type 0 where
   pub grows : (n : ℕ) (column : ColumnData) → kept_at old n ≡ Some column → kept_at new n ≡ Some column
   pub typed : AreTyped nodes old → AreTyped nodes new
-  pub apart : AreApart old → AreApart new
+  pub apart : AreOfDistinctPlans old → AreOfDistinctPlans new
   pub right : (by : Leaves) → HaveLeaves nodes leaves by → AreMade nodes offset old by → AreMade nodes offset new by
 
 -- More of the values that were handed in are listed as used, each once.
 pub record UsesGiven (given old new : List Kept) : Type 0 where
   pub grows : (n : ℕ) (column : ColumnData) → kept_at old n ≡ Some column → kept_at new n ≡ Some column
   pub only : (n : ℕ) (column : ColumnData) → kept_at new n ≡ Some column → (kept_at old n ≡ Some column) ⊎ (kept_at given n ≡ Some column)
-  pub apart : AreApart old → AreApart new
+  pub apart : AreOfDistinctPlans old → AreOfDistinctPlans new
 
 -- The whole values of the number were used where they were handed in, and else made.
 abbrev pub IsThere : List Kept → Wholes → ℕ → Type 0

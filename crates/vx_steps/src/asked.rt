@@ -8,7 +8,7 @@ ghost use Rattle.vx_plan.specs.Refs.{number_of};
 ghost use Rattle.vx_plan.specs.Rules.{node_at};
 ghost use Rattle.vx_plan.specs.Shapes.{HasShape};
 ghost use Rattle.vx_plan.specs.Tables.{AreIn, IsGoodTable};
-ghost use Rattle.vx_steps.specs.Asked.{AreAsked, AreEachOnce, AreSame};
+ghost use Rattle.vx_steps.specs.Asked.{AreAskedPlans, AreEachOnce, AreSame};
 ghost use Rattle.vx_steps.specs.Needs.{Adds};
 ghost use Rattle.vx_steps.specs.Wholes.{Asks};
 
@@ -180,12 +180,12 @@ pub fn asked_wholes(
 ) -> Result<Vec<PlanRef>, AllocError>
     requires known { number_of plan < length table.now }
     requires inside { start + length mask.now ≤ (node_at table.now (number_of plan)).rows }
-    ensures asked { IfOk result (λ asked. AreAsked table.now (number_of plan) start mask.now (map number_of asked.items)) }
+    ensures asked { IfOk result (λ asked. AreAskedPlans table.now (number_of plan) start mask.now (map number_of asked.items)) }
     ensures once { IfOk result (λ asked. AreEachOnce (map number_of asked.items)) }
     ensures known { IfOk result (λ asked. AreIn table.now (map number_of asked.items)) }
 {
     // The contract of `len` says that the table is a good one.
-    let _plans = table.len();
+    table.keeps_rules();
     let mut numbers = Vec::new(alloc);
     add_asked(alloc, table, plan.0, start, mask, &mut numbers)?;
     plans_of(alloc, &numbers)

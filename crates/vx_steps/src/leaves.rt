@@ -47,8 +47,7 @@ fn decode_need(
         Some(bytes) => bytes,
         None => return Ok(false),
     };
-    // The contract of `len` says that the plans of the table are good ones.
-    let _plans = table.len();
+    table.keeps_rules();
     let plan = PlanRef(need.leaf);
     let column = match decode(alloc, table.dtype(plan), table.row_count(plan), bytes) {
         Ok(column) => column,

@@ -5,7 +5,7 @@ ghost use Rattle.std.specs.BTreeMap.{get};
 ghost use Rattle.std.specs.Ordering.{nat_cmp};
 ghost use Rattle.vx_plan.specs.Nodes.{Node};
 ghost use Rattle.vx_steps.specs.KeptData.{Kept};
-ghost use Rattle.vx_steps.specs.OpenSegments.{count_of, AddsOne, AreCounted, AreCountedTo, HasOneAtMost, TakesOne};
+ghost use Rattle.vx_steps.specs.OpenSegments.{open_count, AddsOne, AreCounted, AreCountedTo, HasOneAtMost, TakesOne};
 
 use crate::kept::KeptColumns;
 use std::alloc::{AllocError, Global};
@@ -31,7 +31,7 @@ fn set_count(left: &mut BTreeMap<u32, u64>, segment: u32, count: u64) -> Result<
 
 /// Counts one more leaf over the segment.
 fn add_one(left: &mut BTreeMap<u32, u64>, segment: u32) -> Result<(), AllocError>
-    requires { count_of left.old segment < 2 ^ 32 }
+    requires { open_count left.old segment < 2 ^ 32 }
     ensures { OnOk result (AddsOne segment left.old left.new) }
 {
     let before = match left.get(&segment) {

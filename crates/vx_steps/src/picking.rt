@@ -252,7 +252,7 @@ pub(crate) fn structs(
     ensures dtype { IfOk result (λ column. column.dtype ≡ (node_at table.now plan).dtype) }
     ensures values { IfOk result (λ column. column.values ≡ structs_at (has_validity_of (node_at table.now plan).kind) parts.items rows) }
 {
-    let _plans = table.len();
+    table.keeps_rules();
     match table.as_pack(PlanRef(plan)) {
         Some(pack) => {
             let fields = pack.fields(table).copy(alloc)?;

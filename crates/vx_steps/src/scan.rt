@@ -7,7 +7,7 @@ ghost use Rattle.vx_plan.specs.Rules.{node_at};
 ghost use Rattle.vx_steps.specs.declared.progress.Turn.TheVariants.{Done};
 ghost use Rattle.vx_steps.specs.Held.{AreTyped, FitsOffset};
 ghost use Rattle.vx_steps.specs.Jobs.{AddsLeaves, IsUnstarted, KeepsBound, KeepsColumns, KeepsTold, KeepsWholes, KeepsWholesFor, WantsFor, WantsOnly};
-ghost use Rattle.vx_steps.specs.Kept.{kept_data, AreApart};
+ghost use Rattle.vx_steps.specs.Kept.{kept_data, AreOfDistinctPlans};
 ghost use Rattle.vx_steps.specs.Leavings.{IsReadBehind};
 ghost use Rattle.vx_steps.specs.Offers.{IsForLeaf, IsForPlan, Keeps};
 ghost use Rattle.vx_steps.specs.ReadTable.{IsOutstanding, held_bytes};
@@ -153,11 +153,11 @@ impl<'a> Scan<'a> {
     /// among them, as in what `made` lists: to drop a second column without memory, the list would have to be searched for
     /// each. A plan may stand twice in what the other calls are handed; the first counts.
     pub fn with_made(mut self, made: Vec<KeptValue>) -> Scan<'a>
-        requires { AreApart (map kept_data made.items) }
+        requires { AreOfDistinctPlans (map kept_data made.items) }
         ensures made { IsUnstarted self.entry.progress → Keeps (IsForPlan self.entry.nodes) (map kept_data made.items) result.progress.wholes.made }
         ensures started { (IsUnstarted self.entry.progress → ⊥) → result ≡ self.entry }
         ensures others { result ≡ record self.entry { progress = record self.entry.progress { wholes = record self.entry.progress.wholes { made = result.progress.wholes.made } } } }
-        ensures apart { AreApart result.progress.wholes.made }
+        ensures apart { AreOfDistinctPlans result.progress.wholes.made }
         ensures told { IsUnstarted self.entry.progress → IsOfHanded result }
     {
         if !self.progress.is_unstarted() {
@@ -200,7 +200,7 @@ impl<'a> Scan<'a> {
         ensures values { map kept_data result.now ≡ self.now.progress.wholes.used }
         ensures uses { UsesGiven self.now.job.given [] self.now.progress.wholes.used }
         ensures typed { AreTyped self.now.nodes self.now.progress.wholes.used }
-        ensures apart { AreApart self.now.progress.wholes.used }
+        ensures apart { AreOfDistinctPlans self.now.progress.wholes.used }
     {
         self.progress.wholes.used.columns()
     }
@@ -209,7 +209,7 @@ impl<'a> Scan<'a> {
     pub fn made(&self) -> &[KeptValue]
         ensures values { map kept_data result.now ≡ self.now.progress.wholes.made }
         ensures typed { AreTyped self.now.nodes self.now.progress.wholes.made }
-        ensures apart { AreApart self.now.progress.wholes.made }
+        ensures apart { AreOfDistinctPlans self.now.progress.wholes.made }
     {
         self.progress.wholes.made.columns()
     }
@@ -254,8 +254,8 @@ impl<'a> Scan<'a> {
         ensures typed_leaves { AreTyped self.entry.nodes (map kept_data result.leaves.items) }
         ensures typed_used { AreTyped self.entry.nodes self.entry.progress.wholes.used }
         ensures typed_made { AreTyped self.entry.nodes self.entry.progress.wholes.made }
-        ensures apart_used { AreApart self.entry.progress.wholes.used }
-        ensures apart_made { AreApart self.entry.progress.wholes.made }
+        ensures apart_used { AreOfDistinctPlans self.entry.progress.wholes.used }
+        ensures apart_made { AreOfDistinctPlans self.entry.progress.wholes.made }
     {
         let Scan {
             alloc,

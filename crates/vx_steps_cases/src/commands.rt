@@ -26,7 +26,7 @@ pub(crate) struct Segment {
 /// The plans that a tree was lowered to, of which the root is scanned, the bytes of the segments, and the leaves that
 /// the last scan left.
 #[derive(Drop)]
-struct Desk {
+struct CaseState {
     plans: Lowered,
     file: Vec<Segment>,
     leaves: Vec<KeptValue>,
@@ -143,19 +143,26 @@ fn take_segment(alloc: Global, file: &mut Vec<Segment>, words: &str) {
 /// Appends the answer to a command over the plans, of which there are few.
 fn write_on_plans(
     alloc: Global,
-    desk: &mut Desk,
+    case_state: &mut CaseState,
     command: &str,
     words: &str,
     out: &mut String,
 ) -> Result<(), AllocError> {
-    let count = desk.plans.table.len();
-    if count <= desk.plans.root.0 || 1000000 <= count {
+    let count = case_state.plans.table.len();
+    if count <= case_state.plans.root.0 || 1000000 <= count {
         return Ok(());
     }
     match command {
-        "over" => write_over(alloc, &mut desk.plans, words, out),
-        "share" => write_shared(alloc, &mut desk.plans, out),
-        "scan" => write_scan(alloc, &desk.plans, &desk.file, &mut desk.leaves, words, out),
+        "over" => write_over(alloc, &mut case_state.plans, words, out),
+        "share" => write_shared(alloc, &mut case_state.plans, out),
+        "scan" => write_scan(
+            alloc,
+            &case_state.plans,
+            &case_state.file,
+            &mut case_state.leaves,
+            words,
+            out,
+        ),
         _ => out.push_str(" no command"),
     }
 }
@@ -163,28 +170,28 @@ fn write_on_plans(
 /// Appends the answer to a line.
 fn write_answer(
     alloc: Global,
-    desk: &mut Desk,
+    case_state: &mut CaseState,
     line: &str,
     out: &mut String,
 ) -> Result<(), AllocError> {
     let (command, words) = line.split_once(' ').unwrap_or((line, ""));
     match command {
-        "tree" => write_tree(alloc, &mut desk.plans, words, out),
+        "tree" => write_tree(alloc, &mut case_state.plans, words, out),
         "file" => {
-            take_segment(alloc, &mut desk.file, words);
+            take_segment(alloc, &mut case_state.file, words);
             Ok(())
         }
-        "leaves" => write_columns(alloc, "leaf", &desk.leaves, out),
+        "leaves" => write_columns(alloc, "leaf", &case_state.leaves, out),
         "splits" => write_splits(alloc, words, out),
         "error" => write_error(words, out),
-        _ => write_on_plans(alloc, desk, command, words, out),
+        _ => write_on_plans(alloc, case_state, command, words, out),
     }
 }
 
 /// Appends the answer to a line that has one.
 fn write_line(
     alloc: Global,
-    desk: &mut Desk,
+    case_state: &mut CaseState,
     line: &str,
     out: &mut String,
 ) -> Result<(), AllocError> {
@@ -192,19 +199,19 @@ fn write_line(
         return Ok(());
     }
     out.push_str(" =>")
-        .and(write_answer(alloc, desk, line, out))
+        .and(write_answer(alloc, case_state, line, out))
 }
 
 /// Appends each line with its answer.
-fn write_desk(
+fn write_case_state(
     alloc: Global,
-    desk: &mut Desk,
+    case_state: &mut CaseState,
     lines: &str,
     out: &mut String,
 ) -> Result<(), AllocError> {
     for line in lines.lines() {
         out.push_str(line)
-            .and(write_line(alloc, desk, line, out))
+            .and(write_line(alloc, case_state, line, out))
             .and(out.push('\n'))?;
     }
     Ok(())
@@ -215,12 +222,12 @@ pub(crate) fn write_lines(alloc: Global, lines: &str, out: &mut String) -> Resul
     let table = PlanTable::new(alloc);
     let root = PlanRef(0);
     let plans = Lowered { table, root };
-    let mut desk = Desk {
+    let mut case_state = CaseState {
         plans,
         file: Vec::new(alloc),
         leaves: Vec::new(alloc),
     };
-    let written = write_desk(alloc, &mut desk, lines, out);
-    drop(desk);
+    let written = write_case_state(alloc, &mut case_state, lines, out);
+    drop(case_state);
     written
 }

@@ -12,7 +12,7 @@ use Rattle.vx_plan.specs.Refs.{number_of}
 use Rattle.vx_plan.specs.Tables.{AreIn, IsGoodTable}
 use Rattle.vx_steps.specs.declared.errors.StepError.TheVariants as step_errors
 use Rattle.vx_steps.specs.declared.kept.KeptValue.{KeptValue}
-use Rattle.vx_steps.specs.Asked.{AreAsked}
+use Rattle.vx_steps.specs.Asked.{AreAskedPlans}
 use Rattle.vx_steps.specs.Given.{given_for}
 use Rattle.vx_steps.specs.Kept.{IsKept}
 use Rattle.vx_steps.specs.KeptData.{Kept}
@@ -38,7 +38,7 @@ use Rattle.vx_chunks.proofs.HandedRuns.{error_as}
 use Rattle.vx_chunks.proofs.TakenWholes.{asks_same}
 use Rattle.vx_workers.specs.declared.borrowing.Shared.{Shared}
 use Rattle.vx_workers.specs.Borrowing.{AreHad, AreOfPlans, BorrowsOne, RestsOn, RunsShared}
-use Rattle.vx_workers.specs.Loans.{AreBorrowed, RestsOnValues}
+use Rattle.vx_workers.specs.Borrowers.{AreBorrowed, RestsOnValues}
 use Rattle.vx_base.specs.Columns.{ColumnData}
 use Rattle.vx_base.specs.Sources.{SourceState}
 
@@ -69,7 +69,7 @@ borrows_more nodes asked node old new among are (inr (one, number, fits, more)) 
   among = each_push (λ (k : Kept). IsAmong k.node (map number_of asked)) old one are.among (subst (λ (n : ℕ). IsAmong n (map number_of asked)) (sym number) among);
 })
 
-pub are_borrowed : (plans : ScanPlans) (chosen : SelectedRows) (asked : List PlanRef) (values : List Kept) → AreAsked plans.table (number_of plans.projection) chosen.scope.rows.start chosen.mask (map number_of asked) → AreOfPlans plans.table (map number_of asked) values → AreBorrowed plans chosen values
+pub are_borrowed : (plans : ScanPlans) (chosen : SelectedRows) (asked : List PlanRef) (values : List Kept) → AreAskedPlans plans.table (number_of plans.projection) chosen.scope.rows.start chosen.mask (map number_of asked) → AreOfPlans plans.table (map number_of asked) values → AreBorrowed plans chosen values
 are_borrowed plans chosen asked values is are = record {
   fit = are.fit;
   asked = each_as (λ (one : Kept). IsAmong one.node (map number_of asked)) (λ (one : Kept). ChunkAsks plans [] chosen one.node) (λ one among. (is one.node).0 among) values are.among;
@@ -93,11 +93,11 @@ had_end given made (node ∷ asked) (suc i) end had n (inl here) = had n (inl he
 had_end given made (node ∷ asked) (suc i) end had n (inr later) = had_end given made asked i (omega (arith, end)) (λ m among. had m (inr among)) n later
 
 -- all that it asks for is given or made
-pub had_all : (plans : ScanPlans) (chosen : SelectedRows) (asked : List ℕ) (given made : List Kept) → AreAsked plans.table (number_of plans.projection) chosen.scope.rows.start chosen.mask asked → AreHad asked given made → AreAllThere plans given made chosen
+pub had_all : (plans : ScanPlans) (chosen : SelectedRows) (asked : List ℕ) (given made : List Kept) → AreAskedPlans plans.table (number_of plans.projection) chosen.scope.rows.start chosen.mask asked → AreHad asked given made → AreAllThere plans given made chosen
 had_all plans chosen asked given made are had n asks = had n ((are n).1 (asks_same plans given [] chosen n asks))
 
 -- and what is there for it is given or made
-pub there_had : (plans : ScanPlans) (chosen : SelectedRows) (handed : HandedOn) (asked : List ℕ) (given : List Kept) (ran : Ran) (before after : SourceState) → AreAsked plans.table (number_of plans.projection) chosen.scope.rows.start chosen.mask asked → AreIn plans.table asked → (run : RunsOnly plans chosen handed given ran before after)
+pub there_had : (plans : ScanPlans) (chosen : SelectedRows) (handed : HandedOn) (asked : List ℕ) (given : List Kept) (ran : Ran) (before after : SourceState) → AreAskedPlans plans.table (number_of plans.projection) chosen.scope.rows.start chosen.mask asked → AreIn plans.table asked → (run : RunsOnly plans chosen handed given ran before after)
     → AreAllThere plans run.runs.all (data_of ran.handed.made.items) chosen → AreHad asked given (data_of ran.handed.made.items)
 there_had plans chosen handed asked given ran before after are known run there n among =
     ⊎_elim
@@ -174,7 +174,7 @@ shared_none shares plans chosen handed given shared before after none empty runs
 
 -- these values were, of which copies are kept; or the result rests on none of them
 pub shared_some : (plans : ScanPlans) (chosen : SelectedRows) (handed : HandedOn) (asked : List ℕ) (given : List Kept) (kept : List KeptValue) (shared : Shared) (before after : SourceState) → IsGoodTable plans.table → number_of plans.projection < length plans.table
-    → AreAsked plans.table (number_of plans.projection) chosen.scope.rows.start chosen.mask asked → AreIn plans.table asked → AreBorrowed plans chosen given → data_of kept ≡ given → RunsOnly plans chosen handed given shared.ran before after
+    → AreAskedPlans plans.table (number_of plans.projection) chosen.scope.rows.start chosen.mask asked → AreIn plans.table asked → AreBorrowed plans chosen given → data_of kept ≡ given → RunsOnly plans chosen handed given shared.ran before after
     → RestsOn shared.ran.piece asked (data_of shared.ran.handed.made.items) kept shared.borrowed.items → RunsShared true plans chosen handed shared before after
 shared_some plans chosen handed asked given kept shared before after good there asks known are same run (inl (left, had)) =
     let borrowed : data_of shared.borrowed.items ≡ given = ap data_of left ∙ same in

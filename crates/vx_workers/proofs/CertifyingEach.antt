@@ -11,7 +11,7 @@ use Rattle.vx_plan.specs.Nodes.{Node}
 use Rattle.vx_plan.specs.Refs.{number_of}
 use Rattle.vx_plan.specs.Tables.{AreIn}
 use Rattle.vx_plan.proofs.Each.{each_at}
-use Rattle.vx_steps.specs.Asked.{AreAsked}
+use Rattle.vx_steps.specs.Asked.{AreAskedPlans}
 use Rattle.vx_steps.specs.Kept.{kept_at, kept_data, IsKept}
 use Rattle.vx_steps.specs.KeptData.{Kept}
 use Rattle.vx_steps.specs.declared.kept.KeptValue.{KeptValue}
@@ -144,7 +144,7 @@ giving_next plans chosen asked old mid new given more count node before now afte
         (before_it.0, kept_old given (last ∷ []) (number_of other) before_it.0 before_it.1)
 
 -- the plan at the place of the list is one that the chunk asks for, and one of the table
-pub asked_got : (plans : ScanPlans) (chosen : SelectedRows) (asked same : List PlanRef) (place : ℕ) (node : PlanRef) → slice_get asked place ≡ Some node → asked ≡ same → AreAsked plans.table (number_of plans.projection) chosen.scope.rows.start chosen.mask (map number_of same) → ChunkAsks plans [] chosen (number_of node)
+pub asked_got : (plans : ScanPlans) (chosen : SelectedRows) (asked same : List PlanRef) (place : ℕ) (node : PlanRef) → slice_get asked place ≡ Some node → asked ≡ same → AreAskedPlans plans.table (number_of plans.projection) chosen.scope.rows.start chosen.mask (map number_of same) → ChunkAsks plans [] chosen (number_of node)
 asked_got plans chosen asked same place node at is are = (are (number_of node)).0 (among_got (map number_of same) place (number_of node) (got_mapped number_of same place node (sym (ap (λ (nodes : List PlanRef). slice_get nodes place) is) ∙ at)))
 
 pub known_got : (nodes : List Node) (asked same : List PlanRef) (place : ℕ) (node : PlanRef) → slice_get asked place ≡ Some node → asked ≡ same → AreIn nodes (map number_of same) → number_of node < length nodes
@@ -156,7 +156,7 @@ below_all limit (m ∷ numbers) n all (inl here) = subst (λ (k : ℕ). k < limi
 below_all limit (m ∷ numbers) n all (inr later) = below_all limit numbers n (All-tail (λ k. k < limit) m numbers all) later
 
 -- all that the chunk asks for are given
-pub given_all : (plans : ScanPlans) (chosen : SelectedRows) (asked same : List PlanRef) (old now given : List Kept) (count : ℕ) (before source : SourceState) → AreAsked plans.table (number_of plans.projection) chosen.scope.rows.start chosen.mask (map number_of same) → AreIn plans.table (map number_of same) → asked ≡ same → length asked ≡ count →
+pub given_all : (plans : ScanPlans) (chosen : SelectedRows) (asked same : List PlanRef) (old now given : List Kept) (count : ℕ) (before source : SourceState) → AreAskedPlans plans.table (number_of plans.projection) chosen.scope.rows.start chosen.mask (map number_of same) → AreIn plans.table (map number_of same) → asked ≡ same → length asked ≡ count →
     Giving plans chosen asked old now given count before source → AreGiven plans chosen now given
 given_all plans chosen asked same old now given count before source are known is all so_far = record {
   from = so_far.from;

@@ -1,18 +1,18 @@
 mod Borrowed
+pub mod BorrowerChunks
 pub mod Certifying
 pub mod CertifyingEach
 mod Finishing
 mod Higher
 mod HinderedChunks
-pub mod JoinedLanes
+pub mod JoinedWorkers
 pub mod Joining
-mod LaneCrossing
-pub mod LaneEnds
-pub mod LaneFacts
-mod LaneWork
-pub mod Loaning
 pub mod NewReasons
 mod RefusedRuns
-pub mod SettledCauses
 pub mod Taken
+pub mod ValidatedCauses
+mod WorkOfWorkers
+mod WorkerCrossing
+pub mod WorkerEnds
+pub mod WorkerFacts
 mod Working

@@ -6,7 +6,7 @@ use Rattle.std.proofs.lemmas.List.Elements.{All-nil}
 use Rattle.vx_rows.specs.SegmentLeaves.{Bytes, leaves_of}
 use Rattle.vx_plan.specs.Refs.{number_of}
 use Rattle.vx_plan.specs.Tables.{IsGoodTable}
-use Rattle.vx_steps.specs.Kept.{AreApart}
+use Rattle.vx_steps.specs.Kept.{AreOfDistinctPlans}
 use Rattle.vx_steps.specs.KeptData.{Kept}
 use Rattle.vx_splits.specs.declared.selected_rows.SelectedRows.{SelectedRows}
 use Rattle.vx_claims.specs.Views.{above}
@@ -27,7 +27,7 @@ use Rattle.vx_chunks.specs.LeafRows.{LeavesLieTogether}
 use Rattle.vx_chunks.specs.Outcomes.{data_of, told_by, told_on, AreAllThere, CanHandOn, HandsLeavesRead, HandsOnMore, IsHandedBy, Causes, RunsGiven}
 use Rattle.vx_chunks.proofs.ChunkOutcomes.{error_of}
 use Rattle.vx_chunks.proofs.FewerReads.{list_free, segment_free, torn_free}
-use Rattle.vx_workers.specs.Loans.{RestsOnValues}
+use Rattle.vx_workers.specs.Borrowers.{RestsOnValues}
 use Rattle.vx_workers.specs.Reasons.{Reason}
 use Rattle.vx_workers.specs.Workers.{AsksReached, Fails, RunsSource}
 use Rattle.vx_workers.proofs.Higher.{ascend_none, ascend_push}
@@ -69,7 +69,7 @@ pub record RanSoFar (plans : ScanPlans) (chunks : List SelectedRows) (numbers : 
   pub lasts : Lasts before now
   pub in_flight : IsLeftClear before now
 
-none_apart : AreApart []
+none_apart : AreOfDistinctPlans []
 none_apart p q k l at other same = absurd cc
 
 -- nothing ran yet

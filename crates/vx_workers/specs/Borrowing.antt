@@ -13,8 +13,8 @@ use Rattle.vx_drive.specs.declared.plans.ScanPlans.{ScanPlans}
 use Rattle.vx_chunks.specs.declared.outcomes.HandedOn.{HandedOn}
 use Rattle.vx_chunks.specs.Outcomes.{data_of, AreAllThere, IsGivenOrMade, RunsOn}
 use Rattle.vx_workers.specs.declared.borrowing.Shared.{Shared}
-use Rattle.vx_workers.specs.declared.lanes.Lane.{Lane}
-use Rattle.vx_workers.specs.Loans.{AreBorrowed, RestsOnValues}
+use Rattle.vx_workers.specs.declared.worker_states.WorkerState.{WorkerState}
+use Rattle.vx_workers.specs.Borrowers.{AreBorrowed, RestsOnValues}
 use Rattle.vx_base.specs.Columns.{ColumnData}
 use Rattle.vx_base.specs.Sources.{SourceState}
 
@@ -47,10 +47,10 @@ pub record RunsShared (shares : Bool) (plans : ScanPlans) (chosen : SelectedRows
   pub runs : RunsOn plans chosen handed (data_of shared.borrowed.items) shared.ran before after
   pub had : shared.borrowed.items ≢ [] → IfErr shared.ran.piece (λ error. RestsOnValues error → AreAllThere plans (data_of shared.borrowed.items) (data_of shared.ran.handed.made.items) chosen)
 
--- The piece is listed where nothing was borrowed; the loan where something was and the result may rest on it; else the
--- error is, and the worker stops.
-abbrev pub Enlists : ℕ → Result ColumnData ScanError → Vec KeptValue → Bool → Lane → Lane → Type 0
-Enlists number piece borrowed goes_on old new =
+-- The piece is listed where nothing was borrowed; the borrower where something was and the result may rest on it; else
+-- the error is, and the worker stops.
+abbrev pub RecordsOutcome : ℕ → Result ColumnData ScanError → Vec KeptValue → Bool → WorkerState → WorkerState → Type 0
+RecordsOutcome number piece borrowed goes_on old new =
     ((goes_on ≡ true) × (borrowed.items ≡ []) × ((column : ColumnData) × (piece ≡ Ok column) × (new ≡ record old { pieces = new.pieces }) × (new.pieces.items ≡ old.pieces.items ++ record { chunk = number; column = column } ∷ [])))
-    ⊎ (((goes_on ≡ true) × (borrowed.items ≢ []) × IfErr piece RestsOnValues × (new ≡ record old { loans = new.loans }) × (new.loans.items ≡ old.loans.items ++ record { chunk = number; borrowed = borrowed; result = piece } ∷ []))
+    ⊎ (((goes_on ≡ true) × (borrowed.items ≢ []) × IfErr piece RestsOnValues × (new ≡ record old { borrowers = new.borrowers }) × (new.borrowers.items ≡ old.borrowers.items ++ record { chunk = number; borrowed = borrowed; result = piece } ∷ []))
     ⊎ ((goes_on ≡ false) × ((error : ScanError) × (piece ≡ Err error) × ((borrowed.items ≡ []) ⊎ (RestsOnValues error → ⊥)) × (new ≡ record old { error = Some (record { chunk = number; error = error }) }))))

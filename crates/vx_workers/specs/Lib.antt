@@ -1,11 +1,11 @@
 pub mod Books
+pub mod Borrowers
 pub mod Borrowing
 pub mod Certified
-pub mod Gathers
 pub mod Hindered
 pub mod Joins
 pub mod Limits
-pub mod Loans
+pub mod Merges
 pub mod Reasons
 pub mod Unhindered
 pub mod Workers

@@ -18,10 +18,10 @@ use Rattle.vx_drive.specs.Plans.{projection_node, projection_plan, AreInOrder}
 use Rattle.vx_chunks.specs.ChunkRows.{IsPiece}
 use Rattle.vx_chunks.specs.LeafRows.{LeavesLieTogether}
 use Rattle.vx_chunks.specs.Outcomes.{data_of, told_by, Causes}
-use Rattle.vx_workers.specs.declared.lanes.ChunkError.{ChunkError}
-use Rattle.vx_workers.specs.declared.lanes.Lane.{Lane}
-use Rattle.vx_workers.specs.declared.lanes.Piece.{Piece}
-use Rattle.vx_workers.specs.Loans.{loaned_of, IsLoan, IsLoanBy}
+use Rattle.vx_workers.specs.declared.worker_states.ChunkError.{ChunkError}
+use Rattle.vx_workers.specs.declared.worker_states.WorkerState.{WorkerState}
+use Rattle.vx_workers.specs.declared.worker_states.Piece.{Piece}
+use Rattle.vx_workers.specs.Borrowers.{borrower_chunks, IsBorrower, IsBorrowerBy}
 use Rattle.vx_workers.specs.Reasons.{Reason, leaf_of, segment_of, chunk_and_segment, take_and_segment, IsReasonAmong}
 use Rattle.vx_workers.specs.Unhindered.{IsUnhindered}
 use Rattle.vx_base.specs.Masks.{Ascend, true_count}
@@ -70,7 +70,7 @@ pub record RunsSource (plans : ScanPlans) (chunks : List SelectedRows) (numbers 
 
 -- each of these chunks is done, or ran with borrowed values
 abbrev pub AreDone : List ℕ → List ℕ → List ℕ → Type 0
-AreDone numbers done loaned = (x : ℕ) → times x numbers ≡ times x done + times x loaned
+AreDone numbers done borrowing = (x : ℕ) → times x numbers ≡ times x done + times x borrowing
 
 -- the last of these numbers
 abbrev pub IsLast : ℕ → List ℕ → Type 0
@@ -89,52 +89,52 @@ pub record FailsLast (plans : ScanPlans) (chunks : List SelectedRows) (error : C
   pub fails : Fails plans chunks error before after
 
 -- The last chunk that was claimed failed, and those before it are done.
-pub record StopsAt (plans : ScanPlans) (chunks : List SelectedRows) (error : ChunkError) (numbers done loaned : List ℕ) (before after : SourceState) : Type 0 where
+pub record StopsAt (plans : ScanPlans) (chunks : List SelectedRows) (error : ChunkError) (numbers done borrowing : List ℕ) (before after : SourceState) : Type 0 where
   pub earlier : List ℕ
   pub last : numbers ≡ earlier ++ error.chunk ∷ []
-  pub all_done : AreDone earlier done loaned
+  pub all_done : AreDone earlier done borrowing
   pub fails : Fails plans chunks error before after
 
 -- There was no memory to claim a further chunk.
-pub record WantsMemory (error : ChunkError) (numbers done loaned : List ℕ) : Type 0 where
-  pub all : AreDone numbers done loaned
+pub record WantsMemory (error : ChunkError) (numbers done borrowing : List ℕ) : Type 0 where
+  pub all : AreDone numbers done borrowing
   pub chunk : error.chunk ≡ 0
   pub memory : error.error ≡ Memory
 
 -- without an error it was told that no chunk is left, and all that it claimed are done
 abbrev pub Ends : ScanPlans → List SelectedRows → Option ChunkError → List ℕ → List ℕ → List ℕ → Bool → SourceState → SourceState → Type 0
-Ends plans chunks None numbers done loaned told before after = AreDone numbers done loaned × (told ≡ true)
-Ends plans chunks (Some error) numbers done loaned told before after = StopsAt plans chunks error numbers done loaned before after ⊎ WantsMemory error numbers done loaned
+Ends plans chunks None numbers done borrowing told before after = AreDone numbers done borrowing × (told ≡ true)
+Ends plans chunks (Some error) numbers done borrowing told before after = StopsAt plans chunks error numbers done borrowing before after ⊎ WantsMemory error numbers done borrowing
 
 -- ---- the worker
 
--- a lane that did nothing yet
-pub record IsFreshLane (claims : Claims) (lane : Lane) : Type 0 where
-  pub fresh : IsFresh claims 1 lane.seat
-  pub claimed : lane.claimed.items ≡ []
-  pub pieces : lane.pieces.items ≡ []
-  pub loans : lane.loans.items ≡ []
-  pub leaves : lane.handed.leaves.items ≡ []
-  pub made : lane.handed.made.items ≡ []
-  pub error : lane.error ≡ None
+-- a state that did nothing yet
+pub record IsFreshWorker (claims : Claims) (worker : WorkerState) : Type 0 where
+  pub fresh : IsFresh claims 1 worker.seat
+  pub claimed : worker.claimed.items ≡ []
+  pub pieces : worker.pieces.items ≡ []
+  pub borrowers : worker.borrowers.items ≡ []
+  pub leaves : worker.handed.leaves.items ≡ []
+  pub made : worker.handed.made.items ≡ []
+  pub error : worker.error ≡ None
 
 -- What one worker gives, which shares whole values with others, or is alone.
-pub record Worked (shares : Bool) (claims : Claims) (plans : ScanPlans) (chunks : List SelectedRows) (lane : Lane) (before after : SourceState) : Type 0 where
-  pub own : IsSeatOf claims lane.seat
-  pub parts : parts lane.seat ≡ 1
-  pub claimed : lane.claimed.items ≡ claimed lane.seat
-  pub ascend : Ascend lane.claimed.items
+pub record Worked (shares : Bool) (claims : Claims) (plans : ScanPlans) (chunks : List SelectedRows) (worker : WorkerState) (before after : SourceState) : Type 0 where
+  pub own : IsSeatOf claims worker.seat
+  pub parts : parts worker.seat ≡ 1
+  pub claimed : worker.claimed.items ≡ claimed worker.seat
+  pub ascend : Ascend worker.claimed.items
   -- each piece is its chunk's by the file
-  pub content : told_by plans before (λ bytes. All (IsPieceOf (leaves_of bytes) plans chunks) lane.pieces.items)
-  pub dtype : All (HasDtype plans) lane.pieces.items
-  pub rows : All (HasItsRows plans chunks) lane.pieces.items
+  pub content : told_by plans before (λ bytes. All (IsPieceOf (leaves_of bytes) plans chunks) worker.pieces.items)
+  pub dtype : All (HasDtype plans) worker.pieces.items
+  pub rows : All (HasItsRows plans chunks) worker.pieces.items
   -- chunks that ran with borrowed values have what comes of these by the file; a worker that is alone has none
-  pub loans : All (IsLoan plans chunks) lane.loans.items
-  pub loans_by : told_by plans before (λ bytes. All (IsLoanBy bytes plans chunks) lane.loans.items)
-  pub alone : shares ≡ false → lane.loans.items ≡ []
+  pub borrowers : All (IsBorrower plans chunks) worker.borrowers.items
+  pub borrowers_by : told_by plans before (λ bytes. All (IsBorrowerBy bytes plans chunks) worker.borrowers.items)
+  pub alone : shares ≡ false → worker.borrowers.items ≡ []
   -- the whole values that it made are whole by the file
-  pub made : AreTyped plans.table (data_of lane.handed.made.items)
-  pub made_by : told_by plans before (λ bytes. AreMade plans.table plans.row_offset (data_of lane.handed.made.items) (leaves_of bytes))
-  pub runs : RunsSource plans chunks lane.claimed.items before after
-  pub faults : KeepsFaults before after ⊎ IsSomeAnd lane.error (λ error. error.error ≡ ReadFault)
-  pub ends : Ends plans chunks lane.error lane.claimed.items (numbers_of lane.pieces.items) (loaned_of lane.loans.items) (was_told lane.seat) before after
+  pub made : AreTyped plans.table (data_of worker.handed.made.items)
+  pub made_by : told_by plans before (λ bytes. AreMade plans.table plans.row_offset (data_of worker.handed.made.items) (leaves_of bytes))
+  pub runs : RunsSource plans chunks worker.claimed.items before after
+  pub faults : KeepsFaults before after ⊎ IsSomeAnd worker.error (λ error. error.error ≡ ReadFault)
+  pub ends : Ends plans chunks worker.error worker.claimed.items (numbers_of worker.pieces.items) (borrower_chunks worker.borrowers.items) (was_told worker.seat) before after

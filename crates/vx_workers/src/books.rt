@@ -46,11 +46,11 @@ impl Book {
     }
 
     /// A copy of the column of a plan, or none where the plan has no entry.
-    pub fn get(&mut self, node: PlanRef) -> Result<Option<Column>, AllocError>
-        ensures found { IfOk result (λ column. column ≡ kept_at self.old (number_of node)) }
+    pub fn get(&mut self, plan: PlanRef) -> Result<Option<Column>, AllocError>
+        ensures found { IfOk result (λ column. column ≡ kept_at self.old (number_of plan)) }
         ensures stays { self.new ≡ self.old }
     {
-        match first_for(&self.entries, node) {
+        match first_for(&self.entries, plan) {
             Some(column) => Ok(Some(column.copy(self.alloc)?)),
             None => Ok(None),
         }
@@ -58,12 +58,12 @@ impl Book {
 
     /// Keeps the column of a plan, unless it has one already, and gives a copy of the kept one. After want of memory the
     /// book is as it was.
-    pub fn insert(&mut self, node: PlanRef, column: Column) -> Result<Column, AllocError>
-        ensures gives { IfOk result (λ kept. Inserts (number_of node) column kept self.old self.new) }
+    pub fn insert(&mut self, plan: PlanRef, column: Column) -> Result<Column, AllocError>
+        ensures gives { IfOk result (λ kept. Inserts (number_of plan) column kept self.old self.new) }
         ensures as_before { OnErr result (self.new ≡ self.old) }
     {
-        match self.get(node) {
-            Ok(None) => self.accept(node, column),
+        match self.get(plan) {
+            Ok(None) => self.accept(plan, column),
             Ok(Some(kept)) => {
                 drop(column);
                 Ok(kept)
@@ -76,9 +76,9 @@ impl Book {
     }
 
     /// Keeps the column of a plan that has none, and gives a copy of it.
-    fn accept(&mut self, node: PlanRef, column: Column) -> Result<Column, AllocError>
-        requires none { kept_at self.old (number_of node) ≡ None }
-        ensures gives { IfOk result (λ kept. Inserts (number_of node) column kept self.old self.new) }
+    fn accept(&mut self, plan: PlanRef, column: Column) -> Result<Column, AllocError>
+        requires none { kept_at self.old (number_of plan) ≡ None }
+        ensures gives { IfOk result (λ kept. Inserts (number_of plan) column kept self.old self.new) }
         ensures as_before { OnErr result (self.new ≡ self.old) }
     {
         let given = match column.copy(self.alloc) {
@@ -88,7 +88,7 @@ impl Book {
                 return Err(error);
             }
         };
-        match self.entries.push(KeptValue { node, column }) {
+        match self.entries.push(KeptValue { node: plan, column }) {
             Ok(()) => Ok(given),
             Err(failed) => {
                 drop(given);
@@ -121,8 +121,8 @@ impl ValueCache {
 
     /// A copy of the column that the book has for a plan, or none where it has none. It waits for the lock. Its only
     /// error is want of memory.
-    pub fn get<R: Wait>(&self, rt: &R, node: PlanRef) -> Result<Option<Column>, AllocError> {
-        self.book.lock(rt).get(node)
+    pub fn get<R: Wait>(&self, rt: &R, plan: PlanRef) -> Result<Option<Column>, AllocError> {
+        self.book.lock(rt).get(plan)
     }
 
     /// Keeps the column of a plan in the book, unless it has one already, and gives a copy of the kept one. It waits for
@@ -130,9 +130,9 @@ impl ValueCache {
     pub fn insert<R: Wait>(
         &self,
         rt: &R,
-        node: PlanRef,
+        plan: PlanRef,
         column: Column,
     ) -> Result<Column, AllocError> {
-        self.book.lock(rt).insert(node, column)
+        self.book.lock(rt).insert(plan, column)
     }
 }

@@ -6,16 +6,16 @@ ghost use Rattle.std.specs.Bool.{MatchBool};
 ghost use Rattle.std.specs.List.{AllByRecursion};
 ghost use Rattle.vx_plan.specs.Refs.{number_of};
 ghost use Rattle.vx_plan.specs.Tables.{AreIn};
-ghost use Rattle.vx_steps.specs.Asked.{AreAsked};
+ghost use Rattle.vx_steps.specs.Asked.{AreAskedPlans};
 ghost use Rattle.vx_steps.specs.Kept.{kept_data};
 ghost use Rattle.vx_steps.specs.Offers.{IsForPlan};
 ghost use Rattle.vx_drive.specs.Plans.{ArePlans, IsChunkOf};
 ghost use Rattle.vx_chunks.specs.Outcomes.{data_of, CanHandOn, IsGivenOrMade};
-ghost use Rattle.vx_workers.specs.Borrowing.{AreHad, AreOfPlans, BorrowsOne, Enlists, RestsOn, RunsShared};
-ghost use Rattle.vx_workers.specs.Loans.{AreBorrowed, RestsOnValues};
+ghost use Rattle.vx_workers.specs.Borrowing.{AreHad, AreOfPlans, BorrowsOne, RecordsOutcome, RestsOn, RunsShared};
+ghost use Rattle.vx_workers.specs.Borrowers.{AreBorrowed, RestsOnValues};
 
 use crate::books::ValueCache;
-use crate::lanes::{ChunkError, Lane, Loan, Piece};
+use crate::worker_states::{Borrower, ChunkError, Piece, WorkerState};
 use std::alloc::{AllocError, Global};
 use std::sync::Wait;
 use vx_base::{Column, SegmentSource};
@@ -43,27 +43,27 @@ pub(crate) struct Borrowed {
 }
 
 /// Whether the column has the dtype and the rows of the plan.
-fn fits(table: &PlanTable, node: PlanRef, column: &Column) -> bool
-    requires known { number_of node < length table.now }
-    ensures { IsTrue result → IsForPlan table.now (record { node = number_of node; column = column.now }) }
+fn fits(table: &PlanTable, plan: PlanRef, column: &Column) -> bool
+    requires known { number_of plan < length table.now }
+    ensures { IsTrue result → IsForPlan table.now (record { node = number_of plan; column = column.now }) }
 {
-    column.dtype().same(table.dtype(node)) && column.len() == table.row_count(node)
+    column.dtype().same(table.dtype(plan)) && column.len() == table.row_count(plan)
 }
 
 /// The whole values that the cache has for the plan, if they have its dtype and rows.
 fn borrow_one<R: Wait>(
     rt: &R,
     table: &PlanTable,
-    node: PlanRef,
+    plan: PlanRef,
     cache: &ValueCache,
 ) -> Result<Option<Column>, AllocError>
-    requires known { number_of node < length table.now }
-    ensures { IfOk result (λ found. IfSome found (λ column. IsForPlan table.now (record { node = number_of node; column = column }))) }
+    requires known { number_of plan < length table.now }
+    ensures { IfOk result (λ found. IfSome found (λ column. IsForPlan table.now (record { node = number_of plan; column = column }))) }
 {
-    let Some(column) = cache.get(rt, node)? else {
+    let Some(column) = cache.get(rt, plan)? else {
         return Ok(None);
     };
-    if fits(table, node, &column) {
+    if fits(table, plan, &column) {
         return Ok(Some(column));
     }
     drop(column);
@@ -74,16 +74,16 @@ fn borrow_one<R: Wait>(
 fn borrow_or_lack<R: Wait>(
     rt: &R,
     table: &PlanTable,
-    node: PlanRef,
+    plan: PlanRef,
     cache: &ValueCache,
     loan: &mut Borrowed,
 ) -> Result<(), AllocError>
-    requires known { number_of node < length table.now }
-    ensures { BorrowsOne table.now (number_of node) (data_of loan.old.given.items) (data_of loan.new.given.items) }
+    requires known { number_of plan < length table.now }
+    ensures { BorrowsOne table.now (number_of plan) (data_of loan.old.given.items) (data_of loan.new.given.items) }
 {
-    match borrow_one(rt, table, node, cache)? {
-        Some(column) => loan.given.push(KeptValue { node, column })?,
-        None => loan.lacking.push(node)?,
+    match borrow_one(rt, table, plan, cache)? {
+        Some(column) => loan.given.push(KeptValue { node: plan, column })?,
+        None => loan.lacking.push(plan)?,
     }
     Ok(())
 }
@@ -97,7 +97,7 @@ fn borrow<R: Wait>(
     made: &[KeptValue],
     cache: &ValueCache,
 ) -> Result<Borrowed, AllocError>
-    requires known { AllByRecursion (λ node. number_of node < length table.now) asked.now }
+    requires known { AllByRecursion (λ plan. number_of plan < length table.now) asked.now }
     ensures { IfOk result (λ loan. AreOfPlans table.now (map number_of asked.now) (data_of loan.given.items)) }
 {
     let mut loan = Borrowed {
@@ -106,9 +106,9 @@ fn borrow<R: Wait>(
         given: Vec::new(alloc),
         kept: Vec::new(alloc),
     };
-    for node in asked {
-        if first_for(made, *node).is_none() {
-            borrow_or_lack(rt, table, *node, cache, &mut loan)?;
+    for plan in asked {
+        if first_for(made, *plan).is_none() {
+            borrow_or_lack(rt, table, *plan, cache, &mut loan)?;
         }
     }
     Ok(loan)
@@ -132,12 +132,12 @@ pub(crate) fn copies(alloc: Global, values: &[KeptValue]) -> Result<Vec<KeptValu
 fn share_one<R: Wait>(
     rt: &R,
     alloc: Global,
-    node: PlanRef,
+    plan: PlanRef,
     column: &Column,
     cache: &ValueCache,
 ) -> Result<(), AllocError> {
     let copied = column.copy(alloc)?;
-    drop(cache.insert(rt, node, copied)?);
+    drop(cache.insert(rt, plan, copied)?);
     Ok(())
 }
 
@@ -150,10 +150,10 @@ fn share<R: Wait>(
     made: &[KeptValue],
     cache: &ValueCache,
 ) {
-    for node in asked {
-        if let Some(column) = first_for(made, *node) {
+    for plan in asked {
+        if let Some(column) = first_for(made, *plan) {
             // The cache goes without what there is no memory for.
-            let _shared = share_one(rt, alloc, *node, column, cache);
+            let _shared = share_one(rt, alloc, *plan, column, cache);
         }
     }
 }
@@ -171,7 +171,7 @@ fn borrowed_for<R: Wait>(
     requires chunk { IsChunkOf plans.now chosen.now }
     ensures borrowed { IfOk result (λ loan. AreBorrowed plans.now chosen.now (data_of loan.given.items)) }
     ensures kept { IfOk result (λ loan. data_of loan.kept.items ≡ data_of loan.given.items) }
-    ensures asked { IfOk result (λ loan. AreAsked plans.now.table (number_of plans.now.projection) chosen.now.scope.rows.start chosen.now.mask (map number_of loan.asked.items)) }
+    ensures asked { IfOk result (λ loan. AreAskedPlans plans.now.table (number_of plans.now.projection) chosen.now.scope.rows.start chosen.now.mask (map number_of loan.asked.items)) }
     ensures known { IfOk result (λ loan. AreIn plans.now.table (map number_of loan.asked.items)) }
 {
     let asked = asked_wholes(
@@ -198,21 +198,21 @@ fn rests_on_values(error: ScanError) -> bool
 }
 
 /// Whether the plan has whole values among those that were made or given.
-fn is_had(node: PlanRef, made: &[KeptValue], given: &[KeptValue]) -> bool
-    ensures { MatchBool result (IsGivenOrMade (data_of given.now) (data_of made.now) (number_of node)) (IsGivenOrMade (data_of given.now) (data_of made.now) (number_of node) → ⊥) }
+fn is_had(plan: PlanRef, made: &[KeptValue], given: &[KeptValue]) -> bool
+    ensures { MatchBool result (IsGivenOrMade (data_of given.now) (data_of made.now) (number_of plan)) (IsGivenOrMade (data_of given.now) (data_of made.now) (number_of plan) → ⊥) }
 {
-    if first_for(made, node).is_some() {
+    if first_for(made, plan).is_some() {
         return true;
     }
-    first_for(given, node).is_some()
+    first_for(given, plan).is_some()
 }
 
 /// Whether each of the plans has.
 fn are_had(asked: &[PlanRef], made: &[KeptValue], given: &[KeptValue]) -> bool
     ensures { MatchBool result (AreHad (map number_of asked.now) (data_of given.now) (data_of made.now)) (AreHad (map number_of asked.now) (data_of given.now) (data_of made.now) → ⊥) }
 {
-    for node in asked {
-        if !is_had(*node, made, given) {
+    for plan in asked {
+        if !is_had(*plan, made, given) {
             return false;
         }
     }
@@ -285,39 +285,38 @@ pub(crate) fn run_shared<R: Wait, S: SegmentSource>(
     let made = ran.handed.made.as_slice();
     share(rt, alloc, lacking.as_slice(), made, cache);
     let borrowed = rested_on(alloc, &ran.piece, asked.as_slice(), made, kept);
-    // The contract of `len` says that the table keeps its rules.
-    let _plans = plans.table.len();
+    plans.table.keeps_rules();
     Shared { ran, borrowed }
 }
 
-/// Lists what came of a chunk on the lane, and says whether the worker goes on.
-pub(crate) fn enlist(
-    lane: &mut Lane,
+/// Lists what came of a chunk in the state, and says whether the worker goes on.
+pub(crate) fn record_outcome(
+    worker: &mut WorkerState,
     number: u64,
     piece: Result<Column, ScanError>,
     borrowed: Vec<KeptValue>,
 ) -> bool
-    requires pieces { length lane.old.pieces.items < lane.old.pieces.cap }
-    requires loans { length lane.old.loans.items < lane.old.loans.cap }
-    ensures { Enlists number piece borrowed result lane.old lane.new }
+    requires pieces { length worker.old.pieces.items < worker.old.pieces.cap }
+    requires borrowers { length worker.old.borrowers.items < worker.old.borrowers.cap }
+    ensures { RecordsOutcome number piece borrowed result worker.old worker.new }
 {
     match piece {
         Ok(column) if borrowed.is_empty() => {
-            lane.pieces.push_reserved(Piece {
+            worker.pieces.push_reserved(Piece {
                 chunk: number,
                 column,
             });
             true
         }
         Err(error) if borrowed.is_empty() || !rests_on_values(error) => {
-            lane.error = Some(ChunkError {
+            worker.error = Some(ChunkError {
                 chunk: number,
                 error,
             });
             false
         }
         result => {
-            lane.loans.push_reserved(Loan {
+            worker.borrowers.push_reserved(Borrower {
                 chunk: number,
                 borrowed,
                 result,

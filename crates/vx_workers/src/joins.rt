@@ -5,8 +5,8 @@ ghost use Rattle.vx_claims.specs.Claims.{count_of};
 ghost use Rattle.vx_workers.specs.Joins.{AreJoined, Joins};
 
 use crate::claim_lists::ClaimList;
-use crate::gathers::gather;
-use crate::lanes::{ChunkError, Lane, Loan, Piece};
+use crate::merges::merge_workers;
+use crate::worker_states::{Borrower, ChunkError, Piece, WorkerState};
 use std::alloc::Global;
 use vx_claims::{ClaimSeat, Claims};
 use vx_steps::KeptValue;
@@ -17,30 +17,30 @@ use vx_steps::KeptValue;
 pub struct Joined {
     pub claimed: Vec<ClaimList>,
     pub pieces: Vec<Piece>,
-    pub loans: Vec<Loan>,
+    pub borrowers: Vec<Borrower>,
     pub made: Vec<KeptValue>,
     pub error: Option<ChunkError>,
 }
 
-/// What the lanes gave, after the claims are closed. For the list of each there is room.
-pub fn join_lanes(
+/// What the states gave, after the claims are closed. For the list of each there is room.
+pub fn join_workers(
     alloc: Global,
     claims: Claims,
     mut seat: ClaimSeat,
-    lanes: Vec<Lane>,
+    worker_states: Vec<WorkerState>,
     lists: Vec<ClaimList>,
 ) -> Joined
-    requires { AreJoined claims seat lanes.items lists }
-    ensures { Joins (count_of claims) lanes.items result }
+    requires { AreJoined claims seat worker_states.items lists }
+    ensures { Joins (count_of claims) worker_states.items result }
 {
     let mut joined = Joined {
         claimed: lists,
         pieces: Vec::new(alloc),
-        loans: Vec::new(alloc),
+        borrowers: Vec::new(alloc),
         made: Vec::new(alloc),
         error: None,
     };
-    gather(&claims, &mut seat, lanes, &mut joined);
+    merge_workers(&claims, &mut seat, worker_states, &mut joined);
     let _word = claims.close(seat);
     joined
 }

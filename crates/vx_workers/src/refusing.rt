@@ -22,8 +22,7 @@ fn hindrance_of(plans: &ScanPlans, chosen: &SelectedRows) -> Option<ScanError>
     requires chunk { IsChunkOf plans.now chosen.now }
     ensures { TellsHindrance plans.now chosen.now result }
 {
-    // The contract of `len` says that the table keeps its rules.
-    let _plans = plans.table.len();
+    plans.table.keeps_rules();
     let places = plans.locations.as_slice().len();
     let rows = chosen.scope.rows.start;
     match first_hindrance(&plans.table, plans.projection, rows, &chosen.mask, places) {

@@ -6,12 +6,12 @@ ghost use Rattle.std.specs.Thread.{IsSync, IsSend};
 ghost use Rattle.vx_claims.specs.Claims.{count_of};
 ghost use Rattle.vx_drive.specs.Plans.{ArePlans, IsChunkOf};
 ghost use Rattle.vx_chunks.specs.Lent.{EachSourceBy};
-ghost use Rattle.vx_workers.specs.Workers.{IsFreshLane, Worked};
+ghost use Rattle.vx_workers.specs.Workers.{IsFreshWorker, Worked};
 
 use crate::books::ValueCache;
-use crate::borrowing::{Shared, enlist};
-use crate::lanes::{Lane, want_of_memory};
+use crate::borrowing::{Shared, record_outcome};
 use crate::refusing::run_unhindered;
+use crate::worker_states::{WorkerState, want_of_memory};
 use std::mem;
 use std::sync::Wait;
 use std::thread::{Threads, join_mut};
@@ -33,43 +33,49 @@ fn work<R: Wait, S: SegmentSource>(
     claims: &Claims,
     cache: &ValueCache,
     shares: bool,
-    lane: &mut Lane,
+    worker: &mut WorkerState,
     source: &mut S,
 )
     requires plans { ArePlans plans.now }
     requires chunks { AllByRecursion (IsChunkOf plans.now) chunks.now }
     requires count { count_of claims.now ≡ length chunks.now }
-    requires lane { IsFreshLane claims.now lane.old }
-    ensures { Worked shares claims.now plans.now chunks.now lane.new (S.state source.old) (S.state source.new) }
+    requires worker { IsFreshWorker claims.now worker.old }
+    ensures { Worked shares claims.now plans.now chunks.now worker.new (S.state source.old) (S.state source.new) }
 {
-    // The contract of `len` says that the table keeps its rules.
-    let _plans = plans.table.len();
+    plans.table.keeps_rules();
     'working: loop {
-        if lane.claimed.reserve(1).is_err()
-            || lane.pieces.reserve(1).is_err()
-            || lane.loans.reserve(1).is_err()
+        if worker.claimed.reserve(1).is_err()
+            || worker.pieces.reserve(1).is_err()
+            || worker.borrowers.reserve(1).is_err()
         {
-            lane.error = Some(want_of_memory());
+            worker.error = Some(want_of_memory());
             return;
         }
-        let Some(number) = lane.seat.claim(claims) else {
+        let Some(number) = worker.seat.claim(claims) else {
             return;
         };
-        lane.claimed.push_reserved(number);
-        let handed = mem::replace(&mut lane.handed, nothing_handed(lane.alloc));
+        worker.claimed.push_reserved(number);
+        let handed = mem::replace(&mut worker.handed, nothing_handed(worker.alloc));
         let chunk = &chunks[number as usize];
         let Shared { ran, borrowed } = run_unhindered(
-            rt, lane.alloc, plans, chunk, cache, shares, source, handed,
+            rt,
+            worker.alloc,
+            plans,
+            chunk,
+            cache,
+            shares,
+            source,
+            handed,
         );
         let Ran { piece, handed } = ran;
-        lane.handed = handed;
-        if !enlist(lane, number, piece, borrowed) {
+        worker.handed = handed;
+        if !record_outcome(worker, number, piece, borrowed) {
             return; // a worker stops at a chunk that fails
         }
     }
 }
 
-/// A worker for each lane and its source, side by side, by no more threads than there are chunks.
+/// A worker for each state and its source, side by side, by no more threads than there are chunks.
 pub fn spread<R: Threads + Wait + Sync, S: SegmentSource + Send>(
     rt: &R,
     plans: &ScanPlans,
@@ -77,25 +83,33 @@ pub fn spread<R: Threads + Wait + Sync, S: SegmentSource + Send>(
     claims: &Claims,
     cache: &ValueCache,
     shares: bool,
-    lanes: &mut [Lane],
+    worker_states: &mut [WorkerState],
     sources: &mut [S],
 )
     requires plans { ArePlans plans.now }
     requires chunks { AllByRecursion (IsChunkOf plans.now) chunks.now }
     requires count { count_of claims.now ≡ length chunks.now }
-    requires lanes { All (IsFreshLane claims.now) lanes.old }
-    requires sources { length sources.old ≡ length lanes.old }
-    ensures { EachSourceBy (Worked shares claims.now plans.now chunks.now) lanes.new (map S.state sources.old) (map S.state sources.new) }
+    requires worker_states { All (IsFreshWorker claims.now) worker_states.old }
+    requires sources { length sources.old ≡ length worker_states.old }
+    ensures { EachSourceBy (Worked shares claims.now plans.now chunks.now) worker_states.new (map S.state sources.old) (map S.state sources.new) }
 {
     let threads = chunks.len();
     spread_over(
-        rt, plans, chunks, claims, cache, shares, threads, lanes, sources,
+        rt,
+        plans,
+        chunks,
+        claims,
+        cache,
+        shares,
+        threads,
+        worker_states,
+        sources,
     );
 }
 
-/// The workers of these lanes, by so many threads at most. This thread is one of them, and starts all others: one that a
-/// new thread starts mostly comes behind that one on its processor, though another has nothing to do. The lanes for which
-/// no thread is left are worked through by this one, one after another: as a rule they find no chunk left.
+/// The workers of these states, by so many threads at most. This thread is one of them, and starts all others: one that
+/// a new thread starts mostly comes behind that one on its processor, though another has nothing to do. The states for
+/// which no thread is left are worked through by this one, one after another: as a rule they find no chunk left.
 #[cycle(spreading)]
 fn spread_over<R: Threads + Wait + Sync, S: SegmentSource + Send>(
     rt: &R,
@@ -105,32 +119,50 @@ fn spread_over<R: Threads + Wait + Sync, S: SegmentSource + Send>(
     cache: &ValueCache,
     shares: bool,
     threads: usize,
-    lanes: &mut [Lane],
+    worker_states: &mut [WorkerState],
     sources: &mut [S],
 )
     requires plans { ArePlans plans.now }
     requires chunks { AllByRecursion (IsChunkOf plans.now) chunks.now }
     requires count { count_of claims.now ≡ length chunks.now }
-    requires lanes { All (IsFreshLane claims.now) lanes.old }
-    requires sources { length sources.old ≡ length lanes.old }
-    ensures { EachSourceBy (Worked shares claims.now plans.now chunks.now) lanes.new (map S.state sources.old) (map S.state sources.new) }
+    requires worker_states { All (IsFreshWorker claims.now) worker_states.old }
+    requires sources { length sources.old ≡ length worker_states.old }
+    ensures { EachSourceBy (Worked shares claims.now plans.now chunks.now) worker_states.new (map S.state sources.old) (map S.state sources.new) }
 {
-    let Some((lane, lanes)) = lanes.split_first_mut() else {
+    let Some((worker, worker_states)) = worker_states.split_first_mut() else {
         return;
     };
     let Some((source, sources)) = sources.split_first_mut() else {
         unreachable!()
     };
-    if threads <= 1 || lanes.is_empty() {
-        work(rt, plans, chunks, claims, cache, shares, lane, source);
+    if threads <= 1 || worker_states.is_empty() {
+        work(rt, plans, chunks, claims, cache, shares, worker, source);
         spread_over(
-            rt, plans, chunks, claims, cache, shares, threads, lanes, sources,
+            rt,
+            plans,
+            chunks,
+            claims,
+            cache,
+            shares,
+            threads,
+            worker_states,
+            sources,
         );
         return;
     }
     let left = threads - 1;
     first_and_others(
-        rt, plans, chunks, claims, cache, &shares, lane, source, &left, lanes, sources,
+        rt,
+        plans,
+        chunks,
+        claims,
+        cache,
+        &shares,
+        worker,
+        source,
+        &left,
+        worker_states,
+        sources,
     );
 }
 
@@ -143,31 +175,39 @@ fn first_and_others<R: Threads + Wait + Sync, S: SegmentSource + Send>(
     claims: &Claims,
     cache: &ValueCache,
     shares: &bool,
-    lane: &mut Lane,
+    worker: &mut WorkerState,
     source: &mut S,
     threads: &usize,
-    lanes: &mut [Lane],
+    worker_states: &mut [WorkerState],
     sources: &mut [S],
 )
     requires plans { ArePlans plans.now }
     requires chunks { AllByRecursion (IsChunkOf plans.now) chunks.now }
     requires count { count_of claims.now ≡ length chunks.now }
-    requires lane { IsFreshLane claims.now lane.old }
-    requires lanes { All (IsFreshLane claims.now) lanes.old }
-    requires sources { length sources.old ≡ length lanes.old }
-    ensures first { Worked shares.now claims.now plans.now chunks.now lane.new (S.state source.old) (S.state source.new) }
-    ensures others { EachSourceBy (Worked shares.now claims.now plans.now chunks.now) lanes.new (map S.state sources.old) (map S.state sources.new) }
+    requires worker { IsFreshWorker claims.now worker.old }
+    requires worker_states { All (IsFreshWorker claims.now) worker_states.old }
+    requires sources { length sources.old ≡ length worker_states.old }
+    ensures first { Worked shares.now claims.now plans.now chunks.now worker.new (S.state source.old) (S.state source.new) }
+    ensures others { EachSourceBy (Worked shares.now claims.now plans.now chunks.now) worker_states.new (map S.state sources.old) (map S.state sources.new) }
 {
     let mut first = ||
-        requires { ArePlans plans.now × AllByRecursion (IsChunkOf plans.now) chunks.now × (count_of claims.now ≡ length chunks.now) × IsFreshLane claims.now lane.now }
-        ensures { Worked shares.entry.now claims.entry.now plans.entry.now chunks.entry.now lane.exit.now (S.state source.entry.now) (S.state source.exit.now) }
-    { work(rt, plans, chunks, claims, cache, *shares, lane, source) };
+        requires { ArePlans plans.now × AllByRecursion (IsChunkOf plans.now) chunks.now × (count_of claims.now ≡ length chunks.now) × IsFreshWorker claims.now worker.now }
+        ensures { Worked shares.entry.now claims.entry.now plans.entry.now chunks.entry.now worker.exit.now (S.state source.entry.now) (S.state source.exit.now) }
+    { work(rt, plans, chunks, claims, cache, *shares, worker, source) };
     let mut others = ||
-        requires { IsSync R.row × IsSend S.row × (length sources.now ≡ length lanes.now) × (count_of claims.now ≡ length chunks.now) × All (IsFreshLane claims.now) lanes.now × ArePlans plans.now × AllByRecursion (IsChunkOf plans.now) chunks.now }
-        ensures { EachSourceBy (Worked shares.entry.now claims.entry.now plans.entry.now chunks.entry.now) lanes.exit.now (map S.state sources.entry.now) (map S.state sources.exit.now) }
+        requires { IsSync R.row × IsSend S.row × (length sources.now ≡ length worker_states.now) × (count_of claims.now ≡ length chunks.now) × All (IsFreshWorker claims.now) worker_states.now × ArePlans plans.now × AllByRecursion (IsChunkOf plans.now) chunks.now }
+        ensures { EachSourceBy (Worked shares.entry.now claims.entry.now plans.entry.now chunks.entry.now) worker_states.exit.now (map S.state sources.entry.now) (map S.state sources.exit.now) }
     {
         spread_over(
-            rt, plans, chunks, claims, cache, *shares, *threads, lanes, sources,
+            rt,
+            plans,
+            chunks,
+            claims,
+            cache,
+            *shares,
+            *threads,
+            worker_states,
+            sources,
         )
     };
     join_mut(rt, &mut first, &mut others);

@@ -12,10 +12,10 @@ use Rattle.vx_arrays.proofs.DecodedNumbers.{mask_taken}
 use Rattle.vx_arrays.proofs.DecodedTexts.{length_texts, length_bytes, texts_spell, texts_of, values_utf8, nulls_are_empty}
 use Rattle.vx_arrays.proofs.decoded_texts.decode_texts.Goals as goal
 
-pub returns-then-slots-rows-clause-refused : goal.returns-then-slots-rows-clause-refused
-returns-then-slots-rows-clause-refused c = λ e values s.
+pub returns-then-buffers-rows-clause-refused : goal.returns-then-buffers-rows-clause-refused
+returns-then-buffers-rows-clause-refused c = λ e values s.
     let k = known (utf8_type c.args.nullability) c.args.nullability c.args.rows c.args.bytes.now c.in-Some.parts.0.now c.in-Some.parts.1.now values tt refl c.in-Some.ensures.joined c.in-Some.ensures.validity s in
-    omega (arith, c.if-slots-rows.true, texts_room c.args.nullability c.args.rows c.in-Some.parts.0.now c.in-Some.parts.1.now values k)
+    omega (arith, c.if-buffers-rows.true, texts_room c.args.nullability c.args.rows c.in-Some.parts.0.now c.in-Some.parts.1.now values k)
 
 pub returns-in-None-2-clause-refused : goal.returns-in-None-2-clause-refused
 returns-in-None-2-clause-refused c = λ e values s.

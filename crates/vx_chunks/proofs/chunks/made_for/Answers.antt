@@ -6,15 +6,15 @@ use Rattle.vx_chunks.specs.Outcomes.{data_of}
 use Rattle.vx_chunks.proofs.OwnValues.{own_all, owning_next}
 use Rattle.vx_chunks.proofs.chunks.made_for.Goals as goal
 
-pub loop-node-preserved : goal.loop-node-preserved
-loop-node-preserved c =
-    let asked : List PlanRef = c.deref-node-items.result.now in
-    let node : PlanRef = get_or asked c.loop-node.node-index (record { 0 = 0 }) in
-    let at : slice_get asked c.loop-node.node-index ≡ Some node = slice_get-get_or asked c.loop-node.node-index (record { 0 = 0 }) c.loop-node-test.true in
-    owning_next asked (data_of c.args.made.now) (data_of c.loop-node.own.items) (data_of c.give.new.given.items) c.loop-node.node-index node at c.loop-node.invariant c.in_ok-give.ensures
+pub loop-plan-preserved : goal.loop-plan-preserved
+loop-plan-preserved c =
+    let asked : List PlanRef = c.deref-plan-items.result.now in
+    let plan : PlanRef = get_or asked c.loop-plan.plan-index (record { 0 = 0 }) in
+    let at : slice_get asked c.loop-plan.plan-index ≡ Some plan = slice_get-get_or asked c.loop-plan.plan-index (record { 0 = 0 }) c.loop-plan-test.true in
+    owning_next asked (data_of c.args.made.now) (data_of c.loop-plan.own.items) (data_of c.give.new.given.items) c.loop-plan.plan-index plan at c.loop-plan.invariant c.in_ok-give.ensures
 
 pub returns : goal.returns
 returns c =
-    let asked : List PlanRef = c.deref-node-items.result.now in
-    let all : length asked ≡ c.loop-node.node-index = omega arith in
-    own_all c.args.plans.now c.args.chosen.now asked c.in_ok-asked.asked.items (data_of c.args.made.now) (data_of c.loop-node.own.items) c.loop-node.node-index c.in_ok-asked.ensures.asked c.deref-node-items.ensures.value all c.loop-node.invariant
+    let asked : List PlanRef = c.deref-plan-items.result.now in
+    let all : length asked ≡ c.loop-plan.plan-index = omega arith in
+    own_all c.args.plans.now c.args.chosen.now asked c.in_ok-asked.asked.items (data_of c.args.made.now) (data_of c.loop-plan.own.items) c.loop-plan.plan-index c.in_ok-asked.ensures.asked c.deref-plan-items.ensures.value all c.loop-plan.invariant

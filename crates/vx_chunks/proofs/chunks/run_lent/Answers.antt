@@ -1,7 +1,7 @@
 use Rattle.std.proofs.Common.{◌≡◌, ◌∙◌, ◌++◌, List, [], ap, refl, subst, sym}
 use Rattle.vx_plan.specs.Nodes.{Node}
 use Rattle.vx_steps.specs.declared.kept.KeptValue.{KeptValue}
-use Rattle.vx_steps.specs.Kept.{AreApart}
+use Rattle.vx_steps.specs.Kept.{AreOfDistinctPlans}
 use Rattle.vx_steps.specs.KeptData.{Kept}
 use Rattle.vx_steps.specs.Offers.{IsForLeaf, IsForPlan, Keeps}
 use Rattle.vx_steps.specs.ScanData.{ScanData}
@@ -41,7 +41,7 @@ returns g c =
     subst (λ (values : List Kept). Keeps (IsForPlan c.args.plans.now.table) values given) stood.is
     (subst (λ (ns : List Node). Keeps (IsForPlan ns) (data_of c.in-Ok.given.items) given) first.nodes (c.with_value_cache-scan.ensures.given first.unstarted)) in
     let kept = c.run_over-output.ensures.kept in
-    let apart : AreApart (data_of c.run_over-output.result.kept.made.items) = subst AreApart (sym kept.made) kept.apart_made in
+    let apart : AreOfDistinctPlans (data_of c.run_over-output.result.kept.made.items) = subst AreOfDistinctPlans (sym kept.made) kept.apart_made in
     runs_on c.args.plans.now c.args.chosen.now c.args.handed (data_of c.args.given.items) stood.own given leaves made c.with_value_cache-scan.result c.run_over-output.result
     (record { piece = c.piece_of.result; handed = record { leaves = c.run_over-output.result.kept.leaves; made = c.run_over-output.result.kept.made } }) (g.S.SegmentSource.state c.args.source.now) (g.S.SegmentSource.state c.run_over-output.new.source) c.requires.chunk c.requires.lends c.requires.handed stood.are fits fits_leaves fits_made is c.run_over-output.ensures c.piece_of.ensures refl refl apart
 

@@ -8,8 +8,8 @@ use Rattle.vx_chunks.proofs.values.whole_scan.Goals as goal
 
 pub scan_of-requires-clause-chunk : goal.scan_of-requires-clause-chunk
 scan_of-requires-clause-chunk c =
-    subst (IsChunkOf (with_projection c.args.plans.now c.args.node)) (sym (rows_same c.args.plans.now c.args.node c.row_count-count.result c.in_ok-mask.mask c.row_count-count.ensures (c.in_ok-mask.ensures {u = tt}))) (all_inside c.args.plans.now c.args.node)
+    subst (IsChunkOf (with_projection c.args.plans.now c.args.plan)) (sym (rows_same c.args.plans.now c.args.plan c.row_count-count.result c.in_ok-mask.mask c.row_count-count.ensures (c.in_ok-mask.ensures {u = tt}))) (all_inside c.args.plans.now c.args.plan)
 
 pub returns : goal.returns
 returns c =
-    subst (λ (chosen : SelectedRows). IfOk c.scan_of.result (IsChunkScan (with_projection c.args.plans.now c.args.node) chosen [] [] [])) (rows_same c.args.plans.now c.args.node c.row_count-count.result c.in_ok-mask.mask c.row_count-count.ensures (c.in_ok-mask.ensures {u = tt})) c.scan_of.ensures
+    subst (λ (chosen : SelectedRows). IfOk c.scan_of.result (IsChunkScan (with_projection c.args.plans.now c.args.plan) chosen [] [] [])) (rows_same c.args.plans.now c.args.plan c.row_count-count.result c.in_ok-mask.mask c.row_count-count.ensures (c.in_ok-mask.ensures {u = tt})) c.scan_of.ensures

@@ -16,20 +16,20 @@ use Rattle.vx_lower.proofs.lowering_roots.lower.Goals as goal
 pub lower_root-requires-clause-can : goal.lower_root-requires-clause-can
 lower_root-requires-clause-can c =
     let nodes = c.args.tree.now in
-    let good = c.len-count.ensures.good in
+    let good = c.keeps_rules.ensures.good in
     let small = lowered_size (subtree nodes 0) (kept_data c.args.kept.now) (good_sound nodes good 0 good.nonempty) in
     let count = tree_has_each_node nodes good in
     record {
       tree = good;
       known = good.nonempty;
-      room = omega (arith, small, count, c.len-count.ensures.few, ap length c.in_ok-table.ensures.empty);
+      room = omega (arith, small, count, c.keeps_rules.ensures.few, ap length c.in_ok-table.ensures.empty);
       good = c.in_ok-table.ensures.good;
     }
 
 pub returns-clause-small : goal.returns-clause-small
 returns-clause-small c =
     let nodes = c.args.tree.now in
-    let good = c.len-count.ensures.good in
+    let good = c.keeps_rules.ensures.good in
     let small = lowered_size (subtree nodes 0) (kept_data c.args.kept.now) (good_sound nodes good 0 good.nonempty) in
     let count = tree_has_each_node nodes good in
     omega (arith, small, count, c.in_ok-root.ensures.count, ap length c.in_ok-table.ensures.empty)
@@ -37,7 +37,7 @@ returns-clause-small c =
 pub returns-clause-dtype : goal.returns-clause-dtype
 returns-clause-dtype c =
     let nodes = c.args.tree.now in
-    let good = c.len-count.ensures.good in
+    let good = c.keeps_rules.ensures.good in
     let p : Plan = lowered (subtree nodes 0) (kept_data c.args.kept.now) in
     let is : plan_at c.lower_root.new.table (number_of c.in_ok-root.root) ≡ numbered 0 p = c.in_ok-root.ensures.plan_is ∙ ap (λ (table : List Node). numbered (length table) p) c.in_ok-table.ensures.empty in
     keeps_type (subtree nodes 0) (kept_data c.args.kept.now) (plan_at c.lower_root.new.table (number_of c.in_ok-root.root)) (good_sound nodes good 0 good.nonempty) is
@@ -45,7 +45,7 @@ returns-clause-dtype c =
 pub returns-clause-rows : goal.returns-clause-rows
 returns-clause-rows c =
     let nodes = c.args.tree.now in
-    let good = c.len-count.ensures.good in
+    let good = c.keeps_rules.ensures.good in
     let p : Plan = lowered (subtree nodes 0) (kept_data c.args.kept.now) in
     let is : plan_at c.lower_root.new.table (number_of c.in_ok-root.root) ≡ numbered 0 p = c.in_ok-root.ensures.plan_is ∙ ap (λ (table : List Node). numbered (length table) p) c.in_ok-table.ensures.empty in
     keeps_rows (subtree nodes 0) (kept_data c.args.kept.now) (plan_at c.lower_root.new.table (number_of c.in_ok-root.root)) (good_sound nodes good 0 good.nonempty) is
@@ -53,7 +53,7 @@ returns-clause-rows c =
 pub returns-clause-values : goal.returns-clause-values
 returns-clause-values c =
     let nodes = c.args.tree.now in
-    let good = c.len-count.ensures.good in
+    let good = c.keeps_rules.ensures.good in
     let kept : KeptFields = kept_data c.args.kept.now in
     let p : Plan = lowered (subtree nodes 0) kept in
     let is : plan_at c.lower_root.new.table (number_of c.in_ok-root.root) ≡ numbered 0 p = c.in_ok-root.ensures.plan_is ∙ ap (λ (table : List Node). numbered (length table) p) c.in_ok-table.ensures.empty in
@@ -62,7 +62,7 @@ returns-clause-values c =
 pub returns-clause-reads : goal.returns-clause-reads
 returns-clause-reads c =
     let nodes = c.args.tree.now in
-    let good = c.len-count.ensures.good in
+    let good = c.keeps_rules.ensures.good in
     let p : Plan = lowered (subtree nodes 0) (kept_data c.args.kept.now) in
     let is : plan_at c.lower_root.new.table (number_of c.in_ok-root.root) ≡ numbered 0 p = c.in_ok-root.ensures.plan_is ∙ ap (λ (table : List Node). numbered (length table) p) c.in_ok-table.ensures.empty in
     keeps_reads (subtree nodes 0) (kept_data c.args.kept.now) (plan_at c.lower_root.new.table (number_of c.in_ok-root.root)) (good_sound nodes good 0 good.nonempty) is

@@ -3,7 +3,7 @@ use Rattle.vx_types.specs.Data.{Datum, int_type}
 use Rattle.vx_operators.specs.Operators.{arithmetic_of}
 use Rattle.vx_operators.specs.Rows.{along, front}
 use Rattle.vx_operators.specs.Sides.{side_rows}
-use Rattle.vx_operators.specs.Worths.{worth_rows}
+use Rattle.vx_operators.specs.ColumnarValues.{columnar_rows}
 use Rattle.vx_operators.proofs.SideRows.{side_count}
 use Rattle.vx_operators.proofs.number_operators.join_of.Goals as goal
 
@@ -14,5 +14,5 @@ join_numbers-requires-clause-rows g c =
 pub returns-clause-values : goal.returns-clause-values
 returns-clause-values g c n =
     let step = arithmetic_of c.args.op (Some (int_type g.T.Kind.kind n)) in
-    c.in_ok-part.ensures.values n ∙ ap (λ (vs : List Datum). front (along step vs (side_rows g.T.Kind.number c.side-right.result))) c.side-left.ensures.rows
-    ∙ ap (λ (vs : List Datum). front (along step (worth_rows c.args.left.now) vs)) c.side-right.ensures.rows
+    c.in_ok-array.ensures.values n ∙ ap (λ (vs : List Datum). front (along step vs (side_rows g.T.Kind.number c.side-right.result))) c.side-left.ensures.rows
+    ∙ ap (λ (vs : List Datum). front (along step (columnar_rows c.args.left.now) vs)) c.side-right.ensures.rows

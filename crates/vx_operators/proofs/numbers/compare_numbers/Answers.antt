@@ -1,7 +1,7 @@
 use Rattle.std.proofs.Common.{◌≡◌, ◌∙◌, length, sym, ap}
 use Rattle.vx_operators.specs.Kernels.{compares}
 use Rattle.vx_operators.specs.Sides.{side_valid, side_numbers}
-use Rattle.vx_operators.proofs.NumberRows.{both_len, along_len, compared_part}
+use Rattle.vx_operators.proofs.NumberRows.{both_len, along_len, compared_array}
 use Rattle.vx_operators.proofs.TestedRows.{masked_held}
 use Rattle.vx_operators.proofs.numbers.compare_numbers.Goals as goal
 
@@ -37,5 +37,5 @@ returns-clause-values g c =
     let rs = side_numbers g.T.Kind.number c.args.right in
     let lv = side_valid c.args.left in
     let rv = side_valid c.args.right in
-    c.of_truths.ensures.values ∙ compared_part c.args.op lv rv c.in_ok-validity.validity c.in_ok-truths-2.truths c.in_ok-values.values ls rs c.in_ok-validity.ensures (c.in_ok-truths-2.ensures ∙ c.in_ok-truths.ensures) c.in_ok-values.ensures
+    c.of_truths.ensures.values ∙ compared_array c.args.op lv rv c.in_ok-validity.validity c.in_ok-truths-2.truths c.in_ok-values.values ls rs c.in_ok-validity.ensures (c.in_ok-truths-2.ensures ∙ c.in_ok-truths.ensures) c.in_ok-values.ensures
     (sym c.len.ensures.valid ∙ c.len.ensures.numbers) (sym c.len-2.ensures.valid ∙ c.len-2.ensures.numbers)

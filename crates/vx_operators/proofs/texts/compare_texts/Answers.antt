@@ -5,7 +5,7 @@ use Rattle.vx_operators.specs.Operators.{comparison_of}
 use Rattle.vx_operators.specs.TextSides.{text_valid, side_texts}
 use Rattle.vx_operators.proofs.LiftedRows.{text_comparison_lifts}
 use Rattle.vx_operators.proofs.NumberRows.{both_len, along_len}
-use Rattle.vx_operators.proofs.TestedRows.{masked_held, tested_part}
+use Rattle.vx_operators.proofs.TestedRows.{masked_held, tested_array}
 use Rattle.vx_operators.proofs.texts.compare_texts.Goals as goal
 
 pub and-requires : goal.and-requires
@@ -40,5 +40,5 @@ returns-clause-values c =
     let rs = side_texts c.args.right in
     let lv = text_valid c.args.left in
     let rv = text_valid c.args.right in
-    c.of_truths.ensures.values ∙ tested_part text text (compares_text c.args.op) (comparison_of c.args.op) (text_comparison_lifts c.args.op) lv rv c.in_ok-validity.validity c.in_ok-truths-2.truths c.in_ok-values.values ls rs c.in_ok-validity.ensures (c.in_ok-truths-2.ensures ∙ c.in_ok-truths.ensures) c.in_ok-values.ensures
+    c.of_truths.ensures.values ∙ tested_array text text (compares_text c.args.op) (comparison_of c.args.op) (text_comparison_lifts c.args.op) lv rv c.in_ok-validity.validity c.in_ok-truths-2.truths c.in_ok-values.values ls rs c.in_ok-validity.ensures (c.in_ok-truths-2.ensures ∙ c.in_ok-truths.ensures) c.in_ok-values.ensures
     (sym c.len.ensures.valid ∙ c.len.ensures.texts) (sym c.len-2.ensures.valid ∙ c.len-2.ensures.texts)

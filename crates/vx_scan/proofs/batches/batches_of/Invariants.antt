@@ -1,5 +1,5 @@
 use Rattle.std.proofs.Common.{◌≡◌, ◌++◌, map}
-use Rattle.vx_workers.specs.declared.lanes.Piece.{Piece}
+use Rattle.vx_workers.specs.declared.worker_states.Piece.{Piece}
 use Rattle.vx_scan.proofs.batches.batches_of.Given as goal
 
 -- the columns of the pieces so far

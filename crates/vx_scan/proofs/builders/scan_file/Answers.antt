@@ -1,10 +1,10 @@
 use Rattle.std.proofs.Common.{List, Ok, Some, None, map, ap, ◌∙◌, subst}
 use Rattle.vx_splits.specs.declared.selected_rows.SelectedRows.{SelectedRows}
-use Rattle.vx_settle.specs.Executes.{Executes}
+use Rattle.vx_execute.specs.Executes.{Executes}
 use Rattle.vx_scan.specs.Answer.{row_count}
-use Rattle.vx_scan.specs.Beginning.{Begins}
+use Rattle.vx_scan.specs.Admission.{Begins}
 use Rattle.vx_scan.specs.Settings.{scan_by}
-use Rattle.vx_scan.proofs.BeginningRows.{no_rows}
+use Rattle.vx_scan.proofs.AdmittedRows.{no_rows}
 use Rattle.vx_scan.proofs.Scanning.{empty_answers, lacking_answers, refused_answers, run_answers}
 use Rattle.vx_scan.proofs.builders.scan_file.Goals as goal
 

@@ -5,5 +5,5 @@ use Rattle.vx_workers.specs.Borrowing.{AreHad}
 use Rattle.vx_workers.proofs.borrowing.are_had.Given as goal
 
 -- each of the plans so far has whole values
-abbrev pub invariant-loop-node : goal.invariant-loop-node
-invariant-loop-node l = AreHad (map number_of (take l.node-index l.asked)) (data_of l.given) (data_of l.made)
+abbrev pub invariant-loop-plan : goal.invariant-loop-plan
+invariant-loop-plan l = AreHad (map number_of (take l.plan-index l.asked)) (data_of l.given) (data_of l.made)

@@ -5,5 +5,5 @@ use Rattle.vx_workers.specs.Borrowing.{AreOfPlans}
 use Rattle.vx_workers.proofs.borrowing.borrow.Given as goal
 
 -- what was borrowed so far is of these plans
-abbrev pub invariant-loop-node : goal.invariant-loop-node
-invariant-loop-node g l = AreOfPlans l.table (map number_of l.asked) (data_of l.loan.given.items)
+abbrev pub invariant-loop-plan : goal.invariant-loop-plan
+invariant-loop-plan g l = AreOfPlans l.table (map number_of l.asked) (data_of l.loan.given.items)

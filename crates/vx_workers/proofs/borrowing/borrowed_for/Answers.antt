@@ -8,7 +8,7 @@ use Rattle.vx_workers.proofs.Borrowed.{all_known, are_borrowed}
 use Rattle.vx_workers.proofs.borrowing.borrowed_for.Goals as goal
 
 pub borrow-requires : goal.borrow-requires
-borrow-requires g c = record { known = subst (λ (asked : List PlanRef). AllByRecursion (λ (node : PlanRef). number_of node < length c.args.plans.now.table) asked) (sym c.as_slice.ensures.value) (all_known c.args.plans.now.table c.in_ok-asked.asked.items c.in_ok-asked.ensures.known) }
+borrow-requires g c = record { known = subst (λ (asked : List PlanRef). AllByRecursion (λ (plan : PlanRef). number_of plan < length c.args.plans.now.table) asked) (sym c.as_slice.ensures.value) (all_known c.args.plans.now.table c.in_ok-asked.asked.items c.in_ok-asked.ensures.known) }
 
 pub returns-clause-borrowed : goal.returns-clause-borrowed
 returns-clause-borrowed g c =

@@ -6,7 +6,7 @@ use Rattle.vx_steps.specs.declared.kept.KeptValue.{KeptValue}
 use Rattle.vx_drive.specs.declared.errors.ScanError.{ScanError}
 use Rattle.vx_chunks.specs.Outcomes.{data_of}
 use Rattle.vx_workers.specs.Borrowing.{AreHad}
-use Rattle.vx_workers.specs.Loans.{RestsOnValues}
+use Rattle.vx_workers.specs.Borrowers.{RestsOnValues}
 use Rattle.vx_workers.proofs.borrowing.rested_on.Goals as goal
 use Rattle.vx_workers.proofs.borrowing.rested_on.Goals.{else-rests_on_values-via-then-rests_on_values+else-not-are_had, else-rests_on_values-via-else-rests_on_values}
 use Rattle.vx_base.specs.Columns.{ColumnData}

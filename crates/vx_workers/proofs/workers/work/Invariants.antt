@@ -1,12 +1,12 @@
 use Rattle.std.proofs.Common.{length, ◌-◌}
 use Rattle.vx_claims.specs.Views.{above}
 use Rattle.vx_claims.specs.Claims.{claimed}
-use Rattle.vx_workers.proofs.LaneWork.{Working}
+use Rattle.vx_workers.proofs.WorkOfWorkers.{Working}
 use Rattle.vx_workers.proofs.workers.work.Given as goal
 
 abbrev pub invariant-working : goal.invariant-working
-invariant-working g l = Working l.shares l.claims l.plans l.chunks l.lane (g.S.SegmentSource.state l.fn.source) (g.S.SegmentSource.state l.source)
+invariant-working g l = Working l.shares l.claims l.plans l.chunks l.worker (g.S.SegmentSource.state l.fn.source) (g.S.SegmentSource.state l.source)
 
 -- the numbers that the worker may still claim
 abbrev pub decreases-working : goal.decreases-working
-decreases-working g l = length l.chunks - above (claimed l.lane.seat)
+decreases-working g l = length l.chunks - above (claimed l.worker.seat)

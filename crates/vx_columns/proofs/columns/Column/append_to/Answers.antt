@@ -5,10 +5,10 @@ use Rattle.vx_arrays.proofs.PackedRows.{same_shape, column_joined}
 use Rattle.vx_columns.proofs.columns.Column.append_to.Goals as goal
 
 pub append_to-requires : goal.append_to-requires
-append_to-requires c = same_shape c.args.self.now.dtype c.args.self.now.dtype c.args.part (row_data c.rows-rows.result.now) refl c.requires c.rows-rows.ensures.column
+append_to-requires c = same_shape c.args.self.now.dtype c.args.self.now.dtype c.args.array (row_data c.rows-rows.result.now) refl c.requires c.rows-rows.ensures.column
 
 pub returns-clause-column : goal.returns-clause-column
-returns-clause-column c = column_joined c.args.self.now.dtype c.args.self.now.dtype c.args.part (row_data c.rows-rows.result.now) c.in_ok-made.made refl c.in_ok-made.ensures c.requires c.rows-rows.ensures.column
+returns-clause-column c = column_joined c.args.self.now.dtype c.args.self.now.dtype c.args.array (row_data c.rows-rows.result.now) c.in_ok-made.made refl c.in_ok-made.ensures c.requires c.rows-rows.ensures.column
 
 pub returns-clause-values : goal.returns-clause-values
-returns-clause-values c = ap (λ (a : ColumnData). a.values) c.in_ok-made.ensures ∙ (λ i. c.args.part.values ++ c.rows-rows.ensures.values i)
+returns-clause-values c = ap (λ (a : ColumnData). a.values) c.in_ok-made.ensures ∙ (λ i. c.args.array.values ++ c.rows-rows.ensures.values i)

@@ -5,7 +5,7 @@ use Rattle.vx_types.specs.Columns.{ColumnData}
 use Rattle.vx_types.specs.Data.{Datum}
 use Rattle.vx_types.specs.Views.{data_type}
 use Rattle.vx_columns.specs.StoredRows.{row_data}
-use Rattle.vx_arrays.specs.PartRows.{sliced}
+use Rattle.vx_arrays.specs.ArrayRows.{sliced}
 use Rattle.vx_arrays.proofs.PackedRows.{column_chosen, column_range}
 use Rattle.vx_columns.proofs.columns.Column.filter_range.Goals as goal
 

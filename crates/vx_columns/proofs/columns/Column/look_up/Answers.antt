@@ -9,8 +9,8 @@ use Rattle.vx_arrays.specs.LookUps.{code_places}
 use Rattle.vx_arrays.proofs.LookedUp.{column_found, found_values}
 use Rattle.vx_columns.proofs.columns.Column.look_up.Goals as goal
 
-pub of_part-requires : goal.of_part-requires
-of_part-requires c =
+pub of_array-requires : goal.of_array-requires
+of_array-requires c =
     let t = c.args.values.now.dtype in
     let rows = row_data c.rows-found.result.now in
     let codes = c.args.codes.now.values in
@@ -24,5 +24,5 @@ returns-clause-values c =
     let rows = row_data c.rows-found.result.now in
     let codes = c.args.codes.now.values in
     let at : c.as_slice.result.now ≡ code_places (length rows.values) codes = c.as_slice.ensures.value ∙ c.in_ok-places.ensures ∙ ap (λ (n : ℕ). code_places n codes) c.len.ensures in
-    c.of_part.ensures.values ∙ found_values rows c.in_ok-rows.rows codes c.as_slice.result.now at c.in_ok-rows.ensures
+    c.of_array.ensures.values ∙ found_values rows c.in_ok-rows.rows codes c.as_slice.result.now at c.in_ok-rows.ensures
     ∙ ap (λ (vs : List Datum). map (value_at vs) codes) c.rows-found.ensures.values

@@ -1,7 +1,7 @@
 use Rattle.std.proofs.Common.{◌≡◌, [], map, subst, Err}
 use Rattle.std.specs.Prelude.{IfOk, IsOk}
 use Rattle.vx_scan.specs.Answer.{row_count}
-use Rattle.vx_scan.specs.Beginning.{Refuses}
+use Rattle.vx_scan.specs.Admission.{Refuses}
 use Rattle.vx_scan.specs.Builders.{Building, scan_of}
 use Rattle.vx_scan.specs.Valid.{HasRows, IsBound}
 use Rattle.vx_scan.proofs.builders.ScanBuilder.into_batches.Goals as goal

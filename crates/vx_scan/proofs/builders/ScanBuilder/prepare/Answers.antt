@@ -1,5 +1,5 @@
 use Rattle.std.proofs.Common.{◌≡◌, subst, Err}
-use Rattle.vx_scan.specs.Beginning.{Refuses}
+use Rattle.vx_scan.specs.Admission.{Refuses}
 use Rattle.vx_scan.specs.Builders.{Building, scan_of}
 use Rattle.vx_scan.proofs.builders.ScanBuilder.prepare.Goals as goal
 

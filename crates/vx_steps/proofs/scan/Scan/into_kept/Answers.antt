@@ -1,6 +1,6 @@
 use Rattle.std.proofs.Common.{map, subst}
 use Rattle.vx_steps.specs.Held.{AreTyped}
-use Rattle.vx_steps.specs.Kept.{kept_data, AreApart}
+use Rattle.vx_steps.specs.Kept.{kept_data, AreOfDistinctPlans}
 use Rattle.vx_steps.specs.Leavings.{IsReadBehind}
 use Rattle.vx_steps.specs.Offers.{Keeps}
 use Rattle.vx_steps.specs.ScanData.{ScanData}
@@ -32,10 +32,10 @@ returns-clause-typed_made c =
 
 pub returns-clause-apart_used : goal.returns-clause-apart_used
 returns-clause-apart_used c =
-    let P : ScanData → Type 0 = λ scan. AreApart scan.progress.wholes.used in
+    let P : ScanData → Type 0 = λ scan. AreOfDistinctPlans scan.progress.wholes.used in
     subst P c.self.view_is c.self.invariant.0.apart_used
 
 pub returns-clause-apart_made : goal.returns-clause-apart_made
 returns-clause-apart_made c =
-    let P : ScanData → Type 0 = λ scan. AreApart scan.progress.wholes.made in
+    let P : ScanData → Type 0 = λ scan. AreOfDistinctPlans scan.progress.wholes.made in
     subst P c.self.view_is c.self.invariant.0.apart_made

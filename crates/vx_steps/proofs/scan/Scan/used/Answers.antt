@@ -1,6 +1,6 @@
 use Rattle.std.proofs.Common.{subst}
 use Rattle.vx_steps.specs.Held.{AreTyped}
-use Rattle.vx_steps.specs.Kept.{AreApart}
+use Rattle.vx_steps.specs.Kept.{AreOfDistinctPlans}
 use Rattle.vx_steps.specs.ScanData.{ScanData}
 use Rattle.vx_steps.proofs.Beginning.{used_typed}
 use Rattle.vx_steps.proofs.scan.Scan.used.Goals as goal
@@ -13,5 +13,5 @@ returns-clause-typed c =
 
 pub returns-clause-apart : goal.returns-clause-apart
 returns-clause-apart c =
-    let P : ScanData → Type 0 = λ scan. AreApart scan.progress.wholes.used in
+    let P : ScanData → Type 0 = λ scan. AreOfDistinctPlans scan.progress.wholes.used in
     subst P c.self.view_is c.self.invariant.0.apart_used

@@ -1,6 +1,6 @@
 use Rattle.std.proofs.Common.{List, ap, map, sym, subst}
 use Rattle.vx_steps.specs.Held.{AreTyped}
-use Rattle.vx_steps.specs.Kept.{kept_data, AreApart}
+use Rattle.vx_steps.specs.Kept.{kept_data, AreOfDistinctPlans}
 use Rattle.vx_steps.specs.KeptData.{Kept}
 use Rattle.vx_steps.specs.Offers.{IsForPlan}
 use Rattle.vx_steps.specs.OpenSegments.{AreCounted}
@@ -15,15 +15,15 @@ invariant_of-self c =
     let typed = typed_kept nodes (IsForPlan nodes) (λ k is. is) (map kept_data c.args.made.items) (map kept_data c.for_plans.result.items) c.for_plans.ensures in
     let apart = apart_kept (IsForPlan nodes) (map kept_data c.args.made.items) (map kept_data c.for_plans.result.items) c.for_plans.ensures c.requires in
     let C : List Kept → Type 0 = λ leaves. AreCounted nodes leaves c.self.inside.segments in
-    (good_with_made nodes c.self.inside.job c.self.inside.progress c.hand_in_made.new.self c.of-made.result c.if-not-is_unstarted.ensures c.self.invariant.0 (subst (AreTyped nodes) (sym c.of-made.ensures) typed) (subst AreApart (sym c.of-made.ensures) apart) c.hand_in_made.ensures, subst C (sym (ap (λ p. p.leaves) c.hand_in_made.ensures)) c.self.invariant.1)
+    (good_with_made nodes c.self.inside.job c.self.inside.progress c.hand_in_made.new.self c.of-made.result c.if-not-is_unstarted.ensures c.self.invariant.0 (subst (AreTyped nodes) (sym c.of-made.ensures) typed) (subst AreOfDistinctPlans (sym c.of-made.ensures) apart) c.hand_in_made.ensures, subst C (sym (ap (λ p. p.leaves) c.hand_in_made.ensures)) c.self.invariant.1)
 
 pub returns-clause-apart : goal.returns-clause-apart
 returns-clause-apart c =
     let nodes = c.self.inside.table.now in
     let apart = apart_kept (IsForPlan nodes) (map kept_data c.args.made.items) (map kept_data c.for_plans.result.items) c.for_plans.ensures c.requires in
-    rw c.hand_in_made.ensures (subst AreApart (sym c.of-made.ensures) apart)
+    rw c.hand_in_made.ensures (subst AreOfDistinctPlans (sym c.of-made.ensures) apart)
 
 pub returns-then-not-is_unstarted-clause-apart : goal.returns-then-not-is_unstarted-clause-apart
 returns-then-not-is_unstarted-clause-apart c =
-    let P : ScanData → Type 0 = λ scan. AreApart scan.progress.wholes.made in
+    let P : ScanData → Type 0 = λ scan. AreOfDistinctPlans scan.progress.wholes.made in
     subst P c.self.view_is c.self.invariant.0.apart_made

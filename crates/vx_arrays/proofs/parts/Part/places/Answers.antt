@@ -1,6 +1,0 @@
-use Rattle.std.proofs.Common.{◌∙◌, refl}
-use Rattle.vx_arrays.proofs.PartRanges.{part_places}
-use Rattle.vx_arrays.proofs.parts.Part.places.Goals as goal
-
-pub returns : goal.returns
-returns c = c.in_ok-places-in-Numbers.ensures ∙ part_places c.args.past c.self.inside.validity c.self.inside.slots c.in-Numbers.numbers c.self.inside.validity c.args.self.now c.in-Numbers.is refl c.self.view_is

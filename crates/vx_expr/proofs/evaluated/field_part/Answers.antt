@@ -1,7 +1,0 @@
-use Rattle.vx_expr.proofs.CellRows.{field_found}
-use Rattle.vx_expr.proofs.evaluated.field_part.Goals as goal
-
-pub returns-then-all_true : goal.returns-then-all_true
-returns-then-all_true c =
-    let b = c.in-Structs in
-    field_found c.args.place b.validity.now b.parts.now.rows c.args.part.now.values c.part.result b.ensures.values b.ensures.look (c.all_true.ensures.0 c.if-all_true.true) c.part.ensures

@@ -1,5 +1,0 @@
-use Rattle.vx_scan.proofs.FilePreparing.{chunks_or}
-use Rattle.vx_scan.proofs.preparing.cut_file.Goals as goal
-
-pub returns : goal.returns
-returns c = chunks_or c.args.file.now c.args.settings.now c.args.rows c.chunk_rows-size.result c.cut_chunks.result c.requires.begins c.chunk_rows-size.ensures.size c.cut_chunks.ensures.pieces c.cut_chunks.ensures.inside c.cut_chunks.ensures.ordered c.cut_chunks.ensures.trimmed

@@ -1,3 +1,0 @@
-pub mod Executes
-pub mod Settled
-pub mod Settling

@@ -1,0 +1,5 @@
+use Rattle.vx_workers.specs.Merges.{OpensWorkers}
+use Rattle.vx_workers.proofs.merges.open_workers.Given as goal
+
+abbrev pub invariant-loop-i : goal.invariant-loop-i
+invariant-loop-i l = OpensWorkers l.claims l._i l.worker_states.items l.seat
