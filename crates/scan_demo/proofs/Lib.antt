@@ -5,7 +5,6 @@ pub mod ChunkRows
 pub mod Segments
 pub mod DemoTrees
 pub mod DemoTree
-pub mod StructItems
 pub mod RowTotals
 pub mod DemoSummary
 pub mod DemoScan

@@ -99,7 +99,7 @@ impl FieldFacts {
     }
 
     /// The facts of the struct of a row, which is null past the last row.
-    #[tactic(auto, using(crate::proofs::StructItems::struct_found, crate::proofs::StructItems::struct_past))]
+    #[tactic(auto, using(vx_base::proofs::StructItems::struct_found, vx_base::proofs::StructItems::struct_past))]
     fn of_struct(parts: &ChildArrays, row: usize) -> FieldFacts
         ensures { result ≡ facts_of (struct_at parts.now.rows row) }
     {
@@ -124,7 +124,7 @@ impl FieldFacts {
 
     /// The facts of the field at a place of a row's struct. Where no array lies at the place, the row is taken out into
     /// memory of its own.
-    #[tactic(auto, using(crate::proofs::StructItems::struct_past, crate::proofs::StructItems::part_inside, crate::proofs::StructItems::part_value, crate::proofs::StructItems::items_value))]
+    #[tactic(auto, using(vx_base::proofs::StructItems::struct_past, vx_base::proofs::StructItems::part_inside, vx_base::proofs::StructItems::part_value, vx_base::proofs::StructItems::items_value))]
     fn of_child(
         alloc: Global,
         parts: &ChildArrays,

@@ -1,7 +1,7 @@
 -- The texts of structs whose values stand in their parts.
 use Rattle.std.proofs.Common.{◌≡◌, ℕ, ◌<◌, ◌≤◌, List, [], ◌++◌, length, get_or, refl, sym, ap, ◌∙◌, append_assoc, codes}
 use Rattle.std.proofs.lemmas.List.{append-nil}
-use Rattle.scan_demo.proofs.StructItems.{struct_found, struct_past}
+use Rattle.vx_base.proofs.StructItems.{struct_found, struct_past}
 use Rattle.scan_output.specs.RowText.{fields_text, row_text}
 use Rattle.vx_base.specs.declared.dtypes.DType.{DType}
 use Rattle.vx_base.specs.declared.dtypes.DType.TheVariants as variants

@@ -16,7 +16,7 @@ use vx_base::{Cell, DType, Fields};
 
 /// Appends the field at a place of a row's struct.
 #[cycle(cells)]
-#[tactic(auto, using(scan_demo::proofs::StructItems::part_inside, scan_demo::proofs::StructItems::part_value, scan_demo::proofs::StructItems::items_value))]
+#[tactic(auto, using(vx_base::proofs::StructItems::part_inside, vx_base::proofs::StructItems::part_value, vx_base::proofs::StructItems::items_value))]
 fn append_field(
     alloc: Global,
     dtype: &DType,

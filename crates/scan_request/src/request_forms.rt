@@ -24,7 +24,7 @@ use std::ops::Range;
 use vx_base::SegmentLocation;
 use vx_expr::{BoundExpression, Expr, bind};
 use vx_layout::{LayoutNode, LayoutTree};
-use vx_scan::ScanFile;
+use vx_layout::ScanFile;
 use vx_splits::Selection;
 
 /// What a request asks for.

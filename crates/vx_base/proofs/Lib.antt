@@ -1,4 +1,5 @@
 pub mod Got
+pub mod StructItems
 pub use Rattle.vx_types.proofs.AllFit
 pub use Rattle.vx_types.proofs.BuiltRows
 pub use Rattle.vx_types.proofs.FieldTexts

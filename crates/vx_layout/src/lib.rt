@@ -3,6 +3,7 @@
 //! - Nodes and their kinds: [`LayoutNode`], [`LayoutKind`].
 //! - Checked trees: [`LayoutTree`] with [`LayoutError`], by the rules of [`ShapeRule`]; which fields of its root an
 //!   expression gets: [`Kept`], [`kept_flags`].
+//! - A file that can be scanned: [`ScanFile`], a checked tree and where its segments lie.
 //! - The laws of the shape: [`faults_are_one`], [`good_trees_unfold`], [`limits_are_promised`].
 //! - The laws of values: [`values_are_those_of_the_rows`], [`nodes_have_their_childrens_values`], [`values_fit`].
 //! - The laws of reads: [`chunks_have_rows`], [`children_are_read`], [`children_are_reached`],
@@ -18,6 +19,7 @@ mod depths;
 mod dtypes;
 mod errors;
 mod facts;
+mod files;
 mod kept_fields;
 mod laws;
 mod limits;
@@ -33,6 +35,7 @@ pub use by_hand::{
     dictionaries_by_hand, kept_by_hand, structs_by_hand, trees_by_hand, zones_by_hand,
 };
 pub use errors::LayoutError;
+pub use files::ScanFile;
 pub use kept_fields::{Kept, kept_flags};
 pub use laws::{
     children_are_reached, children_are_read, chunks_have_rows, faults_are_one, good_trees_unfold,

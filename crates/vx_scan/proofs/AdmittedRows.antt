@@ -14,7 +14,7 @@ use Rattle.vx_scan.specs.Answer.{FileScan, row_count, scan_rows, scan_pieces, si
 use Rattle.vx_scan.specs.Admission.{BeginsOver, HasWork, Overflows, range_or}
 use Rattle.vx_scan.specs.Settings.{scan_by}
 use Rattle.vx_scan.specs.Valid.{HasRows, IsBound, SelectsInside}
-use Rattle.vx_scan.specs.declared.files.ScanFile.{ScanFile}
+use Rattle.vx_layout.specs.declared.files.ScanFile.{ScanFile}
 use Rattle.vx_scan.specs.declared.settings.Settings.{Settings}
 
 -- ---- the range

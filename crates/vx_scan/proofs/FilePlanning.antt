@@ -37,7 +37,7 @@ use Rattle.vx_splits.specs.Taken.{selected_rows}
 use Rattle.vx_splits.specs.Trimmed.{chosen_rows}
 use Rattle.vx_drive.specs.declared.plans.ScanPlans.{ScanPlans}
 use Rattle.vx_drive.specs.Plans.{AreInOrder}
-use Rattle.vx_scan.specs.declared.files.ScanFile.{ScanFile}
+use Rattle.vx_layout.specs.declared.files.ScanFile.{ScanFile}
 use Rattle.vx_scan.specs.declared.settings.Settings.{Settings}
 use Rattle.vx_scan.specs.Answer.{row_count, size_of, pieces_of}
 use Rattle.vx_scan.specs.Admission.{BeginsOver}

@@ -22,7 +22,7 @@ use Rattle.vx_steps.specs.Held.{FitsOffset}
 use Rattle.vx_drive.specs.declared.plans.ScanPlans.{ScanPlans}
 use Rattle.vx_drive.specs.Plans.{projection_node, projection_plan, ArePlans, FollowFrom, IsChunkOf}
 use Rattle.vx_execute.specs.Executes.{CanRun}
-use Rattle.vx_scan.specs.declared.files.ScanFile.{ScanFile}
+use Rattle.vx_layout.specs.declared.files.ScanFile.{ScanFile}
 use Rattle.vx_scan.specs.declared.settings.Settings.{Settings}
 use Rattle.vx_scan.specs.Answer.{FileScan, row_count}
 use Rattle.vx_scan.specs.Admission.{BeginsOver, Overflows}

@@ -2,7 +2,7 @@
 use Rattle.std.specs.Prelude.{true, None}
 use Rattle.vx_base.specs.Data.{DataType}
 use Rattle.vx_splits.specs.declared.selections.Selection.TheVariants.{All}
-use Rattle.vx_scan.specs.declared.files.ScanFile.{ScanFile}
+use Rattle.vx_layout.specs.declared.files.ScanFile.{ScanFile}
 use Rattle.vx_scan.specs.declared.settings.Settings.{Settings}
 use Rattle.vx_scan.specs.Answer.{FileScan}
 use Rattle.vx_scan.specs.Builders.{Building, default_concurrency, default_idle_limit, scan_of, whole_root}

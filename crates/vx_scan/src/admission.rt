@@ -6,10 +6,10 @@ ghost use Rattle.vx_scan.specs.Admission.{Begins, Overflows, range_or};
 ghost use Rattle.vx_scan.specs.Settings.{scan_by};
 ghost use Rattle.vx_scan.specs.Valid.{SelectsInside};
 
-use crate::files::ScanFile;
 use crate::settings::Settings;
 use std::ops::Range;
 use vx_drive::ScanError;
+use vx_layout::ScanFile;
 
 impl Settings {
     /// The range of the scan: the given one, else all rows.

@@ -17,7 +17,6 @@ ghost use Rattle.vx_scan.specs.Valid.{HasRows, IsBound};
 
 use crate::admission::begin;
 use crate::batches::batches_of;
-use crate::files::ScanFile;
 use crate::prepared_scans::{Prepared, prepare_nothing, prepare_rows};
 use crate::settings::Settings;
 use std::alloc::{AllocError, Global};
@@ -28,8 +27,9 @@ use std::sync::Wait;
 use std::thread::Threads;
 use vx_base::{Column, DType, SegmentSource};
 use vx_drive::ScanError;
-use vx_expr::BoundExpression;
 use vx_execute::execute;
+use vx_expr::BoundExpression;
+use vx_layout::ScanFile;
 use vx_splits::{Selection, StrictSorted};
 use vx_workers::ValueCache;
 

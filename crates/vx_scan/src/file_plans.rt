@@ -21,14 +21,13 @@ ghost use Rattle.vx_scan.specs.FilePlans.{AreChunksOf, ArePlansOf, IsCutBy, IsPl
 ghost use Rattle.vx_scan.specs.Settings.{scan_by};
 ghost use Rattle.vx_scan.specs.Valid.{IsBound};
 
-use crate::files::ScanFile;
 use crate::settings::Settings;
 use std::alloc::{AllocError, Global};
 use std::ops::Range;
 use vx_drive::ScanPlans;
 use vx_expr::BoundExpression;
 use vx_io::segment_ranges;
-use vx_layout::LayoutTree;
+use vx_layout::{LayoutTree, ScanFile};
 use vx_lower::{Lowered, lower, plan_row_idx_expression};
 use vx_plan::{PlanError, PlanRef, PlanTable};
 use vx_splits::{SelectedRows, Selection, WorkScope, row_chunks, rows_per_chunk, select_rows};

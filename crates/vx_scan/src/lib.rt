@@ -14,7 +14,7 @@
 //!   that were used: [`used_values_serve_chunks`]; of asks: [`asks_are_counted`], [`claimed_asks_are_counted`]; of texts:
 //!   [`plans_have_one_text`]; by hand: [`answers_by_hand`], [`faults_by_hand`], [`pieces_by_hand`].
 //!
-//! It exports what callers need of `vx_drive`, `vx_chunks`, `vx_workers` and `vx_validate`.
+//! It exports what callers need of `vx_drive`, `vx_chunks`, `vx_workers` and `vx_execute`.
 #![tactic(auto)]
 
 mod admission;
@@ -22,7 +22,6 @@ mod batches;
 mod builders;
 mod by_hand;
 mod file_plans;
-mod files;
 mod laws;
 mod plan_texts;
 mod prepared_scans;
@@ -30,7 +29,6 @@ mod settings;
 
 pub use builders::ScanBuilder;
 pub use by_hand::{answers_by_hand, faults_by_hand, pieces_by_hand};
-pub use files::ScanFile;
 pub use laws::{
     asks_are_counted, claimed_asks_are_counted, errors_have_causes, pieces_are_the_answer,
     plans_have_one_text, scans_have_answers, used_values_serve_chunks,
@@ -41,4 +39,5 @@ pub use vx_chunks::{ChunkOutcome, run_chunk, run_values};
 pub use vx_claims::{ClaimSeat, Claiming, Claims};
 pub use vx_drive::{AdaptorError, AdaptorStep, ScanAdaptor, ScanError, ScanPlans, State, errors};
 pub use vx_execute::{Outcome, Rerun, execute};
+pub use vx_layout::ScanFile;
 pub use vx_workers::{Book, ChunkError, ClaimList, Piece, ValueCache};

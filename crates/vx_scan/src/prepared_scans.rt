@@ -10,11 +10,11 @@ ghost use Rattle.vx_scan.specs.Answer.{row_count};
 
 use crate::admission::begin;
 use crate::file_plans::{cut_file, plan_file};
-use crate::files::ScanFile;
 use crate::settings::Settings;
 use std::alloc::{AllocError, Global};
 use std::ops::Range;
 use vx_drive::ScanPlans;
+use vx_layout::ScanFile;
 use vx_splits::SelectedRows;
 
 /// The plans of a scan, its chunks in the order of the file, and whether its batches are to come in that order.

@@ -2,9 +2,9 @@
 use Rattle.std.proofs.Common.{◌≡◌, ℕ, zero, suc, ◌<◌, ◌≤◌, List, [], ◌∷◌, length, map, get_or, Option, Some, refl, sym, ap, ◌∙◌, arith}
 use Rattle.std.specs.List.{slice_get}
 use Rattle.std.proofs.lemmas.List.{length-map}
-use Rattle.vx_base.specs.Cells.{struct_at}
-use Rattle.vx_base.specs.Data.{Datum, null, structure, Items, no_items, item}
-use Rattle.vx_base.specs.ValueViews.{data_in}
+use Rattle.vx_arrays.specs.Cells.{struct_at}
+use Rattle.vx_types.specs.Data.{Datum, null, structure, Items, no_items, item}
+use Rattle.vx_types.specs.ValueViews.{data_in}
 use Rattle.vx_types.proofs.Items.{some_datum}
 use Rattle.vx_arrays.specs.Fields.{field_at, first_item, items_behind}
 

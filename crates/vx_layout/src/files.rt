@@ -1,7 +1,7 @@
 //! A file that can be scanned.
 
+use crate::trees::LayoutTree;
 use vx_base::SegmentLocation;
-use vx_layout::LayoutTree;
 
 /// The layout of a file's rows, and where each of its segments lies, by the segment's number.
 #[derive(Drop)]
