@@ -117,13 +117,13 @@ fn valid_rows(alloc: Global, validity: Option<Mask>, rows: u64) -> Result<Mask, 
 
 impl Column {
     /// The rows of an array that a column of the same dtype can have, and copies of this column's behind them.
-    fn append_to(&self, alloc: Global, part: Array) -> Result<Array, AllocError>
-        requires { IsColumn self.now.dtype part }
+    fn append_to(&self, alloc: Global, array: Array) -> Result<Array, AllocError>
+        requires { IsColumn self.now.dtype array }
         ensures column { IfOk result (λ made. IsColumn self.now.dtype made) }
-        ensures values { IfOk result (λ made. made.values ≡ part.values ++ self.now.values) }
+        ensures values { IfOk result (λ made. made.values ≡ array.values ++ self.now.values) }
     {
         let rows = self.rows();
-        let made = rows.append_to(alloc, part)?;
+        let made = rows.append_to(alloc, array)?;
         Ok(made)
     }
 
