@@ -11,7 +11,7 @@ NamedExprs::mentions-mentions-requires t c = (omega (arith, nodes_at c.items-exp
 pub NamedExprs::mentions-returns-then-mentions : goal.NamedExprs::mentions-returns-then-mentions
 NamedExprs::mentions-returns-then-mentions t c =
     let next = left_next c.items-expr-items.result.now c.loop-expr.expr-index c.loop-expr-item.result c.loop-expr-test.true c.loop-expr-item.is in
-    let yes : mentions c.args.part (term c.loop-expr-item.result.1) ≡ true = sym c.mentions.ensures ∙ c.if-mentions.true in
+    let yes : mentions c.args.input (term c.loop-expr-item.result.1) ≡ true = sym c.mentions.ensures ∙ c.if-mentions.true in
     rw (next, yes) at c.loop-expr.invariant
 
 pub NamedExprs::mentions-loop-expr-preserved : goal.NamedExprs::mentions-loop-expr-preserved

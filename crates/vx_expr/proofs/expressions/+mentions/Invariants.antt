@@ -11,4 +11,4 @@ abbrev pub decreases-NamedExprs::mentions : goal.decreases-NamedExprs::mentions
 decreases-NamedExprs::mentions l = 2 * nodes_in l.self.now + 1
 
 abbrev pub invariant-NamedExprs::mentions-loop-expr : goal.invariant-NamedExprs::mentions-loop-expr
-invariant-NamedExprs::mentions-loop-expr l = mentions_in l.part (terms_of (drop l.expr-index l.expr-items)) ≡ mentions_in l.part l.self
+invariant-NamedExprs::mentions-loop-expr l = mentions_in l.input (terms_of (drop l.expr-index l.expr-items)) ≡ mentions_in l.input l.self
