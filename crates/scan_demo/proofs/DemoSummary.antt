@@ -10,7 +10,7 @@ use Rattle.std.proofs.lemmas.List.Sums.{count_by-le-length, sum_by-cons}
 use Rattle.vx_base.specs.ColumnCalls.{natural}
 use Rattle.vx_base.specs.Columns.{ColumnData}
 use Rattle.vx_base.specs.Data.{Datum, null}
-use Rattle.vx_base.specs.Segment.{is_value}
+use Rattle.vx_base.specs.Slots.{is_value}
 use Rattle.vx_scan.specs.Answer.{in_front, pieces_of}
 use Rattle.scan_demo.specs.DemoRows.{demo_row, id_of, is_flagged, lacks_name, name_at}
 use Rattle.scan_demo.specs.Summary.{batches_text, demo_pieces, summary, summary_text}

@@ -6,11 +6,12 @@ use Rattle.std.proofs.lemmas.List.{length-append, length-map}
 use Rattle.std.proofs.lemmas.List.FromFn.{length-map-range_with_len}
 use Rattle.vx_base.specs.Data.{Datum}
 use Rattle.vx_base.specs.Leaf.{number_slot}
-use Rattle.vx_base.specs.Segment.{is_value, packed, truth_in}
+use Rattle.vx_base.specs.Slots.{is_value, truth_in}
+use Rattle.vx_base.specs.Bytes.{packed}
 use Rattle.vx_base.specs.declared.dtypes.IntKind.TheVariants.{U8, I64}
-use Rattle.vx_types.proofs.Bits.{length-packed}
-use Rattle.vx_types.proofs.Decoded.{numbers_len}
-use Rattle.vx_types.proofs.Leaves.{validity_len}
+use Rattle.vx_base.proofs.Bits.{length-packed}
+use Rattle.vx_base.proofs.Decoded.{numbers_len}
+use Rattle.vx_base.proofs.Leaves.{validity_len}
 use Rattle.scan_demo.specs.declared.stored_columns.StoredColumn.{StoredColumn}
 use Rattle.scan_demo.specs.declared.stored_columns.StoredColumn.TheVariants.{Ids, Codes, Flags}
 use Rattle.scan_demo.specs.DemoBytes.{segment_of}

@@ -8,11 +8,12 @@ use Rattle.vx_base.specs.Columns.{ColumnData}
 use Rattle.vx_base.specs.Data.{DataType, bool_type, int_type, utf8_type, struct_type, list_type, Datum}
 use Rattle.vx_base.specs.Fits.{Fits}
 use Rattle.vx_base.specs.Leaf.{IsLeaf}
-use Rattle.vx_base.specs.Segment.{IsShort, spelling}
+use Rattle.vx_base.specs.Slots.{IsShort}
+use Rattle.vx_base.specs.Segment.{spelling}
 use Rattle.vx_base.specs.Reading.{decoded}
 use Rattle.vx_base.specs.Sources.{bytes_at}
 use Rattle.vx_layout.specs.Rows.{file_leaves, segment_bytes}
-use Rattle.vx_types.proofs.Leaves.{encoding_is_undone}
+use Rattle.vx_base.proofs.Leaves.{encoding_is_undone}
 use Rattle.scan_demo.specs.DemoBytes.{bytes_of, location_at, locations_from, segment_of}
 
 -- a segment lies behind the bytes in front of it

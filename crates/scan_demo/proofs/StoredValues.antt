@@ -12,7 +12,7 @@ use Rattle.std.proofs.lemmas.Str.{IsAscii-append, IsUtf8-from_ascii}
 use Rattle.vx_base.specs.ColumnCalls.{natural}
 use Rattle.vx_base.specs.Data.{int_type, utf8_type, Datum, null}
 use Rattle.vx_base.specs.Fits.{Fits, IsInside}
-use Rattle.vx_base.specs.Segment.{IsShort}
+use Rattle.vx_base.specs.Slots.{IsShort}
 use Rattle.vx_base.specs.ValueViews.{datum}
 use Rattle.vx_base.specs.declared.values.Value.{Value}
 use Rattle.vx_base.specs.declared.dtypes.IntKind.TheVariants.{U8, I64}

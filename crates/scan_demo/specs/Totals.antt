@@ -2,7 +2,7 @@
 use Rattle.std.specs.Prelude.{ℕ, ◌+◌, ◌^◌, pos, nat_lt, Bool, false, not, if◌then◌else◌, List, [], ◌∷◌, count_by}
 use Rattle.std.specs.List.{sum_by}
 use Rattle.vx_base.specs.Data.{Datum, number}
-use Rattle.vx_base.specs.Segment.{is_value, truth_in}
+use Rattle.vx_base.specs.Slots.{is_value, truth_in}
 use Rattle.vx_expr.specs.Refusals.{capped}
 use Rattle.vx_arrays.specs.Fields.{field_at}
 use Rattle.scan_demo.specs.declared.row_totals.FieldFacts.{FieldFacts}

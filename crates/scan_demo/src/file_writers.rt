@@ -3,7 +3,7 @@
 ghost use Rattle.std.specs.Prelude.{◌≡◌, ◌+◌, ◌^◌, ◌<◌, ◌≤◌, [], ◌∷◌, IfOk, OnOk, length};
 ghost use Rattle.std.specs.List.{AllByRecursion, range_with_len};
 ghost use Rattle.vx_base.specs.Leaf.{IsLeaf};
-ghost use Rattle.vx_base.specs.Segment.{IsShort};
+ghost use Rattle.vx_base.specs.Slots.{IsShort};
 ghost use Rattle.vx_base.specs.Views.{data_type};
 ghost use Rattle.vx_layout.specs.Nodes.{parent_node};
 ghost use Rattle.scan_demo.specs.DemoBytes.{segment_of};

@@ -6,7 +6,7 @@ use Rattle.std.proofs.lemmas.Option.{slice_get_within, get_or_from_slice_get, sl
 use Rattle.scan_output.specs.RowText.{line, lines, row_text}
 use Rattle.scan_output.proofs.Ranges.{range_more, range_none}
 use Rattle.vx_base.specs.Data.{DataType, Datum, null}
-use Rattle.vx_base.specs.Reading.{where_valid}
+use Rattle.vx_base.specs.Slots.{where_valid}
 
 lines_more : (t : DataType) (vs : List Datum) (v : Datum) → lines t (vs ++ v ∷ []) ≡ lines t vs ++ line t v
 lines_more t [] v = append-nil (line t v)

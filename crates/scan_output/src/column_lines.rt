@@ -4,7 +4,7 @@ ghost use Rattle.std.specs.Prelude.{◌≡◌, ◌≤◌, ◌++◌, if◌then◌
 ghost use Rattle.vx_arrays.specs.Numbers.{numbers_in};
 ghost use Rattle.scan_output.specs.RowText.{line, lines};
 ghost use Rattle.vx_base.specs.Data.{DataType, null, number, text, truth};
-ghost use Rattle.vx_base.specs.Reading.{where_valid};
+ghost use Rattle.vx_base.specs.Slots.{where_valid};
 
 use crate::cell_texts::append_cell;
 use crate::field_leads::leads_of;

@@ -1,13 +1,11 @@
 -- Arrays, row by row.
 use Rattle.std.proofs.Common.{◌≡◌, ℕ, zero, suc, replicate, ◌-◌, pos, map, Bool, true, false, Some, List, [], ◌∷◌, ◌++◌, length, drop, refl, sym, ap, subst, ◌∙◌, arith}
-use Rattle.std.specs.List.{slice_range}
+use Rattle.std.specs.List.{slice_range, AllByRecursion}
 use Rattle.std.specs.Prelude.{slice_get}
 use Rattle.vx_types.specs.Columns.{ColumnData}
 use Rattle.vx_types.specs.Data.{DataType, bool_type, int_type, utf8_type, struct_type, list_type, Datum, null, truth, number, text, structure}
-use Rattle.vx_types.specs.Reading.{where_valid}
-use Rattle.std.specs.List.{AllByRecursion}
+use Rattle.vx_types.specs.Slots.{where_valid, is_value, truth_in}
 use Rattle.std.proofs.lemmas.List.{length-map, length-append}
-use Rattle.vx_types.specs.Segment.{is_value, truth_in}
 use Rattle.vx_arrays.specs.LookUps.{code_places}
 use Rattle.vx_arrays.specs.Numbers.{numbers_in}
 use Rattle.vx_arrays.specs.Places.{places_in}

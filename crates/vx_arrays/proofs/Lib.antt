@@ -1,7 +1,5 @@
-mod CutTexts
+pub mod CutTexts
 mod MovedTexts
-mod DecodedNumbers
-mod DecodedTexts
 mod HeldRows
 mod JoinedArrays
 pub mod LookedUp
@@ -11,15 +9,14 @@ pub mod PackedArrays
 pub mod PackedRows
 mod ArrayRanges
 mod ArrayRows
+pub mod NullSlots
 mod PickedRows
-mod ReadBits
 pub mod SameRows
 mod SharedArrays
-mod BufferRows
+pub mod BufferRows
 mod SpelledNumbers
-mod TextEnds
+mod TextBounds
 mod TextRows
-mod TruthBits
-mod ValidRows
+pub mod ValidRows
 pub mod ValueRows
-mod WrittenRows
+pub mod WrittenRows

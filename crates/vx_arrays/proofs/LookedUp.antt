@@ -9,7 +9,7 @@ use Rattle.std.proofs.Common.{◌≡◌, ℕ, zero, suc, min, ℤ, pos, negsuc, 
 use Rattle.std.specs.List.{AllByRecursion}
 use Rattle.vx_types.specs.Data.{DataType, Datum, null, truth, number, text, structure}
 use Rattle.vx_types.specs.ColumnCalls.{nullable_where, IsUnsigned, IsCodeBelow, value_at}
-use Rattle.vx_types.specs.Reading.{where_valid}
+use Rattle.vx_types.specs.Slots.{where_valid}
 use Rattle.vx_arrays.specs.LookUps.{code_place, code_places}
 use Rattle.vx_arrays.specs.Places.{place_in, places_in}
 use Rattle.vx_masks.specs.Rows.{taken, NullsHold}

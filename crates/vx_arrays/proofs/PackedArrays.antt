@@ -7,7 +7,7 @@ use Rattle.vx_types.specs.Columns.{ColumnData}
 use Rattle.vx_types.specs.Data.{struct_type, Members, no_members, member, Datum, null, structure, Items, no_items}
 use Rattle.vx_types.specs.Fits.{Fits}
 use Rattle.vx_types.specs.ColumnCalls.{ArePartsOf, nullability_with, is_valid, items_at, packed_at, IsFitting, FitsParts}
-use Rattle.vx_types.specs.Reading.{where_valid}
+use Rattle.vx_types.specs.Slots.{where_valid}
 use Rattle.vx_types.proofs.BuiltRows.{parts_have, packed_fit}
 use Rattle.vx_arrays.specs.PackedColumns.{IsColumn, bare_column}
 use Rattle.vx_arrays.specs.ArrayRows.{members_in, beside, rows_of, StructRows, struct_rows, HaveRows}

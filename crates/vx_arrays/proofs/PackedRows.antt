@@ -8,13 +8,12 @@ use Rattle.vx_types.specs.declared.dtypes.Nullability.TheVariants.{NonNullable, 
 use Rattle.vx_types.specs.Data.{DataType, bool_type, int_type, utf8_type, struct_type, list_type, Datum, null, truth, number, text}
 use Rattle.vx_types.specs.Fits.{Fits, IsInside, TakesNull, nullability_of}
 use Rattle.vx_types.specs.ColumnCalls.{IsBool, made_nullable, nullable_where, IsUnsigned}
-use Rattle.vx_types.specs.Segment.{truth_in}
+use Rattle.vx_types.specs.Slots.{truth_in, where_valid}
 use Rattle.vx_types.specs.declared.dtypes.IntKind.{IntKind}
 use Rattle.vx_arrays.proofs.BufferRows.{numbers_fit}
 use Rattle.vx_types.proofs.AllFit.{all-append}
 use Rattle.vx_types.proofs.BuiltRows.{fits_nullable}
 use Rattle.vx_masks.specs.Masks.{chosen}
-use Rattle.vx_types.specs.Reading.{where_valid}
 use Rattle.vx_masks.specs.Rows.{NullsHold}
 use Rattle.vx_arrays.specs.Buffers.{bare, Takes}
 use Rattle.vx_arrays.specs.PackedColumns.{IsColumn}

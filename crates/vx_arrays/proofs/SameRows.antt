@@ -6,8 +6,7 @@ use Rattle.std.proofs.lemmas.List.{take_all, take_more, map-append}
 use Rattle.std.proofs.lemmas.Option.{slice_get-get_or, same_Some}
 use Rattle.vx_types.specs.Columns.{ColumnData}
 use Rattle.vx_types.specs.Data.{Datum, null, truth, number, text, structure, Items}
-use Rattle.vx_types.specs.Reading.{where_valid}
-use Rattle.vx_types.specs.Segment.{is_value, truth_in, number_in, text_in}
+use Rattle.vx_types.specs.Slots.{where_valid, is_value, truth_in, number_in, text_in}
 use Rattle.vx_types.specs.ValueViews.{items_from}
 use Rattle.vx_types.proofs.BuiltRows.{in_row}
 use Rattle.vx_arrays.specs.declared.numbers.Numbers.{Numbers}

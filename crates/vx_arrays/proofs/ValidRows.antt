@@ -2,9 +2,8 @@
 use Rattle.std.proofs.Common.{◌≡◌, ℕ, zero, suc, ◌-◌, Bool, true, false, cond, List, [], ◌∷◌, ◌++◌, length, map, take, drop, refl, sym, ap, ◌∙◌, arith}
 use Rattle.std.specs.List.{AllByRecursion, slice_range}
 use Rattle.vx_types.specs.Data.{Datum, null}
-use Rattle.vx_types.specs.Segment.{is_value}
+use Rattle.vx_types.specs.Slots.{is_value, where_valid}
 use Rattle.vx_masks.specs.Masks.{chosen}
-use Rattle.vx_types.specs.Reading.{where_valid}
 use Rattle.vx_masks.specs.Rows.{NullsHold}
 
 pub no_buffers : (mask : List Bool) → where_valid mask [] ≡ []

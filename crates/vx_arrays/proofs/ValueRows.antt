@@ -10,17 +10,14 @@ use Rattle.vx_types.specs.Columns.{ColumnData}
 use Rattle.vx_types.specs.ColumnCalls.{made_nullable}
 use Rattle.vx_types.specs.Data.{DataType, bool_type, int_type, utf8_type, struct_type, list_type, Members, no_members, member, Datum, null, truth, number, text, structure, Items, no_items, item}
 use Rattle.vx_types.specs.Fits.{Fits, EachFits, IsInside}
-use Rattle.vx_types.specs.Reading.{where_valid}
-use Rattle.vx_types.specs.Segment.{is_value, truth_in, number_in, text_in}
+use Rattle.vx_types.specs.Slots.{where_valid, is_value, truth_in, number_in, text_in}
 use Rattle.vx_types.specs.ValueViews.{datum, items_of}
 use Rattle.vx_types.specs.Views.{data_type, members_of}
 use Rattle.vx_types.specs.declared.dtypes.Nullability.{Nullability}
 use Rattle.vx_types.proofs.BuiltRows.{fits_nullable, null_fits}
-use Rattle.vx_types.proofs.Leaves.{truths_again, again_where_valid, texts_where_valid, all_inside}
+use Rattle.vx_types.proofs.Slots.{truths_again, again_where_valid, texts_where_valid, all_inside}
 use Rattle.vx_masks.specs.Rows.{NullsHold}
-use Rattle.vx_arrays.proofs.DecodedNumbers.{nulls_are_zero}
-use Rattle.vx_arrays.proofs.DecodedTexts.{nulls_are_empty}
-use Rattle.vx_arrays.proofs.TruthBits.{nulls_are_false}
+use Rattle.vx_arrays.proofs.NullSlots.{nulls_are_zero, nulls_are_empty, nulls_are_false}
 use Rattle.vx_arrays.specs.Fields.{items_behind, first_item, field_at, columns_for}
 use Rattle.vx_arrays.specs.ArrayRows.{members_in, beside, rows_of, StructRows, struct_rows, HaveRows}
 use Rattle.vx_arrays.specs.Buffers.{bare, bare_members}

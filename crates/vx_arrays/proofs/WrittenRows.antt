@@ -11,8 +11,8 @@ use Rattle.vx_types.specs.Columns.{ColumnData}
 use Rattle.vx_types.specs.Data.{Datum, truth, number, text}
 use Rattle.vx_types.specs.Leaf.{slot_bytes}
 use Rattle.vx_types.specs.Limits.{text_limit}
-use Rattle.vx_types.specs.Reading.{where_valid}
-use Rattle.vx_types.specs.Segment.{IsShort, truth_in, number_in, text_in, number_bytes, packed}
+use Rattle.vx_types.specs.Slots.{where_valid, IsShort, truth_in, number_in, text_in, number_bytes}
+use Rattle.vx_masks.specs.Bytes.{packed}
 use Rattle.vx_arrays.specs.declared.numbers.Numbers.{Numbers}
 use Rattle.vx_arrays.specs.declared.arrays.Buffers.{Buffers}
 use Rattle.vx_arrays.specs.declared.arrays.Buffers.TheVariants as variants

@@ -2,7 +2,7 @@
 use Rattle.std.specs.Prelude.{◌≡◌, false, List, length, map}
 use Rattle.vx_types.specs.declared.dtypes.Nullability.TheVariants.{NonNullable}
 use Rattle.vx_types.specs.Data.{DataType, bool_type, int_type, utf8_type, struct_type, list_type, Datum, truth, number, text, structure}
-use Rattle.vx_types.specs.Reading.{where_valid}
+use Rattle.vx_types.specs.Slots.{where_valid}
 use Rattle.vx_masks.specs.Rows.{NullsHold}
 use Rattle.vx_arrays.specs.declared.arrays.views.ArrayView.{ArrayView}
 use Rattle.vx_arrays.specs.declared.arrays.views.ArrayView.TheVariants as views

@@ -5,7 +5,7 @@ use Rattle.vx_types.specs.Fits.{TakesNull}
 use Rattle.vx_types.specs.declared.dtypes.Nullability.TheVariants.{NonNullable}
 use Rattle.vx_types.specs.Data.{DataType, bool_type, int_type, utf8_type, struct_type, list_type, Members, no_members, member, Datum, null, truth, number, text, structure, Items, no_items, item}
 use Rattle.vx_types.specs.Columns.{ColumnData}
-use Rattle.vx_types.specs.Reading.{where_valid}
+use Rattle.vx_types.specs.Slots.{where_valid}
 use Rattle.vx_arrays.specs.declared.arrays.Buffers.{Buffers}
 use Rattle.vx_arrays.specs.declared.arrays.Buffers.TheVariants as variants
 use Rattle.vx_arrays.specs.Numbers.{kind_in, numbers_in}

@@ -1,5 +1,4 @@
 -- Texts that lie one behind the other in one buffer, cut at their ends.
-use Rattle.vx_types.specs.Reading.{lengths_read}
 use Rattle.std.specs.Prelude.{◌≡◌, ℕ, zero, suc, ◌+◌, ◌-◌, ◌≤◌, List, [], ◌∷◌, length, slice_index, slice_range}
 use Rattle.std.specs.List.{AllByRecursion}
 use Rattle.std.specs.Str.{IsUtf8}
@@ -32,7 +31,3 @@ pub record AreTexts (bytes : List ℕ) (ends : List ℕ) : Type 0 where
 abbrev pub ends_after : ℕ → List ℕ → List ℕ
 ends_after from [] = []
 ends_after from (len ∷ lens) = (from + len) ∷ ends_after (from + len) lens
-
--- where the texts end whose lengths the bytes spell
-abbrev pub ends_read : ℕ → List ℕ → List ℕ
-ends_read rows bytes = ends_after 0 (lengths_read rows bytes)

@@ -4,8 +4,7 @@ ghost use Rattle.std.specs.Prelude.{◌≡◌, ◌<◌, [], false, pos, length, 
 ghost use Rattle.vx_types.specs.ColumnCalls.{IsBool, IsUnsigned};
 ghost use Rattle.vx_types.specs.Data.{bool_type, int_type, utf8_type, struct_type, list_type, null, truth, number, text, structure};
 ghost use Rattle.vx_types.specs.declared.dtypes.Nullability.TheVariants.{NonNullable};
-ghost use Rattle.vx_types.specs.Reading.{where_valid};
-ghost use Rattle.vx_types.specs.Segment.{is_value, truth_in};
+ghost use Rattle.vx_types.specs.Slots.{where_valid, is_value, truth_in};
 ghost use Rattle.vx_arrays.specs.LookUps.{code_places};
 ghost use Rattle.vx_arrays.specs.Numbers.{kind_in, numbers_in};
 ghost use Rattle.vx_arrays.specs.ArrayRows.{HaveRows, struct_rows};

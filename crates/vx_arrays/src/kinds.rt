@@ -7,7 +7,7 @@ ghost use Rattle.std.specs.Int.{byte_len};
 ghost use Rattle.vx_types.specs.declared.dtypes.IntKind.{IntKind};
 ghost use Rattle.vx_types.specs.declared.dtypes.IntKind.TheVariants.{U8, U16, U32, U64, I8, I16, I32, I64};
 ghost use Rattle.vx_types.specs.Fits.{IsInside};
-ghost use Rattle.vx_types.specs.Segment.{number_bytes, width_of};
+ghost use Rattle.vx_types.specs.Slots.{number_bytes, width_of};
 
 use std::alloc::AllocError;
 

@@ -6,7 +6,7 @@ ghost use Rattle.vx_types.specs.ColumnCalls.{made_nullable};
 ghost use Rattle.vx_types.specs.Data.{struct_type, structure};
 ghost use Rattle.vx_types.specs.declared.dtypes.Nullability.TheVariants.{Nullable};
 ghost use Rattle.vx_types.specs.Fits.{Fits, IsInside};
-ghost use Rattle.vx_types.specs.Segment.{is_value, truth_in, number_in, text_in};
+ghost use Rattle.vx_types.specs.Slots.{is_value, truth_in, number_in, text_in};
 ghost use Rattle.vx_types.specs.Views.{data_type};
 ghost use Rattle.vx_types.specs.ValueViews.{datum, items_of};
 ghost use Rattle.vx_arrays.specs.Fields.{field_at, columns_for};

@@ -5,7 +5,7 @@ ghost use Rattle.std.specs.List.{AllByRecursion, flat_map};
 ghost use Rattle.std.specs.Int.{byte_len};
 ghost use Rattle.vx_types.specs.Fits.{IsInside};
 ghost use Rattle.vx_masks.specs.Masks.{chosen};
-ghost use Rattle.vx_types.specs.Segment.{number_bytes, width_of};
+ghost use Rattle.vx_types.specs.Slots.{number_bytes, width_of};
 ghost use Rattle.vx_arrays.specs.Places.{places_in};
 ghost use Rattle.vx_masks.specs.Rows.{taken, Holds, NullsHold};
 

@@ -4,8 +4,10 @@ pub use Rattle.vx_types.proofs.AllFit
 pub use Rattle.vx_types.proofs.BuiltRows
 pub use Rattle.vx_types.proofs.FieldTexts
 pub use Rattle.vx_types.proofs.Items
-pub use Rattle.vx_types.proofs.Leaves
 pub use Rattle.vx_types.proofs.Members
-pub use Rattle.vx_types.proofs.Spelled
 pub use Rattle.vx_columns.proofs.ColumnRows
+pub use Rattle.vx_segments.proofs.Bits
+pub use Rattle.vx_segments.proofs.Decoded
+pub use Rattle.vx_segments.proofs.Leaves
+pub use Rattle.vx_segments.proofs.Spelled
 pub use Rattle.vx_outside.proofs.ScriptTurns

@@ -6,13 +6,10 @@ pub use Rattle.vx_types.specs.Columns
 pub use Rattle.vx_types.specs.Data
 pub use Rattle.vx_types.specs.Falls
 pub use Rattle.vx_types.specs.Fits
-pub use Rattle.vx_types.specs.Laws
 pub use Rattle.vx_types.specs.Leaf
 pub use Rattle.vx_types.specs.Names
-pub use Rattle.vx_types.specs.Parts
-pub use Rattle.vx_types.specs.Reading
-pub use Rattle.vx_types.specs.Segment
 pub use Rattle.vx_types.specs.Sizes
+pub use Rattle.vx_types.specs.Slots
 pub use Rattle.vx_types.specs.TypeText
 pub use Rattle.vx_types.specs.ValueFalls
 pub use Rattle.vx_types.specs.ValueViews
@@ -24,6 +21,10 @@ pub use Rattle.vx_masks.specs.Words
 pub use Rattle.vx_columns.specs.RunRows
 pub use Rattle.vx_columns.specs.Runs
 pub use Rattle.vx_columns.specs.StoredRows
+pub use Rattle.vx_segments.specs.Laws
+pub use Rattle.vx_segments.specs.Parts
+pub use Rattle.vx_segments.specs.Reading
+pub use Rattle.vx_segments.specs.Segment
 pub use Rattle.vx_outside.specs.Adapters
 pub use Rattle.vx_outside.specs.Faults
 pub use Rattle.vx_outside.specs.FileSources

@@ -15,16 +15,19 @@
 //! - The definitions on literals: [`runs_by_hand`], [`scripts_by_hand`], [`reads_by_hand`].
 #![tactic(auto)]
 
-pub use vx_arrays::{Cell, DecodeError};
-pub use vx_columns::{Column, ColumnError, RunsError, decode, encode, runs_by_hand};
+pub use vx_arrays::Cell;
+pub use vx_columns::{Column, ColumnError, RunsError, runs_by_hand};
 pub use vx_masks::{Mask, kernels, masks_choose_twice};
 pub use vx_outside::{
     AskedRange, BytesSink, BytesSource, FileSource, Gate, GateSource, MemorySource, ReadSource,
     Script, ScriptSource, SegmentLocation, SegmentSource, Sink, Source, SourceError, StreamError,
     WriteSink, file_sources, locations, memory_sources, outside, reads_by_hand, scripts_by_hand,
 };
+pub use vx_segments::{
+    DecodeError, decode, decoded_is_spelled, decoding_undoes_encoding, encode, one_spelling,
+    segments_by_hand,
+};
 pub use vx_types::{
-    DType, Element, Field, Fields, IntKind, Nullability, Text, Value, Values, decoded_is_spelled,
-    decoding_undoes_encoding, dtypes, fits, has_distinct_names, is_leaf, is_unsigned, one_spelling,
-    segments_by_hand, values,
+    DType, Element, Field, Fields, IntKind, Nullability, Text, Value, Values, dtypes, fits,
+    has_distinct_names, is_leaf, is_unsigned, values,
 };

@@ -4,7 +4,7 @@ ghost use Rattle.std.specs.Prelude.{◌≡◌, ◌≤◌, IfOk, IsTrue, length, 
 ghost use Rattle.std.specs.List.{AllByRecursion};
 ghost use Rattle.vx_base.specs.Data.{utf8_type};
 ghost use Rattle.vx_base.specs.declared.dtypes.Nullability.TheVariants.{Nullable};
-ghost use Rattle.vx_base.specs.Segment.{IsShort};
+ghost use Rattle.vx_base.specs.Slots.{IsShort};
 ghost use Rattle.vx_base.specs.ValueViews.{datum};
 
 use crate::built::texts_or_nulls;

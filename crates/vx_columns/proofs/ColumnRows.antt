@@ -8,7 +8,7 @@ use Rattle.vx_types.specs.declared.dtypes.Nullability.TheVariants.{NonNullable}
 use Rattle.vx_types.specs.declared.values.Value.{Value}
 use Rattle.vx_types.specs.ColumnCalls.{natural}
 use Rattle.vx_types.specs.Data.{Datum, null, number}
-use Rattle.vx_types.specs.Reading.{where_valid}
+use Rattle.vx_types.specs.Slots.{where_valid}
 use Rattle.vx_types.specs.ValueViews.{datum}
 use Rattle.vx_masks.specs.Rows.{NullsHold}
 use Rattle.vx_arrays.specs.Buffers.{Takes}

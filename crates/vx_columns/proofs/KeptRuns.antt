@@ -14,7 +14,7 @@ use Rattle.vx_masks.specs.Masks.{chosen, true_count}
 use Rattle.vx_masks.specs.Rows.{taken}
 use Rattle.vx_types.specs.Columns.{ColumnData}
 use Rattle.vx_types.specs.Data.{null}
-use Rattle.vx_types.specs.Segment.{is_value}
+use Rattle.vx_types.specs.Slots.{is_value}
 
 -- ---- rows that are alike before others
 drop_alike : {X : Type 0} (skip n : ℕ) (v : X) (rest : List X) → drop skip (replicate n v ++ rest) ≡ replicate (n - skip) v ++ drop (skip - n) rest

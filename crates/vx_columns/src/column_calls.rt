@@ -8,7 +8,7 @@ ghost use Rattle.vx_types.specs.declared.dtypes.Nullability.TheVariants.{NonNull
 ghost use Rattle.vx_types.specs.Data.{int_type};
 ghost use Rattle.vx_types.specs.Views.{data_type};
 ghost use Rattle.vx_types.specs.ColumnCalls.{natural, IsBool};
-ghost use Rattle.vx_types.specs.Segment.{truth_in};
+ghost use Rattle.vx_types.specs.Slots.{truth_in};
 
 use crate::columns::Column;
 use std::alloc::{AllocError, Global};

@@ -1,10 +1,11 @@
 //! Columns: a dtype and values that it takes, one for each row.
 
-ghost use Rattle.std.specs.Prelude.{◌≡◌, ℕ, ◌<◌, ◌≤◌, Some, [], length, map, slice_get, OnOk, IfOk, IfSome, IsErrOf, MatchOption};
+ghost use Rattle.std.specs.Prelude.{◌≡◌, ℕ, ◌<◌, ◌≤◌, ◌++◌, Some, [], length, map, slice_get, OnOk, IfOk, IfSome, IsErrOf, MatchOption};
 ghost use Rattle.std.specs.List.{AllByRecursion};
 ghost use Rattle.vx_types.specs.Fits.{Fits};
 ghost use Rattle.vx_types.specs.Columns.{IsFirstUnfit};
-ghost use Rattle.vx_types.specs.Segment.{is_value};
+ghost use Rattle.vx_types.specs.Leaf.{IsLeaf, slot_bytes};
+ghost use Rattle.vx_types.specs.Slots.{IsShort, is_value};
 ghost use Rattle.vx_types.specs.Views.{data_type};
 ghost use Rattle.vx_types.specs.ValueViews.{datum};
 ghost use Rattle.vx_columns.specs.StoredRows.{row_data};
@@ -218,5 +219,20 @@ impl Column {
             values.push(value)?;
         }
         Ok(values)
+    }
+
+    /// Writes what the rows of a leaf have in a segment behind the validity.
+    pub fn write_slots(&self, alloc: Global, bytes: &mut Vec<u8>) -> Result<(), AllocError>
+        requires leaf { IsLeaf self.now.dtype }
+        requires short { AllByRecursion IsShort self.now.values }
+        ensures { OnOk result (bytes.new.items ≡ bytes.old.items ++ slot_bytes self.now.dtype self.now.values) }
+    {
+        let rows = self.rows();
+        rows.write_buffers(alloc, bytes)
+    }
+
+    /// How many bytes a segment of a leaf has at most, or the most that a `usize` holds; of runs, a guess.
+    pub fn size(&self) -> usize {
+        self.rows.size()
     }
 }

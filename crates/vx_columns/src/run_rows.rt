@@ -2,7 +2,7 @@
 //! them is answered run by run, and they are spread where that can't be.
 
 ghost use Rattle.std.specs.Prelude.{◌≡◌, ◌<◌, ◌≤◌, ◌-◌, ◌^◌, ◌++◌, length, map, replicate, slice_get, sum, IfOk};
-ghost use Rattle.vx_types.specs.Segment.{is_value};
+ghost use Rattle.vx_types.specs.Slots.{is_value};
 ghost use Rattle.vx_columns.specs.RunRows.{Rise, HasRow, start_of, runs_column, range_counts, mask_counts, kept_places, kept_ends, repeated};
 ghost use Rattle.vx_columns.specs.Runs.{spread, run_places};
 ghost use Rattle.vx_arrays.specs.ArrayRows.{sliced, filtered};

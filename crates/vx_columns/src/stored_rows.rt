@@ -6,7 +6,7 @@ ghost use Rattle.std.specs.Prelude.{◌≡◌, ◌-◌, ◌<◌, ◌≤◌, ◌�
 ghost use Rattle.std.specs.List.{AllByRecursion};
 ghost use Rattle.vx_types.specs.ColumnCalls.{IsBool, IsUnsigned};
 ghost use Rattle.vx_types.specs.Leaf.{IsLeaf, slot_bytes};
-ghost use Rattle.vx_types.specs.Segment.{IsShort, is_value, truth_in};
+ghost use Rattle.vx_types.specs.Slots.{IsShort, is_value, truth_in};
 ghost use Rattle.vx_types.specs.ValueViews.{datum};
 ghost use Rattle.vx_columns.specs.StoredRows.{row_data, laid_data};
 ghost use Rattle.vx_arrays.specs.Cells.{cell_datum};

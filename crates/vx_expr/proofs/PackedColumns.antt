@@ -6,7 +6,7 @@ use Rattle.vx_base.specs.Columns.{ColumnData}
 use Rattle.vx_base.specs.declared.dtypes.Nullability.TheVariants.{NonNullable}
 use Rattle.vx_base.specs.Data.{DataType, bool_type, int_type, utf8_type, struct_type, list_type, Members, no_members, member, Datum, null, structure, Items, no_items, item}
 use Rattle.vx_base.specs.Fits.{Fits, EachFits}
-use Rattle.vx_base.specs.Reading.{where_valid}
+use Rattle.vx_base.specs.Slots.{where_valid}
 use Rattle.vx_base.specs.ValueViews.{items_from}
 use Rattle.vx_base.specs.Views.{fields_in}
 use Rattle.vx_arrays.specs.ArrayRows.{members_in, beside, rows_of, picked_at, HaveRows}

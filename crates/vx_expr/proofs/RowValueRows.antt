@@ -8,7 +8,7 @@ use Rattle.vx_base.specs.declared.dtypes.IntKind.{IntKind}
 use Rattle.vx_base.specs.declared.dtypes.Nullability.{Nullability}
 use Rattle.vx_base.specs.declared.dtypes.Nullability.TheVariants.{NonNullable}
 use Rattle.vx_base.specs.Data.{int_type, Datum, null, structure, Items}
-use Rattle.vx_base.specs.Reading.{where_valid}
+use Rattle.vx_base.specs.Slots.{where_valid}
 use Rattle.vx_base.specs.ValueViews.{data_in}
 use Rattle.vx_expr.specs.declared.row_values.RowValue.{RowValue}
 use Rattle.vx_expr.specs.declared.evaluated.Evaluated.{Evaluated}

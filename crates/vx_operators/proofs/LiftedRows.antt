@@ -6,7 +6,7 @@ use Rattle.vx_types.specs.declared.dtypes.Nullability.{Nullability}
 use Rattle.vx_types.specs.Data.{Datum, null, number, truth, text, structure, int_type}
 use Rattle.vx_types.specs.Fits.{least_of, greatest_of}
 use Rattle.vx_masks.specs.Masks.{both}
-use Rattle.vx_types.specs.Reading.{where_valid}
+use Rattle.vx_types.specs.Slots.{where_valid}
 use Rattle.vx_masks.specs.Rows.{NullsHold}
 use Rattle.vx_operators.specs.declared.operators.ArithOp.{ArithOp}
 use Rattle.vx_operators.specs.declared.operators.CompareOp.{CompareOp}

@@ -1,13 +1,11 @@
 -- Three-valued logic made of whole masks is what the meaning says of each row.
 use Rattle.std.proofs.Common.{◌≡◌, Bool, true, false, not, ◌&&◌, ◌||◌, cond, List, [], ◌∷◌, length, map, Some, replicate, ℕ, zero, suc, refl, sym, ap, subst, arith}
 use Rattle.vx_types.specs.Data.{Datum, null, truth, number, text, structure}
-use Rattle.vx_masks.specs.Masks.{both}
-use Rattle.vx_types.specs.Reading.{where_valid}
-use Rattle.vx_types.specs.Segment.{is_value}
+use Rattle.vx_masks.specs.Masks.{both, either, without}
+use Rattle.vx_types.specs.Slots.{where_valid, is_value}
 use Rattle.vx_masks.specs.Rows.{Holds, NullsHold}
 use Rattle.vx_operators.specs.Operators.{negated, and_of, or_of, null_test_of, value_test_of}
 use Rattle.vx_operators.specs.Rows.{along}
-use Rattle.vx_masks.specs.Masks.{either, without}
 
 -- ---- which rows have a value
 -- both have a value, or one has it and is false

@@ -4,7 +4,7 @@ use Rattle.std.proofs.lemmas.List.{length-map}
 use Rattle.vx_types.specs.declared.dtypes.IntKind.{IntKind}
 use Rattle.vx_types.specs.declared.dtypes.Nullability.{Nullability}
 use Rattle.vx_types.specs.Data.{Datum, null, number, truth, int_type}
-use Rattle.vx_types.specs.Reading.{where_valid}
+use Rattle.vx_types.specs.Slots.{where_valid}
 use Rattle.vx_masks.specs.Masks.{both}
 use Rattle.vx_masks.specs.Rows.{NullsHold}
 use Rattle.vx_operators.specs.declared.operators.ArithOp.{ArithOp}

@@ -3,7 +3,7 @@ use Rattle.std.proofs.Common.{◌≡◌, ℕ, ℤ, pos, true, false, map, replic
 use Rattle.vx_types.specs.declared.dtypes.IntKind.{IntKind}
 use Rattle.vx_types.specs.declared.dtypes.Nullability.TheVariants.{NonNullable}
 use Rattle.vx_types.specs.Data.{int_type, null, number}
-use Rattle.vx_types.specs.Reading.{where_valid}
+use Rattle.vx_types.specs.Slots.{where_valid}
 use Rattle.vx_operators.specs.declared.columnar_values.Scalar.{Scalar}
 use Rattle.vx_operators.specs.declared.columnar_values.Scalar.TheVariants.{Truth, Number, Text}
 use Rattle.vx_operators.specs.Operators.{is_null}

@@ -3,7 +3,7 @@ use Rattle.std.specs.Prelude.{slice_get}
 use Rattle.std.proofs.Common.{◌≡◌, ℕ, zero, suc, ◌<◌, ◌≤◌, ℤ, pos, Bool, true, false, List, [], ◌∷◌, length, map, take, replicate, Some, refl, sym, ap, ◌∙◌, arith}
 use Rattle.std.proofs.lemmas.List.{length-map, length-replicate}
 use Rattle.vx_types.specs.Data.{Datum, null, number, text}
-use Rattle.vx_types.specs.Reading.{where_valid}
+use Rattle.vx_types.specs.Slots.{where_valid}
 use Rattle.vx_operators.specs.declared.sides.Side.{Side}
 use Rattle.vx_operators.specs.declared.sides.Side.TheVariants.{Rows, One, Null}
 use Rattle.vx_operators.specs.Sides.{side_numbers, side_rows, IsSide}

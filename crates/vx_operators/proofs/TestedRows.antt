@@ -1,7 +1,7 @@
 -- A test of the values of both sides at each row, whatever they are: what the meaning says of a comparison.
 use Rattle.std.proofs.Common.{◌≡◌, Bool, true, false, ◌&&◌, List, [], ◌∷◌, length, map, Option, Some, refl, sym, ap, ◌∙◌}
 use Rattle.vx_types.specs.Data.{Datum, truth}
-use Rattle.vx_types.specs.Reading.{where_valid}
+use Rattle.vx_types.specs.Slots.{where_valid}
 use Rattle.vx_masks.specs.Masks.{both, either, without}
 use Rattle.vx_masks.specs.Rows.{NullsHold}
 use Rattle.vx_operators.specs.declared.operators.CompareOp.TheVariants.{Eq, Ne, Lt, Le, Gt, Ge}

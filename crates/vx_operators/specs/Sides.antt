@@ -1,7 +1,7 @@
 -- What stands at each row of a side of an operator.
 use Rattle.std.specs.Prelude.{◌≡◌, ℤ, pos, Bool, true, false, List, length, map, replicate}
 use Rattle.vx_types.specs.Data.{Datum, number}
-use Rattle.vx_types.specs.Reading.{where_valid}
+use Rattle.vx_types.specs.Slots.{where_valid}
 use Rattle.vx_operators.specs.declared.sides.Side.{Side}
 use Rattle.vx_operators.specs.declared.sides.Side.TheVariants.{Rows, One, Null}
 use Rattle.vx_operators.specs.declared.valid_rows.Valid.{Valid}

@@ -1,7 +1,7 @@
 -- What stands at each row of a side of an operator on texts.
 use Rattle.std.specs.Prelude.{◌≡◌, ℕ, Bool, true, false, List, [], length, map, replicate}
 use Rattle.vx_types.specs.Data.{Datum, text}
-use Rattle.vx_types.specs.Reading.{where_valid}
+use Rattle.vx_types.specs.Slots.{where_valid}
 use Rattle.vx_operators.specs.declared.text_sides.TextSide.{TextSide}
 use Rattle.vx_operators.specs.declared.text_sides.TextSide.TheVariants.{Rows, One, Null}
 

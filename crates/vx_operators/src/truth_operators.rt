@@ -3,7 +3,7 @@
 ghost use Rattle.std.specs.Prelude.{◌≡◌, Some, false, if◌then◌else◌, length, map, replicate, IfOk};
 ghost use Rattle.vx_types.specs.declared.dtypes.Nullability.TheVariants.{NonNullable};
 ghost use Rattle.vx_types.specs.Data.{bool_type, null, truth};
-ghost use Rattle.vx_types.specs.Reading.{where_valid};
+ghost use Rattle.vx_types.specs.Slots.{where_valid};
 ghost use Rattle.vx_masks.specs.Rows.{Holds, NullsHold};
 ghost use Rattle.vx_operators.specs.Operators.{and_of, comparison_of, or_of, negated, null_test_of, value_test_of};
 ghost use Rattle.vx_operators.specs.Rows.{along, front};

@@ -3,8 +3,7 @@
 
 ghost use Rattle.std.specs.Prelude.{◌≡◌, List, Some, false, length, map, IfOk};
 ghost use Rattle.vx_types.specs.Data.{Datum, truth};
-ghost use Rattle.vx_types.specs.Reading.{where_valid};
-ghost use Rattle.vx_types.specs.Segment.{is_value};
+ghost use Rattle.vx_types.specs.Slots.{where_valid, is_value};
 ghost use Rattle.vx_masks.specs.Masks.{both};
 ghost use Rattle.vx_masks.specs.Rows.{NullsHold};
 ghost use Rattle.vx_operators.specs.Operators.{and_of, comparison_of, or_of, negated, null_test_of, value_test_of};

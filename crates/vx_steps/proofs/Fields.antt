@@ -10,7 +10,7 @@ use Rattle.vx_base.specs.ColumnCalls.{items_at, packed_at, IsFitting}
 use Rattle.vx_base.specs.Data.{DataType, bool_type, Datum, null, truth, number, text, structure}
 use Rattle.vx_base.specs.Fits.{Fits}
 use Rattle.vx_base.specs.Masks.{true_count}
-use Rattle.vx_base.specs.Segment.{truth_in}
+use Rattle.vx_base.specs.Slots.{truth_in}
 use Rattle.vx_expr.specs.Types.{on_both}
 use Rattle.vx_expr.specs.Packs.{struct_row}
 use Rattle.vx_plan.specs.Kinds.{has_validity_of, HasKind, IsPack}
@@ -18,7 +18,7 @@ use Rattle.vx_plan.specs.PlanRows.{plan_derivations}
 use Rattle.vx_plan.specs.Tables.{IsGoodTable}
 use Rattle.vx_rows.specs.Given.{each_with_given}
 use Rattle.vx_steps.specs.Rows.{rows_of, AreOf}
-use Rattle.vx_steps.specs.Structs.{field_parts, front_parts, last_part, structs_at, truths_of, validity_part}
+use Rattle.vx_steps.specs.Structs.{field_parts, front_parts, last_part, structs_at, truths_of, validity_part, HaveTypes}
 use Rattle.vx_steps.proofs.SelectedRows.{count_of_rows, rows_count}
 use Rattle.vx_base.specs.Columns.{ColumnData}
 use Rattle.vx_plan.specs.Plans.{Plan, plan_at, plans_from, field_plans, front_plans, last_plan, last_validity, pack_plan}
@@ -30,7 +30,6 @@ use Rattle.vx_steps.specs.declared.errors.StepError.{StepError}
 use Rattle.vx_steps.specs.Computed.{AreParts, Computes, IsPart, Outcome}
 use Rattle.vx_steps.specs.Given.{Handed, row_value, values_for}
 use Rattle.vx_steps.specs.Held.{Held, IsBy, handed_in}
-use Rattle.vx_steps.specs.Structs.{HaveTypes}
 use Rattle.vx_steps.specs.Visits.{Test, Visits, VisitsField, VisitsValidity}
 use Rattle.vx_steps.proofs.ComputedRows.{cause_up}
 use Rattle.vx_steps.proofs.Shaping.{head_of, validity_fits, IsPackPlan}

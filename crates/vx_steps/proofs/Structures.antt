@@ -10,7 +10,7 @@ use Rattle.vx_base.specs.ColumnCalls.{nullability_with, ArePartsOf, IsBool}
 use Rattle.vx_base.specs.Columns.{ColumnData}
 use Rattle.vx_base.specs.Data.{DataType, bool_type, int_type, utf8_type, struct_type, list_type, Members, no_members, member}
 use Rattle.vx_base.specs.Fits.{takes_null}
-use Rattle.vx_base.specs.Segment.{truth_in}
+use Rattle.vx_base.specs.Slots.{truth_in}
 use Rattle.vx_base.specs.Views.{fields_in}
 use Rattle.vx_plan.specs.declared.children.PlanRef.{PlanRef}
 use Rattle.vx_plan.specs.declared.nodes.PlanKind.{PlanKind}

@@ -4,7 +4,7 @@ use Rattle.std.specs.List.{range_with_len}
 use Rattle.vx_base.specs.ColumnCalls.{packed_at, IsBool}
 use Rattle.vx_base.specs.Columns.{ColumnData}
 use Rattle.vx_base.specs.Data.{Datum}
-use Rattle.vx_base.specs.Segment.{truth_in}
+use Rattle.vx_base.specs.Slots.{truth_in}
 use Rattle.vx_plan.specs.Nodes.{Node}
 use Rattle.vx_plan.specs.Rules.{node_at}
 

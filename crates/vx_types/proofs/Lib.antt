@@ -1,14 +1,9 @@
 pub mod AllFit
-pub mod Bits
 pub mod BuiltRows
-pub mod Decoded
 pub mod FieldNames
 pub mod FieldTexts
 pub mod Items
-pub mod KindNumbers
-pub mod Leaves
 pub mod Lists
 pub mod Members
-pub mod Rows
 pub mod SeenNames
-pub mod Spelled
+pub mod Slots

@@ -4,7 +4,8 @@ use Rattle.std.specs.List.{flat_map}
 use Rattle.std.specs.Int.{w32, to_le_bytes}
 use Rattle.vx_types.specs.declared.dtypes.IntKind.{IntKind}
 use Rattle.vx_types.specs.Data.{DataType, bool_type, int_type, utf8_type, struct_type, list_type, Datum}
-use Rattle.vx_types.specs.Segment.{truth_in, number_in, text_in, number_bytes, packed}
+use Rattle.vx_types.specs.Slots.{truth_in, number_in, text_in, number_bytes}
+use Rattle.vx_masks.specs.Bytes.{packed}
 
 -- truth values, numbers or texts
 abbrev pub IsLeaf : DataType → Type 0

@@ -4,14 +4,11 @@ pub mod Columns
 pub mod Data
 pub mod Falls
 pub mod Fits
-pub mod Laws
 pub mod Leaf
 pub mod Limits
 pub mod Names
-pub mod Parts
-pub mod Reading
-pub mod Segment
 pub mod Sizes
+pub mod Slots
 pub mod TypeText
 pub mod ValueFalls
 pub mod ValueViews

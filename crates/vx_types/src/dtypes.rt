@@ -6,7 +6,7 @@ ghost use Rattle.std.specs.Int.{byte_len};
 ghost use Rattle.std.specs.Str.{bytes_eq};
 ghost use Rattle.vx_types.specs.ColumnCalls.{made_nullable};
 ghost use Rattle.vx_types.specs.Fits.{least_of, greatest_of, nullability_of, takes_null};
-ghost use Rattle.vx_types.specs.Segment.{width_of};
+ghost use Rattle.vx_types.specs.Slots.{width_of};
 ghost use Rattle.vx_types.specs.Views.{data_type, members_of, field_data, fields_in};
 
 use crate::texts::Text;

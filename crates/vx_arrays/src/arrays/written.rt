@@ -3,7 +3,7 @@
 ghost use Rattle.std.specs.Prelude.{◌≡◌, ◌<◌, ◌+◌, ◌++◌, OnOk};
 ghost use Rattle.std.specs.List.{AllByRecursion};
 ghost use Rattle.vx_types.specs.Leaf.{IsLeaf, slot_bytes};
-ghost use Rattle.vx_types.specs.Segment.{IsShort};
+ghost use Rattle.vx_types.specs.Slots.{IsShort};
 
 use crate::arrays::{Array, Buffers};
 use crate::numbers::Numbers;

@@ -2,7 +2,7 @@ use Rattle.std.proofs.Common.{map}
 use Rattle.scan_output.proofs.ColumnLines.{slot_more, none_yet, all_done}
 use Rattle.scan_output.proofs.column_lines.append_truths.Goals as goal
 use Rattle.vx_base.specs.Data.{truth}
-use Rattle.vx_base.specs.Reading.{where_valid}
+use Rattle.vx_base.specs.Slots.{where_valid}
 use Rattle.vx_base.proofs.Got.{got_mapped}
 
 pub loop-row-init : goal.loop-row-init

@@ -1,5 +1,5 @@
 use Rattle.vx_types.specs.Fits.{IsInside}
-use Rattle.vx_types.specs.Segment.{number_in}
+use Rattle.vx_types.specs.Slots.{number_in}
 use Rattle.vx_arrays.proofs.ValueRows.{all_seen_at}
 use Rattle.vx_arrays.proofs.of_values.kind_numbers_of.Goals as goal
 

@@ -1,6 +1,6 @@
 use Rattle.std.proofs.Common.{◌≡◌, map, take}
 use Rattle.vx_types.specs.ValueViews.{datum}
-use Rattle.vx_types.specs.Segment.{truth_in}
+use Rattle.vx_types.specs.Slots.{truth_in}
 use Rattle.vx_arrays.proofs.of_values.truths_of.Given as goal
 
 abbrev pub invariant-loop-value : goal.invariant-loop-value

@@ -1,7 +1,7 @@
 use Rattle.std.proofs.Common.{List, ℕ, get_or, subst, sym, refl}
 use Rattle.std.specs.Prelude.{IsTrue}
 use Rattle.std.specs.Str.{IsCharBoundary}
-use Rattle.vx_arrays.proofs.DecodedTexts.{whole_utf8, ends_bound, bound_at, bound_more, bound_all, texts_utf8_start}
+use Rattle.vx_arrays.proofs.TextBounds.{whole_utf8, ends_bound, bound_at, bound_more, bound_all, texts_utf8_start}
 use Rattle.vx_arrays.proofs.texts.are_utf8.Goals as goal
 
 pub returns-in-Err : goal.returns-in-Err

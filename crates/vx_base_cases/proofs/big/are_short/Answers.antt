@@ -1,4 +1,4 @@
-use Rattle.vx_base.specs.Segment.{IsShort}
+use Rattle.vx_base.specs.Slots.{IsShort}
 use Rattle.vx_base.proofs.AllFit.{all_more}
 use Rattle.vx_base_cases.proofs.big.are_short.Goals as goal
 

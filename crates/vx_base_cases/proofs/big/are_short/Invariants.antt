@@ -1,6 +1,6 @@
 use Rattle.std.proofs.Common.{map, take}
 use Rattle.std.specs.List.{AllByRecursion}
-use Rattle.vx_base.specs.Segment.{IsShort}
+use Rattle.vx_base.specs.Slots.{IsShort}
 use Rattle.vx_base.specs.ValueViews.{datum}
 use Rattle.vx_base_cases.proofs.big.are_short.Given as goal
 

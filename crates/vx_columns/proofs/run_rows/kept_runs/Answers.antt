@@ -1,6 +1,6 @@
 use Rattle.std.proofs.Common.{ap, arith, length}
 use Rattle.std.proofs.lemmas.List.{length-map}
-use Rattle.vx_types.specs.Segment.{is_value}
+use Rattle.vx_types.specs.Slots.{is_value}
 use Rattle.vx_columns.specs.RunRows.{repeated}
 use Rattle.vx_columns.proofs.KeptRuns.{repeated_len, kept_made}
 use Rattle.vx_columns.proofs.run_rows.kept_runs.Goals as goal

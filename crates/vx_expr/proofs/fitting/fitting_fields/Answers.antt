@@ -2,7 +2,7 @@ use Rattle.std.proofs.Common.{◌≡◌, Bool, List, true, length, map, ap, sym,
 use Rattle.std.proofs.lemmas.List.{length-map, length-replicate}
 use Rattle.vx_base.specs.Columns.{ColumnData}
 use Rattle.vx_base.specs.Data.{structure}
-use Rattle.vx_base.specs.Reading.{where_valid}
+use Rattle.vx_base.specs.Slots.{where_valid}
 use Rattle.vx_base.specs.Views.{data_type, fields_in}
 use Rattle.vx_operators.specs.ColumnarValues.{columnar_rows}
 use Rattle.vx_arrays.specs.ArrayRows.{StructRows, rows_of, members_in, HaveRows}

@@ -1,6 +1,6 @@
 use Rattle.std.proofs.Common.{◌≡◌, ◌++◌, map, take}
 use Rattle.std.specs.List.{flat_map}
-use Rattle.vx_types.specs.Segment.{number_bytes}
+use Rattle.vx_types.specs.Slots.{number_bytes}
 use Rattle.vx_arrays.proofs.primitives.Primitive.write.Given as goal
 
 abbrev pub invariant-loop-number : goal.invariant-loop-number

@@ -4,7 +4,7 @@ use Rattle.std.proofs.lemmas.List.{length-map}
 use Rattle.vx_types.specs.declared.dtypes.IntKind.TheVariants.{U64}
 use Rattle.vx_types.specs.declared.dtypes.Nullability.TheVariants.{NonNullable}
 use Rattle.vx_types.specs.Data.{number}
-use Rattle.vx_types.specs.Reading.{where_valid}
+use Rattle.vx_types.specs.Slots.{where_valid}
 use Rattle.vx_masks.specs.Rows.{NullsHold}
 use Rattle.vx_arrays.specs.Buffers.{Takes}
 use Rattle.vx_arrays.proofs.PackedRows.{column_of_numbers}

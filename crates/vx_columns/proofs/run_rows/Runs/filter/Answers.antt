@@ -1,7 +1,7 @@
 use Rattle.std.proofs.Common.{◌≡◌, ◌∙◌, Bool, List, length, map, sym, ap}
 use Rattle.vx_masks.specs.Masks.{chosen}
 use Rattle.vx_types.specs.Columns.{ColumnData}
-use Rattle.vx_types.specs.Segment.{is_value}
+use Rattle.vx_types.specs.Slots.{is_value}
 use Rattle.vx_arrays.proofs.MappedRows.{map_chosen}
 use Rattle.vx_columns.proofs.KeptRuns.{mask_len, filtered_runs}
 use Rattle.vx_columns.proofs.SpreadRuns.{runs_len}

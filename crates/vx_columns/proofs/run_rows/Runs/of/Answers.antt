@@ -1,5 +1,5 @@
 use Rattle.std.proofs.Common.{◌∙◌, sym}
-use Rattle.vx_types.specs.Segment.{is_value}
+use Rattle.vx_types.specs.Slots.{is_value}
 use Rattle.vx_columns.specs.Runs.{spread}
 use Rattle.vx_columns.proofs.SpreadRuns.{map_spread}
 use Rattle.vx_columns.proofs.run_rows.Runs.of.Goals as goal

@@ -1,7 +1,7 @@
 use Rattle.std.proofs.Common.{◌≡◌, ◌-◌, ◌∙◌, Bool, List, length, map, sym, ap}
 use Rattle.std.specs.List.{slice_range}
 use Rattle.vx_types.specs.Columns.{ColumnData}
-use Rattle.vx_types.specs.Segment.{is_value}
+use Rattle.vx_types.specs.Slots.{is_value}
 use Rattle.vx_arrays.proofs.MappedRows.{map_range}
 use Rattle.vx_columns.proofs.KeptRuns.{range_len, sliced_runs}
 use Rattle.vx_columns.proofs.run_rows.Runs.slice.Goals as goal
