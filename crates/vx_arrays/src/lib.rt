@@ -9,6 +9,7 @@ mod cells;
 mod kinds;
 mod numbers;
 mod of_values;
+mod one_kind;
 mod places;
 mod primitives;
 mod rows;

@@ -10,6 +10,7 @@ ghost use Rattle.vx_arrays.specs.Numbers.{kind_in, numbers_in};
 ghost use Rattle.vx_arrays.specs.Places.{places_in};
 ghost use Rattle.vx_masks.specs.Rows.{taken, NullsHold};
 
+use crate::one_kind::{of_i8, of_i16, of_i32, of_i64, of_u8, of_u16, of_u32, of_u64};
 use crate::primitives::Primitive;
 use std::alloc::{AllocError, Global};
 use std::ops::Range;
@@ -59,18 +60,34 @@ macro_rules! of_each_kind {
     };
 }
 
-/// What an expression gives for the numbers of whichever kind, as numbers of the same kind.
+/// What is made of the numbers of whichever kind, as numbers of the same kind.
 macro_rules! as_each_kind {
-    ($numbers:expr, $of:ident => $given:expr) => {
+    ($numbers:expr, $of:ident => $made:expr) => {
         match $numbers {
-            Numbers::U8($of) => Numbers::U8($given),
-            Numbers::U16($of) => Numbers::U16($given),
-            Numbers::U32($of) => Numbers::U32($given),
-            Numbers::U64($of) => Numbers::U64($given),
-            Numbers::I8($of) => Numbers::I8($given),
-            Numbers::I16($of) => Numbers::I16($given),
-            Numbers::I32($of) => Numbers::I32($given),
-            Numbers::I64($of) => Numbers::I64($given),
+            Numbers::U8($of) => of_u8($made),
+            Numbers::U16($of) => of_u16($made),
+            Numbers::U32($of) => of_u32($made),
+            Numbers::U64($of) => of_u64($made),
+            Numbers::I8($of) => of_i8($made),
+            Numbers::I16($of) => of_i16($made),
+            Numbers::I32($of) => of_i32($made),
+            Numbers::I64($of) => of_i64($made),
+        }
+    };
+}
+
+/// What is made for a kind, as numbers of it.
+macro_rules! for_kind {
+    ($kind:expr, $made:expr) => {
+        match $kind {
+            IntKind::U8 => of_u8($made),
+            IntKind::U16 => of_u16($made),
+            IntKind::U32 => of_u32($made),
+            IntKind::U64 => of_u64($made),
+            IntKind::I8 => of_i8($made),
+            IntKind::I16 => of_i16($made),
+            IntKind::I32 => of_i32($made),
+            IntKind::I64 => of_i64($made),
         }
     };
 }
@@ -107,7 +124,7 @@ impl Numbers {
         ensures kind { IfOk result (λ numbers. kind_in numbers ≡ kind_in self.now) }
         ensures numbers { IfOk result (λ numbers. numbers_in numbers ≡ slice_range (numbers_in self.now) rows.start rows.end) }
     {
-        Ok(as_each_kind!(self, numbers => numbers.slice(alloc, rows)?))
+        as_each_kind!(self, numbers => numbers.slice(alloc, rows))
     }
 
     /// The numbers that the mask chooses.
@@ -116,7 +133,7 @@ impl Numbers {
         ensures kind { IfOk result (λ numbers. kind_in numbers ≡ kind_in self.now) }
         ensures numbers { IfOk result (λ numbers. numbers_in numbers ≡ chosen mask.now (numbers_in self.now)) }
     {
-        Ok(as_each_kind!(self, numbers => numbers.filter(alloc, mask)?))
+        as_each_kind!(self, numbers => numbers.filter(alloc, mask))
     }
 
     /// The numbers of a range of rows that the mask chooses of them.
@@ -132,7 +149,7 @@ impl Numbers {
         ensures kind { IfOk result (λ numbers. kind_in numbers ≡ kind_in self.now) }
         ensures numbers { IfOk result (λ numbers. numbers_in numbers ≡ chosen mask.now (slice_range (numbers_in self.now) rows.start rows.end)) }
     {
-        Ok(as_each_kind!(self, numbers => numbers.filter_range(alloc, rows, mask)?))
+        as_each_kind!(self, numbers => numbers.filter_range(alloc, rows, mask))
     }
 
     /// The numbers at these places, and 0 at a place past the last row.
@@ -140,7 +157,7 @@ impl Numbers {
         ensures kind { IfOk result (λ numbers. kind_in numbers ≡ kind_in self.now) }
         ensures numbers { IfOk result (λ numbers. numbers_in numbers ≡ taken (pos 0) (numbers_in self.now) places.now) }
     {
-        Ok(as_each_kind!(self, numbers => numbers.take(alloc, places)?))
+        as_each_kind!(self, numbers => numbers.take(alloc, places))
     }
 
     /// The number of a row, counted from 0. It takes no memory.
@@ -199,16 +216,7 @@ impl Numbers {
         ensures count { IfOk result (λ numbers. length (numbers_in numbers) ≡ rows) }
         ensures spelled { IfOk result (λ numbers. flat_map (number_bytes kind) (numbers_in numbers) ≡ bytes.now) }
     {
-        Ok(match kind {
-            IntKind::U8 => Numbers::U8(Primitive::read(alloc, rows, bytes)?),
-            IntKind::U16 => Numbers::U16(Primitive::read(alloc, rows, bytes)?),
-            IntKind::U32 => Numbers::U32(Primitive::read(alloc, rows, bytes)?),
-            IntKind::U64 => Numbers::U64(Primitive::read(alloc, rows, bytes)?),
-            IntKind::I8 => Numbers::I8(Primitive::read(alloc, rows, bytes)?),
-            IntKind::I16 => Numbers::I16(Primitive::read(alloc, rows, bytes)?),
-            IntKind::I32 => Numbers::I32(Primitive::read(alloc, rows, bytes)?),
-            IntKind::I64 => Numbers::I64(Primitive::read(alloc, rows, bytes)?),
-        })
+        for_kind!(kind, Primitive::read(alloc, rows, bytes))
     }
 
     /// No numbers of a kind, with room for so many.
@@ -216,16 +224,7 @@ impl Numbers {
         ensures kind { IfOk result (λ numbers. kind_in numbers ≡ kind) }
         ensures numbers { IfOk result (λ numbers. numbers_in numbers ≡ []) }
     {
-        Ok(match kind {
-            IntKind::U8 => Numbers::U8(Primitive::with_room(alloc, rows)?),
-            IntKind::U16 => Numbers::U16(Primitive::with_room(alloc, rows)?),
-            IntKind::U32 => Numbers::U32(Primitive::with_room(alloc, rows)?),
-            IntKind::U64 => Numbers::U64(Primitive::with_room(alloc, rows)?),
-            IntKind::I8 => Numbers::I8(Primitive::with_room(alloc, rows)?),
-            IntKind::I16 => Numbers::I16(Primitive::with_room(alloc, rows)?),
-            IntKind::I32 => Numbers::I32(Primitive::with_room(alloc, rows)?),
-            IntKind::I64 => Numbers::I64(Primitive::with_room(alloc, rows)?),
-        })
+        for_kind!(kind, Primitive::with_room(alloc, rows))
     }
 
     /// Writes the bytes of all numbers, lowest byte first.

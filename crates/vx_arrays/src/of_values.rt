@@ -17,6 +17,7 @@ ghost use Rattle.vx_arrays.specs.Buffers.{bare};
 use crate::arrays::{Array, ChildArrays, SharedArray};
 use crate::kinds::Kind;
 use crate::numbers::Numbers;
+use crate::one_kind::{of_i8, of_i16, of_i32, of_i64, of_u8, of_u16, of_u32, of_u64};
 use crate::primitives::Primitive;
 use crate::texts::Texts;
 use std::alloc::{AllocError, Global};
@@ -81,16 +82,16 @@ fn numbers_of(alloc: Global, kind: IntKind, values: &[Value]) -> Result<Numbers,
     ensures kind { IfOk result (λ numbers. kind_in numbers ≡ kind) }
     ensures numbers { IfOk result (λ numbers. numbers_in numbers ≡ map number_in (map datum values.now)) }
 {
-    Ok(match kind {
-        IntKind::U8 => Numbers::U8(kind_numbers_of(alloc, values)?),
-        IntKind::U16 => Numbers::U16(kind_numbers_of(alloc, values)?),
-        IntKind::U32 => Numbers::U32(kind_numbers_of(alloc, values)?),
-        IntKind::U64 => Numbers::U64(kind_numbers_of(alloc, values)?),
-        IntKind::I8 => Numbers::I8(kind_numbers_of(alloc, values)?),
-        IntKind::I16 => Numbers::I16(kind_numbers_of(alloc, values)?),
-        IntKind::I32 => Numbers::I32(kind_numbers_of(alloc, values)?),
-        IntKind::I64 => Numbers::I64(kind_numbers_of(alloc, values)?),
-    })
+    match kind {
+        IntKind::U8 => of_u8(kind_numbers_of(alloc, values)),
+        IntKind::U16 => of_u16(kind_numbers_of(alloc, values)),
+        IntKind::U32 => of_u32(kind_numbers_of(alloc, values)),
+        IntKind::U64 => of_u64(kind_numbers_of(alloc, values)),
+        IntKind::I8 => of_i8(kind_numbers_of(alloc, values)),
+        IntKind::I16 => of_i16(kind_numbers_of(alloc, values)),
+        IntKind::I32 => of_i32(kind_numbers_of(alloc, values)),
+        IntKind::I64 => of_i64(kind_numbers_of(alloc, values)),
+    }
 }
 
 /// The text of a row, empty where it has none.

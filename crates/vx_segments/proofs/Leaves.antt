@@ -60,6 +60,7 @@ pub slots_again : (n : Nullability) (values : List Datum) (rest : List ℕ) → 
 slots_again NonNullable values rest = refl
 slots_again Nullable values rest = drop_at (packed (map is_value values)) rest (packed_len (length values)) (validity_len values)
 
+-- ---- numbers
 pub slots_of_numbers : (kind : IntKind) (values : List Datum) → flat_map (number_slot kind) values ≡ flat_map (number_bytes kind) (map number_in values)
 slots_of_numbers kind [] = refl
 slots_of_numbers kind (v ∷ vs) = ap (λ (bs : List ℕ). number_slot kind v ++ bs) (slots_of_numbers kind vs)

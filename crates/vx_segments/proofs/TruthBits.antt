@@ -73,6 +73,7 @@ truths_spell n rows bytes validity buffers mask bits joined ok small is count sp
       spelled = two_parts (bool_type n) values tt ∙ (λ i. some (front i ++ back i)) ∙ ap some (sym joined);
     }
 
+-- ---- what else spells the bytes
 pub spelled_false : (n : Nullability) (rows : ℕ) (validity buffers : List ℕ) (mask bits : List Bool) (values : List Datum) → Known (bool_type n) n rows validity buffers values → mask ≡ valid_bits n rows validity → length bits ≡ rows → packed bits ≡ buffers → NullsHold false mask bits
 spelled_false n rows validity buffers mask bits values k is count spelt =
     let len : length (map truth_in values) ≡ length bits = length-map values truth_in ∙ k.count ∙ sym count in

@@ -28,6 +28,7 @@ pub fn encode(alloc: Global, column: &Column) -> Result<Vec<u8>, AllocError>
     requires short { AllByRecursion IsShort column.now.values }
     ensures { IfOk result (λ bytes. Spells column.now.dtype (length column.now.values) bytes.items column.now.values) }
 {
+    let _fit = column.len();
     let size = column.size();
     let mut bytes = Vec::with_capacity(alloc, size)?;
     push_validity(&mut bytes, column)?;
