@@ -9,7 +9,6 @@ mod cells;
 mod kinds;
 mod numbers;
 mod of_values;
-mod one_kind;
 mod places;
 mod primitives;
 mod rows;

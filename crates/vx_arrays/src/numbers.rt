@@ -10,7 +10,6 @@ ghost use Rattle.vx_arrays.specs.Numbers.{kind_in, numbers_in};
 ghost use Rattle.vx_arrays.specs.Places.{places_in};
 ghost use Rattle.vx_masks.specs.Rows.{taken, NullsHold};
 
-use crate::one_kind::{of_i8, of_i16, of_i32, of_i64, of_u8, of_u16, of_u32, of_u64};
 use crate::primitives::Primitive;
 use std::alloc::{AllocError, Global};
 use std::ops::Range;
@@ -64,14 +63,14 @@ macro_rules! of_each_kind {
 macro_rules! as_each_kind {
     ($numbers:expr, $of:ident => $made:expr) => {
         match $numbers {
-            Numbers::U8($of) => of_u8($made),
-            Numbers::U16($of) => of_u16($made),
-            Numbers::U32($of) => of_u32($made),
-            Numbers::U64($of) => of_u64($made),
-            Numbers::I8($of) => of_i8($made),
-            Numbers::I16($of) => of_i16($made),
-            Numbers::I32($of) => of_i32($made),
-            Numbers::I64($of) => of_i64($made),
+            Numbers::U8($of) => $made.map(Numbers::U8),
+            Numbers::U16($of) => $made.map(Numbers::U16),
+            Numbers::U32($of) => $made.map(Numbers::U32),
+            Numbers::U64($of) => $made.map(Numbers::U64),
+            Numbers::I8($of) => $made.map(Numbers::I8),
+            Numbers::I16($of) => $made.map(Numbers::I16),
+            Numbers::I32($of) => $made.map(Numbers::I32),
+            Numbers::I64($of) => $made.map(Numbers::I64),
         }
     };
 }
@@ -80,14 +79,14 @@ macro_rules! as_each_kind {
 macro_rules! for_kind {
     ($kind:expr, $made:expr) => {
         match $kind {
-            IntKind::U8 => of_u8($made),
-            IntKind::U16 => of_u16($made),
-            IntKind::U32 => of_u32($made),
-            IntKind::U64 => of_u64($made),
-            IntKind::I8 => of_i8($made),
-            IntKind::I16 => of_i16($made),
-            IntKind::I32 => of_i32($made),
-            IntKind::I64 => of_i64($made),
+            IntKind::U8 => $made.map(Numbers::U8),
+            IntKind::U16 => $made.map(Numbers::U16),
+            IntKind::U32 => $made.map(Numbers::U32),
+            IntKind::U64 => $made.map(Numbers::U64),
+            IntKind::I8 => $made.map(Numbers::I8),
+            IntKind::I16 => $made.map(Numbers::I16),
+            IntKind::I32 => $made.map(Numbers::I32),
+            IntKind::I64 => $made.map(Numbers::I64),
         }
     };
 }

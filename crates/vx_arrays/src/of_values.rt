@@ -17,7 +17,6 @@ ghost use Rattle.vx_arrays.specs.Buffers.{bare};
 use crate::arrays::{Array, ChildArrays, SharedArray};
 use crate::kinds::Kind;
 use crate::numbers::Numbers;
-use crate::one_kind::{of_i8, of_i16, of_i32, of_i64, of_u8, of_u16, of_u32, of_u64};
 use crate::primitives::Primitive;
 use crate::texts::Texts;
 use std::alloc::{AllocError, Global};
@@ -83,14 +82,14 @@ fn numbers_of(alloc: Global, kind: IntKind, values: &[Value]) -> Result<Numbers,
     ensures numbers { IfOk result (λ numbers. numbers_in numbers ≡ map number_in (map datum values.now)) }
 {
     match kind {
-        IntKind::U8 => of_u8(kind_numbers_of(alloc, values)),
-        IntKind::U16 => of_u16(kind_numbers_of(alloc, values)),
-        IntKind::U32 => of_u32(kind_numbers_of(alloc, values)),
-        IntKind::U64 => of_u64(kind_numbers_of(alloc, values)),
-        IntKind::I8 => of_i8(kind_numbers_of(alloc, values)),
-        IntKind::I16 => of_i16(kind_numbers_of(alloc, values)),
-        IntKind::I32 => of_i32(kind_numbers_of(alloc, values)),
-        IntKind::I64 => of_i64(kind_numbers_of(alloc, values)),
+        IntKind::U8 => kind_numbers_of(alloc, values).map(Numbers::U8),
+        IntKind::U16 => kind_numbers_of(alloc, values).map(Numbers::U16),
+        IntKind::U32 => kind_numbers_of(alloc, values).map(Numbers::U32),
+        IntKind::U64 => kind_numbers_of(alloc, values).map(Numbers::U64),
+        IntKind::I8 => kind_numbers_of(alloc, values).map(Numbers::I8),
+        IntKind::I16 => kind_numbers_of(alloc, values).map(Numbers::I16),
+        IntKind::I32 => kind_numbers_of(alloc, values).map(Numbers::I32),
+        IntKind::I64 => kind_numbers_of(alloc, values).map(Numbers::I64),
     }
 }
 

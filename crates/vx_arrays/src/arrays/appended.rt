@@ -52,20 +52,20 @@ impl Buffers {
     {
         match (self, other) {
             (Buffers::Truths(ones), Buffers::Truths(others)) => {
-                Ok(Buffers::Truths(ones.append(others)?))
+                ones.append(others).map(Buffers::Truths)
             }
             (Buffers::Numbers(mut ones), Buffers::Numbers(others)) => {
                 ones.append(others)?;
                 Ok(Buffers::Numbers(ones))
             }
-            (Buffers::Texts(ones), Buffers::Texts(others)) => Ok(Buffers::Texts(ones.append(
-                others,
-            )?)),
+            (Buffers::Texts(ones), Buffers::Texts(others)) => {
+                ones.append(others).map(Buffers::Texts)
+            }
             (Buffers::Structs(ones), Buffers::Structs(others)) => {
-                Ok(Buffers::Structs(ones.append(alloc, others, rows)?))
+                ones.append(alloc, others, rows).map(Buffers::Structs)
             }
             (Buffers::Lists(ones), Buffers::Lists(others)) => {
-                Ok(Buffers::Lists(ones.append(others)?))
+                ones.append(others).map(Buffers::Lists)
             }
             _ => unreachable!(),
         }

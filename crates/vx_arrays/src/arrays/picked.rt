@@ -81,17 +81,17 @@ impl Buffers {
         ensures dtype { IfOk result (λ buffers. buffer_type buffers ≡ buffer_type self.now) }
         ensures values { IfOk result (λ buffers. buffer_values buffers ≡ slice_range (buffer_values self.now) rows.start rows.end) }
     {
-        Ok(match self {
-            Buffers::Truths(bits) => {
-                Buffers::Truths(bits.slice(alloc, rows.start as u64..rows.end as u64)?)
-            }
-            Buffers::Numbers(numbers) => Buffers::Numbers(numbers.slice(alloc, rows)?),
-            Buffers::Texts(texts) => Buffers::Texts(texts.slice(alloc, rows)?),
-            Buffers::Structs(arrays) => Buffers::Structs(arrays.slice(alloc, rows)?),
-            Buffers::Lists(bits) => {
-                Buffers::Lists(bits.slice(alloc, rows.start as u64..rows.end as u64)?)
-            }
-        })
+        match self {
+            Buffers::Truths(bits) => bits
+                .slice(alloc, rows.start as u64..rows.end as u64)
+                .map(Buffers::Truths),
+            Buffers::Numbers(numbers) => numbers.slice(alloc, rows).map(Buffers::Numbers),
+            Buffers::Texts(texts) => texts.slice(alloc, rows).map(Buffers::Texts),
+            Buffers::Structs(arrays) => arrays.slice(alloc, rows).map(Buffers::Structs),
+            Buffers::Lists(bits) => bits
+                .slice(alloc, rows.start as u64..rows.end as u64)
+                .map(Buffers::Lists),
+        }
     }
 
     /// The buffers that the mask chooses.
@@ -102,13 +102,13 @@ impl Buffers {
         ensures dtype { IfOk result (λ buffers. buffer_type buffers ≡ buffer_type self.now) }
         ensures values { IfOk result (λ buffers. buffer_values buffers ≡ chosen mask.now (buffer_values self.now)) }
     {
-        Ok(match self {
-            Buffers::Truths(truths) => Buffers::Truths(truths.filter(alloc, mask)?),
-            Buffers::Numbers(numbers) => Buffers::Numbers(numbers.filter(alloc, mask)?),
-            Buffers::Texts(texts) => Buffers::Texts(texts.filter(alloc, mask)?),
-            Buffers::Structs(arrays) => Buffers::Structs(arrays.filter(alloc, mask)?),
-            Buffers::Lists(blanks) => Buffers::Lists(blanks.filter(alloc, mask)?),
-        })
+        match self {
+            Buffers::Truths(truths) => truths.filter(alloc, mask).map(Buffers::Truths),
+            Buffers::Numbers(numbers) => numbers.filter(alloc, mask).map(Buffers::Numbers),
+            Buffers::Texts(texts) => texts.filter(alloc, mask).map(Buffers::Texts),
+            Buffers::Structs(arrays) => arrays.filter(alloc, mask).map(Buffers::Structs),
+            Buffers::Lists(blanks) => blanks.filter(alloc, mask).map(Buffers::Lists),
+        }
     }
 
     /// The buffers of a range of rows that the mask chooses of them. Numbers are gone over once.
@@ -125,13 +125,15 @@ impl Buffers {
         ensures dtype { IfOk result (λ buffers. buffer_type buffers ≡ buffer_type self.now) }
         ensures values { IfOk result (λ buffers. buffer_values buffers ≡ chosen mask.now (slice_range (buffer_values self.now) rows.start rows.end)) }
     {
-        if let Buffers::Numbers(numbers) = self {
-            let kept = numbers.filter_range(alloc, rows, mask)?;
-            return Ok(Buffers::Numbers(kept));
+        match self {
+            Buffers::Numbers(numbers) => numbers
+                .filter_range(alloc, rows, mask)
+                .map(Buffers::Numbers),
+            _ => {
+                let range = self.slice(alloc, rows)?;
+                range.filter(alloc, mask)
+            }
         }
-        let range = self.slice(alloc, rows)?;
-        let kept = range.filter(alloc, mask)?;
-        Ok(kept)
     }
 
     /// The buffers at these places, and the blank at a place past the last row.
@@ -141,13 +143,13 @@ impl Buffers {
         ensures dtype { IfOk result (λ buffers. buffer_type buffers ≡ buffer_type self.now) }
         ensures values { IfOk result (λ buffers. buffer_values buffers ≡ taken (blank_in (buffer_type self.now)) (buffer_values self.now) places.now) }
     {
-        Ok(match self {
-            Buffers::Truths(truths) => Buffers::Truths(truths.take(alloc, places)?),
-            Buffers::Numbers(numbers) => Buffers::Numbers(numbers.take(alloc, places)?),
-            Buffers::Texts(texts) => Buffers::Texts(texts.take(alloc, places)?),
-            Buffers::Structs(arrays) => Buffers::Structs(arrays.take(alloc, places)?),
-            Buffers::Lists(blanks) => Buffers::Lists(blanks.take(alloc, places)?),
-        })
+        match self {
+            Buffers::Truths(truths) => truths.take(alloc, places).map(Buffers::Truths),
+            Buffers::Numbers(numbers) => numbers.take(alloc, places).map(Buffers::Numbers),
+            Buffers::Texts(texts) => texts.take(alloc, places).map(Buffers::Texts),
+            Buffers::Structs(arrays) => arrays.take(alloc, places).map(Buffers::Structs),
+            Buffers::Lists(blanks) => blanks.take(alloc, places).map(Buffers::Lists),
+        }
     }
 }
 
