@@ -37,6 +37,14 @@ impl Nullability {
     }
 }
 
+/// Writes these bytes, and a question mark where nulls are taken.
+fn write_marked(text: &[u8], nullability: Nullability, out: &mut Vec<u8>) -> Result<(), AllocError>
+    ensures { OnOk result (out.new.items ≡ out.old.items ++ (text.now ++ null_mark nullability)) }
+{
+    out.extend_from_slice(text)?;
+    nullability.write_mark(out)
+}
+
 /// Writes a comma and a space before each field but the first.
 fn write_separator(place: usize, out: &mut Vec<u8>) -> Result<(), AllocError>
     ensures { OnOk result (out.new.items ≡ out.old.items ++ separator place) }
@@ -71,30 +79,20 @@ impl DType {
     fn write_text(&self, out: &mut Vec<u8>) -> Result<(), AllocError>
         ensures { OnOk result (out.new.items ≡ out.old.items ++ type_text (data_type self.now)) }
     {
+        let nullability = self.nullability();
         match self {
-            DType::Bool(nullability) => {
-                out.extend_from_slice(b"bool")?;
-                nullability.write_mark(out)
-            }
-            DType::Int(kind, nullability) => {
-                out.extend_from_slice(kind.name())?;
-                nullability.write_mark(out)
-            }
-            DType::Utf8(nullability) => {
-                out.extend_from_slice(b"utf8")?;
-                nullability.write_mark(out)
-            }
-            DType::Struct(fields, nullability) => {
+            DType::Bool(_) => write_marked(b"bool", nullability, out),
+            DType::Int(kind, _) => write_marked(kind.name(), nullability, out),
+            DType::Utf8(_) => write_marked(b"utf8", nullability, out),
+            DType::Struct(fields, _) => {
                 out.push(b'{')?;
                 fields.write_text(out)?;
-                out.push(b'}')?;
-                nullability.write_mark(out)
+                write_marked(b"}", nullability, out)
             }
-            DType::List(element, nullability) => {
+            DType::List(element, _) => {
                 out.extend_from_slice(b"list(")?;
                 element.dtype().write_text(out)?;
-                out.push(b')')?;
-                nullability.write_mark(out)
+                write_marked(b")", nullability, out)
             }
         }
     }

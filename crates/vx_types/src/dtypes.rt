@@ -260,30 +260,40 @@ impl Element {
 }
 
 impl DType {
-    /// Whether the dtype takes nulls.
-    pub fn is_nullable(&self) -> bool
-        ensures { result ≡ takes_null (nullability_of (data_type self.now)) }
+    /// Whether the dtype takes nulls, as a nullability.
+    pub(crate) fn nullability(&self) -> Nullability
+        ensures { result ≡ nullability_of (data_type self.now) }
     {
-        let nullability = match self {
+        match self {
             DType::Bool(nullability)
             | DType::Int(_, nullability)
             | DType::Utf8(nullability)
             | DType::Struct(_, nullability)
-            | DType::List(_, nullability) => nullability,
-        };
-        matches!(nullability, Nullability::Nullable)
+            | DType::List(_, nullability) => *nullability,
+        }
     }
+
+    /// Whether the dtype takes nulls.
+    pub fn is_nullable(&self) -> bool
+        ensures { result ≡ takes_null (nullability_of (data_type self.now)) }
+    {
+        matches!(self.nullability(), Nullability::Nullable)
+    }
+
     /// Whether the dtypes are the same, null for null, name for name, and part for part.
     #[cycle(same)]
     pub fn same(&self, other: &DType) -> bool
         ensures { IsTrue result ↔ (data_type self.now ≡ data_type other.now) }
     {
+        if self.nullability() != other.nullability() {
+            return false;
+        }
         match (self, other) {
-            (DType::Bool(a), DType::Bool(b)) => a == b,
-            (DType::Int(kind, a), DType::Int(other_kind, b)) => kind == other_kind && a == b,
-            (DType::Utf8(a), DType::Utf8(b)) => a == b,
-            (DType::Struct(fields, a), DType::Struct(others, b)) => a == b && fields.same(others),
-            (DType::List(one, a), DType::List(two, b)) => a == b && one.dtype().same(two.dtype()),
+            (DType::Bool(_), DType::Bool(_)) => true,
+            (DType::Int(kind, _), DType::Int(other_kind, _)) => kind == other_kind,
+            (DType::Utf8(_), DType::Utf8(_)) => true,
+            (DType::Struct(fields, _), DType::Struct(others, _)) => fields.same(others),
+            (DType::List(one, _), DType::List(two, _)) => one.dtype().same(two.dtype()),
             _ => false,
         }
     }
