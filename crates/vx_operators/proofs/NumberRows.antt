@@ -26,6 +26,10 @@ along_len f [] ys e = refl
 along_len f (x ∷ xs) [] e = absurd (omega arith)
 along_len f (x ∷ xs) (y ∷ ys) e = omega (arith, along_len f xs ys (omega arith))
 
+-- there is a test for each row that is valid or not
+pub tests_level : {X Y : Type 0} (f : X → Y → Bool) (lv rv validity tests : List Bool) (ls : List X) (rs : List Y) → validity ≡ both lv rv → tests ≡ along f ls rs → length lv ≡ length ls → length rv ≡ length lv → length rs ≡ length ls → length tests ≡ length validity
+tests_level f lv rv validity tests ls rs valid made left level rows = omega (arith, ap length valid, ap length made, along_len f ls rs rows, both_len lv rv level, left)
+
 -- ---- which rows are valid
 pub all_beside : (mask : List Bool) (n : ℕ) → n ≡ length mask → both mask (replicate n true) ≡ mask
 all_beside [] zero e = refl

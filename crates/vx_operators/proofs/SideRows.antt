@@ -6,10 +6,10 @@ use Rattle.vx_types.specs.Data.{Datum, null, number, text}
 use Rattle.vx_types.specs.Slots.{where_valid}
 use Rattle.vx_operators.specs.declared.sides.Side.{Side}
 use Rattle.vx_operators.specs.declared.sides.Side.TheVariants.{Rows, One, Null}
-use Rattle.vx_operators.specs.Sides.{side_numbers, side_rows, IsSide}
+use Rattle.vx_operators.specs.Sides.{side_valid, side_numbers, side_rows, IsSide}
 use Rattle.vx_operators.specs.declared.text_sides.TextSide.{TextSide}
 use Rattle.vx_operators.specs.declared.text_sides.TextSide.TheVariants as texts
-use Rattle.vx_operators.specs.TextSides.{side_texts, text_rows, IsTextSide}
+use Rattle.vx_operators.specs.TextSides.{text_valid, side_texts, text_rows, IsTextSide}
 
 pub get_same : {X : Type 0} (rows : ℕ) (x : X) (row : ℕ) → row < length (replicate rows x) → slice_get (replicate rows x) row ≡ Some x
 get_same zero x row lt = absurd (omega arith)
@@ -63,3 +63,22 @@ side_count seen (One z rows) e =
     valid_len (replicate rows true) (map number (replicate rows (seen z))) (length-replicate rows true ∙ sym (length-replicate rows (seen z)) ∙ sym (length-map (replicate rows (seen z)) number)) ∙ length-map (replicate rows (seen z)) number
 side_count seen (Null rows) e =
     valid_len (replicate rows false) (map number (replicate rows (pos 0))) (length-replicate rows false ∙ sym (length-replicate rows (pos 0)) ∙ sym (length-map (replicate rows (pos 0)) number)) ∙ length-map (replicate rows (pos 0)) number
+
+-- as many rows are valid or not as there are
+pub side_level : {X : Type 0} (seen : X → ℤ) (side : Side X) → IsSide side → length (side_valid side) ≡ length (side_numbers seen side)
+side_level seen (Rows valid numbers) e = e ∙ sym (length-map numbers.now seen)
+side_level seen (One z rows) e = length-replicate rows true ∙ sym (length-replicate rows (seen z))
+side_level seen (Null rows) e = length-replicate rows false ∙ sym (length-replicate rows (pos 0))
+
+pub text_level : (side : TextSide) → IsTextSide side → length (text_valid side) ≡ length (side_texts side)
+text_level (texts.Rows valid held) e = e
+text_level (texts.One t rows) e = length-replicate rows true ∙ sym (length-replicate rows t.now)
+text_level (texts.Null rows) e =
+    let none : List ℕ = [] in
+    length-replicate rows false ∙ sym (length-replicate rows none)
+
+pub sides_level : {X : Type 0} (seen : X → ℤ) (left right : Side X) → IsSide left → IsSide right → length (side_numbers seen right) ≡ length (side_numbers seen left) → length (side_valid right) ≡ length (side_valid left)
+sides_level seen left right l r e = side_level seen right r ∙ e ∙ sym (side_level seen left l)
+
+pub texts_level : (left right : TextSide) → IsTextSide left → IsTextSide right → length (side_texts right) ≡ length (side_texts left) → length (text_valid right) ≡ length (text_valid left)
+texts_level left right l r e = text_level right r ∙ e ∙ sym (text_level left l)

@@ -1,5 +1,5 @@
 -- A test of the values of both sides at each row, whatever they are: what the meaning says of a comparison.
-use Rattle.std.proofs.Common.{◌≡◌, Bool, true, false, ◌&&◌, List, [], ◌∷◌, length, map, Option, Some, refl, sym, ap, ◌∙◌}
+use Rattle.std.proofs.Common.{◌≡◌, Bool, true, false, not, ◌&&◌, List, [], ◌∷◌, length, map, Option, Some, refl, sym, ap, ◌∙◌}
 use Rattle.vx_types.specs.Data.{Datum, truth}
 use Rattle.vx_types.specs.Slots.{where_valid}
 use Rattle.vx_masks.specs.Masks.{both, either, without}
@@ -40,62 +40,62 @@ tested_array seen other f step lifts lv rv validity truths values ls rs valid ma
     ap (λ (bits : List Bool). where_valid validity (map truth bits)) held ∙ ap (λ (mask : List Bool). where_valid mask (map truth (both mask truths))) valid ∙ tested_sides seen other f step lifts lv rv truths ls rs made c d
 
 -- ---- truth values by whole masks
-pub less_bits : (known a b : List Bool) → both known (without b a) ≡ both known (along (compares_truth Lt) a b)
-less_bits [] a b = refl
-less_bits (k ∷ known) [] [] = refl
-less_bits (k ∷ known) [] (y ∷ b) = refl
-less_bits (k ∷ known) (x ∷ a) [] = refl
-less_bits (k ∷ known) (false ∷ a) (false ∷ b) = ap (λ (bits : List Bool). (k && false) ∷ bits) (less_bits known a b)
-less_bits (k ∷ known) (false ∷ a) (true ∷ b) = ap (λ (bits : List Bool). (k && true) ∷ bits) (less_bits known a b)
-less_bits (k ∷ known) (true ∷ a) (false ∷ b) = ap (λ (bits : List Bool). (k && false) ∷ bits) (less_bits known a b)
-less_bits (k ∷ known) (true ∷ a) (true ∷ b) = ap (λ (bits : List Bool). (k && false) ∷ bits) (less_bits known a b)
+pub less_bits : (a b : List Bool) → without b a ≡ along (compares_truth Lt) a b
+less_bits [] [] = refl
+less_bits [] (y ∷ b) = refl
+less_bits (x ∷ a) [] = refl
+less_bits (false ∷ a) (false ∷ b) = ap (λ (bits : List Bool). false ∷ bits) (less_bits a b)
+less_bits (false ∷ a) (true ∷ b) = ap (λ (bits : List Bool). true ∷ bits) (less_bits a b)
+less_bits (true ∷ a) (false ∷ b) = ap (λ (bits : List Bool). false ∷ bits) (less_bits a b)
+less_bits (true ∷ a) (true ∷ b) = ap (λ (bits : List Bool). false ∷ bits) (less_bits a b)
 
-pub greater_bits : (known a b : List Bool) → both known (without a b) ≡ both known (along (compares_truth Gt) a b)
-greater_bits [] a b = refl
-greater_bits (k ∷ known) [] [] = refl
-greater_bits (k ∷ known) [] (y ∷ b) = refl
-greater_bits (k ∷ known) (x ∷ a) [] = refl
-greater_bits (k ∷ known) (false ∷ a) (false ∷ b) = ap (λ (bits : List Bool). (k && false) ∷ bits) (greater_bits known a b)
-greater_bits (k ∷ known) (false ∷ a) (true ∷ b) = ap (λ (bits : List Bool). (k && false) ∷ bits) (greater_bits known a b)
-greater_bits (k ∷ known) (true ∷ a) (false ∷ b) = ap (λ (bits : List Bool). (k && true) ∷ bits) (greater_bits known a b)
-greater_bits (k ∷ known) (true ∷ a) (true ∷ b) = ap (λ (bits : List Bool). (k && false) ∷ bits) (greater_bits known a b)
+pub greater_bits : (a b : List Bool) → without a b ≡ along (compares_truth Gt) a b
+greater_bits [] [] = refl
+greater_bits [] (y ∷ b) = refl
+greater_bits (x ∷ a) [] = refl
+greater_bits (false ∷ a) (false ∷ b) = ap (λ (bits : List Bool). false ∷ bits) (greater_bits a b)
+greater_bits (false ∷ a) (true ∷ b) = ap (λ (bits : List Bool). false ∷ bits) (greater_bits a b)
+greater_bits (true ∷ a) (false ∷ b) = ap (λ (bits : List Bool). true ∷ bits) (greater_bits a b)
+greater_bits (true ∷ a) (true ∷ b) = ap (λ (bits : List Bool). false ∷ bits) (greater_bits a b)
 
-pub no_greater_bits : (known a b : List Bool) → without known (without a b) ≡ both known (along (compares_truth Le) a b)
-no_greater_bits [] a b = refl
-no_greater_bits (k ∷ known) [] [] = refl
-no_greater_bits (k ∷ known) [] (y ∷ b) = refl
-no_greater_bits (k ∷ known) (x ∷ a) [] = refl
-no_greater_bits (k ∷ known) (false ∷ a) (false ∷ b) = ap (λ (bits : List Bool). (k && true) ∷ bits) (no_greater_bits known a b)
-no_greater_bits (k ∷ known) (false ∷ a) (true ∷ b) = ap (λ (bits : List Bool). (k && true) ∷ bits) (no_greater_bits known a b)
-no_greater_bits (k ∷ known) (true ∷ a) (false ∷ b) = ap (λ (bits : List Bool). (k && false) ∷ bits) (no_greater_bits known a b)
-no_greater_bits (k ∷ known) (true ∷ a) (true ∷ b) = ap (λ (bits : List Bool). (k && true) ∷ bits) (no_greater_bits known a b)
+pub other_bits : (a b : List Bool) → either (without b a) (without a b) ≡ along (compares_truth Ne) a b
+other_bits [] [] = refl
+other_bits [] (y ∷ b) = refl
+other_bits (x ∷ a) [] = refl
+other_bits (false ∷ a) (false ∷ b) = ap (λ (bits : List Bool). false ∷ bits) (other_bits a b)
+other_bits (false ∷ a) (true ∷ b) = ap (λ (bits : List Bool). true ∷ bits) (other_bits a b)
+other_bits (true ∷ a) (false ∷ b) = ap (λ (bits : List Bool). true ∷ bits) (other_bits a b)
+other_bits (true ∷ a) (true ∷ b) = ap (λ (bits : List Bool). false ∷ bits) (other_bits a b)
 
-pub no_less_bits : (known a b : List Bool) → without known (without b a) ≡ both known (along (compares_truth Ge) a b)
-no_less_bits [] a b = refl
-no_less_bits (k ∷ known) [] [] = refl
-no_less_bits (k ∷ known) [] (y ∷ b) = refl
-no_less_bits (k ∷ known) (x ∷ a) [] = refl
-no_less_bits (k ∷ known) (false ∷ a) (false ∷ b) = ap (λ (bits : List Bool). (k && true) ∷ bits) (no_less_bits known a b)
-no_less_bits (k ∷ known) (false ∷ a) (true ∷ b) = ap (λ (bits : List Bool). (k && false) ∷ bits) (no_less_bits known a b)
-no_less_bits (k ∷ known) (true ∷ a) (false ∷ b) = ap (λ (bits : List Bool). (k && true) ∷ bits) (no_less_bits known a b)
-no_less_bits (k ∷ known) (true ∷ a) (true ∷ b) = ap (λ (bits : List Bool). (k && true) ∷ bits) (no_less_bits known a b)
+opposite_bits : (f g : Bool → Bool → Bool) → ((x y : Bool) → not (f x y) ≡ g x y) → (known a b : List Bool) → without known (along f a b) ≡ both known (along g a b)
+opposite_bits f g e [] a b = refl
+opposite_bits f g e (k ∷ known) [] b = refl
+opposite_bits f g e (k ∷ known) (x ∷ a) [] = refl
+opposite_bits f g e (k ∷ known) (x ∷ a) (y ∷ b) = λ i. (k && e x y i) ∷ opposite_bits f g e known a b i
 
-pub other_bits : (known a b : List Bool) → both known (either (without b a) (without a b)) ≡ both known (along (compares_truth Ne) a b)
-other_bits [] a b = refl
-other_bits (k ∷ known) [] [] = refl
-other_bits (k ∷ known) [] (y ∷ b) = refl
-other_bits (k ∷ known) (x ∷ a) [] = refl
-other_bits (k ∷ known) (false ∷ a) (false ∷ b) = ap (λ (bits : List Bool). (k && false) ∷ bits) (other_bits known a b)
-other_bits (k ∷ known) (false ∷ a) (true ∷ b) = ap (λ (bits : List Bool). (k && true) ∷ bits) (other_bits known a b)
-other_bits (k ∷ known) (true ∷ a) (false ∷ b) = ap (λ (bits : List Bool). (k && true) ∷ bits) (other_bits known a b)
-other_bits (k ∷ known) (true ∷ a) (true ∷ b) = ap (λ (bits : List Bool). (k && false) ∷ bits) (other_bits known a b)
+alike : (x y : Bool) → not (compares_truth Ne x y) ≡ compares_truth Eq x y
+alike false false = refl
+alike false true = refl
+alike true false = refl
+alike true true = refl
 
-pub same_bits : (known a b : List Bool) → without known (either (without b a) (without a b)) ≡ both known (along (compares_truth Eq) a b)
-same_bits [] a b = refl
-same_bits (k ∷ known) [] [] = refl
-same_bits (k ∷ known) [] (y ∷ b) = refl
-same_bits (k ∷ known) (x ∷ a) [] = refl
-same_bits (k ∷ known) (false ∷ a) (false ∷ b) = ap (λ (bits : List Bool). (k && true) ∷ bits) (same_bits known a b)
-same_bits (k ∷ known) (false ∷ a) (true ∷ b) = ap (λ (bits : List Bool). (k && false) ∷ bits) (same_bits known a b)
-same_bits (k ∷ known) (true ∷ a) (false ∷ b) = ap (λ (bits : List Bool). (k && false) ∷ bits) (same_bits known a b)
-same_bits (k ∷ known) (true ∷ a) (true ∷ b) = ap (λ (bits : List Bool). (k && true) ∷ bits) (same_bits known a b)
+pub alike_bits : (known a b : List Bool) → without known (along (compares_truth Ne) a b) ≡ both known (along (compares_truth Eq) a b)
+alike_bits = opposite_bits (compares_truth Ne) (compares_truth Eq) alike
+
+no_greater : (x y : Bool) → not (compares_truth Gt x y) ≡ compares_truth Le x y
+no_greater false false = refl
+no_greater false true = refl
+no_greater true false = refl
+no_greater true true = refl
+
+pub no_greater_bits : (known a b : List Bool) → without known (along (compares_truth Gt) a b) ≡ both known (along (compares_truth Le) a b)
+no_greater_bits = opposite_bits (compares_truth Gt) (compares_truth Le) no_greater
+
+no_less : (x y : Bool) → not (compares_truth Lt x y) ≡ compares_truth Ge x y
+no_less false false = refl
+no_less false true = refl
+no_less true false = refl
+no_less true true = refl
+
+pub no_less_bits : (known a b : List Bool) → without known (along (compares_truth Lt) a b) ≡ both known (along (compares_truth Ge) a b)
+no_less_bits = opposite_bits (compares_truth Lt) (compares_truth Ge) no_less

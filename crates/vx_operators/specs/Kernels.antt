@@ -7,6 +7,7 @@ use Rattle.vx_types.specs.Data.{Datum, null}
 use Rattle.vx_types.specs.Fits.{least_of, greatest_of}
 use Rattle.vx_operators.specs.declared.operators.ArithOp.{ArithOp}
 use Rattle.vx_operators.specs.declared.operators.CompareOp.{CompareOp}
+use Rattle.vx_operators.specs.declared.operators.CompareOp.TheVariants.{Eq, Ne, Lt, Le, Gt, Ge}
 use Rattle.vx_operators.specs.Operators.{exact, holds}
 
 -- the number, where it lies inside the kind
@@ -28,6 +29,15 @@ compares_text op a b = holds op (slice_cmp nat_cmp a b)
 -- the same of two truth values: false stands before true
 abbrev pub compares_truth : CompareOp → Bool → Bool → Bool
 compares_truth op a b = holds op (bool_cmp a b)
+
+-- of an operator and its opposite the one that no value meets beside itself
+abbrev pub strict_of : CompareOp → CompareOp
+strict_of Eq = Ne
+strict_of Ne = Ne
+strict_of Lt = Lt
+strict_of Le = Gt
+strict_of Gt = Gt
+strict_of Ge = Lt
 
 abbrev pub compared_text : CompareOp → List ℕ → List ℕ → Option Bool
 compared_text op a b = Some (compares_text op a b)

@@ -14,6 +14,7 @@ mod number_operators;
 mod numbers;
 pub mod operators;
 mod sides;
+mod tested_rows;
 mod text_operators;
 mod text_sides;
 mod texts;

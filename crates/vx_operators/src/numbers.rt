@@ -4,7 +4,9 @@
 ghost use Rattle.std.specs.Prelude.{◌≡◌, ◌≤◌, pos, Some, if◌then◌else◌, length, map, option_map, take, IfOk};
 ghost use Rattle.vx_types.specs.declared.dtypes.Nullability.{Nullability};
 ghost use Rattle.vx_types.specs.declared.dtypes.Nullability.TheVariants.{NonNullable};
-ghost use Rattle.vx_types.specs.Data.{bool_type, int_type};
+ghost use Rattle.vx_types.specs.Data.{bool_type, int_type, number};
+ghost use Rattle.vx_types.specs.Slots.{where_valid};
+ghost use Rattle.vx_masks.specs.Rows.{NullsHold};
 ghost use Rattle.vx_operators.specs.Kernels.{compares, exact_inside, of_two};
 ghost use Rattle.vx_operators.specs.Operators.{arithmetic_of, comparison_of};
 ghost use Rattle.vx_operators.specs.Rows.{along, front};
@@ -13,6 +15,7 @@ ghost use Rattle.vx_operators.specs.Sides.{side_valid, side_numbers, side_rows, 
 use crate::integers::Integer;
 use crate::operators::{ArithOp, CompareOp};
 use crate::sides::Side;
+use crate::tested_rows::tested_array;
 use std::alloc::{AllocError, Global};
 use vx_arrays::Array;
 use vx_masks::Mask;
@@ -58,12 +61,9 @@ pub fn compare_numbers<T: Integer>(
     ensures dtype { IfOk result (λ array. array.dtype ≡ bool_type NonNullable) }
     ensures values { IfOk result (λ array. array.values ≡ front (along (comparison_of op) (side_rows T.number left.entry) (side_rows T.number right.entry))) }
 {
-    let _rows = (left.len(), right.len());
     let validity = left.both_valid(alloc, &right)?;
-    let truths = compared_rows(alloc, op, left, right)?;
-    let truths = Mask::of(alloc, truths)?;
-    let values = validity.and(alloc, &truths)?;
-    Ok(Array::of_truths(validity, values))
+    let tests = compared_rows(alloc, op, left, right)?;
+    tested_array(alloc, validity, tests)
 }
 
 /// The exact result in a row that is valid. A row that is not holds 0. None is a fault.
@@ -116,6 +116,18 @@ fn first_rows(alloc: Global, mask: Mask, rows: usize) -> Result<Mask, AllocError
     }
 }
 
+/// The array of numbers that were made of the first rows of a mask.
+fn made_array<T: Integer>(alloc: Global, mask: Mask, made: Vec<T>) -> Result<Array, AllocError>
+    requires few { length made.items ≤ length mask }
+    requires held { NullsHold (pos 0) (take (length made.items) mask) (map T.number made.items) }
+    ensures dtype { IfOk result (λ array. array.dtype ≡ int_type T.kind NonNullable) }
+    ensures values { IfOk result (λ array. array.values ≡ where_valid (take (length made.items) mask) (map number (map T.number made.items))) }
+{
+    let validity = first_rows(alloc, mask, made.as_slice().len())?;
+    let numbers = T::as_numbers(made);
+    Ok(Array::of_numbers(validity, numbers))
+}
+
 /// The results of the numbers of both sides, at the rows before the first fault.
 pub fn join_numbers<T: Integer>(
     alloc: Global,
@@ -129,10 +141,7 @@ pub fn join_numbers<T: Integer>(
     ensures dtype { IfOk result (λ array. array.dtype ≡ int_type T.kind NonNullable) }
     ensures values { IfOk result (λ array. (n : Nullability) → array.values ≡ front (along (arithmetic_of op (Some (int_type T.kind n))) (side_rows T.number left.entry) (side_rows T.number right.entry))) }
 {
-    let _rows = (left.len(), right.len());
     let known = left.both_valid(alloc, &right)?;
     let made = joined_rows(alloc, op, &known, left, right)?;
-    let validity = first_rows(alloc, known, made.as_slice().len())?;
-    let numbers = T::as_numbers(made);
-    Ok(Array::of_numbers(validity, numbers))
+    made_array(alloc, known, made)
 }

@@ -1,7 +1,7 @@
 //! The sides of an operator: the numbers of a column where they stand, or one number for all rows, which is
 //! never spread.
 
-ghost use Rattle.std.specs.Prelude.{◌≡◌, ◌<◌, length, map, slice_get, Some, IfOk};
+ghost use Rattle.std.specs.Prelude.{◌≡◌, ◌<◌, ⊤, length, map, slice_get, Some, IfOk};
 ghost use Rattle.vx_masks.specs.Masks.{both};
 ghost use Rattle.vx_operators.specs.Sides.{side_valid, side_numbers, valid_rows, IsSide};
 
@@ -11,7 +11,6 @@ use std::alloc::{AllocError, Global};
 use vx_masks::Mask;
 
 /// Numbers of one kind, one for each row or none.
-#[derive(Clone, Copy)]
 pub enum Side<'a, T: Integer> {
     /// The rows of a column: which of them have a number, and what all of them hold.
     Rows(&'a Mask, &'a [T]),
@@ -20,6 +19,22 @@ pub enum Side<'a, T: Integer> {
     /// No number at each of so many rows.
     Null(usize),
 }
+
+impl<'a, T: Integer> Clone for Side<'a, T> {
+    ghost is_clone = { λ side copied. copied ≡ side };
+
+    ghost is_infallible = { λ _. ⊤ };
+
+    fn clone(&self) -> Result<Side<'a, T>, AllocError> {
+        match self {
+            Side::Rows(valid, numbers) => Ok(Side::Rows(valid, numbers)),
+            Side::One(number, rows) => Ok(Side::One(*number, *rows)),
+            Side::Null(rows) => Ok(Side::Null(*rows)),
+        }
+    }
+}
+
+impl<'a, T: Integer> Copy for Side<'a, T> {}
 
 /// The number at a row.
 #[inline(always)]

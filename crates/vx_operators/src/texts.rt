@@ -9,10 +9,10 @@ ghost use Rattle.vx_operators.specs.Rows.{along, front};
 ghost use Rattle.vx_operators.specs.TextSides.{text_valid, side_texts, text_rows, IsTextSide};
 
 use crate::operators::CompareOp;
+use crate::tested_rows::tested_array;
 use crate::text_sides::TextSide;
 use std::alloc::{AllocError, Global};
 use vx_arrays::Array;
-use vx_masks::Mask;
 
 /// How two texts compare.
 #[inline(always)]
@@ -54,10 +54,7 @@ pub(crate) fn compare_texts(
     ensures dtype { IfOk result (λ array. array.dtype ≡ bool_type NonNullable) }
     ensures values { IfOk result (λ array. array.values ≡ front (along (comparison_of op) (text_rows left.entry) (text_rows right.entry))) }
 {
-    let _rows = (left.len(), right.len());
     let validity = left.both_valid(alloc, &right)?;
-    let truths = compared_texts(alloc, op, left, right)?;
-    let truths = Mask::of(alloc, truths)?;
-    let values = validity.and(alloc, &truths)?;
-    Ok(Array::of_truths(validity, values))
+    let tests = compared_texts(alloc, op, left, right)?;
+    tested_array(alloc, validity, tests)
 }

@@ -4,10 +4,11 @@
 ghost use Rattle.std.specs.Prelude.{◌≡◌, List, Some, false, length, map, IfOk};
 ghost use Rattle.vx_types.specs.Data.{Datum, truth};
 ghost use Rattle.vx_types.specs.Slots.{where_valid, is_value};
-ghost use Rattle.vx_masks.specs.Masks.{both};
+ghost use Rattle.vx_masks.specs.Masks.{both, either, without};
 ghost use Rattle.vx_masks.specs.Rows.{NullsHold};
 ghost use Rattle.vx_operators.specs.Operators.{and_of, comparison_of, or_of, negated, null_test_of, value_test_of};
-ghost use Rattle.vx_operators.specs.Kernels.{compares_truth};
+ghost use Rattle.vx_operators.specs.Kernels.{compares_truth, strict_of};
+ghost use Rattle.vx_operators.specs.declared.operators.CompareOp.TheVariants.{Ne};
 ghost use Rattle.vx_operators.specs.Rows.{along, front};
 
 use crate::operators::CompareOp;
@@ -23,6 +24,32 @@ pub(crate) struct Truths {
     pub(crate) values: Mask,
 }
 
+/// The rows at which one is false.
+#[tactic(auto, using(crate::proofs::LogicRows::without_len))]
+fn false_rows(alloc: Global, left: &Truths, right: &Truths) -> Result<Mask, AllocError>
+    requires left { length left.now.validity ≡ length left.now.values }
+    requires right { length right.now.validity ≡ length right.now.values }
+    requires rows { length left.now.validity ≡ length right.now.validity }
+    ensures { IfOk result (λ mask. mask ≡ either (without left.now.validity left.now.values) (without right.now.validity right.now.values)) }
+{
+    let left_false = left.validity.without(alloc, &left.values)?;
+    let right_false = right.validity.without(alloc, &right.values)?;
+    left_false.either(alloc, &right_false)
+}
+
+/// The rows at which it is known whether both are true: both are known, or one is false.
+#[tactic(auto, using(crate::proofs::NumberRows::both_len, crate::proofs::LogicRows::either_len, crate::proofs::LogicRows::without_len))]
+fn and_known(alloc: Global, left: &Truths, right: &Truths) -> Result<Mask, AllocError>
+    requires left { length left.now.validity ≡ length left.now.values }
+    requires right { length right.now.validity ≡ length right.now.values }
+    requires rows { length left.now.validity ≡ length right.now.validity }
+    ensures { IfOk result (λ mask. mask ≡ either (both left.now.validity right.now.validity) (either (without left.now.validity left.now.values) (without right.now.validity right.now.values))) }
+{
+    let known = left.validity.and(alloc, &right.validity)?;
+    let one_false = false_rows(alloc, left, right)?;
+    known.either(alloc, &one_false)
+}
+
 /// Whether both are true: false where one is false, else null where one is null.
 #[tactic(auto, using(crate::proofs::NumberRows::both_len, crate::proofs::LogicRows::either_len, crate::proofs::LogicRows::without_len, crate::proofs::LogicRows::and_rows_again, crate::proofs::LogicRows::and_held))]
 pub(crate) fn and(alloc: Global, left: &Truths, right: &Truths) -> Result<Truths, AllocError>
@@ -35,11 +62,7 @@ pub(crate) fn and(alloc: Global, left: &Truths, right: &Truths) -> Result<Truths
     ensures values { IfOk result (λ truths. map Some (where_valid truths.validity (map truth truths.values)) ≡ along and_of (where_valid left.now.validity (map truth left.now.values)) (where_valid right.now.validity (map truth right.now.values))) }
     ensures held { IfOk result (λ truths. NullsHold false truths.validity truths.values) }
 {
-    let known = left.validity.and(alloc, &right.validity)?;
-    let left_false = left.validity.without(alloc, &left.values)?;
-    let right_false = right.validity.without(alloc, &right.values)?;
-    let one_false = left_false.either(alloc, &right_false)?;
-    let validity = known.either(alloc, &one_false)?;
+    let validity = and_known(alloc, left, right)?;
     let values = left.values.and(alloc, &right.values)?;
     Ok(Truths { validity, values })
 }
@@ -62,8 +85,32 @@ pub(crate) fn or(alloc: Global, left: &Truths, right: &Truths) -> Result<Truths,
     Ok(Truths { validity, values })
 }
 
-/// How both compare in the rows that are known, and false in all others: false stands before true.
-#[tactic(auto, using(crate::proofs::NumberRows::both_len, crate::proofs::LogicRows::either_len, crate::proofs::LogicRows::without_len, crate::proofs::TestedRows::less_bits, crate::proofs::TestedRows::greater_bits, crate::proofs::TestedRows::no_greater_bits, crate::proofs::TestedRows::no_less_bits, crate::proofs::TestedRows::other_bits, crate::proofs::TestedRows::same_bits))]
+/// The rows at which both differ.
+#[tactic(auto, using(crate::proofs::LogicRows::without_len, crate::proofs::TestedRows::other_bits))]
+fn unlike(alloc: Global, left: &Mask, right: &Mask) -> Result<Mask, AllocError>
+    requires { length right.now ≡ length left.now }
+    ensures { IfOk result (λ bits. bits ≡ along (compares_truth Ne) left.now right.now) }
+{
+    let less = right.without(alloc, left)?;
+    let greater = left.without(alloc, right)?;
+    less.either(alloc, &greater)
+}
+
+/// How both compare by the operator or its opposite, whichever no value meets beside itself: false stands before true.
+#[tactic(auto, using(crate::proofs::TestedRows::less_bits, crate::proofs::TestedRows::greater_bits))]
+fn strict_bits(alloc: Global, op: CompareOp, left: &Mask, right: &Mask) -> Result<Mask, AllocError>
+    requires { length right.now ≡ length left.now }
+    ensures { IfOk result (λ bits. bits ≡ along (compares_truth (strict_of op)) left.now right.now) }
+{
+    match op {
+        CompareOp::Eq | CompareOp::Ne => unlike(alloc, left, right),
+        CompareOp::Lt | CompareOp::Ge => right.without(alloc, left),
+        CompareOp::Gt | CompareOp::Le => left.without(alloc, right),
+    }
+}
+
+/// How both compare in the rows that are known, and false in all others.
+#[tactic(auto, using(crate::proofs::NumberRows::along_len, crate::proofs::TestedRows::alike_bits, crate::proofs::TestedRows::no_greater_bits, crate::proofs::TestedRows::no_less_bits))]
 fn compared_bits(
     alloc: Global,
     op: CompareOp,
@@ -75,17 +122,11 @@ fn compared_bits(
     requires rows { length right.now ≡ length left.now }
     ensures { IfOk result (λ bits. bits ≡ both known.now (along (compares_truth op) left.now right.now)) }
 {
-    let less = right.without(alloc, left)?;
-    let greater = left.without(alloc, right)?;
-    let bits = match op {
-        CompareOp::Eq => known.without(alloc, &less.either(alloc, &greater)?)?,
-        CompareOp::Ne => known.and(alloc, &less.either(alloc, &greater)?)?,
-        CompareOp::Lt => known.and(alloc, &less)?,
-        CompareOp::Le => known.without(alloc, &greater)?,
-        CompareOp::Gt => known.and(alloc, &greater)?,
-        CompareOp::Ge => known.without(alloc, &less)?,
-    };
-    Ok(bits)
+    let bits = strict_bits(alloc, op, left, right)?;
+    match op {
+        CompareOp::Ne | CompareOp::Lt | CompareOp::Gt => known.and(alloc, &bits),
+        CompareOp::Eq | CompareOp::Le | CompareOp::Ge => known.without(alloc, &bits),
+    }
 }
 
 /// How both compare: null where one is null.

@@ -1,44 +1,30 @@
-use Rattle.std.proofs.Common.{◌≡◌, ◌∙◌, length, sym, ap}
+use Rattle.std.proofs.Common.{refl}
 use Rattle.vx_types.specs.Data.{text}
+use Rattle.vx_masks.specs.Masks.{both}
 use Rattle.vx_operators.specs.Kernels.{compares_text}
 use Rattle.vx_operators.specs.Operators.{comparison_of}
 use Rattle.vx_operators.specs.TextSides.{text_valid, side_texts}
 use Rattle.vx_operators.proofs.LiftedRows.{text_comparison_lifts}
-use Rattle.vx_operators.proofs.NumberRows.{both_len, along_len}
-use Rattle.vx_operators.proofs.TestedRows.{masked_held, tested_array}
+use Rattle.vx_operators.proofs.NumberRows.{tests_level}
+use Rattle.vx_operators.proofs.SideRows.{text_level, texts_level}
+use Rattle.vx_operators.proofs.TestedRows.{tested_array}
 use Rattle.vx_operators.proofs.texts.compare_texts.Goals as goal
 
-pub and-requires : goal.and-requires
-and-requires c =
-    let ls = side_texts c.args.left in
-    let rs = side_texts c.args.right in
-    let lv = text_valid c.args.left in
-    let rv = text_valid c.args.right in
-    let left : length lv ≡ length ls = sym c.len.ensures.valid ∙ c.len.ensures.texts in
-    let right : length rv ≡ length rs = sym c.len-2.ensures.valid ∙ c.len-2.ensures.texts in
-    let level : length rv ≡ length lv = right ∙ c.requires.rows ∙ sym left in
-    ap length c.in_ok-truths-2.ensures ∙ ap length c.in_ok-truths.ensures ∙ along_len (compares_text c.args.op) ls rs c.requires.rows ∙ sym left ∙ sym (both_len lv rv level) ∙ sym (ap length c.in_ok-validity.ensures)
+pub both_valid-requires : goal.both_valid-requires
+both_valid-requires c = texts_level c.args.left c.args.right c.requires.left c.requires.right c.requires.rows
 
-pub of_truths-requires-clause-rows : goal.of_truths-requires-clause-rows
-of_truths-requires-clause-rows c =
-    let ls = side_texts c.args.left in
-    let rs = side_texts c.args.right in
-    let lv = text_valid c.args.left in
-    let rv = text_valid c.args.right in
-    let left : length lv ≡ length ls = sym c.len.ensures.valid ∙ c.len.ensures.texts in
-    let right : length rv ≡ length rs = sym c.len-2.ensures.valid ∙ c.len-2.ensures.texts in
-    let level : length rv ≡ length lv = right ∙ c.requires.rows ∙ sym left in
-    let many = ap length c.in_ok-truths-2.ensures ∙ ap length c.in_ok-truths.ensures ∙ along_len (compares_text c.args.op) ls rs c.requires.rows ∙ sym left ∙ sym (both_len lv rv level) ∙ sym (ap length c.in_ok-validity.ensures) in
-    sym (ap length c.in_ok-values.ensures ∙ both_len c.in_ok-validity.validity c.in_ok-truths-2.truths many)
-
-pub of_truths-requires-clause-held : goal.of_truths-requires-clause-held
-of_truths-requires-clause-held c = rw c.in_ok-values.ensures (masked_held c.in_ok-validity.validity c.in_ok-truths-2.truths)
+pub tested_array-requires : goal.tested_array-requires
+tested_array-requires c =
+    let left = c.args.left in
+    let right = c.args.right in
+    tests_level (compares_text c.args.op) (text_valid left) (text_valid right) c.in_ok-validity.validity c.in_ok-tests.tests.items (side_texts left) (side_texts right) c.in_ok-validity.ensures c.in_ok-tests.ensures (text_level left c.requires.left)
+    (texts_level left right c.requires.left c.requires.right c.requires.rows) c.requires.rows
 
 pub returns-clause-values : goal.returns-clause-values
 returns-clause-values c =
-    let ls = side_texts c.args.left in
-    let rs = side_texts c.args.right in
-    let lv = text_valid c.args.left in
-    let rv = text_valid c.args.right in
-    c.of_truths.ensures.values ∙ tested_array text text (compares_text c.args.op) (comparison_of c.args.op) (text_comparison_lifts c.args.op) lv rv c.in_ok-validity.validity c.in_ok-truths-2.truths c.in_ok-values.values ls rs c.in_ok-validity.ensures (c.in_ok-truths-2.ensures ∙ c.in_ok-truths.ensures) c.in_ok-values.ensures
-    (sym c.len.ensures.valid ∙ c.len.ensures.texts) (sym c.len-2.ensures.valid ∙ c.len-2.ensures.texts)
+    let left = c.args.left in
+    let right = c.args.right in
+    let validity = c.in_ok-validity.validity in
+    let tests = c.in_ok-tests.tests.items in
+    rw (tested_array text text (compares_text c.args.op) (comparison_of c.args.op) (text_comparison_lifts c.args.op) (text_valid left) (text_valid right) validity tests (both validity tests) (side_texts left) (side_texts right) c.in_ok-validity.ensures c.in_ok-tests.ensures refl
+    (text_level left c.requires.left) (text_level right c.requires.right)) at c.tested_array.ensures.values
