@@ -1,4 +1,4 @@
-use Rattle.std.proofs.Common.{◌∙◌, length, ap}
+use Rattle.std.proofs.Common.{length, ap}
 use Rattle.vx_arrays.specs.Numbers.{numbers_in}
 use Rattle.vx_operators.proofs.NumberRows.{made_rows}
 use Rattle.vx_operators.proofs.numbers.made_array.Goals as goal
