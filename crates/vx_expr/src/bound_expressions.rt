@@ -31,7 +31,6 @@ use vx_base::{DType, Field, Fields, Nullability, Text};
 const DEEPEST: u64 = 64;
 
 /// An expression that is bound to the dtype of its root.
-#[derive(Debug)]
 pub struct BoundExpression {
     expr: Expr,
     root: DType,

@@ -13,7 +13,6 @@ use vx_operators::{ArithOp, CompareOp};
 
 /// What is computed of a row: of its root value, its number and a bound.
 #[cycle(expressions)]
-#[derive(Debug)]
 pub enum Expr {
     /// The root value itself.
     Root,
@@ -47,26 +46,25 @@ impl Drop for Expr {
     #[cycle(expressions_let_go)]
     fn drop(self) {
         match self {
-            Expr::Root => {}
-            Expr::Lit(_, _) => {}
-            Expr::GetField(_, _) => {}
-            Expr::Pack(_) => {}
-            Expr::Not(_) => {}
-            Expr::And(_, _) => {}
-            Expr::Or(_, _) => {}
-            Expr::Compare(_, _, _) => {}
-            Expr::IsNull(_) => {}
-            Expr::IsNotNull(_) => {}
-            Expr::Arith(_, _, _) => {}
-            Expr::RowIdx => {}
-            Expr::AtMostBound(_) => {}
+            Expr::Root | Expr::RowIdx => {}
+            Expr::Lit(_value, _dtype) => {}
+            Expr::GetField(_name, _operand) => {}
+            Expr::Pack(_items) => {}
+            Expr::Not(_operand)
+            | Expr::IsNull(_operand)
+            | Expr::IsNotNull(_operand)
+            | Expr::AtMostBound(_operand) => {}
+            Expr::And(_left, _right)
+            | Expr::Or(_left, _right)
+            | Expr::Compare(_, _left, _right)
+            | Expr::Arith(_, _left, _right) => {}
         }
     }
 }
 
 /// An expression inside another one, seen as that expression.
 #[cycle(expressions)]
-#[derive(Debug, Drop)]
+#[derive(Drop)]
 pub struct Operand {
     expr: Box<Expr>,
 }
@@ -94,7 +92,7 @@ impl Model for Operand {
 
 /// Expressions with their names, in order.
 #[cycle(expressions)]
-#[derive(Debug, Drop)]
+#[derive(Drop)]
 pub struct NamedExprs {
     items: Vec<(Text, Expr)>,
 }

@@ -15,7 +15,7 @@ use std::marker::Model;
 use vx_base::DType;
 
 /// How many reports there are of each permille.
-#[derive(Debug, Drop)]
+#[derive(Drop)]
 struct ReportCounts {
     /// How many there are of each permille from 0 to 1000.
     counts: Vec<u64>,
@@ -133,7 +133,7 @@ impl ReportCounts {
 }
 
 /// A truth-valued expression as its conjuncts, with what was reported of them.
-#[derive(Debug, Drop)]
+#[derive(Drop)]
 pub struct FilterExpr {
     conjuncts: Vec<BoundExpression>,
     /// The reports of each conjunct.

@@ -9,7 +9,7 @@ ghost use Rattle.vx_expr.specs.Finds.{coming};
 use vx_base::IntKind;
 
 /// What is found of a part of an expression.
-#[derive(Clone, Copy, Debug)]
+#[derive(Clone, Copy)]
 pub(crate) enum Found {
     /// The place of a field in its struct.
     Place(Option<usize>),
