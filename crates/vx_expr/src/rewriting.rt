@@ -2,12 +2,16 @@
 
 ghost use Rattle.std.specs.Prelude.{◌≡◌, IfOk};
 ghost use Rattle.vx_expr.specs.Rewritten.{root_in, row_number_in, rewritten, rewritten_in};
-ghost use Rattle.vx_expr.specs.Terms.{get_field, root, IsPair};
+ghost use Rattle.vx_base.specs.Views.{data_type};
+ghost use Rattle.vx_base.specs.ValueViews.{datum};
+ghost use Rattle.vx_expr.specs.Steps.{left_of, right_of};
+ghost use Rattle.vx_expr.specs.declared.rewriting.Leaves.{Leaves};
+ghost use Rattle.vx_expr.specs.Terms.{literal, get_field, root, IsPair};
 ghost use Rattle.vx_expr.specs.TermViews.{term};
 
 use crate::expressions::{Expr, NamedExprs, Operand};
 use std::alloc::{AllocError, Global};
-use vx_base::Text;
+use vx_base::{DType, Text, Value};
 
 /// What stands in the place of the root and of the row's number.
 #[derive(Clone, Copy)]
@@ -49,6 +53,20 @@ fn new_row_idx(alloc: Global, leaves: Leaves) -> Result<Expr, AllocError>
     }
 }
 
+/// The literal built anew.
+fn literal_anew(alloc: Global, value: &Value, dtype: &DType) -> Result<Expr, AllocError>
+    ensures { IfOk result (λ expr. term expr ≡ literal (datum value.now) (data_type dtype.now)) }
+{
+    Ok(Expr::Lit(value.copy(alloc)?, dtype.copy(alloc)?))
+}
+
+/// The field of that name of an operand that was built anew.
+fn field_anew(alloc: Global, name: &Text, operand: Operand) -> Result<Expr, AllocError>
+    ensures { IfOk result (λ expr. term expr ≡ get_field name.now operand) }
+{
+    Ok(Expr::GetField(name.copy(alloc)?, operand))
+}
+
 impl Operand {
     /// The operand built anew.
     #[cycle(rewriting)]
@@ -86,18 +104,15 @@ impl Expr {
         match self {
             Expr::Root => new_root(alloc, leaves),
             Expr::RowIdx => new_row_idx(alloc, leaves),
-            Expr::Lit(value, dtype) => Ok(Expr::Lit(value.copy(alloc)?, dtype.copy(alloc)?)),
-            Expr::GetField(name, operand) => Ok(Expr::GetField(
-                name.copy(alloc)?,
-                operand.rewritten(alloc, leaves)?,
-            )),
-            Expr::Pack(items) => Ok(Expr::Pack(items.rewritten(alloc, leaves)?)),
-            Expr::Not(operand) => Ok(Expr::Not(operand.rewritten(alloc, leaves)?)),
-            Expr::IsNull(operand) => Ok(Expr::IsNull(operand.rewritten(alloc, leaves)?)),
-            Expr::IsNotNull(operand) => Ok(Expr::IsNotNull(operand.rewritten(alloc, leaves)?)),
-            Expr::AtMostBound(operand) => {
-                Ok(Expr::AtMostBound(operand.rewritten(alloc, leaves)?))
+            Expr::Lit(value, dtype) => literal_anew(alloc, value, dtype),
+            Expr::GetField(name, operand) => {
+                field_anew(alloc, name, operand.rewritten(alloc, leaves)?)
             }
+            Expr::Pack(items) => items.rewritten(alloc, leaves).map(Expr::Pack),
+            Expr::Not(operand) => operand.rewritten(alloc, leaves).map(Expr::Not),
+            Expr::IsNull(operand) => operand.rewritten(alloc, leaves).map(Expr::IsNull),
+            Expr::IsNotNull(operand) => operand.rewritten(alloc, leaves).map(Expr::IsNotNull),
+            Expr::AtMostBound(operand) => operand.rewritten(alloc, leaves).map(Expr::AtMostBound),
             _ => self.rewritten_pair(alloc, leaves),
         }
     }
@@ -109,24 +124,28 @@ impl Expr {
         ensures { IfOk result (λ expr. term expr ≡ rewritten leaves (term self.now)) }
     {
         match self {
-            Expr::And(left, right) => Ok(Expr::And(
-                left.rewritten(alloc, leaves)?,
-                right.rewritten(alloc, leaves)?,
-            )),
-            Expr::Or(left, right) => Ok(Expr::Or(
-                left.rewritten(alloc, leaves)?,
-                right.rewritten(alloc, leaves)?,
-            )),
-            Expr::Compare(op, left, right) => Ok(Expr::Compare(
-                *op,
-                left.rewritten(alloc, leaves)?,
-                right.rewritten(alloc, leaves)?,
-            )),
-            Expr::Arith(op, left, right) => Ok(Expr::Arith(
-                *op,
-                left.rewritten(alloc, leaves)?,
-                right.rewritten(alloc, leaves)?,
-            )),
+            Expr::And(left, right)
+            | Expr::Or(left, right)
+            | Expr::Compare(_, left, right)
+            | Expr::Arith(_, left, right) => {
+                let left = left.rewritten(alloc, leaves)?;
+                let right = right.rewritten(alloc, leaves)?;
+                Ok(self.over_parts(left, right))
+            }
+            _ => unreachable!(),
+        }
+    }
+
+    /// This expression of two parts over two others. Over its own parts built anew it is built anew.
+    fn over_parts(&self, left: Operand, right: Operand) -> Expr
+        requires { IsPair (term self.now) }
+        ensures { (leaves : Leaves) → left ≡ rewritten leaves (left_of (term self.now)) → right ≡ rewritten leaves (right_of (term self.now)) → term result ≡ rewritten leaves (term self.now) }
+    {
+        match self {
+            Expr::And(_, _) => Expr::And(left, right),
+            Expr::Or(_, _) => Expr::Or(left, right),
+            Expr::Compare(op, _, _) => Expr::Compare(*op, left, right),
+            Expr::Arith(op, _, _) => Expr::Arith(*op, left, right),
             _ => unreachable!(),
         }
     }
