@@ -10,12 +10,12 @@ ghost use Rattle.vx_base.specs.ValueViews.{datum};
 ghost use Rattle.vx_base.specs.Names.{are_distinct};
 ghost use Rattle.vx_expr.specs.Counts.{node_count, nodes_in};
 ghost use Rattle.vx_expr.specs.Finds.{place_found, own_found, found_of, found_in};
-ghost use Rattle.vx_expr.specs.Refusals.{capped, first_part, behind};
+ghost use Rattle.vx_expr.specs.Refusals.{capped, first_part, behind, field_refusal, IsRefusal};
 ghost use Rattle.vx_expr.specs.Steps.{left_of, part_of};
 ghost use Rattle.vx_expr.specs.Terms.{IsPair};
 ghost use Rattle.vx_expr.specs.TermViews.{term, terms_of};
-ghost use Rattle.vx_expr.specs.Typing.{typed_data, pair_type, GivesOr, GivesType, GivesPair, GivesMembers, GivesField, GivesPack, GivesDerived};
-ghost use Rattle.vx_expr.specs.Types.{either_nullable, literal_type, type_in, negation_type, logic_type, comparison_type, arithmetic_type, bound_test_type, row_number_type, names_in, type_of};
+ghost use Rattle.vx_expr.specs.Typing.{typed_data, pair_type, GivesOr, GivesType, GivesPair, GivesMembers, GivesField, GivesPack, GivesJoined, GivesDerived};
+ghost use Rattle.vx_expr.specs.Types.{either_nullable, literal_type, type_in, field_type, negation_type, logic_type, comparison_type, arithmetic_type, bound_test_type, row_number_type, names_in, type_of};
 
 use crate::binding::BindError;
 use crate::expressions::{Expr, NamedExprs, Operand};
@@ -26,10 +26,18 @@ use std::collections::BTreeSet;
 use vx_base::{DType, Field, Fields, IntKind, Nullability, Text, Value, fits};
 
 /// The dtype of an expression, borrowed where it stands in the root's dtype or in a literal.
-#[derive(Drop)]
 pub(crate) enum Typed<'a> {
     Borrowed(&'a DType),
     Owned(DType),
+}
+
+impl<'a> Drop for Typed<'a> {
+    fn drop(self) {
+        match self {
+            Typed::Borrowed(_dtype) => {}
+            Typed::Owned(_dtype) => {}
+        }
+    }
 }
 
 impl<'a> Typed<'a> {
@@ -50,6 +58,30 @@ impl<'a> Typed<'a> {
         match self {
             Typed::Borrowed(dtype) => dtype.copy(alloc),
             Typed::Owned(dtype) => Ok(dtype),
+        }
+    }
+
+    /// The dtype of the field of that name, nullable also where the struct is. `found` is the field's place,
+    /// and `place` is the number of the expression that gets it.
+    fn field(
+        self,
+        alloc: Global,
+        found: Option<usize>,
+        name: &Text,
+        place: u64,
+    ) -> Result<Typed<'a>, BindError>
+        requires { found ≡ place_found (Some (typed_data self)) name.now }
+        ensures { GivesField (typed_data self.entry) name.now place result }
+    {
+        match self {
+            Typed::Borrowed(dtype) => match member_of(alloc, dtype, found, name, place) {
+                Ok((member, nullability)) => nullable_field(alloc, member, nullability),
+                Err(error) => Err(error),
+            },
+            Typed::Owned(dtype) => match member_of(alloc, &dtype, found, name, place) {
+                Ok((member, nullability)) => owned_field(alloc, member, nullability),
+                Err(error) => Err(error),
+            },
         }
     }
 }
@@ -144,25 +176,21 @@ fn bound_test_typed(dtype: &DType) -> Option<DType>
     }
 }
 
-/// The dtype of the field of that name, nullable also where the struct is. `place` is the number of the
-/// expression that gets it.
-fn field_typed<'a>(
+/// The dtype that the field of that name has in a struct, and whether the struct takes nulls.
+fn member_of<'b>(
     alloc: Global,
-    operand: Typed<'a>,
+    dtype: &'b DType,
     found: Option<usize>,
     name: &Text,
     place: u64,
-) -> Result<Typed<'a>, BindError>
-    requires { found ≡ place_found (Some (typed_data operand)) name.now }
-    ensures { GivesField (typed_data operand.entry) name.now place result }
+) -> Result<(&'b DType, Nullability), BindError>
+    requires { found ≡ place_found (Some (data_type dtype.now)) name.now }
+    ensures member { IfOk result (λ member. field_type name.now (data_type dtype.now) ≡ Some (nullable_where member.1 (data_type member.0.now))) }
+    ensures refused { IfErr result (λ error. IsRefusal error (field_type name.now (data_type dtype.now)) (field_refusal name.now place (Some (data_type dtype.now)))) }
 {
-    match operand {
-        Typed::Borrowed(DType::Struct(fields, nullability)) => match field_at(fields, found) {
-            Some(field) => nullable_field(alloc, field, *nullability),
-            None => Err(BindError::NoField(name.copy(alloc)?)),
-        },
-        Typed::Owned(DType::Struct(fields, nullability)) => match field_at(&fields, found) {
-            Some(field) => owned_field(alloc, field, nullability),
+    match dtype {
+        DType::Struct(fields, nullability) => match field_at(fields, found) {
+            Some(field) => Ok((field, *nullability)),
             None => Err(BindError::NoField(name.copy(alloc)?)),
         },
         _ => Err(BindError::TypeMismatch(place)),
@@ -239,6 +267,16 @@ fn owned_field<'a>(
     }
 }
 
+/// The field of that name and dtype.
+fn field_of<'a>(alloc: Global, name: &Text, typed: Typed<'a>) -> Result<Field, AllocError>
+    ensures name { IfOk result (λ field. field.name ≡ name.now) }
+    ensures dtype { IfOk result (λ field. data_type field.dtype ≡ typed_data typed.entry) }
+{
+    let dtype = typed.into_dtype(alloc)?;
+    let name = name.copy(alloc)?;
+    Ok(Field { name, dtype })
+}
+
 /// Whether no name stands twice.
 fn has_distinct_names(alloc: Global, items: &[(Text, Expr)]) -> Result<bool, AllocError>
     ensures { IfOk result (λ distinct. distinct ≡ are_distinct (names_in (terms_of items.now))) }
@@ -310,9 +348,8 @@ impl NamedExprs {
                 Ok(typed) => typed,
                 Err(error) => return Err(error),
             };
-            let dtype = typed.into_dtype(alloc)?;
-            let name = item.0.copy(alloc)?;
-            fields.push(Field { name, dtype })?;
+            let field = field_of(alloc, &item.0, typed)?;
+            fields.push(field)?;
         }
         // Reading the number shows the proof that it is a `u64`.
         let _behind = *next;
@@ -396,12 +433,7 @@ impl Expr {
             | Expr::Arith(_, left, right) => match left.typed_pair(
                 alloc, right, root, next, found,
             ) {
-                Ok((left, right)) => {
-                    let one = left.dtype();
-                    let other = right.dtype();
-                    self.find_kind(one, found)?;
-                    given(self.joined_typed(one, other), place)
-                }
+                Ok((left, right)) => self.pair_typed(left, right, place, found),
                 Err(error) => Err(error),
             },
             Expr::GetField(_, operand)
@@ -425,6 +457,25 @@ impl Expr {
             Expr::Arith(_, _, _) => arithmetic_typed(left, right),
             _ => None,
         }
+    }
+
+    /// The same of the dtypes of both parts, or a mismatch at the place. The kind of the numbers that it joins
+    /// goes behind what was found before.
+    fn pair_typed<'a>(
+        &self,
+        left: Typed<'a>,
+        right: Typed<'a>,
+        place: u64,
+        found: &mut Vec<Found>,
+    ) -> Result<Typed<'a>, BindError>
+        requires { IsPair (term self.now) }
+        ensures given { GivesJoined (term self.now) (typed_data left.entry) (typed_data right.entry) place result }
+        ensures found { OnOk result ((t : DataType) → type_of t (left_of (term self.now)) ≡ Some (typed_data left.entry) → found.new.items ≡ found.old.items ++ own_found t (term self.now)) }
+    {
+        let one = left.dtype();
+        let other = right.dtype();
+        self.find_kind(one, found)?;
+        given(self.joined_typed(one, other), place)
     }
 
     /// Adds the kind of the numbers that this expression joins, by the dtype of its left part.
@@ -460,7 +511,7 @@ impl Expr {
             Expr::GetField(name, part) => {
                 let at = place_named(root, part, operand.dtype(), name);
                 found.push(Found::Place(at))?;
-                field_typed(alloc, operand, at, name, place)
+                operand.field(alloc, at, name, place)
             }
             Expr::Not(_) => given(negation_typed(operand.dtype()), place),
             Expr::IsNull(_) | Expr::IsNotNull(_) => {
