@@ -1,6 +1,6 @@
 //! Expressions that are bound to the dtype of their root, and so have a dtype.
 
-ghost use Rattle.std.specs.Prelude.{◌≡◌, ◌↔◌, ℕ, Some, false, IfOk, IsTrue, option_map};
+ghost use Rattle.std.specs.Prelude.{◌≡◌, ◌↔◌, ℕ, Some, false, IfOk, IsSome, IsTrue, option_map};
 ghost use Rattle.vx_base.specs.ColumnCalls.{IsBool};
 ghost use Rattle.vx_base.specs.Views.{data_type};
 ghost use Rattle.vx_expr.specs.Filters.{IsTruth};
@@ -9,7 +9,7 @@ ghost use Rattle.vx_expr.specs.Bound.{IsBoundTo};
 ghost use Rattle.vx_expr.specs.Meaning.{is_strict};
 ghost use Rattle.vx_expr.specs.Mentions.{is_root, uses_root, uses_row_number, uses_bound, root_fields, first_ones};
 ghost use Rattle.vx_expr.specs.Mismatches.{BindGives};
-ghost use Rattle.vx_expr.specs.Rewritten.{with_row_number, row_number_as_root, over_row_number};
+ghost use Rattle.vx_expr.specs.Rewritten.{child_name, with_row_number, row_number_as_root, over_row_number};
 ghost use Rattle.vx_expr.specs.Terms.{root};
 ghost use Rattle.vx_expr.specs.TermText.{term_text};
 ghost use Rattle.vx_expr.specs.TermViews.{term};
@@ -96,12 +96,31 @@ fn field(alloc: Global, name: &str, dtype: DType) -> Result<Field, AllocError>
     Ok(Field { name, dtype })
 }
 
+/// Two dtypes in memory of their own.
+fn dtype_copies(alloc: Global, one: &DType, other: &DType) -> Result<(DType, DType), AllocError>
+    ensures one { IfOk result (λ copies. data_type copies.0 ≡ data_type one.now) }
+    ensures other { IfOk result (λ copies. data_type copies.1 ≡ data_type other.now) }
+{
+    let one = one.copy(alloc)?;
+    let other = other.copy(alloc)?;
+    Ok((one, other))
+}
+
+/// The field of the root value beside a row's number.
+fn child_field(alloc: Global, root: &DType) -> Result<Field, AllocError>
+    ensures name { IfOk result (λ field. field.name ≡ child_name) }
+    ensures dtype { IfOk result (λ field. data_type field.dtype ≡ data_type root.now) }
+{
+    let dtype = root.copy(alloc)?;
+    field(alloc, "child", dtype)
+}
+
 /// The struct of a row's number and its root value.
 fn with_row_idx(alloc: Global, root: &DType) -> Result<DType, AllocError>
     ensures { IfOk result (λ dtype. data_type dtype ≡ with_row_number (data_type root.now)) }
 {
     let row_idx = field(alloc, "row_idx", row_idx_dtype())?;
-    let child = field(alloc, "child", root.copy(alloc)?)?;
+    let child = child_field(alloc, root)?;
     let fields = Fields::from_vec(vec![in alloc; row_idx, child]?);
     Ok(DType::Struct(fields, Nullability::NonNullable))
 }
@@ -122,6 +141,35 @@ impl BoundExpression {
         })
     }
 
+    /// The binding of an expression that has a dtype over the root's dtype.
+    fn of_parts(alloc: Global, expr: Expr, root: DType) -> Result<BoundExpression, AllocError>
+        requires { IsSome (type_of (data_type root) (term expr)) }
+        ensures term { IfOk result (λ bound. bound.term ≡ term expr) }
+        ensures root { IfOk result (λ bound. bound.root ≡ data_type root) }
+        ensures dtype { IfOk result (λ bound. type_of (data_type root) (term expr) ≡ Some bound.dtype) }
+    {
+        let (dtype, found) = found_over(alloc, &expr, &root)?;
+        Ok(BoundExpression {
+            expr,
+            root,
+            dtype,
+            found,
+        })
+    }
+
+    /// The same in memory of its own.
+    fn of_typed(alloc: Global, expr: &Expr, root: &DType) -> Result<BoundExpression, AllocError>
+        requires { IsSome (type_of (data_type root.now) (term expr.now)) }
+        ensures term { IfOk result (λ bound. bound.term ≡ term expr.now) }
+        ensures root { IfOk result (λ bound. bound.root ≡ data_type root.now) }
+        ensures dtype { IfOk result (λ bound. type_of (data_type root.now) (term expr.now) ≡ Some bound.dtype) }
+    {
+        let expr = expr.copy(alloc)?;
+        let root = root.copy(alloc)?;
+        let bound = BoundExpression::of_parts(alloc, expr, root)?;
+        Ok(bound)
+    }
+
     /// The binding of an expression that has a dtype of truth values over the root's dtype, in memory of
     /// its own.
     pub(crate) fn of_truth(
@@ -134,15 +182,8 @@ impl BoundExpression {
         ensures root { IfOk result (λ bound. bound.root ≡ data_type root.now) }
         ensures truth { IfOk result (λ bound. IsBool bound.dtype) }
     {
-        let (dtype, found) = found_over(alloc, expr, root)?;
-        let root = root.copy(alloc)?;
-        let expr = expr.copy(alloc)?;
-        Ok(BoundExpression {
-            expr,
-            root,
-            dtype,
-            found,
-        })
+        let bound = BoundExpression::of_typed(alloc, expr, root)?;
+        Ok(bound)
     }
 
     /// The dtype of the expression. It takes no memory.
@@ -240,15 +281,8 @@ impl BoundExpression {
         requires { type_of (data_type dtype.now) self.now.term ≡ Some self.now.dtype }
         ensures { IfOk result (λ bound. bound ≡ record self.now { root = data_type dtype.now }) }
     {
-        let (typed, found) = found_over(alloc, &self.expr, dtype)?;
-        let root = dtype.copy(alloc)?;
-        let expr = self.expr.copy(alloc)?;
-        Ok(BoundExpression {
-            expr,
-            root,
-            dtype: typed,
-            found,
-        })
+        let bound = BoundExpression::of_typed(alloc, &self.expr, dtype)?;
+        Ok(bound)
     }
 
     /// The expression with the root in the place of the row's number, bound to non-nullable `u64`. Its
@@ -259,14 +293,8 @@ impl BoundExpression {
         ensures { IfOk result (λ bound. bound ≡ row_number_as_root self.now) }
     {
         let expr = self.expr.rewritten(alloc, Leaves::RowIdxAsRoot)?;
-        let root = row_idx_dtype();
-        let (dtype, found) = found_over(alloc, &expr, &root)?;
-        Ok(BoundExpression {
-            expr,
-            root,
-            dtype,
-            found,
-        })
+        let bound = BoundExpression::of_parts(alloc, expr, row_idx_dtype())?;
+        Ok(bound)
     }
 
     /// The expression with the field `row_idx` of the root in the place of the row's number and `child` in
@@ -276,15 +304,10 @@ impl BoundExpression {
     pub fn over_row_idx(&self, alloc: Global) -> Result<BoundExpression, AllocError>
         ensures { IfOk result (λ bound. bound ≡ over_row_number self.now) }
     {
-        let root = with_row_idx(alloc, &self.root)?;
         let expr = self.expr.rewritten(alloc, Leaves::OverRowIdx)?;
-        let (dtype, found) = found_over(alloc, &expr, &root)?;
-        Ok(BoundExpression {
-            expr,
-            root,
-            dtype,
-            found,
-        })
+        let root = with_row_idx(alloc, &self.root)?;
+        let bound = BoundExpression::of_parts(alloc, expr, root)?;
+        Ok(bound)
     }
 
     /// The printed form of the expression. No struct literal is printed: a literal has a leaf dtype.
@@ -301,9 +324,8 @@ impl BoundExpression {
         ensures { IfOk result (λ copied. copied ≡ self.now) }
     {
         let found = self.found.clone()?;
-        let dtype = self.dtype.copy(alloc)?;
-        let root = self.root.copy(alloc)?;
         let expr = self.expr.copy(alloc)?;
+        let (root, dtype) = dtype_copies(alloc, &self.root, &self.dtype)?;
         Ok(BoundExpression {
             expr,
             root,

@@ -173,9 +173,9 @@ impl<'a> Evaluated<'a> {
 fn one_each<'a>(
     alloc: Global,
     step: OneStep,
-    row_values: Vec<RowValue<'a>>,
+    row_values: &[RowValue<'a>],
 ) -> Result<Vec<RowValue<'a>>, AllocError>
-    ensures { IfOk result (λ made. map row_value_datum made.items ≡ front (map (one_step step) (map row_value_datum row_values.entry.items))) }
+    ensures { IfOk result (λ made. map row_value_datum made.items ≡ front (map (one_step step) (map row_value_datum row_values.now))) }
 {
     let mut made = Vec::with_capacity(alloc, row_values.len())?;
     for cell in row_values {
@@ -205,6 +205,20 @@ fn two_each<'a>(
         }
     }
     Ok(made)
+}
+
+/// The step with the values of each row before the first fault, row by row.
+fn two_rows<'a>(
+    alloc: Global,
+    step: TwoStep,
+    lefts: Vec<RowValue<'_>>,
+    rights: Vec<RowValue<'_>>,
+) -> Result<Evaluated<'a>, AllocError>
+    requires { length rights.items ≤ length lefts.items }
+    ensures { IfOk result (λ made. evaluated_rows made ≡ front (along (two_step step) (map row_value_datum lefts.entry.items) (map row_value_datum rights.entry.items))) }
+{
+    let made = two_each(alloc, step, &lefts, &rights)?;
+    Ok(Evaluated::RowValues(made))
 }
 
 /// The array of a struct at a place, where it stands. None where there is none, or where some struct is
@@ -256,7 +270,7 @@ fn one_of_columnar<'a>(
         }
         Ok(None) => {
             let row_values = columnar_row_values(alloc, columnar)?;
-            let made = one_each(alloc, step, row_values)?;
+            let made = one_each(alloc, step, &row_values)?;
             Ok(Evaluated::RowValues(made))
         }
         Err(error) => {
@@ -302,7 +316,7 @@ pub(crate) fn derived<'a>(
         },
         operand => {
             let row_values = operand.into_row_values(alloc)?;
-            let made = one_each(alloc, step, row_values)?;
+            let made = one_each(alloc, step, &row_values)?;
             Ok(Evaluated::RowValues(made))
         }
     }
@@ -346,9 +360,7 @@ fn two_of_columnar<'a>(
         Ok(None) => {
             let lefts = columnar_row_values(alloc, left);
             let rights = columnar_row_values(alloc, right)?;
-            let lefts = lefts?;
-            let made = two_each(alloc, step, &lefts, &rights)?;
-            Ok(Evaluated::RowValues(made))
+            two_rows(alloc, step, lefts?, rights)
         }
         Err(error) => {
             drop(left);
@@ -376,9 +388,7 @@ pub(crate) fn paired<'a>(
         (left, right) => {
             let lefts = left.into_row_values(alloc);
             let rights = right.into_row_values(alloc)?;
-            let lefts = lefts?;
-            let made = two_each(alloc, step, &lefts, &rights)?;
-            Ok(Evaluated::RowValues(made))
+            two_rows(alloc, step, lefts?, rights)
         }
     }
 }

@@ -115,6 +115,29 @@ impl Expr {
             Expr::RowIdx => first_rows(alloc, rows.numbers, rows.count),
             Expr::Lit(value, dtype) => literal(alloc, value, dtype, rows.count),
             Expr::Pack(items) => items.rows(alloc, rows, finds)?.structs(alloc),
+            Expr::And(left, right)
+            | Expr::Or(left, right)
+            | Expr::Compare(_, left, right)
+            | Expr::Arith(_, left, right) => self.evaluated_pair(alloc, left, right, rows, finds),
+            _ => self.evaluated_part(alloc, rows, finds),
+        }
+    }
+
+    /// The values of this expression of one part at the rows before its first fault.
+    #[cycle(evaluation)]
+    fn evaluated_part<'a>(
+        &'a self,
+        alloc: Global,
+        rows: Rows<'a>,
+        finds: &mut Finds<'_>,
+    ) -> Result<Evaluated<'a>, AllocError>
+        requires rows { AreRows rows }
+        requires derived { IsDerived (term self.now) }
+        requires found { Starts (found_of (data_type rows.dtype.now) (term self.now)) (coming finds.old) }
+        ensures made { IfOk result (λ made. evaluated_rows made ≡ front_at (data_type rows.entry.dtype.now) (term self.now) (rows_values rows.entry) (rows_numbers rows.entry)) }
+        ensures passed { OnOk result (Passes (found_of (data_type rows.entry.dtype.now) (term self.now)) (coming finds.old) (coming finds.new)) }
+    {
+        match self {
             Expr::GetField(_, operand)
             | Expr::Not(operand)
             | Expr::IsNull(operand)
@@ -123,10 +146,7 @@ impl Expr {
                 let found = operand.expr().evaluated(alloc, rows, finds)?;
                 derived(alloc, self.one_step(finds), found)
             }
-            Expr::And(left, right)
-            | Expr::Or(left, right)
-            | Expr::Compare(_, left, right)
-            | Expr::Arith(_, left, right) => self.evaluated_pair(alloc, left, right, rows, finds),
+            _ => unreachable!(),
         }
     }
 

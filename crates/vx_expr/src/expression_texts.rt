@@ -6,11 +6,12 @@ ghost use Rattle.std.specs.List.{flat_map};
 ghost use Rattle.vx_base.specs.ValueViews.{datum};
 ghost use Rattle.vx_base.specs.TypeText.{separator};
 ghost use Rattle.vx_expr.specs.TermText.{compare_sign, arith_sign, quoted_byte, literal_text, call_text, pair_text, term_text, terms_text};
+ghost use Rattle.vx_expr.specs.Terms.{get_field, pack, IsPair};
 ghost use Rattle.vx_expr.specs.TermViews.{term};
 
 use crate::expressions::{Expr, NamedExprs, Operand};
 use std::alloc::{AllocError, Global};
-use vx_base::Value;
+use vx_base::{Text, Value};
 use vx_operators::{ArithOp, CompareOp};
 
 /// The sign between the operands of a comparison.
@@ -105,9 +106,29 @@ impl NamedExprs {
         }
         Ok(())
     }
+
+    /// Writes the struct of them.
+    #[cycle(text)]
+    fn write_struct(&self, alloc: Global, out: &mut Vec<u8>) -> Result<(), AllocError>
+        ensures { OnOk result (out.new.items ≡ out.old.items ++ term_text (pack self.now)) }
+    {
+        out.push(b'{')?;
+        self.write_text(alloc, out)?;
+        out.extend_from_slice(b"}")
+    }
 }
 
 impl Operand {
+    /// Writes the field of that name of this operand.
+    #[cycle(text)]
+    fn write_field(&self, alloc: Global, name: &Text, out: &mut Vec<u8>) -> Result<(), AllocError>
+        ensures { OnOk result (out.new.items ≡ out.old.items ++ term_text (get_field name.now self.now)) }
+    {
+        self.expr().write_text(alloc, out)?;
+        out.push(b'.')?;
+        out.extend_from_slice(name.as_str().as_bytes())
+    }
+
     /// Writes a call with this operand.
     #[cycle(text)]
     fn write_call(&self, alloc: Global, word: &[u8], out: &mut Vec<u8>) -> Result<(), AllocError>
@@ -115,8 +136,7 @@ impl Operand {
     {
         out.extend_from_slice(word)?;
         self.expr().write_text(alloc, out)?;
-        out.push(b')')?;
-        Ok(())
+        out.extend_from_slice(b")")
     }
 
     /// Writes this operand and another one with a sign between them.
@@ -136,8 +156,7 @@ impl Operand {
         out.extend_from_slice(sign)?;
         out.push(b' ')?;
         right.expr().write_text(alloc, out)?;
-        out.push(b')')?;
-        Ok(())
+        out.extend_from_slice(b")")
     }
 }
 
@@ -150,26 +169,29 @@ impl Expr {
         match self {
             Expr::Root => out.extend_from_slice(b"$"),
             Expr::Lit(value, _) => write_literal(alloc, value, out),
-            Expr::GetField(name, operand) => {
-                operand.expr().write_text(alloc, out)?;
-                out.push(b'.')?;
-                out.extend_from_slice(name.as_str().as_bytes())
-            }
-            Expr::Pack(items) => {
-                out.push(b'{')?;
-                items.write_text(alloc, out)?;
-                out.push(b'}')?;
-                Ok(())
-            }
+            Expr::GetField(name, operand) => operand.write_field(alloc, name, out),
+            Expr::Pack(items) => items.write_struct(alloc, out),
             Expr::RowIdx => out.extend_from_slice(b"#row_idx"),
             Expr::Not(operand) => operand.write_call(alloc, b"not(", out),
             Expr::IsNull(operand) => operand.write_call(alloc, b"is_null(", out),
             Expr::IsNotNull(operand) => operand.write_call(alloc, b"is_not_null(", out),
             Expr::AtMostBound(operand) => operand.write_call(alloc, b"at_most_bound(", out),
+            _ => self.write_parts(alloc, out),
+        }
+    }
+
+    /// Writes an expression of two parts.
+    #[cycle(text)]
+    fn write_parts(&self, alloc: Global, out: &mut Vec<u8>) -> Result<(), AllocError>
+        requires { IsPair (term self.now) }
+        ensures { OnOk result (out.new.items ≡ out.old.items ++ term_text (term self.now)) }
+    {
+        match self {
             Expr::And(left, right) => left.write_pair(alloc, b"and", right, out),
             Expr::Or(left, right) => left.write_pair(alloc, b"or", right, out),
             Expr::Compare(op, left, right) => left.write_pair(alloc, compare_sign(*op), right, out),
             Expr::Arith(op, left, right) => left.write_pair(alloc, arith_sign(*op), right, out),
+            _ => unreachable!(),
         }
     }
 }

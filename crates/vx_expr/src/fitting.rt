@@ -1,6 +1,6 @@
 //! Rows that a dtype takes as an array of that dtype, wherever they are held. What is packed already is moved.
 
-ghost use Rattle.std.specs.Prelude.{◌≡◌, ◌≤◌, map, length, replicate, take, IfOk, IfSome, IsTrue};
+ghost use Rattle.std.specs.Prelude.{◌≡◌, ◌≤◌, ◌∷◌, [], map, length, replicate, take, IfOk, IfSome, IsTrue};
 ghost use Rattle.std.specs.List.{AllByRecursion};
 ghost use Rattle.vx_base.specs.Fits.{Fits};
 ghost use Rattle.vx_base.specs.ValueViews.{datum};
@@ -83,6 +83,17 @@ fn array_copy(alloc: Global, array: &Array) -> Result<Array, AllocError>
     Ok(copied)
 }
 
+/// The value as an array of one row.
+fn scalar_array(alloc: Global, dtype: &DType, scalar: &Scalar<'_>) -> Result<Array, AllocError>
+    requires { AllByRecursion (Fits (data_type dtype.now)) (scalar_datum scalar.now ∷ []) }
+    ensures dtype { IfOk result (λ array. array.dtype ≡ bare (data_type dtype.now)) }
+    ensures values { IfOk result (λ array. array.values ≡ scalar_datum scalar.now ∷ []) }
+{
+    let row_values = vec![in alloc; RowValue::scalar(scalar)]?;
+    let array = row_value_array(alloc, dtype, row_values)?;
+    Ok(array)
+}
+
 /// The same value at each of so many rows.
 fn fitting_scalar(
     alloc: Global,
@@ -98,8 +109,8 @@ fn fitting_scalar(
         let none = Array::with_room(alloc, dtype, 0)?;
         return Ok(none);
     }
+    let one = scalar_array(alloc, dtype, scalar)?;
     let places = vec![in alloc; 0; rows]?;
-    let one = row_value_array(alloc, dtype, vec![in alloc; RowValue::scalar(scalar)]?)?;
     let array = one.take(alloc, places.as_slice())?;
     Ok(array)
 }
@@ -133,6 +144,23 @@ pub(crate) fn fitting_columnar(
     }
 }
 
+/// The same as an array that can be shared.
+fn fitting_shared(
+    alloc: Global,
+    dtype: &DType,
+    columnar: ColumnarValue<'_>,
+    rows: usize,
+) -> Result<SharedArray, AllocError>
+    requires inside { rows ≤ length (columnar_rows columnar) }
+    requires fit { AllByRecursion (Fits (data_type dtype.now)) (take rows (columnar_rows columnar)) }
+    ensures dtype { IfOk result (λ shared. shared.dtype ≡ bare (data_type dtype.now)) }
+    ensures values { IfOk result (λ shared. shared.values ≡ take rows (columnar_rows columnar.entry)) }
+{
+    let array = fitting_columnar(alloc, dtype, columnar, rows)?;
+    let shared = SharedArray::new(alloc, array)?;
+    Ok(shared)
+}
+
 /// The first rows of each columnar value as an array of the dtype of its field.
 fn fitting_columnar_values(
     alloc: Global,
@@ -149,8 +177,7 @@ fn fitting_columnar_values(
     for field in members {
         match rest.next() {
             Some(columnar) => {
-                let array = fitting_columnar(alloc, &field.dtype, columnar, rows)?;
-                let shared = SharedArray::new(alloc, array)?;
+                let shared = fitting_shared(alloc, &field.dtype, columnar, rows)?;
                 parts.push(shared)?;
             }
             None => return Ok(parts),

@@ -1,7 +1,7 @@
 //! Structs of the values of several expressions: their columnar values beside each other as long as each of them is
 //! held as a whole, and otherwise the values of each row one behind the other.
 
-ghost use Rattle.std.specs.Prelude.{◌≡◌, [], map, length, replicate, IfOk};
+ghost use Rattle.std.specs.Prelude.{◌≡◌, ◌++◌, ◌∷◌, [], map, length, replicate, IfOk, OnOk};
 ghost use Rattle.vx_operators.specs.ColumnarValues.{columnar_rows};
 ghost use Rattle.vx_expr.specs.Packs.{rows_along, struct_row};
 ghost use Rattle.vx_expr.specs.Rows.{along};
@@ -15,12 +15,20 @@ use vx_base::{Value, Values};
 use vx_operators::ColumnarValue;
 
 /// The values of several expressions, so far.
-#[derive(Drop)]
 pub(crate) enum Packing<'a> {
     /// A columnar value for each expression, as far as each of them has rows, and so many rows at most.
     ColumnarValues(usize, Vec<ColumnarValue<'a>>),
     /// The values of each row.
     Rows(VecDeque<Vec<Value>>),
+}
+
+impl<'a> Drop for Packing<'a> {
+    fn drop(self) {
+        match self {
+            Packing::ColumnarValues(_, _) => {}
+            Packing::Rows(_) => {}
+        }
+    }
 }
 
 /// How many rows each of the columnar values has, and so many at most.
@@ -59,23 +67,25 @@ fn longer_rows(
     let mut longer = VecDeque::with_capacity(alloc, row_values.len())?;
     for cell in row_values {
         match rows.pop_front() {
-            Some(row) => longer.push_back(longer_row(alloc, row, cell)?)?,
+            Some(row) => push_longer(alloc, row, cell, &mut longer)?,
             None => return Ok(longer),
         }
     }
     Ok(longer)
 }
 
-/// The row with one value more.
-fn longer_row(
+/// Adds the row with one value more.
+fn push_longer(
     alloc: Global,
     mut row: Vec<Value>,
     cell: RowValue<'_>,
-) -> Result<Vec<Value>, AllocError>
-    ensures { IfOk result (λ longer. row_data longer ≡ appended (row_data row) (row_value_datum cell.entry)) }
+    longer: &mut VecDeque<Vec<Value>>,
+) -> Result<(), AllocError>
+    ensures { OnOk result (map row_data longer.new.items ≡ map row_data longer.old.items ++ (appended (row_data row) (row_value_datum cell.entry) ∷ [])) }
 {
     row.push(cell.into_value(alloc)?)?;
-    Ok(row)
+    longer.push_back(row)?;
+    Ok(())
 }
 
 /// The values of the columnar values, row by row.
@@ -134,18 +144,46 @@ impl<'a> Packing<'a> {
     pub(crate) fn with(self, alloc: Global, found: Evaluated<'a>) -> Result<Packing<'a>, AllocError>
         ensures { IfOk result (λ made. packing_rows made ≡ along appended (packing_rows self.entry) (evaluated_rows found.entry)) }
     {
-        match (self, found) {
-            (Packing::ColumnarValues(rows, mut columnar_values), Evaluated::Packed(columnar)) => {
+        match found {
+            Evaluated::Packed(columnar) => self.with_columnar(alloc, columnar),
+            found => {
+                let row_values = found.into_row_values(alloc)?;
+                self.with_row_values(alloc, row_values)
+            }
+        }
+    }
+
+    /// The same of a columnar value.
+    fn with_columnar(
+        self,
+        alloc: Global,
+        columnar: ColumnarValue<'a>,
+    ) -> Result<Packing<'a>, AllocError>
+        ensures { IfOk result (λ made. packing_rows made ≡ along appended (packing_rows self.entry) (columnar_rows columnar.entry)) }
+    {
+        match self {
+            Packing::ColumnarValues(rows, mut columnar_values) => {
                 columnar_values.push(columnar)?;
                 Ok(Packing::ColumnarValues(rows, columnar_values))
             }
-            (made, found) => {
-                let rows = made.into_rows(alloc)?;
-                let row_values = found.into_row_values(alloc)?;
-                let longer = longer_rows(alloc, rows, row_values)?;
-                Ok(Packing::Rows(longer))
+            made => {
+                let row_values = columnar_row_values(alloc, columnar)?;
+                made.with_row_values(alloc, row_values)
             }
         }
+    }
+
+    /// The same of row values.
+    fn with_row_values(
+        self,
+        alloc: Global,
+        row_values: Vec<RowValue<'_>>,
+    ) -> Result<Packing<'a>, AllocError>
+        ensures { IfOk result (λ made. packing_rows made ≡ along appended (packing_rows self.entry) (map row_value_datum row_values.entry.items)) }
+    {
+        let rows = self.into_rows(alloc)?;
+        let longer = longer_rows(alloc, rows, row_values)?;
+        Ok(Packing::Rows(longer))
     }
 
     /// The structs of the rows' values.

@@ -1,6 +1,6 @@
 //! Which fields of the root an expression gets.
 
-ghost use Rattle.std.specs.Prelude.{◌≡◌, IfOk, Some, option_map};
+ghost use Rattle.std.specs.Prelude.{◌≡◌, ◌++◌, ◌∷◌, [], IfOk, OnOk, Some, option_map};
 ghost use Rattle.vx_expr.specs.Mentions.{root_fields, root_fields_in, first_ones};
 ghost use Rattle.vx_expr.specs.Collected.{Collects};
 ghost use Rattle.vx_expr.specs.TermViews.{term};
@@ -75,15 +75,23 @@ impl NamedExprs {
     }
 }
 
+/// Adds the name in memory of its own.
+fn push_copy(alloc: Global, name: &Text, names: &mut Vec<Text>) -> Result<(), AllocError>
+    ensures { OnOk result (names.new.items ≡ names.old.items ++ (name.now ∷ [])) }
+{
+    names.push(name.copy(alloc)?)?;
+    Ok(())
+}
+
 /// Each of the names once, where it comes first.
-fn first_of_each(alloc: Global, names: Vec<Text>) -> Result<Vec<Text>, AllocError>
-    ensures { IfOk result (λ firsts. firsts.items ≡ first_ones names.items) }
+fn first_of_each(alloc: Global, names: &[Text]) -> Result<Vec<Text>, AllocError>
+    ensures { IfOk result (λ firsts. firsts.items ≡ first_ones names.now) }
 {
     let mut seen = BTreeSet::new(alloc);
     let mut firsts = Vec::new(alloc);
-    for name in &names {
+    for name in names {
         if seen.insert(name.as_str())? {
-            firsts.push(name.copy(alloc)?)?;
+            push_copy(alloc, name, &mut firsts)?;
         }
     }
     Ok(firsts)
@@ -96,7 +104,7 @@ pub(crate) fn fields_of_root(alloc: Global, expr: &Expr) -> Result<Option<Vec<Te
 {
     let mut names = Vec::new(alloc);
     if expr.collect_fields(alloc, &mut names)? {
-        Ok(Some(first_of_each(alloc, names)?))
+        Ok(Some(first_of_each(alloc, &names)?))
     } else {
         Ok(None)
     }

@@ -12,7 +12,6 @@ use vx_base::{Text, Value};
 use vx_operators::Scalar;
 
 /// The value of an expression at one row.
-#[derive(Drop)]
 pub(crate) enum RowValue<'a> {
     Null,
     Truth(bool),
@@ -23,6 +22,19 @@ pub(crate) enum RowValue<'a> {
     Borrowed(&'a Value),
     /// A value that was made.
     Owned(Value),
+}
+
+impl<'a> Drop for RowValue<'a> {
+    fn drop(self) {
+        match self {
+            RowValue::Null => {}
+            RowValue::Truth(_) => {}
+            RowValue::Number(_) => {}
+            RowValue::Text(_) => {}
+            RowValue::Borrowed(_) => {}
+            RowValue::Owned(_) => {}
+        }
+    }
 }
 
 /// The same value as it is looked at, wherever it stands.

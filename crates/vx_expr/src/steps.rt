@@ -41,26 +41,49 @@ fn value_at(values: &Values, place: usize) -> Option<&Value>
     values.items().get(place)
 }
 
+/// The item at the place of a struct that stays where it is. None where there is none.
+fn lent_item<'a>(place: Option<usize>, value: &'a Value) -> Option<RowValue<'a>>
+    ensures { option_map row_value_datum result ≡ item_at place (datum value.now) }
+{
+    match (place, value) {
+        (_, Value::Null) => Some(RowValue::Null),
+        (Some(place), Value::Struct(values)) => match value_at(values, place) {
+            Some(value) => Some(RowValue::of(value)),
+            None => None,
+        },
+        _ => None,
+    }
+}
+
+/// The same of a struct that was made, in memory of its own.
+fn made_item<'a>(
+    alloc: Global,
+    place: Option<usize>,
+    value: &Value,
+) -> Result<Option<RowValue<'a>>, AllocError>
+    ensures { IfOk result (λ made. option_map row_value_datum made ≡ item_at place (datum value.now)) }
+{
+    match lent_item(place, value) {
+        Some(cell) => {
+            let copied = cell.into_value(alloc)?;
+            Ok(Some(RowValue::owned(copied)))
+        }
+        None => Ok(None),
+    }
+}
+
 /// The item at the place of a struct. None where there is none.
 fn item<'a>(
     alloc: Global,
     place: Option<usize>,
-    cell: RowValue<'a>,
+    cell: &RowValue<'a>,
 ) -> Result<Option<RowValue<'a>>, AllocError>
-    ensures { IfOk result (λ made. option_map row_value_datum made ≡ item_at place (row_value_datum cell.entry)) }
+    ensures { IfOk result (λ made. option_map row_value_datum made ≡ item_at place (row_value_datum cell.now)) }
 {
-    match (place, cell) {
-        (_, RowValue::Null) => Ok(Some(RowValue::Null)),
-        (_, RowValue::Borrowed(Value::Null)) => Ok(Some(RowValue::Null)),
-        (_, RowValue::Owned(Value::Null)) => Ok(Some(RowValue::Null)),
-        (Some(place), RowValue::Borrowed(Value::Struct(values))) => match value_at(values, place) {
-            Some(value) => Ok(Some(RowValue::of(value))),
-            None => Ok(None),
-        },
-        (Some(place), RowValue::Owned(Value::Struct(values))) => match value_at(&values, place) {
-            Some(value) => Ok(Some(RowValue::Owned(value.copy(alloc)?))),
-            None => Ok(None),
-        },
+    match cell {
+        RowValue::Null => Ok(Some(RowValue::Null)),
+        RowValue::Borrowed(value) => Ok(lent_item(place, *value)),
+        RowValue::Owned(value) => made_item(alloc, place, value),
         _ => Ok(None),
     }
 }
@@ -91,9 +114,9 @@ fn at_most_bound(seen: Seen<'_>) -> Option<RowValue<'static>>
 pub(crate) fn one<'a>(
     alloc: Global,
     step: OneStep,
-    cell: RowValue<'a>,
+    cell: &RowValue<'a>,
 ) -> Result<Option<RowValue<'a>>, AllocError>
-    ensures { IfOk result (λ made. option_map row_value_datum made ≡ one_step step (row_value_datum cell.entry)) }
+    ensures { IfOk result (λ made. option_map row_value_datum made ≡ one_step step (row_value_datum cell.now)) }
 {
     match step {
         OneStep::Field(place) => item(alloc, place, cell),

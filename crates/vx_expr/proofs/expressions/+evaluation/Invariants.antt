@@ -10,13 +10,16 @@ use Rattle.vx_expr.proofs.PartFinds.{Walks}
 use Rattle.vx_expr.proofs.expressions.+evaluation.Given as goal
 
 abbrev pub decreases-Expr::evaluated : goal.decreases-Expr::evaluated
-decreases-Expr::evaluated l = 2 * node_count (term l.self.now)
+decreases-Expr::evaluated l = 2 * node_count (term l.self.now) + 1
+
+abbrev pub decreases-Expr::evaluated_part : goal.decreases-Expr::evaluated_part
+decreases-Expr::evaluated_part l = 2 * node_count (term l.self.now)
 
 abbrev pub decreases-NamedExprs::rows : goal.decreases-NamedExprs::rows
-decreases-NamedExprs::rows l = 2 * nodes_in l.self.now + 1
+decreases-NamedExprs::rows l = 2 * nodes_in l.self.now + 2
 
 abbrev pub decreases-Expr::evaluated_pair : goal.decreases-Expr::evaluated_pair
-decreases-Expr::evaluated_pair l = 2 * (node_count l.left.now + node_count l.right.now) + 1
+decreases-Expr::evaluated_pair l = 2 * (node_count l.left.now + node_count l.right.now) + 2
 
 abbrev pub invariant-NamedExprs::rows-loop-item : goal.invariant-NamedExprs::rows-loop-item
 invariant-NamedExprs::rows-loop-item l = record {

@@ -8,6 +8,6 @@ use Rattle.vx_expr.proofs.root_fields.first_of_each.Given as goal
 
 abbrev pub invariant-loop-name : goal.invariant-loop-name
 invariant-loop-name l = record {
-  firsts : l.firsts.items ≡ first_ones (take l.name-index l.name-items);
-  seen : (text : Bor (List ℕ)) → contains (λ x y. slice_cmp nat_cmp x.now y.now) l.seen text ≡ has_name text.now (take l.name-index l.name-items);
+  firsts : l.firsts.items ≡ first_ones (take l.name-index l.names);
+  seen : (text : Bor (List ℕ)) → contains (λ x y. slice_cmp nat_cmp x.now y.now) l.seen text ≡ has_name text.now (take l.name-index l.names);
 }
