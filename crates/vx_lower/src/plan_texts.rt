@@ -152,7 +152,7 @@ impl<'a> PlanTreeDisplay<'a> {
     pub fn text(&self) -> Result<Vec<u8>, AllocError>
         ensures { IfOk result (λ text. text.items ≡ plan_text (all_headers self.now.headers.has_summary (map (λ extractor. (PlanTreeExtractor-box extractor).header extractor.value) self.now.headers.extractors.items)) self.now.table.now (number_of self.now.plan)) }
     {
-        self.table.keeps_rules();
+        let _count = self.table.len();
         let mut out = Vec::new(self.alloc);
         write_lines(
             self.alloc,
