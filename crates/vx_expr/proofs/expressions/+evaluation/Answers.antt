@@ -74,8 +74,8 @@ Expr::evaluated_part-evaluated-requires t c =
       ),
     )
 
-pub Expr::evaluated_part-returns-in_ok-found-in-GetField-clause-made : goal.Expr::evaluated_part-returns-in_ok-found-in-GetField-clause-made
-Expr::evaluated_part-returns-in_ok-found-in-GetField-clause-made t c =
+pub Expr::evaluated_part-returns-clause-made : goal.Expr::evaluated_part-returns-clause-made
+Expr::evaluated_part-returns-clause-made t c =
     let rows = c.args.rows in
     let dtype = data_type rows.dtype.now in
     let x = c.args.self.now in
@@ -88,8 +88,8 @@ Expr::evaluated_part-returns-in_ok-found-in-GetField-clause-made t c =
     rows_are c.derived.result (front (map (one_step step) found)) _
     (made_front dtype x part (term c.expr.result.now) step found (rows_values rows) (rows_numbers rows) c.in-GetField.is c.expr.ensures (c.one_step.ensures dtype own.0 own.1).0 c.in_ok-found-in-GetField.ensures.made) c.derived.ensures
 
-pub Expr::evaluated_part-returns-in_ok-found-in-GetField-clause-passed : goal.Expr::evaluated_part-returns-in_ok-found-in-GetField-clause-passed
-Expr::evaluated_part-returns-in_ok-found-in-GetField-clause-passed t c =
+pub Expr::evaluated_part-returns-clause-passed : goal.Expr::evaluated_part-returns-clause-passed
+Expr::evaluated_part-returns-clause-passed t c =
     let dtype = data_type c.args.rows.dtype.now in
     let x = c.args.self.now in
     let part = c.in-GetField.operand in
