@@ -1,15 +1,16 @@
 -- What one step of a scan says, as one fact.
-use Rattle.std.proofs.Common.{◌≡◌, ◌≢◌, ◌<◌, ◌⊎◌, inl, inr, Bool, true, false, List, Result, Ok, Err, refl, sym, subst}
+use Rattle.std.proofs.Common.{◌≡◌, ◌≢◌, ℕ, ◌<◌, ◌⊎◌, inl, inr, ⊎_elim, Bool, true, false, List, Result, Ok, Err, refl, sym, subst}
 use Rattle.vx_rows.specs.SegmentLeaves.{Bytes}
 use Rattle.vx_steps.specs.declared.errors.StepError.{StepError}
 use Rattle.vx_steps.specs.declared.errors.StepError.TheVariants as steps
 use Rattle.vx_steps.specs.declared.progress.Turn.{Turn}
 use Rattle.vx_steps.specs.declared.progress.Turn.TheVariants as turns
 use Rattle.vx_steps.specs.declared.splits.Split.{Split}
-use Rattle.vx_steps.specs.Jobs.{IsTold, KeepsColumns, KeepsTold, KeepsWholes}
+use Rattle.vx_steps.specs.Jobs.{IsTold, IsWantedBy, KeepsColumns, KeepsTold, KeepsWholesFor, WantsFor}
 use Rattle.vx_steps.specs.ScanData.{ScanData, IsScanOf}
 use Rattle.vx_steps.specs.Steps.{GoesOn, IsSplitOutput, IsStepRefusal, LeavesSplit, RefusesSplit, TakesTurn, work_left}
-use Rattle.vx_steps.specs.Wants.{Grows}
+use Rattle.vx_steps.specs.Wants.{Grows, IsAsked}
+use Rattle.vx_steps.proofs.Finishing.{wholes_only}
 use Rattle.vx_steps.proofs.Premises.{unless_by}
 use Rattle.vx_drive.specs.declared.adaptor_errors.AdaptorError.{AdaptorError}
 use Rattle.vx_drive.specs.declared.adaptor_errors.AdaptorError.TheVariants as errors
@@ -23,16 +24,21 @@ use Rattle.vx_base.specs.declared.locations.SegmentLocation.{SegmentLocation}
 
 -- ---- what a step keeps
 
-pub step_keeps : (old new : ScanData) → new.nodes ≡ old.nodes → new.job ≡ old.job → KeepsTold old.nodes old.job old.progress new.progress → Grows old.progress.reads.wanted new.progress.reads.wanted → KeepsColumns old.progress.leaves new.progress.leaves → KeepsWholes old.nodes old.job old.progress.wholes new.progress.wholes →
+pub step_keeps : (numbers : List ℕ) (old new : ScanData) → new.nodes ≡ old.nodes → new.job ≡ old.job → KeepsTold old.nodes old.job old.progress new.progress → Grows old.progress.reads.wanted new.progress.reads.wanted → KeepsColumns old.progress.leaves new.progress.leaves → KeepsWholesFor old.nodes old.job numbers old.progress.wholes new.progress.wholes →
     KeepsScan old new
-step_keeps old new nodes job told grows leaves wholes = record {
+step_keeps numbers old new nodes job told grows leaves wholes = record {
   nodes = nodes;
   job = job;
   told = λ outside is. subst (λ js. IsTold new.nodes js new.progress outside) (sym job) (subst (λ ns. IsTold ns old.job new.progress outside) (sym nodes) (told outside is));
   grows = grows;
   leaves = leaves;
-  wholes = wholes;
+  wholes = wholes_only old.nodes old.job numbers old.progress.wholes new.progress.wholes wholes;
 }
+
+-- what a step wants, for whichever splits
+pub step_wants : (numbers : List ℕ) (old new : ScanData) → WantsFor old.nodes old.job numbers old.progress new.progress → WantsReads old new
+step_wants numbers old new wants segment asked =
+    ⊎_elim (λ (a : IsAsked old.progress.reads.wanted segment). inl a) (λ (w : IsWantedBy old.nodes old.job numbers old.progress.leaves segment). inr w.0) (wants segment asked)
 
 -- the turn that a step takes
 pub step_gives : (turn : Turn) (old new : ScanData) → KeepsScan old new → WantsReads old new → new.refused ≡ old.refused → (old.refused ≡ false → TakesTurn old.nodes old.job old.progress new.progress turn) → (old.refused ≡ true → (◌≡◌ {A = Result Turn StepError} (Ok turn) (Ok turns.Done)) × (new ≡ old)) →

@@ -30,7 +30,7 @@ use Rattle.vx_steps.specs.Delivered.{KeepsLeaves, LacksNeed}
 use Rattle.vx_steps.specs.Releasing.{IsServed, LetsSpentGo, ServesAll}
 use Rattle.vx_steps.specs.Splits.{IsInside}
 use Rattle.vx_steps.specs.Turns.{AreLeavesKept, HasNeedCause, IsOutput, IsRefusal, LeavesLeaves, LeavesWholes, ReadsFor}
-use Rattle.vx_steps.specs.Jobs.{numbers_from, number_of_active, left_of, IsActive, AddsLeaves, IsAskedBy, IsAskedFor, IsGood, IsLast, IsLeafFor, IsTold, IsWantedBy, KeepsTold, KeepsWholes, KeepsWholesFor, OnlyKeeps, Starts, WantsFor, WantsOnly}
+use Rattle.vx_steps.specs.Jobs.{numbers_from, number_of_active, left_of, IsActive, AddsLeaves, IsAskedBy, IsAskedFor, IsGood, IsLast, IsLeafFor, IsTold, IsWantedBy, KeepsTold, KeepsWholes, KeepsWholesFor, OnlyKeeps, Starts, WantsFor}
 use Rattle.vx_steps.specs.Steps.{GivesOutput, GoesOn, HandsRead, HasCauseIn, HasSplitCause, HoldsAll, TakesTurn, work_left, IsActiveOutput, IsHeldAt, IsHeldUp, IsMissing, IsStepRefusal}
 use Rattle.std.proofs.lemmas.List.{set-get_or}
 use Rattle.std.proofs.lemmas.List.Edits.{length-remove, remove-append_left}
@@ -411,11 +411,6 @@ pub leaves_for : (nodes : List Node) (job : Job) (numbers more : List ℕ) (old 
 leaves_for nodes job numbers more old mid new among same only =
     let P : List Kept → Type 0 = λ ks. AddsLeaves nodes job more ks new in
     subst P same (λ n kept. ⊎_elim (λ (k : IsKept mid n). inl k) (λ (l : IsLeafFor nodes job numbers n). inr (record { number = l.number; among = among l.number l.among; split = l.split; at = l.at; read = l.read; reads = l.reads; leaf_is = l.leaf_is })) (only n kept))
-
--- and it is wanted for the scan
-pub wants_only : (nodes : List Node) (job : Job) (numbers : List ℕ) (old new : Progress) → WantsFor nodes job numbers old new → WantsOnly nodes job old new
-wants_only nodes job numbers old new wants segment asked =
-    ⊎_elim (λ (a : IsAsked old.reads.wanted segment). inl a) (λ (w : IsWantedBy nodes job numbers old.leaves segment). inr w.0) (wants segment asked)
 
 pub gives_later : (nodes : List Node) (job : Job) (old mid new : Progress) (number : ℕ) (column : ColumnData) → Starts nodes job old mid → KeepsTold nodes job old mid → GivesOutput nodes job mid new number column → GivesOutput nodes job old new number column
 gives_later nodes job old mid new number column starts told gives =

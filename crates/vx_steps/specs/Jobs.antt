@@ -117,15 +117,11 @@ pub record IsReadFor (nodes : List Node) (job : Job) (leaves : List Kept) (segme
   pub not_kept : kept_at leaves read.leaf ≡ None
   pub segment_is : read.segment ≡ segment
 
--- The segments that are wanted from now on are read for the scan.
-abbrev pub WantsOnly : List Node → Job → Progress → Progress → Type 0
-WantsOnly nodes job old new = (segment : ℕ) → IsAsked new.reads.wanted segment → IsAsked old.reads.wanted segment ⊎ IsReadFor nodes job old.leaves segment
-
 -- a selected row of one of these splits reads the segment, by a leaf of which no column is kept
 abbrev pub IsWantedBy : List Node → Job → List ℕ → List Kept → ℕ → Type 0
 IsWantedBy nodes job numbers leaves segment = (read : IsReadFor nodes job leaves segment) × Among read.number numbers
 
--- They are read for these splits.
+-- The segments that are wanted from now on are read for these splits.
 abbrev pub WantsFor : List Node → Job → List ℕ → Progress → Progress → Type 0
 WantsFor nodes job numbers old new = (segment : ℕ) → IsAsked new.reads.wanted segment → IsAsked old.reads.wanted segment ⊎ IsWantedBy nodes job numbers old.leaves segment
 

@@ -6,7 +6,7 @@ ghost use Rattle.vx_plan.specs.Refs.{number_of};
 ghost use Rattle.vx_plan.specs.Rules.{node_at};
 ghost use Rattle.vx_steps.specs.declared.progress.Turn.TheVariants.{Done};
 ghost use Rattle.vx_steps.specs.Held.{AreTyped, FitsOffset};
-ghost use Rattle.vx_steps.specs.Jobs.{AddsLeaves, IsUnstarted, KeepsBound, KeepsColumns, KeepsTold, KeepsWholes, KeepsWholesFor, WantsFor, WantsOnly};
+ghost use Rattle.vx_steps.specs.Jobs.{AddsLeaves, IsUnstarted, KeepsBound, KeepsColumns, KeepsTold, KeepsWholesFor, WantsFor};
 ghost use Rattle.vx_steps.specs.Kept.{kept_data, AreOfDistinctPlans};
 ghost use Rattle.vx_steps.specs.Leavings.{IsReadBehind};
 ghost use Rattle.vx_steps.specs.Offers.{IsForLeaf, IsForPlan, Keeps};
@@ -309,11 +309,9 @@ impl<'a> Scan<'a> {
         ensures grows { Grows self.old.progress.reads.wanted self.new.progress.reads.wanted }
         ensures leaves { KeepsColumns self.old.progress.leaves self.new.progress.leaves }
         ensures leaves_only { AddsLeaves self.old.nodes self.old.job (active_in result self.new.progress) self.old.progress.leaves self.new.progress.leaves }
-        ensures wholes { KeepsWholes self.old.nodes self.old.job self.old.progress.wholes self.new.progress.wholes }
-        ensures wholes_for { KeepsWholesFor self.old.nodes self.old.job (active_in result self.new.progress) self.old.progress.wholes self.new.progress.wholes }
+        ensures wholes { KeepsWholesFor self.old.nodes self.old.job (active_in result self.new.progress) self.old.progress.wholes self.new.progress.wholes }
         ensures bounded { KeepsBound self.old.job self.old.progress self.new.progress }
-        ensures wants { IfOk result (λ _. WantsOnly self.old.nodes self.old.job self.old.progress self.new.progress) }
-        ensures wants_for { IfOk result (λ _. WantsFor self.old.nodes self.old.job (active_in result self.new.progress) self.old.progress self.new.progress) }
+        ensures wants { IfOk result (λ _. WantsFor self.old.nodes self.old.job (active_in result self.new.progress) self.old.progress self.new.progress) }
         ensures turn { self.old.refused ≡ false → IfOk result (TakesTurn self.old.nodes self.old.job self.old.progress self.new.progress) }
         ensures lowers { IfOk result (λ turn. GoesOn turn → work_left self.old.job self.new.progress < work_left self.old.job self.old.progress) }
         ensures after_refusal { self.old.refused ≡ true → (result ≡ Ok Done) × (self.new ≡ self.old) }

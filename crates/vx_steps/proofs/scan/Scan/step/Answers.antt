@@ -1,9 +1,9 @@
 use Rattle.std.proofs.Common.{◌<◌, Ok, subst}
-use Rattle.vx_steps.specs.Jobs.{active_of, KeepsColumns, KeepsTold, KeepsWholes, WantsFor, WantsOnly}
+use Rattle.vx_steps.specs.Jobs.{KeepsColumns, KeepsTold, WantsFor}
 use Rattle.vx_steps.specs.ScanData.{ScanData}
 use Rattle.vx_steps.specs.Wants.{Grows}
 use Rattle.vx_steps.specs.Steps.{active_in, GoesOn, IsStepRefusal, work_left}
-use Rattle.vx_steps.proofs.Finishing.{turn_lowers, wants_only, wholes_only}
+use Rattle.vx_steps.proofs.Finishing.{turn_lowers}
 use Rattle.vx_steps.proofs.scan.Scan.step.Goals as goal
 
 pub returns-in-Ok-clause-told : goal.returns-in-Ok-clause-told
@@ -46,22 +46,7 @@ returns-in-Err-clause-leaves c =
     let P : ScanData → Type 0 = λ scan. KeepsColumns scan.progress.leaves c.next_turn.new.progress.leaves in
     subst P c.self.view_is c.in-Err.ensures.leaves
 
-pub returns-in-Ok-clause-wants_for : goal.returns-in-Ok-clause-wants_for
-returns-in-Ok-clause-wants_for c =
-    let P : ScanData → Type 0 = λ scan. WantsFor scan.nodes scan.job (active_in (Ok c.in-Ok.turn) c.next_turn.new.progress) scan.progress c.next_turn.new.progress in
-    subst P c.self.view_is c.in-Ok.ensures.wants
-
 pub returns-in-Ok-clause-wants : goal.returns-in-Ok-clause-wants
 returns-in-Ok-clause-wants c =
-    let P : ScanData → Type 0 = λ scan. WantsOnly scan.nodes scan.job scan.progress c.next_turn.new.progress in
-    subst P c.self.view_is (wants_only c.self.inside.table.now c.self.inside.job (active_in (Ok c.in-Ok.turn) c.next_turn.new.progress) c.self.inside.progress c.next_turn.new.progress c.in-Ok.ensures.wants)
-
-pub returns-in-Ok-clause-wholes : goal.returns-in-Ok-clause-wholes
-returns-in-Ok-clause-wholes c =
-    let P : ScanData → Type 0 = λ scan. KeepsWholes scan.nodes scan.job scan.progress.wholes c.next_turn.new.progress.wholes in
-    subst P c.self.view_is (wholes_only c.self.inside.table.now c.self.inside.job (active_in (Ok c.in-Ok.turn) c.next_turn.new.progress) c.self.inside.progress.wholes c.next_turn.new.progress.wholes c.in-Ok.ensures.wholes)
-
-pub returns-in-Err-clause-wholes : goal.returns-in-Err-clause-wholes
-returns-in-Err-clause-wholes c =
-    let P : ScanData → Type 0 = λ scan. KeepsWholes scan.nodes scan.job scan.progress.wholes c.next_turn.new.progress.wholes in
-    subst P c.self.view_is (wholes_only c.self.inside.table.now c.self.inside.job (active_of c.next_turn.new.progress) c.self.inside.progress.wholes c.next_turn.new.progress.wholes c.in-Err.ensures.wholes)
+    let P : ScanData → Type 0 = λ scan. WantsFor scan.nodes scan.job (active_in (Ok c.in-Ok.turn) c.next_turn.new.progress) scan.progress c.next_turn.new.progress in
+    subst P c.self.view_is c.in-Ok.ensures.wants
