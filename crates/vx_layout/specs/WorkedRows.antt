@@ -1,12 +1,13 @@
 -- Trees and files that were written by hand, on which the definitions of rows are checked.
-use Rattle.std.specs.Prelude.{codes, ℕ, pos, negsuc, true, false, List, [], ◌∷◌, ◌++◌, map, Option, Some}
+use Rattle.std.specs.Prelude.{codes, ℕ, pos, negsuc, true, false, List, [], ◌∷◌, map, Option, Some}
 use Rattle.vx_base.specs.declared.locations.SegmentLocation.{SegmentLocation}
-use Rattle.vx_base.specs.declared.dtypes.IntKind.TheVariants.{U8, I8, I32, I64}
+use Rattle.vx_base.specs.declared.dtypes.IntKind.TheVariants.{U8, I8, I32}
 use Rattle.vx_base.specs.declared.dtypes.Nullability.TheVariants.{NonNullable, Nullable}
 use Rattle.vx_base.specs.Data.{DataType, bool_type, int_type, utf8_type, struct_type, list_type, no_members, member, Datum, null, truth, number, structure, no_items, item}
 use Rattle.vx_expr.specs.declared.statistics.Statistic.TheVariants.{Min, Max}
+use Rattle.vx_rows.specs.ByHand.{i64, segments_in}
 use Rattle.vx_rows.specs.Derivations.{Leaves}
-use Rattle.vx_rows.specs.Reads.{Way, directly, Found, a_leaf_row, a_code, a_list_row, Read}
+use Rattle.vx_rows.specs.Reads.{Way, directly}
 use Rattle.vx_layout.specs.declared.nodes.LayoutKind.TheVariants as kinds
 use Rattle.vx_layout.specs.Nodes.{Node, parent_node}
 use Rattle.vx_layout.specs.Trees.{leaf, Forest, no_trees, tree, head_at, subtree}
@@ -21,9 +22,6 @@ i8 = int_type I8 NonNullable
 
 abbrev pub i32 : DataType
 i32 = int_type I32 NonNullable
-
-abbrev pub i64 : DataType
-i64 = int_type I64 NonNullable
 
 abbrev text_type : DataType
 text_type = utf8_type NonNullable
@@ -43,15 +41,6 @@ abbrev pub worth : List ℕ → List SegmentLocation → List Node → KeptField
 worth file locations nodes kept rows = map (value (file_leaves file locations) (subtree nodes 0) kept) rows
 
 -- the segments whose cells a row of the root reads, each with the way to it
-abbrev segment_in : Way → Found → List (Way × ℕ)
-segment_in way (a_leaf_row found) = (way, found.segment) ∷ []
-segment_in way (a_code found) = []
-segment_in way (a_list_row list row) = []
-
-abbrev segments_in : List Read → List (Way × ℕ)
-segments_in [] = []
-segments_in (read ∷ reads) = segment_in read.way read.found ++ segments_in reads
-
 abbrev pub segments_read : List Node → KeptFields → ℕ → List (Way × ℕ)
 segments_read nodes kept row = segments_in (reads (subtree nodes 0) directly kept row)
 

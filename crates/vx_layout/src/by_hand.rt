@@ -4,6 +4,7 @@ ghost use Rattle.std.specs.Prelude.{◌≡◌, ◌∷◌, [], codes, Some, None,
 ghost use Rattle.vx_base.specs.declared.dtypes.Nullability.TheVariants.{NonNullable, Nullable};
 ghost use Rattle.vx_base.specs.Data.{bool_type, list_type, null, truth};
 ghost use Rattle.vx_expr.specs.Terms.{root, get_field, conjunction, row_number};
+ghost use Rattle.vx_rows.specs.ByHand.{i64};
 ghost use Rattle.vx_rows.specs.Reads.{directly, through, Finds, FindsBy, IsIn};
 ghost use Rattle.vx_layout.specs.declared.errors.LayoutError.TheVariants.{BadLayout};
 ghost use Rattle.vx_layout.specs.Children.{times_child};
@@ -12,7 +13,7 @@ ghost use Rattle.vx_layout.specs.Faults.{RefusedBy};
 ghost use Rattle.vx_layout.specs.Trees.{chunks, head_at, subtree};
 ghost use Rattle.vx_layout.specs.Rows.{reads, value};
 ghost use Rattle.vx_layout.specs.Kept.{all, only, kept_fields};
-ghost use Rattle.vx_layout.specs.WorkedRows.{i64, flat_node, chunked_node, two_chunks, two_leaves, two_truths, at, worth, segments_read, three_rows, null_structs, second_is_null, no_values, no_values_at, null_codes, code_zero, torn_value, torn_file, torn_at, one_range, one_segment, twice, signed_and_unsigned, with_list, list_field, list_file, field_a, seven_and_null, in_zones, zoned_file, zoned_at, one_two_three, nested};
+ghost use Rattle.vx_layout.specs.WorkedRows.{flat_node, chunked_node, two_chunks, two_leaves, two_truths, at, worth, segments_read, three_rows, null_structs, second_is_null, no_values, no_values_at, null_codes, code_zero, torn_value, torn_file, torn_at, one_range, one_segment, twice, signed_and_unsigned, with_list, list_field, list_file, field_a, seven_and_null, in_zones, zoned_file, zoned_at, one_two_three, nested};
 
 /// No nodes are no tree; a child twice, the depth of a chunk's chunk and of a list. Two chunks: their tree, and the
 /// value of a row of the second and of no row.

@@ -1,7 +1,7 @@
 -- The fields that a bound expression gets from its root are fields of the root, and so they are kept.
 use Rattle.std.proofs.Common.{◌≡◌, ℕ, Bool, true, false, cond, ◌||◌, List, [], ◌∷◌, ◌++◌, Option, Some, None, refl, sym, subst}
 use Rattle.std.specs.Prelude.{option_and_then, option_map, IsSome, IfSome}
-use Rattle.std.specs.List.{list_any, AllByRecursion}
+use Rattle.std.specs.List.{AllByRecursion}
 use Rattle.std.specs.Str.{bytes_eq}
 use Rattle.std.proofs.lemmas.Slice.Eq.{bytes_eq-Decides}
 use Rattle.vx_base.specs.declared.dtypes.Nullability.{Nullability}
@@ -11,6 +11,7 @@ use Rattle.vx_expr.specs.Terms.{Term, root, literal, get_field, pack, negation, 
 use Rattle.vx_expr.specs.Types.{on_both, type_in, field_type, type_of, types_in, pack_type, names_in, negation_type, logic_type, comparison_type, arithmetic_type, test_type, bound_test_type, one_more_member}
 use Rattle.vx_expr.specs.Mentions.{joined, root_fields, root_fields_in}
 use Rattle.vx_layout.specs.Kept.{only, is_kept, names_among}
+use Rattle.vx_layout.proofs.NameSets.{stands_in}
 use Rattle.vx_lower.specs.KeptRows.{KeepsFieldsOf}
 
 -- ---- parts that have a dtype
@@ -72,35 +73,32 @@ mutual
 
 -- ---- and is kept
 
-abbrev among : List (List ℕ) → List ℕ → Bool
-among names name = list_any (λ other. bytes_eq other name) names
-
 or_true : (a b : Bool) → b ≡ true → (a || b) ≡ true
 or_true true b e = refl
 or_true false b e = e
 
 -- a name that is looked at: it is kept where it is asked for
-kept_by : (k b : Bool) (other name : List ℕ) (rest : List (List ℕ)) → bytes_eq other name ≡ b → (b ≡ true → k ≡ true) → (b ≡ false → among rest name ≡ true) → among (cond k (other ∷ rest) rest) name ≡ true
+kept_by : (k b : Bool) (other name : List ℕ) (rest : List (List ℕ)) → bytes_eq other name ≡ b → (b ≡ true → k ≡ true) → (b ≡ false → stands_in rest name ≡ true) → stands_in (cond k (other ∷ rest) rest) name ≡ true
 kept_by true true other name rest e asked later = rw e refl
-kept_by true false other name rest e asked later = or_true (bytes_eq other name) (among rest name) (later refl)
+kept_by true false other name rest e asked later = or_true (bytes_eq other name) (stands_in rest name) (later refl)
 kept_by false true other name rest e asked later = absurd (let no : false ≡ true = asked refl in cc)
 kept_by false false other name rest e asked later = later refl
 
 type_behind : (other name : List ℕ) (t : DataType) (ms : Members) → bytes_eq other name ≡ false → IsSome (type_in (member other t ms) name) → IsSome (type_in ms name)
 type_behind other name t ms e some = rw e at some
 
-kept_named : (ms : Members) (names : List (List ℕ)) (name : List ℕ) → IsNameIn ms name → among names name ≡ true → among (names_among ms names) name ≡ true
+kept_named : (ms : Members) (names : List (List ℕ)) (name : List ℕ) → IsNameIn ms name → stands_in names name ≡ true → stands_in (names_among ms names) name ≡ true
 kept_named no_members names name some asked = absurd cc
 kept_named (member other t ms) names name some asked =
-    kept_by (among names other) (bytes_eq other name) other name (names_among ms names) refl
-    (λ e. let same : other ≡ name = (bytes_eq-Decides other name).0 e in subst (λ (n : List ℕ). among names n ≡ true) (sym same) asked)
+    kept_by (stands_in names other) (bytes_eq other name) other name (names_among ms names) refl
+    (λ e. let same : other ≡ name = (bytes_eq-Decides other name).0 e in subst (λ (n : List ℕ). stands_in names n ≡ true) (sym same) asked)
     (λ e. kept_named ms names name (type_behind other name t ms e some) asked)
 
-each_named : (ms : Members) (names some_names : List (List ℕ)) → ((name : List ℕ) → among some_names name ≡ true → among names name ≡ true) → AllByRecursion (IsNameIn ms) some_names → AllByRecursion (λ name. is_kept (only (names_among ms names)) name ≡ true) some_names
+each_named : (ms : Members) (names some_names : List (List ℕ)) → ((name : List ℕ) → stands_in some_names name ≡ true → stands_in names name ≡ true) → AllByRecursion (IsNameIn ms) some_names → AllByRecursion (λ name. is_kept (only (names_among ms names)) name ≡ true) some_names
 each_named ms names [] inside each = tt
 each_named ms names (name ∷ rest) inside each =
     let same : bytes_eq name name ≡ true = (bytes_eq-Decides name name).1 refl in
-    (kept_named ms names name each.0 (inside name (rw same refl)), each_named ms names rest (λ other h. inside other (or_true (bytes_eq name other) (among rest other) h)) each.1)
+    (kept_named ms names name each.0 (inside name (rw same refl)), each_named ms names rest (λ other h. inside other (or_true (bytes_eq name other) (stands_in rest other) h)) each.1)
 
 pub keeps_fields : (ms : Members) (n : Nullability) (e : Term) (names : List (List ℕ)) → IsSome (type_of (struct_type ms n) e) → root_fields e ≡ Some names → KeepsFieldsOf (only (names_among ms names)) (root_fields e)
 keeps_fields ms n e names some is =

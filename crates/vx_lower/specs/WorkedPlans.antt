@@ -1,6 +1,6 @@
 -- Trees that were written by hand and the plans that they are lowered to, on which the definitions of lowering and
 -- of the row index are checked.
-use Rattle.std.specs.Prelude.{codes, ℕ, pos, false, ◌+◌, List, [], ◌∷◌, ◌++◌, map, Option, Some}
+use Rattle.std.specs.Prelude.{codes, ℕ, pos, false, ◌+◌, List, [], ◌∷◌, ◌++◌, map, Option}
 use Rattle.vx_base.specs.declared.dtypes.IntKind.TheVariants.{U8, I64}
 use Rattle.vx_base.specs.declared.dtypes.Nullability.TheVariants.{NonNullable, Nullable}
 use Rattle.vx_base.specs.Data.{DataType, bool_type, int_type, struct_type, list_type, no_members, member, Datum, number}
@@ -12,15 +12,13 @@ use Rattle.vx_layout.specs.Kept.{KeptFields, only}
 use Rattle.vx_layout.specs.Trees.{Tree, leaf, chunks, fields, dict, lists, zoned, no_trees, tree, always, valid_by}
 use Rattle.vx_plan.specs.Plans.{Plan, concat_plan, eval_plan, filter_plan, pack_plan, take_plan, list_plan, scan_plan, zoned_plan, no_plans, plan, all_valid, valid_as}
 use Rattle.vx_plan.specs.PlanRows.{plan_value, plan_reads}
-use Rattle.vx_rows.specs.Derivations.{Leaves}
+use Rattle.vx_rows.specs.ByHand.{all_have, i64, u64}
 use Rattle.vx_rows.specs.Reads.{Found, a_leaf_row, a_code, a_list_row, Read}
 use Rattle.vx_rows.specs.Heads.{Head}
 use Rattle.vx_rows.specs.Zones.{zones_of}
 use Rattle.vx_lower.specs.Planned.{planned}
 use Rattle.vx_lower.specs.Projected.{Projection, projected_at}
-use Rattle.vx_base.specs.ColumnCalls.{natural}
 use Rattle.vx_layout.specs.WorkedRows.{three_rows}
-use Rattle.vx_plan.specs.WorkedPlans.{i64, u64}
 
 abbrev codes_type : DataType
 codes_type = int_type U8 Nullable
@@ -148,10 +146,6 @@ number_and_b = arithmetic Add row_number (get_field (codes "b") root)
 abbrev pub projection : Term → DataType → ℕ → Projection
 projection e t offset = record { root = pairs 0 0; expression = record { term = e; root = pair; dtype = t }; offset = offset }
 
--- each segment has these values
-abbrev pub all_have : List Datum → Leaves
-all_have values t rows segment = Some values
-
 -- what the rows are worth, by the plan and by the tree
 abbrev pub worth : List Datum → Projection → List (Option Datum)
 worth values p = map (plan_value (all_have values) p.offset (planned p)) three_rows
@@ -171,6 +165,3 @@ segments_in (read ∷ reads) = segment_in read.found ++ segments_in reads
 -- the segments whose cells the first row reads
 abbrev pub segments_read : Projection → List ℕ
 segments_read p = segments_in (plan_reads p.offset (planned p) 0)
-
-abbrev pub naturals : List ℕ → List Datum
-naturals ns = map natural ns

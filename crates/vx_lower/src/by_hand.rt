@@ -10,10 +10,10 @@ ghost use Rattle.vx_expr.specs.Rewritten.{with_row_number};
 ghost use Rattle.vx_expr.specs.Terms.{arithmetic, get_field, literal, root, row_number};
 ghost use Rattle.vx_layout.specs.Kept.{all, only};
 ghost use Rattle.vx_plan.specs.Plans.{all_valid, eval_plan, no_plans, pack_plan, plan, row_idx_plan};
-ghost use Rattle.vx_plan.specs.WorkedPlans.{i64, u64};
+ghost use Rattle.vx_rows.specs.ByHand.{i64, naturals, u64};
 ghost use Rattle.vx_lower.specs.Lowered.{lowered};
 ghost use Rattle.vx_lower.specs.Planned.{planned};
-ghost use Rattle.vx_lower.specs.WorkedPlans.{b_alone, b_of_each, chunked_b, chunked_pairs, field_b, flat, head, in_zones, looked_up_numbers, looked_up_pairs, naturals, null_structs, number_and_b, packed_b, packed_lists, packed_nulls, packed_pairs, pair, pairs, projected, projection, scanned, segments_read, taken_numbers, taken_pairs, ten_through_a, two_behind, two_chunks, two_lists, two_scanned, worth, zoned_b, zoned_pairs, zones_beside};
+ghost use Rattle.vx_lower.specs.WorkedPlans.{b_alone, b_of_each, chunked_b, chunked_pairs, field_b, flat, head, in_zones, looked_up_numbers, looked_up_pairs, null_structs, number_and_b, packed_b, packed_lists, packed_nulls, packed_pairs, pair, pairs, projected, projection, scanned, segments_read, taken_numbers, taken_pairs, ten_through_a, two_behind, two_chunks, two_lists, two_scanned, worth, zoned_b, zoned_pairs, zones_beside};
 
 /// A leaf is a filter over a scan, chunks are a concat, a struct is a pack of its fields with its validity, a
 /// dictionary a take of its codes and its values, a list a pack of elements and offsets. Zones stand beside the data.

@@ -1,23 +1,17 @@
 -- Plans that were written by hand, on which the definitions of rows, of reads and of what is reached are checked.
-use Rattle.std.specs.Prelude.{codes, ℕ, pos, List, [], ◌∷◌, ◌++◌, map, Option, Some}
+use Rattle.std.specs.Prelude.{codes, ℕ, pos, List, [], ◌∷◌, map, Option}
 use Rattle.std.specs.declared.ops.Range.{Range}
-use Rattle.vx_base.specs.declared.dtypes.IntKind.TheVariants.{U8, I64, U64}
+use Rattle.vx_base.specs.declared.dtypes.IntKind.TheVariants.{U8}
 use Rattle.vx_base.specs.declared.dtypes.Nullability.TheVariants.{NonNullable, Nullable}
 use Rattle.vx_base.specs.Data.{DataType, bool_type, int_type, struct_type, list_type, no_members, member, Datum, number}
 use Rattle.vx_expr.specs.declared.operators.ArithOp.TheVariants.{Add, Div}
 use Rattle.vx_expr.specs.Terms.{root, literal, get_field, arithmetic}
-use Rattle.vx_rows.specs.Derivations.{Leaves}
-use Rattle.vx_rows.specs.Reads.{Way, Found, a_leaf_row, a_code, a_list_row, Read}
+use Rattle.vx_rows.specs.ByHand.{all_have, i64, segments_in, u64}
+use Rattle.vx_rows.specs.Reads.{Way}
 use Rattle.vx_rows.specs.Heads.{Head}
 use Rattle.vx_plan.specs.declared.reaching.SegmentReach.{SegmentReach}
 use Rattle.vx_plan.specs.Plans.{Plan, concat_plan, eval_plan, filter_plan, pack_plan, take_plan, share_plan, list_plan, row_idx_plan, scan_plan, no_plans, plan, all_valid, valid_as}
 use Rattle.vx_plan.specs.PlanRows.{plan_value, plan_reads}
-
-abbrev pub i64 : DataType
-i64 = int_type I64 NonNullable
-
-abbrev pub u64 : DataType
-u64 = int_type U64 NonNullable
 
 abbrev pub head : DataType → ℕ → Head
 head t rows = record { number = 0; dtype = t; rows = rows }
@@ -54,28 +48,12 @@ ten_through = eval_plan (head i64 3) (arithmetic Div (literal (number (pos 10)) 
 
 -- ---- what rows are worth and read
 
--- each segment has these values
-abbrev pub all_have : List Datum → Leaves
-all_have values t rows segment = Some values
-
 abbrev pub worth : List Datum → ℕ → Plan → List ℕ → List (Option Datum)
 worth values offset p rows = map (plan_value (all_have values) offset p) rows
-
-abbrev segment_in : Way → Found → List (Way × ℕ)
-segment_in way (a_leaf_row found) = (way, found.segment) ∷ []
-segment_in way (a_code found) = []
-segment_in way (a_list_row list row) = []
-
-abbrev segments_in : List Read → List (Way × ℕ)
-segments_in [] = []
-segments_in (read ∷ reads) = segment_in read.way read.found ++ segments_in reads
 
 -- the segments whose cells a row reads, each with the way to it
 abbrev pub segments_read : Plan → ℕ → List (Way × ℕ)
 segments_read p row = segments_in (plan_reads 0 p row)
-
-abbrev pub natural_rows : List ℕ → List Datum
-natural_rows numbers = map (λ n. number (pos n)) numbers
 
 -- ---- what is reached
 

@@ -4,7 +4,8 @@ ghost use Rattle.std.specs.Prelude.{◌≡◌, ◌∷◌, [], false, pos, true, 
 ghost use Rattle.vx_base.specs.Data.{no_items, null, number, structure, truth};
 ghost use Rattle.vx_plan.specs.declared.reaching.Reach.TheVariants.{Fixed, Offset};
 ghost use Rattle.vx_plan.specs.Reaches.{reached, selected_of};
-ghost use Rattle.vx_plan.specs.WorkedPlans.{entry, looked_up_in, natural_rows, null_structs, rows, segments_read, shared_flats, ten_through, three_flats, two_behind, two_lists, worth};
+ghost use Rattle.vx_plan.specs.WorkedPlans.{entry, looked_up_in, null_structs, rows, segments_read, shared_flats, ten_through, three_flats, two_behind, two_lists, worth};
+ghost use Rattle.vx_rows.specs.ByHand.{naturals};
 ghost use Rattle.vx_rows.specs.Reads.{directly, through};
 
 /// Chunks are reached in order, each where it is met, at the rows of the root; a chunk of whose rows none is selected
@@ -28,8 +29,8 @@ pub fn reach_by_hand()
 pub fn rows_by_hand()
     ensures validity { worth (truth true ∷ truth false ∷ truth true ∷ []) 0 null_structs (0 ∷ 1 ∷ 2 ∷ []) ≡ Some (structure no_items) ∷ Some null ∷ Some (structure no_items) ∷ [] }
     ensures row_index { worth [] 18446744073709551612 two_behind (0 ∷ 1 ∷ 2 ∷ []) ≡ Some (number (pos 18446744073709551614)) ∷ Some (number (pos 18446744073709551615)) ∷ None ∷ [] }
-    ensures worked_out { worth (natural_rows (5 ∷ 0 ∷ 2 ∷ [])) 0 ten_through (0 ∷ 1 ∷ 2 ∷ []) ≡ Some (number (pos 2)) ∷ None ∷ Some (number (pos 5)) ∷ [] }
-    ensures chunks { worth (natural_rows (4 ∷ 5 ∷ 6 ∷ [])) 0 three_flats (1 ∷ 8 ∷ []) ≡ Some (number (pos 5)) ∷ Some (number (pos 6)) ∷ [] }
+    ensures worked_out { worth (naturals (5 ∷ 0 ∷ 2 ∷ [])) 0 ten_through (0 ∷ 1 ∷ 2 ∷ []) ≡ Some (number (pos 2)) ∷ None ∷ Some (number (pos 5)) ∷ [] }
+    ensures chunks { worth (naturals (4 ∷ 5 ∷ 6 ∷ [])) 0 three_flats (1 ∷ 8 ∷ []) ≡ Some (number (pos 5)) ∷ Some (number (pos 6)) ∷ [] }
     ensures no_values { segments_read (looked_up_in 0) 1 ≡ (directly, 0) ∷ [] }
     ensures each_value { segments_read (looked_up_in 2) 1 ≡ (directly, 0) ∷ (through 0, 1) ∷ (through 0, 1) ∷ [] }
     ensures shared { segments_read shared_flats 4 ≡ (directly, 1) ∷ (directly, 0) ∷ (directly, 0) ∷ (directly, 0) ∷ (directly, 1) ∷ (directly, 1) ∷ (directly, 1) ∷ (directly, 2) ∷ (directly, 2) ∷ (directly, 2) ∷ [] }

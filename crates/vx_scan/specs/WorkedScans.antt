@@ -5,7 +5,8 @@ use Rattle.vx_expr.specs.Terms.{root}
 use Rattle.vx_layout.specs.declared.nodes.LayoutKind.TheVariants as kinds
 use Rattle.vx_layout.specs.Nodes.{Node, parent_node}
 use Rattle.vx_layout.specs.Trees.{head_of, subtree}
-use Rattle.vx_layout.specs.WorkedRows.{at, flat_node, i64, i32}
+use Rattle.vx_layout.specs.WorkedRows.{at, flat_node, i32}
+use Rattle.vx_rows.specs.ByHand.{i64}
 use Rattle.vx_lower.specs.Projected.{Projection}
 
 -- the whole of each row of a layout

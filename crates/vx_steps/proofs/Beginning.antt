@@ -17,6 +17,7 @@ use Rattle.vx_steps.specs.ScanData.{ScanData, StaysTold}
 use Rattle.vx_steps.specs.Splits.{IsInside}
 use Rattle.vx_steps.specs.Wholes.{UsesGiven}
 use Rattle.vx_steps.proofs.Apart.{apart_empty}
+use Rattle.vx_steps.proofs.Fitting.{none_typed}
 use Rattle.vx_steps.proofs.Releasing.{serves_handed}
 
 uses_empty : (given : List Kept) → UsesGiven given [] []
@@ -53,9 +54,6 @@ good_with_given nodes job new progress given unstarted good typed is =
     subst (λ (j : Job). IsGood nodes j progress) (sym is)
     (good_unstarted nodes (record { plan = job.plan; splits = job.splits; given = given; max_active = job.max_active; offset = job.offset }) progress unstarted good.known good.inside good.fits typed good.typed_leaves good.typed_made good.apart_made (record { gone_late = good.serves.gone_late; passed_late = good.serves.passed_late; served = good.serves.served; active_after = good.serves.active_after; gone_after = good.serves.gone_after }))
 
-made_none : (nodes : List Node) → AreTyped nodes []
-made_none nodes n column at = absurd cc
-
 -- With another offset, and none of the whole values that were made, a scan stays good.
 pub good_with_offset : (nodes : List Node) (job : Job) (progress new : Progress) (offset : ℕ) → FitsOffset nodes offset → IsGood nodes job progress → new ≡ record progress { wholes = record progress.wholes { made = [] } } → IsGood nodes (record job { offset = offset }) new
 good_with_offset nodes job progress new offset fits good is =
@@ -65,7 +63,7 @@ good_with_offset nodes job progress new offset fits good is =
       fits = fits;
       typed_given = good.typed_given;
       typed_leaves = good.typed_leaves;
-      typed_made = made_none nodes;
+      typed_made = none_typed nodes;
       apart_made = apart_empty [] refl;
       apart_used = good.apart_used;
       uses = good.uses;

@@ -4,7 +4,7 @@ use Rattle.vx_base.specs.declared.dtypes.Nullability.TheVariants.{NonNullable}
 use Rattle.vx_base.specs.ColumnCalls.{natural}
 use Rattle.vx_base.specs.Columns.{ColumnData}
 use Rattle.vx_base.specs.Data.{bool_type, truth}
-use Rattle.vx_plan.specs.WorkedPlans.{i64}
+use Rattle.vx_rows.specs.ByHand.{i64}
 use Rattle.vx_steps.specs.declared.splits.Split.{Split}
 use Rattle.vx_steps.specs.Held.{Held}
 use Rattle.vx_steps.specs.KeptData.{Kept}

@@ -3,9 +3,9 @@
 ghost use Rattle.std.specs.Prelude.{◌≡◌, ◌∷◌, [], false, map, None, Some, true};
 ghost use Rattle.vx_base.specs.ColumnCalls.{natural};
 ghost use Rattle.vx_base.specs.Data.{item, no_items, null, structure, truth};
-ghost use Rattle.vx_rows.specs.ByHand.{handed_for, leaves_in};
+ghost use Rattle.vx_rows.specs.ByHand.{handed_for, leaves_in, naturals};
 ghost use Rattle.vx_plan.specs.declared.nodes.PlanKind.TheVariants.{Filter, Share, Take};
-ghost use Rattle.vx_plan.specs.WorkedPlans.{looked_up_in, natural_rows, three_flats};
+ghost use Rattle.vx_plan.specs.WorkedPlans.{looked_up_in, three_flats};
 ghost use Rattle.vx_steps.specs.ByHand.{held_of, kept_of, numbers_in, split_of, stored_of, truths_in, wanted_of};
 ghost use Rattle.vx_steps.specs.Computed.{whole_in};
 ghost use Rattle.vx_steps.specs.Given.{given_as, row_value, whole_value};
@@ -45,11 +45,11 @@ pub fn kept_columns_by_hand()
 /// without one. Whole values are those of all rows, and a part that is missing leaves none. The last part of structs is
 /// their validity, where they have one.
 pub fn columns_by_hand()
-    ensures selected { map (row_value (leaves_in (natural_rows (1 ∷ 2 ∷ 3 ∷ []) ∷ natural_rows (4 ∷ 5 ∷ 6 ∷ []) ∷ [])) None 0 three_flats) (rows_of 2 (true ∷ false ∷ true ∷ [])) ≡ Some (natural 3) ∷ Some (natural 5) ∷ [] }
+    ensures selected { map (row_value (leaves_in (naturals (1 ∷ 2 ∷ 3 ∷ []) ∷ naturals (4 ∷ 5 ∷ 6 ∷ []) ∷ [])) None 0 three_flats) (rows_of 2 (true ∷ false ∷ true ∷ [])) ≡ Some (natural 3) ∷ Some (natural 5) ∷ [] }
     ensures handed_in { map (row_value (leaves_in ((natural 0 ∷ natural 1 ∷ null ∷ natural 2 ∷ []) ∷ [])) (Some (handed_for 0 (natural 4 ∷ natural 6 ∷ []))) 0 (looked_up_in 2)) (0 ∷ 1 ∷ 2 ∷ 3 ∷ []) ≡ Some (natural 4) ∷ Some (natural 6) ∷ Some null ∷ None ∷ [] }
     ensures not_handed_in { map (row_value (leaves_in ((natural 0 ∷ natural 1 ∷ null ∷ natural 2 ∷ []) ∷ [])) None 0 (looked_up_in 2)) (0 ∷ 2 ∷ []) ≡ None ∷ None ∷ [] }
-    ensures whole { whole_value (leaves_in (natural_rows (1 ∷ 2 ∷ 3 ∷ []) ∷ natural_rows (4 ∷ 5 ∷ 6 ∷ []) ∷ natural_rows (7 ∷ 8 ∷ 9 ∷ []) ∷ [])) 0 three_flats ≡ Some (natural_rows (1 ∷ 2 ∷ 3 ∷ 4 ∷ 5 ∷ 6 ∷ 7 ∷ 8 ∷ 9 ∷ [])) }
-    ensures part_missing { whole_value (leaves_in (natural_rows (1 ∷ 2 ∷ 3 ∷ []) ∷ natural_rows (4 ∷ 5 ∷ 6 ∷ []) ∷ [])) 0 three_flats ≡ None }
+    ensures whole { whole_value (leaves_in (naturals (1 ∷ 2 ∷ 3 ∷ []) ∷ naturals (4 ∷ 5 ∷ 6 ∷ []) ∷ naturals (7 ∷ 8 ∷ 9 ∷ []) ∷ [])) 0 three_flats ≡ Some (naturals (1 ∷ 2 ∷ 3 ∷ 4 ∷ 5 ∷ 6 ∷ 7 ∷ 8 ∷ 9 ∷ [])) }
+    ensures part_missing { whole_value (leaves_in (naturals (1 ∷ 2 ∷ 3 ∷ []) ∷ naturals (4 ∷ 5 ∷ 6 ∷ []) ∷ [])) 0 three_flats ≡ None }
     ensures validity_last { structs_at true (numbers_in (1 ∷ 2 ∷ []) ∷ truths_in (true ∷ false ∷ []) ∷ []) 2 ≡ structure (item (natural 1) no_items) ∷ null ∷ [] }
     ensures no_validity { structs_at false (numbers_in (1 ∷ []) ∷ truths_in (false ∷ []) ∷ []) 1 ≡ structure (item (natural 1) (item (truth false) no_items)) ∷ [] }
 {}
