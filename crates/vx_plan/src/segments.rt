@@ -1,9 +1,9 @@
 //! Which segments selected rows of a plan could read.
 
-ghost use Rattle.std.specs.Prelude.{◌≡◌, ◌+◌, ◌-◌, ◌<◌, ◌≤◌, ◌^◌, ◌++◌, min, Some, length, map, option_map, slice_index, IfOk, IfSome, OnOk};
+ghost use Rattle.std.specs.Prelude.{◌≡◌, ◌+◌, ◌-◌, ◌<◌, ◌≤◌, ◌^◌, [], ◌∷◌, ◌++◌, min, Some, length, map, option_map, slice_index, IfOk, IfSome, OnOk};
 ghost use Rattle.vx_plan.specs.Kinds.{HasKind, IsConcat, IsPack};
 ghost use Rattle.vx_plan.specs.Plans.{plan_at, plans_from};
-ghost use Rattle.vx_plan.specs.Reaches.{all_rows, any_row, chosen_rows, fits, reached, selected_chunks, selected_each, selected_in_chunk, selected_of};
+ghost use Rattle.vx_plan.specs.Reaches.{all_rows, any_row, chosen_rows, fits, fixed, reached, reached_at, selected_chunks, selected_each, selected_in_chunk, selected_of};
 ghost use Rattle.vx_plan.specs.Refs.{number_of};
 ghost use Rattle.vx_plan.specs.Rules.{node_at};
 ghost use Rattle.vx_plan.specs.Tables.{IsGoodTable};
@@ -84,6 +84,24 @@ fn clipped(span: Span, offset: u64, rows: u64) -> Span
     Span { start, count, skip }
 }
 
+/// Appends the segment of a leaf, for the root's rows of the span.
+fn collect_leaf(
+    segment: u32,
+    span: Span,
+    at: &Reach,
+    out: &mut Vec<SegmentReach>,
+) -> Result<(), AllocError>
+    requires end { span.start + span.count < 2 ^ 64 }
+    requires reach { fits at.now (span.start + span.count) }
+    ensures { OnOk result (out.new.items ≡ out.old.items ++ reached_at at.now span.start span.count segment ∷ []) }
+{
+    out.push(SegmentReach {
+        segment,
+        rows: at.root(&(span.start..span.start + span.count)),
+    })?;
+    Ok(())
+}
+
 /// Appends what a plan's rows of the span could read.
 #[cycle(collecting)]
 fn collect(
@@ -105,15 +123,8 @@ fn collect(
     if !is_any(mask, span) {
         return Ok(());
     }
-    let rows = span.start..span.start + span.count;
     match table.shape(plan) {
-        Shape::Leaf(segment) => {
-            out.push(SegmentReach {
-                segment,
-                rows: at.root(&rows),
-            })?;
-            Ok(())
-        }
+        Shape::Leaf(segment) => collect_leaf(segment, span, at, out),
         Shape::Same(child) => collect(table, PlanRef(child), span, mask, at, out),
         Shape::Over(child) => collect(table, PlanRef(child), span, mask, at, out),
         Shape::Zoned(content, _) => collect(table, PlanRef(content), span, mask, at, out),
@@ -121,31 +132,34 @@ fn collect(
         Shape::Fields(_) => collect_fields(table, plan, span, mask, at, out),
         Shape::LookUp(codes, values) => {
             collect(table, PlanRef(codes), span, mask, at, out)?;
-            collect_whole(table, PlanRef(values), &at.fixed(&rows), out)
+            collect_whole(table, PlanRef(values), span, at, out)
         }
-        Shape::Shared(child) => collect_whole(table, PlanRef(child), &at.fixed(&rows), out),
+        Shape::Shared(child) => collect_whole(table, PlanRef(child), span, at, out),
         Shape::Lists | Shape::RowNumbers => Ok(()),
     }
 }
 
-/// Appends what all rows of a plan could read, for a fixed range of the root's rows.
+/// Appends what all rows of a plan could read, for the root's rows of the span, whichever they are.
 #[cycle(collecting)]
 fn collect_whole(
     table: &PlanTable,
     plan: PlanRef,
+    span: Span,
     at: &Reach,
     out: &mut Vec<SegmentReach>,
 ) -> Result<(), AllocError>
     requires known { number_of plan < length table.now }
-    requires reach { fits at.now (node_at table.now (number_of plan)).rows }
-    ensures { OnOk result (out.new.items ≡ out.old.items ++ selected_of (plan_at table.now (number_of plan)) at.now 0 (all_rows (node_at table.now (number_of plan)).rows)) }
+    requires end { span.start + span.count < 2 ^ 64 }
+    requires reach { fits at.now (span.start + span.count) }
+    ensures { OnOk result (out.new.items ≡ out.old.items ++ selected_of (plan_at table.now (number_of plan)) (fixed at.now span.start (span.start + span.count)) 0 (all_rows (node_at table.now (number_of plan)).rows)) }
 {
-    let span = Span {
+    let fixed = at.fixed(&(span.start..span.start + span.count));
+    let whole = Span {
         start: 0,
         count: table.row_count(plan),
         skip: 0,
     };
-    collect(table, plan, span, None, at, out)
+    collect(table, plan, whole, None, &fixed, out)
 }
 
 /// Appends what the fields of structs could read, and their validity behind them.

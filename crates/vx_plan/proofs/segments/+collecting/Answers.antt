@@ -53,14 +53,13 @@ pub collect-returns-in_ok-collect-in-LookUp : goal.collect-returns-in_ok-collect
 collect-returns-in_ok-collect-in-LookUp t c =
     let bits : List Bool = rows_by c.args.mask c.args.span.skip c.args.span.count in
     let law = look_up_law c.args.table.now c.in-LookUp.ensures.good (number_of c.args.plan) c.in-LookUp.codes c.in-LookUp.values c.requires.known c.in-LookUp.ensures.shape c.args.at.now c.args.span.start c.args.span.count bits (chosen_count (option_map rows_held c.args.mask) c.args.span.skip c.args.span.count (held rows_held c.args.mask (c.args.span.skip + c.args.span.count) c.requires.masked)) (sym c.is_any.ensures ∙ c.if-not-is_any.false) in
-    gained_more _ c.args.out.now.items _ _ (selected_of (plan_at c.args.table.now c.in-LookUp.codes) c.args.at.now c.args.span.start bits) _ _ c.in_ok-collect-in-LookUp.ensures
-    (ap (λ (r : Reach). selected_of (plan_at c.args.table.now c.in-LookUp.codes) c.args.at.now c.args.span.start bits ++ selected_of (plan_at c.args.table.now c.in-LookUp.values) r 0 (all_rows (node_at c.args.table.now c.in-LookUp.values).rows)) c.fixed.ensures ∙ law) c.collect_whole.ensures
+    gained_more _ c.args.out.now.items _ _ (selected_of (plan_at c.args.table.now c.in-LookUp.codes) c.args.at.now c.args.span.start bits) _ _ c.in_ok-collect-in-LookUp.ensures law c.collect_whole.ensures
 
 pub collect-returns-in-Shared : goal.collect-returns-in-Shared
 collect-returns-in-Shared t c =
     let bits : List Bool = rows_by c.args.mask c.args.span.skip c.args.span.count in
     let law = share_law c.args.table.now c.in-Shared.ensures.good (number_of c.args.plan) c.in-Shared.child c.requires.known c.in-Shared.ensures.shape c.args.at.now c.args.span.start c.args.span.count bits (chosen_count (option_map rows_held c.args.mask) c.args.span.skip c.args.span.count (held rows_held c.args.mask (c.args.span.skip + c.args.span.count) c.requires.masked)) (sym c.is_any.ensures ∙ c.if-not-is_any.false) in
-    gained _ _ _ _ _ (ap (λ (r : Reach). selected_of (plan_at c.args.table.now c.in-Shared.child) r 0 (all_rows (node_at c.args.table.now c.in-Shared.child).rows)) c.fixed-in-Shared.ensures ∙ law) c.collect_whole-in-Shared.ensures
+    gained _ _ _ _ _ law c.collect_whole-in-Shared.ensures
 
 pub collect_chunk-returns-then-saturating_sub-rows : goal.collect_chunk-returns-then-saturating_sub-rows
 collect_chunk-returns-then-saturating_sub-rows t c =
