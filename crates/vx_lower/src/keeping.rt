@@ -97,6 +97,27 @@ fn bound(
     }
 }
 
+/// The expression that packs those of the fields whose flag is set, bound to their dtype.
+fn pack_of(
+    alloc: Global,
+    dtype: &DType,
+    names: &[Text],
+    fields: &[Field],
+    flags: &[bool],
+) -> Result<BoundExpression, AllocError>
+    requires may { MayKeep (only names.now) (data_type dtype.now) }
+    requires distinct { HasDistinctNames (data_type dtype.now) }
+    requires fields { members_of fields.now ≡ struct_members (data_type dtype.now) }
+    requires flags { flags.now ≡ map (is_kept (only names.now)) (names_in (members_of fields.now)) }
+    ensures { IfOk result (λ pack. pack ≡ bound_pack (only names.now) (data_type dtype.now)) }
+{
+    let items = kept_items(alloc, fields, flags)?;
+    let expr = Expr::pack(items);
+    let pack = bound(alloc, &expr, dtype, names);
+    drop(expr);
+    pack
+}
+
 impl<'a> Keeping<'a> {
     /// The fields of these names, of a root of the dtype.
     pub(crate) fn of(
@@ -111,11 +132,7 @@ impl<'a> Keeping<'a> {
     {
         let fields = fields_of(dtype);
         let flags = kept_flags(alloc, fields, names)?;
-        let items = kept_items(alloc, fields, &flags)?;
-        let expr = Expr::pack(items);
-        let pack = bound(alloc, &expr, dtype, names);
-        drop(expr);
-        let pack = pack?;
+        let pack = pack_of(alloc, dtype, names, fields, &flags)?;
         let kept_type = pack.dtype().copy(alloc)?;
         Ok(Keeping {
             names,

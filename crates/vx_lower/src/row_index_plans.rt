@@ -1,7 +1,7 @@
 //! The plan of an expression over a plan and the numbers of its rows.
 
 ghost use Rattle.std.specs.Prelude.{◌≡◌, ◌+◌, ◌<◌, [], ◌∷◌, false, length, true, IfErr, IfOk, OnErr, OnOk};
-ghost use Rattle.vx_base.specs.Views.{data_type};
+ghost use Rattle.vx_base.specs.Views.{data_type, members_of};
 ghost use Rattle.vx_expr.specs.Bound.{IsBoundTo};
 ghost use Rattle.vx_expr.specs.Mentions.{uses_root, uses_row_number};
 ghost use Rattle.vx_expr.specs.Types.{row_number_type};
@@ -101,13 +101,22 @@ fn field(alloc: Global, name: &str, dtype: DType) -> Result<Field, AllocError>
     Ok(Field { name, dtype })
 }
 
+/// Appends a field of row numbers and a field of the dtype.
+fn push_numbered(alloc: Global, dtype: &DType, fields: &mut Vec<Field>) -> Result<(), AllocError>
+    requires { fields.old.items ≡ [] }
+    ensures { OnOk result (members_of fields.new.items ≡ numbered_members (data_type dtype.now)) }
+{
+    fields.push(field(alloc, "row_idx", row_idx_dtype())?)?;
+    fields.push(field(alloc, "child", dtype.copy(alloc)?)?)?;
+    Ok(())
+}
+
 /// A field of row numbers and a field of the dtype.
 fn numbered_fields(alloc: Global, dtype: &DType) -> Result<Fields, AllocError>
     ensures { IfOk result (λ fields. fields ≡ numbered_members (data_type dtype.now)) }
 {
     let mut fields = Vec::with_capacity(alloc, 2)?;
-    fields.push(field(alloc, "row_idx", row_idx_dtype())?)?;
-    fields.push(field(alloc, "child", dtype.copy(alloc)?)?)?;
+    push_numbered(alloc, dtype, &mut fields)?;
     Ok(Fields::from_vec(fields))
 }
 
