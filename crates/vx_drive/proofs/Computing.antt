@@ -10,10 +10,11 @@ use Rattle.vx_plan.specs.Nodes.{Node}
 use Rattle.vx_steps.specs.declared.progress.Turn.{Turn}
 use Rattle.vx_steps.specs.declared.progress.Turn.TheVariants as turns
 use Rattle.vx_steps.specs.Jobs.{CanStart, left_of}
+use Rattle.vx_steps.specs.Kept.{kept_at}
 use Rattle.vx_steps.specs.Needs.{Among}
 use Rattle.vx_steps.specs.ReadTableData.{Wanted}
 use Rattle.vx_steps.specs.ScanData.{ScanData}
-use Rattle.vx_steps.specs.Steps.{GivesOutput, IsHeldUp, IsWaiting, TakesTurn}
+use Rattle.vx_steps.specs.Steps.{AreHandedOut, GivesOutput, IsHeldUp, IsWaiting, TakesTurn}
 use Rattle.vx_steps.specs.Turns.{AreLeavesKept}
 use Rattle.vx_steps.specs.Wants.{IsAsked}
 use Rattle.vx_steps.proofs.Growing.{length_grown, take_grown}
@@ -29,7 +30,7 @@ use Rattle.vx_drive.specs.Continues.{ComesOut, Continues, MayBeRead, splits_left
 use Rattle.vx_drive.specs.Fetched.{AreDistinctNumbers, AllLocated, fetches_from, segments_in, unread}
 use Rattle.vx_drive.specs.Batched.{BatchOr, Batched, BatchGives, GivesTurn, IsLive, IsNoRead, StepOf, count_behind, reads_behind, work_in}
 use Rattle.vx_drive.proofs.Behind.{grows_behind}
-use Rattle.vx_drive.proofs.Continuing.{continues_then}
+use Rattle.vx_drive.proofs.Continuing.{continues_then, none_before}
 use Rattle.vx_drive.proofs.HandingOut.{few_asked}
 use Rattle.vx_drive.proofs.Stepping.{output_before}
 use Rattle.vx_base.specs.Columns.{ColumnData}
@@ -269,7 +270,13 @@ waiting_of old new (inl (refused, done, same)) = absurd cc
 waiting_of old new (inr (going, takes)) = takes
 
 awaits_bytes : (old new : ScanData) → Continues old new → IsWaiting old.nodes old.job old.progress new.progress → AwaitsBytes new
-awaits_bytes old new goes waits = record { none_to_start = subst (λ job. CanStart job new.progress → ⊥) (sym goes.keeps.job) waits.none_to_start; all_handed = waits.all_handed }
+awaits_bytes old new goes waits = record {
+  none_to_start = subst (λ job. CanStart job new.progress → ⊥) (sym goes.keeps.job) waits.none_to_start;
+  all_handed = waits.all_handed;
+  are_handed =
+      let leaves : AreHandedOut old.nodes old.job new.progress.leaves new.progress = λ number split read active at reads none. waits.are_handed number split read active at reads (none_before (kept_at old.progress.leaves read.leaf) (kept_at new.progress.leaves read.leaf) (goes.keeps.leaves read.leaf) none) in
+      subst (λ job. AreHandedOut new.nodes job new.progress.leaves new.progress) (sym goes.keeps.job) (subst (λ nodes. AreHandedOut nodes old.job new.progress.leaves new.progress) (sym goes.keeps.nodes) leaves);
+}
 
 computes_waiting : (locations : List SegmentLocation) (batch : Vec IoRequest) (step : AdaptorStep) (old : AdaptorData) (middle new : ScanData) (asked : ℕ) (held : Option (ℕ × ColumnData)) (state : State) → old.held ≡ None → Stepped locations batch.items old middle new asked → GivesTurn turns.Waiting middle new →
     BatchOr batch step None Yield held state Waiting → Computes locations (Ok step) old (stepped old.first new asked held state)

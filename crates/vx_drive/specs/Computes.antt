@@ -6,7 +6,7 @@ use Rattle.vx_steps.specs.declared.errors.StepError.TheVariants as steps
 use Rattle.vx_steps.specs.Jobs.{CanStart}
 use Rattle.vx_steps.specs.ReadTable.{StandsAt}
 use Rattle.vx_steps.specs.ScanData.{ScanData, TakesBytes}
-use Rattle.vx_steps.specs.Steps.{IsWaiting, RefusesSplit}
+use Rattle.vx_steps.specs.Steps.{AreHandedOut, IsWaiting, RefusesSplit}
 use Rattle.vx_io.specs.declared.requests.IoRequest.{IoRequest}
 use Rattle.vx_drive.specs.declared.adaptor_errors.AdaptorError.{AdaptorError}
 use Rattle.vx_drive.specs.declared.adaptor_errors.AdaptorError.TheVariants.{NoLocation, Step, NotOutstanding, Memory}
@@ -28,10 +28,12 @@ HoldsNext old new =
     ((new.held ≡ None) × (splits_left new.scan ≡ splits_left old.scan))
     ⊎ ((number : ℕ) × (column : ColumnData) × (new.held ≡ Some (number, column)) × ComesOut number column old.scan new.scan)
 
--- No read is left to be handed out before bytes come.
+-- No read is left to be handed out before bytes come: for each leaf that a selected row of an active split reads, and of
+-- which no column is kept, one of its segment was.
 pub record AwaitsBytes (scan : ScanData) : Type 0 where
   pub none_to_start : CanStart scan.job scan.progress → ⊥
   pub all_handed : scan.progress.reads.handed ≡ length scan.progress.reads.wanted
+  pub are_handed : AreHandedOut scan.nodes scan.job scan.progress.leaves scan.progress
 
 -- Reads that followed one another, at least one, each of a segment that was not read before and has a location, up to an
 -- output or until the scan waits. The batch is their fetches, in their order.
