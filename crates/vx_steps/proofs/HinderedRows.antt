@@ -1,5 +1,5 @@
 -- What hinders so many rows of a plan, kind by kind.
-use Rattle.std.proofs.Common.{◌≡◌, ℕ, suc, ◌+◌, ◌-◌, ◌<◌, ◌≤◌, ◌⊎◌, inl, inr, ⊎_elim, Bool, true, false, List, [], ◌∷◌, Option, Some, None, length, map, refl, sym, ap, ◌∙◌, subst, arith}
+use Rattle.std.proofs.Common.{◌≡◌, ℕ, suc, ◌+◌, ◌-◌, ◌<◌, ◌≤◌, ◌⊎◌, inl, inr, ⊎_elim, Bool, true, List, [], ◌∷◌, Option, Some, None, length, map, refl, sym, ap, ◌∙◌, subst, arith}
 use Rattle.std.specs.List.{slice_get}
 use Rattle.std.proofs.lemmas.Bool.{cases_lt}
 use Rattle.std.proofs.lemmas.Option.{slice_get_within}
@@ -12,7 +12,7 @@ use Rattle.vx_steps.specs.declared.hindrances.Hindrance.{Hindrance}
 use Rattle.vx_steps.specs.declared.hindrances.Hindrance.TheVariants as hindrances
 use Rattle.vx_steps.specs.Chunks.{IsChunk}
 use Rattle.vx_steps.specs.Hindrances.{AreHindered, IsHindrance, IsOne}
-use Rattle.vx_steps.specs.Rows.{SomeRow}
+use Rattle.vx_steps.specs.Rows.{IsRun, SomeRow}
 use Rattle.vx_steps.specs.Visits.{SomeVisit, Visits}
 use Rattle.vx_steps.proofs.ChunkRows.{chunk_down, chunk_up, IsConcatPlan}
 use Rattle.vx_steps.proofs.Selecting.{only_right}
@@ -231,20 +231,21 @@ NoneBefore places nodes n start bits before = (x : Hindrance) (place : ℕ) → 
 pub none_first : (places : ℕ) (nodes : List Node) (n start : ℕ) (bits : List Bool) → NoneBefore places nodes n start bits 0
 none_first places nodes n start bits x place less at v = omega (arith, less)
 
--- the next one is none of them, or isn't selected
-pub none_next : (places : ℕ) (nodes : List Node) (n start : ℕ) (bits : List Bool) (row : ℕ) → NoneBefore places nodes n start bits row → (slice_get bits row ≡ Some true → IsOne (AreHindered places nodes n (start + row) 1) None) → NoneBefore places nodes n start bits (row + 1)
-none_next places nodes n start bits row first here x place less at v =
-    ⊎_elim (λ (before : place < row). first x place before at v) (λ (past : row ≤ place). last past) (cases_lt place row)
-  where
-    last : row ≤ place → ⊥
-    last past =
-        let same : place ≡ row = omega (arith, less, past) in
-        let zero : start + place ≡ start + row + 0 = omega (arith, same) in
-        here (subst (λ (p : ℕ). slice_get bits p ≡ Some true) same at) x (0, omega arith, subst (Visits (IsHindrance places x) None (plan_at nodes n)) zero v)
+-- a run of selected rows of which one is hindered
+pub run_hindered : (places : ℕ) (nodes : List Node) (n start : ℕ) (bits : List Bool) (first end : ℕ) (x : Hindrance) → IsRun bits first end → slice_get bits first ≡ Some true → AreHindered places nodes n (start + first) (end - first) x → SomeVisit (IsHindrance places x) None (plan_at nodes n) start bits
+run_hindered places nodes n start bits first end x run on (place, less, v) =
+    let row : start + first + place ≡ start + (first + place) = omega arith in
+    (first + place, run (first + place) (omega arith) (omega (arith, less)) ∙ on, subst (Visits (IsHindrance places x) None (plan_at nodes n)) row v)
 
--- a row that isn't selected
-pub none_here : (places : ℕ) (nodes : List Node) (n start : ℕ) (bits : List Bool) (row : ℕ) (bit : Bool) → slice_get bits row ≡ Some bit → bit ≡ false → slice_get bits row ≡ Some true → IsOne (AreHindered places nodes n (start + row) 1) None
-none_here places nodes n start bits row bit is off at = let same : true ≡ false = cc in absurd cc
+-- the next run is none of them, or isn't selected
+pub none_next : (places : ℕ) (nodes : List Node) (n start : ℕ) (bits : List Bool) (first end : ℕ) → NoneBefore places nodes n start bits first → IsRun bits first end → (slice_get bits first ≡ Some true → IsOne (AreHindered places nodes n (start + first) (end - first)) None) → NoneBefore places nodes n start bits end
+none_next places nodes n start bits first end before run here x place less at v =
+    ⊎_elim (λ (earlier : place < first). before x place earlier at v) (λ (past : first ≤ place). inside past) (cases_lt place first)
+  where
+    inside : first ≤ place → ⊥
+    inside past =
+        let row : start + place ≡ start + first + (place - first) = omega (arith, past) in
+        here (sym (run place past less) ∙ at) x (place - first, omega (arith, past, less), subst (Visits (IsHindrance places x) None (plan_at nodes n)) row v)
 
 pub none_all : (places : ℕ) (nodes : List Node) (n start : ℕ) (bits : List Bool) (before : ℕ) → length bits ≤ before → NoneBefore places nodes n start bits before → IsOne (λ x. SomeVisit (IsHindrance places x) None (plan_at nodes n) start bits) None
 none_all places nodes n start bits before past none x (place, at, v) =

@@ -1,5 +1,5 @@
 -- The selected rows of a range: those at whose place the mask is true.
-use Rattle.std.specs.Prelude.{◌≡◌, ℕ, ◌+◌, Bool, true, cond, List, [], ◌∷◌, map, Option, Some}
+use Rattle.std.specs.Prelude.{◌≡◌, ℕ, ◌+◌, ◌<◌, ◌≤◌, Bool, true, cond, List, [], ◌∷◌, map, Option, Some}
 use Rattle.std.specs.List.{slice_get}
 
 -- the selected rows, from the first row of the range on
@@ -16,6 +16,10 @@ SelectsNone bits = (place : ℕ) → slice_get bits place ≡ Some true → ⊥
 
 abbrev pub SelectsSome : List Bool → Type 0
 SelectsSome bits = (place : ℕ) × (slice_get bits place ≡ Some true)
+
+-- the rows from the first one up to the end are all selected, or none of them is
+abbrev pub IsRun : List Bool → ℕ → ℕ → Type 0
+IsRun bits first end = (row : ℕ) → first ≤ row → row < end → slice_get bits row ≡ slice_get bits first
 
 -- These are what f gives at the rows, none of which is a fault.
 abbrev pub AreOf : {X : Type 0} → (ℕ → Option X) → List ℕ → List X → Type 0

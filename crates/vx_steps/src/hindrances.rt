@@ -9,6 +9,7 @@ ghost use Rattle.vx_plan.specs.Rules.{node_at};
 ghost use Rattle.vx_plan.specs.Shapes.{HasShape};
 ghost use Rattle.vx_plan.specs.Tables.{IsGoodTable};
 ghost use Rattle.vx_steps.specs.Hindrances.{AreHindered, IsHindrance, IsOne};
+ghost use Rattle.vx_steps.specs.Rows.{IsRun};
 ghost use Rattle.vx_steps.specs.Visits.{SomeVisit};
 
 use crate::chunks::chunk_at;
@@ -24,7 +25,7 @@ pub enum Hindrance {
     Segment(u32),
 }
 
-/// The first hindrance of so many rows of a plan, counted from the start on, where there are so many places.
+/// A hindrance of so many rows of a plan, counted from the start on, where there are so many places.
 #[cycle(hindrances)]
 fn hindrance_of_rows(
     table: &PlanTable,
@@ -68,7 +69,7 @@ fn hindrance_of_rows(
     }
 }
 
-/// The first hindrance of so many rows of the children.
+/// A hindrance of so many rows of the children.
 #[cycle(hindrances)]
 fn hindrance_of_fields(
     table: &PlanTable,
@@ -91,8 +92,7 @@ fn hindrance_of_fields(
     None
 }
 
-/// The first hindrance of so many rows of a concat: it enters each child that holds one of them, found by a search in the
-/// offsets.
+/// A hindrance of so many rows of a concat: it enters each child that holds one of them, found by a search in the offsets.
 #[cycle(hindrances)]
 fn hindrance_of_chunks(
     table: &PlanTable,
@@ -130,8 +130,25 @@ fn hindrance_of_chunks(
     None
 }
 
-/// The first hindrance of the selected rows of a plan, one after another.
-fn hindrance_of_each(
+/// The row behind the last of those from a row on that are all selected, or none of which is.
+fn run_end(mask: &Mask, row: u64) -> u64
+    requires { row < length mask.now }
+    ensures behind { row < result }
+    ensures inside { result ≤ length mask.now }
+    ensures run { IsRun mask.now row result }
+{
+    let rows = mask.len();
+    let selected = mask.value(row);
+    for end in row + 1..rows {
+        if mask.value(end) != selected {
+            return end;
+        }
+    }
+    rows
+}
+
+/// A hindrance of the selected rows of a plan, of which those that follow one another are taken together.
+fn hindrance_of_runs(
     table: &PlanTable,
     plan: PlanRef,
     start: u64,
@@ -144,20 +161,30 @@ fn hindrance_of_each(
 {
     // The contract of `row_count` says that the rows are so few that their numbers fit.
     let _rows = table.row_count(plan);
-    for row in 0..mask.len() {
-        if mask.value(row) {
-            if let Some(found) = hindrance_of_rows(table, plan.0, start + row, 1, places) {
+    let mut done: u64 = 0;
+    while done < mask.len() {
+        let end = run_end(mask, done);
+        if mask.value(done) {
+            if let Some(found) = hindrance_of_rows(
+                table,
+                plan.0,
+                start + done,
+                end - done,
+                places,
+            ) {
                 return Some(found);
             }
         }
+        done = end;
     }
     None
 }
 
-/// What keeps the selected rows of a plan from having a column, whatever bytes come, where there are so many places: the
-/// first list of which one of them reads a row, or the first segment that isn't below the number and that one of them reads.
-/// It counts for nothing that whole values are handed in. It takes no memory; where nothing hinders the rows of the range,
-/// selected or not, time is linear in the plans that they visit.
+/// What keeps the selected rows of a plan from having a column, whatever bytes come, where there are so many places: a list
+/// of which one of them reads a row, or a segment that isn't below the number and that one of them reads. Of several it is
+/// any one, and it counts for nothing that whole values are handed in. It takes no memory. Where nothing hinders the rows of
+/// the range, selected or not, time is linear in the plans that they visit, and else in those that each run of selected rows
+/// visits.
 pub fn first_hindrance(
     table: &PlanTable,
     plan: PlanRef,
@@ -172,5 +199,5 @@ pub fn first_hindrance(
     let Some(_some) = hindrance_of_rows(table, plan.0, start, mask.len(), places) else {
         return None;
     };
-    hindrance_of_each(table, plan, start, mask, places)
+    hindrance_of_runs(table, plan, start, mask, places)
 }
