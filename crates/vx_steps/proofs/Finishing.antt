@@ -29,7 +29,8 @@ use Rattle.vx_steps.specs.Agreement.{Agrees}
 use Rattle.vx_steps.specs.Delivered.{KeepsLeaves, LacksNeed}
 use Rattle.vx_steps.specs.Releasing.{IsServed, LetsSpentGo, ServesAll}
 use Rattle.vx_steps.specs.Splits.{IsInside}
-use Rattle.vx_steps.specs.Turns.{AreLeavesKept, HasNeedCause, IsOutput, IsRefusal, LeavesLeaves, LeavesWholes, ReadsFor}
+use Rattle.vx_steps.specs.Tries.{Finishes, Refuses}
+use Rattle.vx_steps.specs.Turns.{AreLeavesKept, HasNeedCause, IsOutput, ReadsFor}
 use Rattle.vx_steps.specs.Jobs.{numbers_from, number_of_active, left_of, IsActive, AddsLeaves, IsAskedBy, IsAskedFor, IsGood, IsLast, IsLeafFor, IsTold, IsWantedBy, KeepsTold, KeepsWholes, KeepsWholesFor, OnlyKeeps, Starts, WantsFor}
 use Rattle.vx_steps.specs.Steps.{GivesOutput, GoesOn, HandsRead, HasCauseIn, HasSplitCause, HoldsAll, TakesTurn, work_left, IsActiveOutput, IsHeldAt, IsHeldUp, IsMissing, IsStepRefusal}
 use Rattle.std.proofs.lemmas.List.{set-get_or}
@@ -177,10 +178,10 @@ missing_first [] segment asked none = absurd asked.1
 missing_first (w ∷ wanted) segment asked none = missing_by w wanted segment (w.segment == segment) refl asked (λ a n. missing_first wanted segment a n) none
 
 pub output_up : (nodes : List Node) (job : Job) (old new : Progress) (place : ℕ) (active : ActiveSplit) (split : Split) (result : Result (Option ColumnData) StepError) → HasParts nodes job old place active split →
-    IfOk result (λ output. IfSome output (IsOutput nodes job split old.reads.wanted old.leaves old.wholes.made new.wholes)) → IfOk result (λ output. IfSome output (λ column. AreLeavesKept nodes job split new.leaves)) → IfOk result (λ output. IfSome output (IsActiveOutput nodes job old new place))
-output_up nodes job old new place active split (Ok (Some column)) parts right leaves = record { active = active; active_at = parts.active_at; split = split; split_at = parts.split_at; output = right; leaves = leaves }
-output_up nodes job old new place active split (Ok None) parts right leaves = tt
-output_up nodes job old new place active split (Err error) parts right leaves = tt
+    IfOk result (λ output. IfSome output (Finishes nodes job split old.reads.wanted old.leaves old.wholes.made new.wholes new.leaves)) → IfOk result (λ output. IfSome output (IsActiveOutput nodes job old new place))
+output_up nodes job old new place active split (Ok (Some column)) parts done = record { active = active; active_at = parts.active_at; split = split; split_at = parts.split_at; output = done.output; leaves = done.leaves_are }
+output_up nodes job old new place active split (Ok None) parts done = tt
+output_up nodes job old new place active split (Err error) parts done = tt
 
 pub held_up : (nodes : List Node) (job : Job) (old : Progress) (place : ℕ) (active : ActiveSplit) (split : Split) (result : Result (Option ColumnData) StepError) → HasParts nodes job old place active split →
     IfOk result (λ output. output ≡ None → LacksNeed old.reads.wanted old.leaves active.needs) → IfOk result (λ output. output ≡ None → IsHeldAt old place)
@@ -193,16 +194,16 @@ held_up nodes job old place active split (Ok None) parts waiting = λ e a at.
 held_up nodes job old place active split (Err error) parts waiting = tt
 
 pub cause_of_split : (nodes : List Node) (job : Job) (old new : Progress) (place : ℕ) (active : ActiveSplit) (split : Split) (result : Result (Option ColumnData) StepError) → HasParts nodes job old place active split → new.reads.wanted ≡ old.reads.wanted → new.active.items ≡ old.active.items →
-    IfErr result (IsRefusal nodes job split active.needs old.reads.wanted old.leaves old.wholes.made) → IfErr result (LeavesWholes nodes job split old.reads.wanted old.leaves old.wholes.made new.wholes) → IfErr result (LeavesLeaves nodes job split new.leaves) → IfErr result (IsStepRefusal nodes job old new)
-cause_of_split nodes job old new place active split (Ok output) parts same actives cause left leaves = tt
-cause_of_split nodes job old new place active split (Err error) parts same actives cause left leaves = inr (record {
+    IfErr result (Refuses nodes job split active.needs old.reads.wanted old.leaves old.wholes.made new.wholes new.leaves) → IfErr result (IsStepRefusal nodes job old new)
+cause_of_split nodes job old new place active split (Ok output) parts same actives refused = tt
+cause_of_split nodes job old new place active split (Err error) parts same actives refused = inr (record {
   number = active.split;
   active = subst (λ (xs : List ActiveSplit). Among active.split (map number_of_active xs)) (sym actives) (number_among old.active.items place active parts.active_at);
   split = split;
   at = parts.split_at;
-  cause = subst (λ (ws : List Wanted). HasSplitCause nodes job old ws split error) (sym same) (λ outside is. by outside error (cause outside is));
-  left = left;
-  leaves = leaves;
+  cause = subst (λ (ws : List Wanted). HasSplitCause nodes job old ws split error) (sym same) (λ outside is. by outside error (refused.cause outside is));
+  left = refused.left;
+  leaves = refused.left_leaves;
 })
   where
     by : (outside : Bytes) (error : StepError) → HasNeedCause nodes job split active.needs old.reads.wanted outside error → HasCauseIn nodes job old.reads.wanted split outside error

@@ -30,6 +30,7 @@ pub mod Splits
 pub mod Steps
 pub mod Structs
 pub mod TakeLaws
+pub mod Tries
 pub mod Turns
 pub mod Visits
 pub mod Wants

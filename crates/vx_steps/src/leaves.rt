@@ -11,6 +11,7 @@ ghost use Rattle.vx_steps.specs.Needs.{Among, AreLeaves};
 ghost use Rattle.vx_steps.specs.OpenSegments.{AreCounted};
 ghost use Rattle.vx_steps.specs.ReadTable.{IsGone, bytes_of};
 ghost use Rattle.vx_steps.specs.Releasing.{AreHeld, IsServed, LetsSpentGo};
+ghost use Rattle.vx_steps.specs.Tries.{DecodesNeeds};
 ghost use Rattle.vx_steps.specs.Wants.{IsNeededLeaf};
 ghost use Rattle.vx_steps.specs.Wholes.{AddsOnly};
 
@@ -223,12 +224,7 @@ impl NeededLeaves {
         requires counted { AreCounted table.now leaves.old segments.old }
         ensures counted { AreCounted table.now leaves.new segments.new }
         ensures same { self.new ≡ self.old }
-        ensures served { IsServed leaves.new reads.new self.old }
-        ensures wanted { reads.new.wanted ≡ reads.old.wanted }
-        ensures handed { reads.new.handed ≡ reads.old.handed }
-        ensures lets { last ≡ false → LetsSpentGo table.now leaves.new reads.old reads.new }
-        ensures keeps { KeepsLeaves table.now reads.old.wanted leaves.old leaves.new }
-        ensures only { AddsOnly (IsNeededLeaf self.old) leaves.old leaves.new }
+        ensures decoded { DecodesNeeds table.now last self.old reads.old reads.new leaves.old leaves.new }
         ensures all { IfOk result (λ there. there ≡ true → (need : LeafRead) → Among need self.old → IsKept leaves.new need.leaf) }
         ensures none { IfOk result (λ there. there ≡ false → LacksNeed reads.old.wanted leaves.old self.old) }
         ensures torn { IfErr result (SomeTornCause table.now reads.old.wanted self.old) }

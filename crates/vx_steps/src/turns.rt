@@ -1,19 +1,18 @@
 //! What a split passes through: it is started, and it is finished once all that it needs was delivered.
 
-ghost use Rattle.std.specs.Prelude.{◌≡◌, ◌+◌, ◌<◌, ◌≤◌, ℕ, ◌⊎◌, length, None, false, IfOk, IfErr, IfSome};
+ghost use Rattle.std.specs.Prelude.{◌≡◌, ◌+◌, ◌<◌, ◌≤◌, ℕ, ◌⊎◌, length, None, IfOk, IfErr, IfSome};
 ghost use Rattle.vx_plan.specs.Rules.{node_at};
 ghost use Rattle.vx_steps.specs.declared.leaf_reads.LeafRead.{LeafRead};
 ghost use Rattle.vx_steps.specs.Agreement.{KeepsAgreeing};
-ghost use Rattle.vx_steps.specs.Delivered.{KeepsLeaves, LacksNeed};
-ghost use Rattle.vx_steps.specs.Held.{AreTyped, FitsOffset};
+ghost use Rattle.vx_steps.specs.Delivered.{LacksNeed};
 ghost use Rattle.vx_steps.specs.Kept.{kept_at};
 ghost use Rattle.vx_steps.specs.Needs.{Among, AreLeaves};
 ghost use Rattle.vx_steps.specs.OpenSegments.{AreCounted};
 ghost use Rattle.vx_steps.specs.ReadTable.{KeepsStored};
-ghost use Rattle.vx_steps.specs.Releasing.{AreNamed, IsServed, LetsSpentGo};
-ghost use Rattle.vx_steps.specs.Turns.{AreLeavesKept, IsOutput, IsRefusal, LeavesLeaves, LeavesWholes, ReadsFor};
-ghost use Rattle.vx_steps.specs.Wants.{AreNeeds, Grows, IsAsked, IsNeeded, IsNeededLeaf};
-ghost use Rattle.vx_steps.specs.Wholes.{AddsAsked, AddsOnly, KeepsValues, UsesGiven};
+ghost use Rattle.vx_steps.specs.Releasing.{AreNamed};
+ghost use Rattle.vx_steps.specs.Tries.{CanTry, DecodesNeeds, Finishes, ReadiesWholes, Refuses};
+ghost use Rattle.vx_steps.specs.Turns.{ReadsFor};
+ghost use Rattle.vx_steps.specs.Wants.{AreNeeds, Grows, IsAsked, IsNeeded};
 
 use crate::errors::StepError;
 use crate::jobs::Job;
@@ -77,33 +76,15 @@ pub(crate) fn finish_split(
     leaves: &mut KeptColumns,
     wholes: &mut Wholes,
 ) -> Result<Option<Column>, StepError>
-    requires known { job.now.plan < length table.now }
-    requires inside { split.now.rows.start + length split.now.mask ≤ (node_at table.now job.now.plan).rows }
-    requires fits { FitsOffset table.now job.now.offset }
-    requires needs { AreNeeds (ReadsFor table.now job.now split.now) needs.old }
-    requires needed_leaves { AreLeaves table.now needs.old }
-    requires typed_leaves { AreTyped table.now leaves.old }
-    requires typed_given { AreTyped table.now job.now.given }
-    requires typed_made { AreTyped table.now wholes.old.made }
-    requires served { IsServed leaves.old reads.old needs.old }
+    requires ready { CanTry table.now job.now split.now needs.old reads.old leaves.old wholes.old.made }
     requires counted { AreCounted table.now leaves.old segments.old }
     ensures counted { AreCounted table.now leaves.new segments.new }
     ensures same { needs.new ≡ needs.old }
-    ensures served { IsServed leaves.new reads.new needs.old }
-    ensures wanted { reads.new.wanted ≡ reads.old.wanted }
-    ensures handed { reads.new.handed ≡ reads.old.handed }
-    ensures lets { last ≡ false → LetsSpentGo table.now leaves.new reads.old reads.new }
-    ensures keeps { KeepsLeaves table.now reads.old.wanted leaves.old leaves.new }
-    ensures only { AddsOnly (IsNeededLeaf needs.old) leaves.old leaves.new }
-    ensures made { KeepsValues table.now leaves.new job.now.offset wholes.old.made wholes.new.made }
-    ensures used { UsesGiven job.now.given wholes.old.used wholes.new.used }
-    ensures asked { AddsAsked table.now job.now.given job.now.plan split.now.rows.start split.now.mask wholes.old wholes.new }
-    ensures output { IfOk result (λ output. IfSome output (IsOutput table.now job.now split.now reads.old.wanted leaves.old wholes.old.made wholes.new)) }
-    ensures leaves { IfOk result (λ output. IfSome output (λ _. AreLeavesKept table.now job.now split.now leaves.new)) }
+    ensures decoded { DecodesNeeds table.now last needs.old reads.old reads.new leaves.old leaves.new }
+    ensures wholes { ReadiesWholes table.now job.now split.now leaves.new wholes.old wholes.new }
+    ensures output { IfOk result (λ output. IfSome output (Finishes table.now job.now split.now reads.old.wanted leaves.old wholes.old.made wholes.new leaves.new)) }
     ensures waiting { IfOk result (λ output. output ≡ None → LacksNeed reads.old.wanted leaves.old needs.old) }
-    ensures cause { IfErr result (IsRefusal table.now job.now split.now needs.old reads.old.wanted leaves.old wholes.old.made) }
-    ensures left { IfErr result (LeavesWholes table.now job.now split.now reads.old.wanted leaves.old wholes.old.made wholes.new) }
-    ensures left_leaves { IfErr result (LeavesLeaves table.now job.now split.now leaves.new) }
+    ensures refused { IfErr result (Refuses table.now job.now split.now needs.old reads.old.wanted leaves.old wholes.old.made wholes.new leaves.new) }
 {
     match needs.decode(alloc, table, segments, last, reads, leaves) {
         Ok(true) => {}

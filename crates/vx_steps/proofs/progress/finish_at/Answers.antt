@@ -7,7 +7,8 @@ use Rattle.vx_steps.specs.declared.jobs.Progress.{Progress}
 use Rattle.vx_steps.specs.Delivered.{LacksNeed}
 use Rattle.vx_steps.specs.Needs.{AreLeaves}
 use Rattle.vx_steps.specs.Releasing.{IsServed}
-use Rattle.vx_steps.specs.Turns.{IsRefusal, ReadsFor}
+use Rattle.vx_steps.specs.Tries.{Refuses}
+use Rattle.vx_steps.specs.Turns.{ReadsFor}
 use Rattle.vx_steps.specs.Wants.{AreNeeds, IsNeededLeaf}
 use Rattle.vx_steps.specs.Wholes.{AddsOnly}
 use Rattle.vx_steps.proofs.Finishing.{split_inside, parts_of, split_rows, same_active, same_actives, good_tried, keeps_tried, serves_at, output_up, held_up, cause_of_split}
@@ -18,24 +19,26 @@ index-split-requires c =
     let inside : c.index.result.now.split < length c.args.job.now.splits.items = split_inside c.args.table.now c.args.job.now c.args.progress.now c.args.place c.index.result.now c.requires.good c.requires.place c.index.ensures in
     search rules
 
-pub finish_split-requires-clause-inside : goal.finish_split-requires-clause-inside
-finish_split-requires-clause-inside c =
-    let parts = parts_of c.args.table.now c.args.job.now c.args.progress.now c.args.place c.index.result.now c.index-split.result.now c.requires.good c.requires.place c.index.ensures c.index-split.ensures in
-    split_rows (node_at c.args.table.now c.args.job.now.plan).rows c.index-split.result.now parts.inside
-
-pub finish_split-requires-clause-needs : goal.finish_split-requires-clause-needs
-finish_split-requires-clause-needs c =
-    let parts = parts_of c.args.table.now c.args.job.now c.args.progress.now c.args.place c.index.result.now c.index-split.result.now c.requires.good c.requires.place c.index.ensures c.index-split.ensures in
-    let same = same_active c.args.progress.now.active.items c.args.place c.index.result.now c.index_mut.result.now c.requires.place c.index.ensures c.index_mut.ensures.value in
-    let P : ActiveSplit → Type 0 = λ active. AreNeeds (ReadsFor c.args.table.now c.args.job.now c.index-split.result.now) active.needs in
-    subst P same parts.needs
-
-pub finish_split-requires-clause-needed_leaves : goal.finish_split-requires-clause-needed_leaves
-finish_split-requires-clause-needed_leaves c =
-    let parts = parts_of c.args.table.now c.args.job.now c.args.progress.now c.args.place c.index.result.now c.index-split.result.now c.requires.good c.requires.place c.index.ensures c.index-split.ensures in
-    let same = same_active c.args.progress.now.active.items c.args.place c.index.result.now c.index_mut.result.now c.requires.place c.index.ensures c.index_mut.ensures.value in
-    let P : ActiveSplit → Type 0 = λ active. AreLeaves c.args.table.now active.needs in
-    subst P same parts.are_leaves
+pub finish_split-requires-clause-ready : goal.finish_split-requires-clause-ready
+finish_split-requires-clause-ready c =
+    let progress = c.args.progress.now in
+    let good = c.requires.good in
+    let parts = parts_of c.args.table.now c.args.job.now progress c.args.place c.index.result.now c.index-split.result.now good c.requires.place c.index.ensures c.index-split.ensures in
+    let same = same_active progress.active.items c.args.place c.index.result.now c.index_mut.result.now c.requires.place c.index.ensures c.index_mut.ensures.value in
+    let N : ActiveSplit → Type 0 = λ active. AreNeeds (ReadsFor c.args.table.now c.args.job.now c.index-split.result.now) active.needs in
+    let L : ActiveSplit → Type 0 = λ active. AreLeaves c.args.table.now active.needs in
+    let S : ActiveSplit → Type 0 = λ active. IsServed progress.leaves progress.reads active.needs in
+    record {
+      known = good.known;
+      inside = split_rows (node_at c.args.table.now c.args.job.now.plan).rows c.index-split.result.now parts.inside;
+      fits = good.fits;
+      typed_leaves = good.typed_leaves;
+      typed_given = good.typed_given;
+      typed_made = good.typed_made;
+      needs_are = subst N same parts.needs;
+      are_leaves = subst L same parts.are_leaves;
+      served = subst S same parts.served;
+    }
 
 pub returns-clause-good : goal.returns-clause-good
 returns-clause-good c =
@@ -45,8 +48,8 @@ returns-clause-good c =
     let parts = parts_of c.args.table.now c.args.job.now c.args.progress.now c.args.place c.index.result.now c.index-split.result.now c.requires.good c.requires.place c.index.ensures c.index-split.ensures in
     let alike = same_active progress.active.items c.args.place c.index_mut.result.now c.index.result.now c.requires.place c.index_mut.ensures.value c.index.ensures in
     let S : ActiveSplit → Type 0 = λ active. IsServed c.finish_split.new.leaves c.finish_split.new.reads active.needs in
-    let serves = serves_at c.args.table.now c.args.job.now progress active c.finish_split.new.reads c.finish_split.new.leaves c.finish_split.new.wholes same c.finish_split.ensures.keeps c.args.place c.index.result.now c.index-split.result.now parts c.is_last-last.result c.is_last-last.ensures c.finish_split.ensures.lets (subst S alike c.finish_split.ensures.served) c.requires.good in
-    good_tried c.args.table.now c.args.job.now progress active c.finish_split.new.reads c.finish_split.new.leaves c.finish_split.new.wholes same c.finish_split.ensures.wanted serves c.finish_split.ensures.keeps c.finish_split.ensures.made c.finish_split.ensures.used c.requires.good
+    let serves = serves_at c.args.table.now c.args.job.now progress active c.finish_split.new.reads c.finish_split.new.leaves c.finish_split.new.wholes same c.finish_split.ensures.decoded.keeps c.args.place c.index.result.now c.index-split.result.now parts c.is_last-last.result c.is_last-last.ensures c.finish_split.ensures.decoded.lets (subst S alike c.finish_split.ensures.decoded.served) c.requires.good in
+    good_tried c.args.table.now c.args.job.now progress active c.finish_split.new.reads c.finish_split.new.leaves c.finish_split.new.wholes same c.finish_split.ensures.decoded.wanted serves c.finish_split.ensures.decoded.keeps c.finish_split.ensures.wholes.made c.finish_split.ensures.wholes.used c.requires.good
 
 pub returns-clause-keeps : goal.returns-clause-keeps
 returns-clause-keeps c =
@@ -56,14 +59,14 @@ returns-clause-keeps c =
     let parts = parts_of c.args.table.now c.args.job.now c.args.progress.now c.args.place c.index.result.now c.index-split.result.now c.requires.good c.requires.place c.index.ensures c.index-split.ensures in
     let alike = same_active progress.active.items c.args.place c.index_mut.result.now c.index.result.now c.requires.place c.index_mut.ensures.value c.index.ensures in
     let N : ActiveSplit → Type 0 = λ active. AddsOnly (IsNeededLeaf active.needs) progress.leaves c.finish_split.new.leaves in
-    keeps_tried c.args.table.now c.args.job.now progress active c.finish_split.new.reads c.finish_split.new.leaves c.finish_split.new.wholes same c.finish_split.ensures.wanted c.finish_split.ensures.handed c.finish_split.ensures.keeps c.finish_split.ensures.made c.finish_split.ensures.used c.args.place c.index.result.now c.index-split.result.now parts (subst N alike c.finish_split.ensures.only) c.finish_split.ensures.asked
+    keeps_tried c.args.table.now c.args.job.now progress active c.finish_split.new.reads c.finish_split.new.leaves c.finish_split.new.wholes same c.finish_split.ensures.decoded.wanted c.finish_split.ensures.decoded.handed c.finish_split.ensures.decoded.keeps c.finish_split.ensures.wholes.made c.finish_split.ensures.wholes.used c.args.place c.index.result.now c.index-split.result.now parts (subst N alike c.finish_split.ensures.decoded.only) c.finish_split.ensures.wholes.asked
 
 pub returns-clause-output : goal.returns-clause-output
 returns-clause-output c =
     let progress = c.args.progress.now in
     let new : Progress = record { next = progress.next; active = with_item progress.active c.args.place (record { split = c.index_mut.result.now.split; needs = c.finish_split.new.needs }); reads = c.finish_split.new.reads; leaves = c.finish_split.new.leaves; wholes = c.finish_split.new.wholes } in
     let parts = parts_of c.args.table.now c.args.job.now c.args.progress.now c.args.place c.index.result.now c.index-split.result.now c.requires.good c.requires.place c.index.ensures c.index-split.ensures in
-    output_up c.args.table.now c.args.job.now progress new c.args.place c.index.result.now c.index-split.result.now c.finish_split.result parts c.finish_split.ensures.output c.finish_split.ensures.leaves
+    output_up c.args.table.now c.args.job.now progress new c.args.place c.index.result.now c.index-split.result.now c.finish_split.result parts c.finish_split.ensures.output
 
 pub returns-clause-held : goal.returns-clause-held
 returns-clause-held c =
@@ -80,12 +83,5 @@ returns-clause-cause c =
     let same = same_active progress.active.items c.args.place c.index_mut.result.now c.index.result.now c.requires.place c.index_mut.ensures.value c.index.ensures in
     let actives = same_actives progress.active.items c.args.place c.index_mut.result.now c.finish_split.new.needs c.index_mut.ensures.value c.finish_split.ensures.same in
     let parts = parts_of c.args.table.now c.args.job.now c.args.progress.now c.args.place c.index.result.now c.index-split.result.now c.requires.good c.requires.place c.index.ensures c.index-split.ensures in
-    let P : ActiveSplit → Type 0 = λ active. IfErr c.finish_split.result (IsRefusal c.args.table.now c.args.job.now c.index-split.result.now active.needs progress.reads.wanted progress.leaves progress.wholes.made) in
-    cause_of_split c.args.table.now c.args.job.now progress new c.args.place c.index.result.now c.index-split.result.now c.finish_split.result parts c.finish_split.ensures.wanted actives (subst P same c.finish_split.ensures.cause) c.finish_split.ensures.left c.finish_split.ensures.left_leaves
-
-pub finish_split-requires-clause-served : goal.finish_split-requires-clause-served
-finish_split-requires-clause-served c =
-    let parts = parts_of c.args.table.now c.args.job.now c.args.progress.now c.args.place c.index.result.now c.index-split.result.now c.requires.good c.requires.place c.index.ensures c.index-split.ensures in
-    let same = same_active c.args.progress.now.active.items c.args.place c.index.result.now c.index_mut.result.now c.requires.place c.index.ensures c.index_mut.ensures.value in
-    let P : ActiveSplit → Type 0 = λ active. IsServed c.args.progress.now.leaves c.args.progress.now.reads active.needs in
-    subst P same parts.served
+    let P : ActiveSplit → Type 0 = λ active. IfErr c.finish_split.result (Refuses c.args.table.now c.args.job.now c.index-split.result.now active.needs progress.reads.wanted progress.leaves progress.wholes.made c.finish_split.new.wholes c.finish_split.new.leaves) in
+    cause_of_split c.args.table.now c.args.job.now progress new c.args.place c.index.result.now c.index-split.result.now c.finish_split.result parts c.finish_split.ensures.decoded.wanted actives (subst P same c.finish_split.ensures.refused)
