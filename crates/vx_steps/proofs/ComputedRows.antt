@@ -69,6 +69,11 @@ none_computed h n start bits column none empty leaves are =
 pub memory_computed : (h : Held) (n start : ℕ) (bits : List Bool) → Computes h n start bits (Err Memory)
 memory_computed h n start bits leaves are = tt
 
+-- where no row is selected
+pub empty_computed : (h : Held) (n start : ℕ) (bits : List Bool) (result : Result ColumnData StepError) → SelectsNone bits → IfOk result (λ column. column.values ≡ []) → IfErr result (λ error. error ≡ Memory) → Computes h n start bits result
+empty_computed h n start bits (Ok column) none empty memory = none_computed h n start bits column none empty
+empty_computed h n start bits (Err error) none empty memory = subst (λ (e : StepError). Computes h n start bits (Err e)) (sym memory) (memory_computed h n start bits)
+
 -- ---- a segment
 
 leaf_row : (leaves : Leaves) (handed : Handed) (offset : ℕ) (nodes : List Node) (n segment : ℕ) (values : List Datum) → leaves (node_at nodes n).dtype (node_at nodes n).rows segment ≡ Some values → (row : ℕ) → row_value leaves handed offset (scan_plan (head_of nodes n) segment) row ≡ slice_get values row

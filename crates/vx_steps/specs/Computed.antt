@@ -1,6 +1,8 @@
 -- The column that is computed for the selected rows of a plan, and why none is.
 use Rattle.std.specs.Prelude.{◌≡◌, ℕ, Bool, List, [], ◌∷◌, Option, Some, None, length, MatchResult, Result, Ok, Err}
+use Rattle.std.specs.List.{flat_map, sum_by, AllByRecursion}
 use Rattle.vx_base.specs.Columns.{ColumnData}
+use Rattle.vx_base.specs.Masks.{true_count}
 use Rattle.vx_plan.specs.Plans.{Plan, plan_at}
 use Rattle.vx_plan.specs.Refs.{number_of}
 use Rattle.vx_plan.specs.Rules.{node_at}
@@ -84,3 +86,9 @@ abbrev pub AreParts : Held → ℕ → List Bool → List ℕ → List ColumnDat
 AreParts h start bits [] [] = Unit {0}
 AreParts h start bits (n ∷ ns) (part ∷ parts) = IsPart h n start bits part × AreParts h start bits ns parts
 AreParts h start bits ns parts = ⊥
+
+-- One after another they are the values of the plan's selected rows, and each has the plan's dtype.
+pub record AreChunkParts (h : Held) (n start : ℕ) (bits : List Bool) (parts : List ColumnData) : Type 0 where
+  pub dtypes : AllByRecursion (λ part. part.dtype ≡ (node_at h.nodes n).dtype) parts
+  pub rows : sum_by (λ part. length part.values) parts ≡ true_count bits
+  pub values : (leaves : Leaves) → IsBy h leaves → AreOf (row_value leaves (handed_in h) h.offset (plan_at h.nodes n)) (rows_of start bits) (flat_map (λ part. part.values) parts)

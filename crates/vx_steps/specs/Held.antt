@@ -47,9 +47,13 @@ pub record IsHeld (h : Held) : Type 0 where
   pub made : AreTyped h.nodes h.made
   pub offset : FitsOffset h.nodes h.offset
 
--- the plan scans a segment, and this is its column
+-- the plan scans a segment
+abbrev pub IsLeaf : List Node → ℕ → Type 0
+IsLeaf nodes n = (segment : ℕ) × HasShape nodes n (shapes.Leaf segment)
+
+-- and this is its column
 abbrev pub IsLeafColumn : Held → ℕ → ColumnData → Type 0
-IsLeafColumn h n column = ((segment : ℕ) × HasShape h.nodes n (shapes.Leaf segment)) × (kept_at h.leaves n ≡ Some column)
+IsLeafColumn h n column = IsLeaf h.nodes n × (kept_at h.leaves n ≡ Some column)
 
 -- the kept columns of leaves have the leaves' values
 abbrev pub HaveLeaves : List Node → List Kept → Leaves → Type 0

@@ -10,16 +10,15 @@ ghost use Rattle.vx_plan.specs.Kinds.{HasKind, IsPack};
 ghost use Rattle.vx_plan.specs.Rules.{node_at};
 ghost use Rattle.vx_plan.specs.Shapes.{HasShape};
 ghost use Rattle.vx_plan.specs.Tables.{IsGoodTable};
-ghost use Rattle.vx_steps.specs.Computed.{whole_in, AreParts, AreReady, AreReadyWhole, Computes, ComputesWhole};
+ghost use Rattle.vx_steps.specs.Computed.{whole_in, AreChunkParts, AreParts, AreReady, AreReadyWhole, Computes, ComputesWhole};
 ghost use Rattle.vx_steps.specs.Held.{held, IsHeld, IsLeafColumn};
 ghost use Rattle.vx_steps.specs.Rows.{SelectsSome};
 
+use crate::childless::{leaf_of, no_rows, numbers_of};
 use crate::chunks::chunk_at;
 use crate::errors::StepError;
 use crate::kept::KeptColumns;
-use crate::picking::{
-    looked_up, numbered, picked, picked_range, selects_none, structs, worked_out,
-};
+use crate::picking::{joined, looked_up, picked, picked_range, selects_none, structs, worked_out};
 use std::alloc::Global;
 use std::ops::Range;
 use vx_base::{Column, Mask};
@@ -78,17 +77,11 @@ pub(crate) fn column_of(
     ensures rows { IfOk result (λ column. length column.values ≡ true_count mask.now) }
     ensures computed { Computes (held from.entry) plan start mask.now result }
 {
-    let table = from.table;
-    // The contract of `row_count` says that the rows are so few that their numbers fit.
-    let _rows = table.row_count(PlanRef(plan));
     if selects_none(mask) {
-        return Ok(Column::empty(alloc, table.dtype(PlanRef(plan)).copy(alloc)?)?);
+        return no_rows(alloc, from.table, plan);
     }
-    match table.shape(PlanRef(plan)) {
-        Shape::Leaf(_) => match from.leaves.find(plan) {
-            Some(column) => Ok(picked(alloc, column, start, mask)?),
-            None => unreachable!(),
-        },
+    match from.table.shape(PlanRef(plan)) {
+        Shape::Leaf(_) => leaf_of(alloc, from, plan, start, mask),
         Shape::Same(child) => column_of(alloc, from, child, start, mask),
         Shape::Zoned(content, _) => column_of(alloc, from, content, start, mask),
         Shape::Chunks => chunks_of(alloc, from, plan, start, mask),
@@ -96,7 +89,7 @@ pub(crate) fn column_of(
         Shape::LookUp(codes, values) => take_of(alloc, from, plan, codes, values, start, mask),
         Shape::Over(child) => eval_of(alloc, from, plan, child, start, mask),
         Shape::Shared(child) => share_of(alloc, from, plan, child, start, mask),
-        Shape::RowNumbers => Ok(numbered(alloc, start, from.offset, mask)?),
+        Shape::RowNumbers => numbers_of(alloc, from, plan, start, mask),
         Shape::Lists => Err(StepError::Unsupported(PlanRef(plan))),
     }
 }
@@ -124,24 +117,23 @@ pub(crate) fn whole_of_plan(
     column_of(alloc, alone, plan, 0, &all)
 }
 
-/// The selected rows of a concat: those of each child that holds a row of the range, one after another.
+/// The selected rows of each child of a concat that holds a row of the range, one after another.
 #[cycle(computing)]
-fn chunks_of(
+fn chunk_parts(
     alloc: Global,
     from: Sources<'_>,
     plan: u32,
     start: u64,
     mask: &Mask,
-) -> Result<Column, StepError>
+) -> Result<Vec<Column>, StepError>
     requires good { IsGoodTable from.table.now }
     requires known { plan < length from.table.now }
     requires concat { HasShape from.table.now plan Chunks }
     requires inside { start + length mask.now ≤ (node_at from.table.now plan).rows }
     requires held { IsHeld (held from) }
     requires ready { AreReady (held from) plan start mask.now }
-    ensures dtype { IfOk result (λ column. column.dtype ≡ (node_at from.entry.table.now plan).dtype) }
-    ensures rows { IfOk result (λ column. length column.values ≡ true_count mask.now) }
-    ensures computed { Computes (held from.entry) plan start mask.now result }
+    ensures parts { IfOk result (λ parts. AreChunkParts (held from.entry) plan start mask.now parts.items) }
+    ensures fault { IfErr result (λ error. Computes (held from.entry) plan start mask.now (Err error)) }
 {
     // The contract of `row_count` says that the rows are so few that their numbers fit.
     let _rows = from.table.row_count(PlanRef(plan));
@@ -169,7 +161,32 @@ fn chunks_of(
         done += here;
         place = chunk.next;
     }
-    Ok(Column::concat(alloc, from.table.dtype(PlanRef(plan)).copy(alloc)?, parts)?)
+    Ok(parts)
+}
+
+/// The selected rows of a concat.
+#[cycle(computing)]
+fn chunks_of(
+    alloc: Global,
+    from: Sources<'_>,
+    plan: u32,
+    start: u64,
+    mask: &Mask,
+) -> Result<Column, StepError>
+    requires good { IsGoodTable from.table.now }
+    requires known { plan < length from.table.now }
+    requires concat { HasShape from.table.now plan Chunks }
+    requires inside { start + length mask.now ≤ (node_at from.table.now plan).rows }
+    requires held { IsHeld (held from) }
+    requires ready { AreReady (held from) plan start mask.now }
+    ensures dtype { IfOk result (λ column. column.dtype ≡ (node_at from.entry.table.now plan).dtype) }
+    ensures rows { IfOk result (λ column. length column.values ≡ true_count mask.now) }
+    ensures computed { Computes (held from.entry) plan start mask.now result }
+{
+    match chunk_parts(alloc, from, plan, start, mask) {
+        Ok(parts) => Ok(joined(alloc, from.table, plan, parts)?),
+        Err(error) => Err(error),
+    }
 }
 
 /// The rows of a plan that a range of a mask selects. Those of a segment are picked out of its column at once.

@@ -1,6 +1,6 @@
 //! Which leaves the selected rows of a plan read.
 
-ghost use Rattle.std.specs.Prelude.{◌≡◌, ◌+◌, ◌<◌, ◌≤◌, length, option_map, OnOk};
+ghost use Rattle.std.specs.Prelude.{◌≡◌, ◌+◌, ◌<◌, ◌≤◌, [], ◌∷◌, ◌++◌, length, option_map, OnOk};
 ghost use Rattle.std.specs.Bool.{MatchBool};
 ghost use Rattle.vx_plan.specs.declared.shapes.Shape.TheVariants.{Chunks};
 ghost use Rattle.vx_plan.specs.Kinds.{HasKind, IsPack};
@@ -36,6 +36,14 @@ fn is_handed(given: Option<&KeptColumns>, whole: u32) -> bool
     }
 }
 
+/// Adds a leaf that is read.
+fn add_leaf(leaf: u32, segment: u32, reads: &mut Vec<LeafRead>) -> Result<(), AllocError>
+    ensures { OnOk result (reads.new.items ≡ reads.old.items ++ record { leaf = leaf; segment = segment } ∷ []) }
+{
+    reads.push(LeafRead { leaf, segment })?;
+    Ok(())
+}
+
 /// Adds the leaves that the selected rows of a plan read. Where whole values were handed in for a take or a share, none
 /// is read for them; where no row is selected, none is read at all. While whole values are made nothing is handed in.
 #[cycle(leaf_reads)]
@@ -57,13 +65,7 @@ pub(crate) fn add_reads(
         return Ok(());
     }
     match table.shape(PlanRef(plan)) {
-        Shape::Leaf(segment) => {
-            reads.push(LeafRead {
-                leaf: plan,
-                segment,
-            })?;
-            Ok(())
-        }
+        Shape::Leaf(segment) => add_leaf(plan, segment, reads),
         Shape::Same(child) => add_reads(alloc, table, given, child, start, mask, reads),
         Shape::Over(child) => add_reads(alloc, table, given, child, start, mask, reads),
         Shape::Zoned(content, _) => add_reads(alloc, table, given, content, start, mask, reads),

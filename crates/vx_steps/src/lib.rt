@@ -4,6 +4,7 @@
 
 mod asked;
 mod by_hand;
+mod childless;
 mod chunks;
 mod computing;
 mod errors;

@@ -3,8 +3,7 @@
 
 ghost use Rattle.std.specs.Prelude.{◌≡◌, ◌+◌, ◌-◌, ◌<◌, ◌≤◌, ◌^◌, ℕ, length, map, replicate, slice_range, Some, true, IfOk, IfErr, IsSomeAnd, IsTrue, MatchOption};
 ghost use Rattle.std.specs.Bool.{MatchBool};
-ghost use Rattle.std.specs.List.{slice_get, All, AllByRecursion};
-ghost use Rattle.vx_base.specs.Data.{int_type};
+ghost use Rattle.std.specs.List.{flat_map, slice_get, All, AllByRecursion};
 ghost use Rattle.vx_base.specs.Fits.{nullability_of};
 ghost use Rattle.vx_base.specs.ColumnCalls.{natural, nullable_where, IsCodeBelow, IsUnsigned};
 ghost use Rattle.vx_base.specs.Masks.{chosen, true_count};
@@ -120,6 +119,22 @@ fn first_past(codes: &Column, count: u64) -> Option<u64>
         }
     }
     None
+}
+
+/// The columns one after another, as rows of the plan.
+pub(crate) fn joined(
+    alloc: Global,
+    table: &PlanTable,
+    plan: u32,
+    parts: Vec<Column>,
+) -> Result<Column, AllocError>
+    requires known { plan < length table.now }
+    requires dtypes { AllByRecursion (λ part. part.dtype ≡ (node_at table.now plan).dtype) parts.items }
+    ensures dtype { IfOk result (λ column. column.dtype ≡ (node_at table.now plan).dtype) }
+    ensures values { IfOk result (λ column. column.values ≡ flat_map (λ part. part.values) parts.items) }
+{
+    let dtype = table.dtype(PlanRef(plan)).copy(alloc)?;
+    Column::concat(alloc, dtype, parts)
 }
 
 /// The values at the codes of a take; a fault names the row of the first code that is none of them.

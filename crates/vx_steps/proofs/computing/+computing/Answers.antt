@@ -2,13 +2,11 @@ use Rattle.std.proofs.Common.{arith, ◌≡◌, ◌+◌, ◌<◌, ◌≤◌, ℕ
 use Rattle.std.proofs.lemmas.Result.{IfOk-weaker, err_from_is_err_and}
 use Rattle.vx_base.specs.Columns.{ColumnData}
 use Rattle.vx_base.specs.Masks.{true_count}
-use Rattle.std.proofs.lemmas.List.{length-map, take_all, length-replicate}
+use Rattle.std.proofs.lemmas.List.{take_all, length-replicate}
 use Rattle.std.proofs.lemmas.List.Concat.{length-flat_map}
 use Rattle.std.proofs.lemmas.List.Sums.{sum_by_push}
 use Rattle.std.specs.Prelude.{slice_range, IfOk}
-use Rattle.std.specs.List.{AllByRecursion}
 use Rattle.vx_base.specs.Data.{DataType}
-use Rattle.vx_rows.specs.Derivations.{Leaves}
 use Rattle.vx_plan.specs.Plans.{plan_at, plan_head}
 use Rattle.vx_base.specs.ColumnCalls.{nullable_where, IsFitting, IsUnsigned}
 use Rattle.vx_base.specs.Fits.{nullability_of}
@@ -19,37 +17,27 @@ use Rattle.vx_steps.proofs.Fields.{field_failed, parts_more, parts_typed, struct
 use Rattle.vx_plan.specs.Kinds.{has_validity_of}
 use Rattle.vx_steps.specs.Structs.{structs_at}
 use Rattle.vx_steps.proofs.Selecting.{past_true}
-use Rattle.vx_steps.specs.Computed.{whole_in, AreReady, Computes, ComputesWhole}
-use Rattle.vx_steps.specs.Given.{row_value}
-use Rattle.vx_base.specs.ColumnCalls.{natural}
-use Rattle.vx_steps.specs.Rows.{rows_of, AreOf}
+use Rattle.vx_steps.specs.Computed.{whole_in, AreChunkParts, AreReady, Computes, ComputesWhole}
 use Rattle.vx_plan.specs.Rules.{node_at}
-use Rattle.vx_steps.specs.Held.{alone, held, handed_in, IsBy}
+use Rattle.vx_steps.specs.Held.{alone, held}
 use Rattle.vx_steps.proofs.ChunkRows.{chunk_dtype, concat_plan_at}
 use Rattle.vx_steps.proofs.ComputedChunks.{chunk_failed, chunk_values}
-use Rattle.vx_steps.proofs.ComputedRows.{codes_failed, eval_computed, eval_failed, leaf_computed, none_computed, numbers_computed, same_computed, share_computed, share_made, share_there, shared_failed, take_computed, values_failed, whole_computed, whole_made, whole_memory, whole_there, whole_typed, zoned_computed}
+use Rattle.vx_steps.proofs.ComputedRows.{codes_failed, empty_computed, eval_computed, eval_failed, leaf_computed, same_computed, share_computed, share_made, share_there, shared_failed, take_computed, values_failed, whole_computed, whole_made, whole_memory, whole_there, whole_typed, zoned_computed}
 use Rattle.vx_steps.proofs.MaskRanges.{all_pushed, count_more, length_between}
-use Rattle.vx_steps.proofs.Readying.{nothing_given, ready_chunk, ready_field, ready_leaf, ready_same, ready_shared, ready_values, ready_whole, ready_zoned}
-use Rattle.vx_steps.proofs.SelectedRows.{count_none, picked_count, rows_count}
-use Rattle.vx_steps.proofs.Shaping.{eval_at, leaf_plan, over_plan, pack_plan_at, numbers_law, numbers_type, same_law, same_plan, share_plan_at, take_plan_at, zoned_law, zoned_like_plan}
+use Rattle.vx_steps.proofs.Readying.{nothing_given, ready_chunk, ready_field, ready_same, ready_shared, ready_values, ready_whole, ready_zoned}
+use Rattle.vx_steps.proofs.SelectedRows.{count_none, picked_count}
+use Rattle.vx_steps.proofs.Shaping.{eval_at, leaf_plan, over_plan, pack_plan_at, same_law, same_plan, share_plan_at, take_plan_at, zoned_law, zoned_like_plan}
 use Rattle.vx_steps.proofs.computing.+computing.Goals as goal
 
 looked_dtype : (codes values out c v : DataType) → out ≡ nullable_where (nullability_of c) v → c ≡ codes → v ≡ values → out ≡ nullable_where (nullability_of codes) values
 looked_dtype codes values out c v is first second = is ∙ ap (λ (t : DataType). nullable_where (nullability_of t) v) first ∙ ap (nullable_where (nullability_of codes)) second
 
-some_none : (x : ColumnData) → Some x ≡ None → ⊥
-some_none x h = cc
-
-pub column_of-unreachable-requires : goal.column_of-unreachable-requires
-column_of-unreachable-requires g c =
-    let k = ready_leaf (held c.args.from) c.args.plan c.in-Leaf.field-0 c.args.start c.args.mask.now (leaf_plan c.args.from.table.now c.args.plan c.in-Leaf.field-0 c.requires.known c.in-Leaf.ensures.shape) c.if-selects_none.ensures c.requires.ready in
-    some_none k.0 (sym k.1 ∙ sym c.in-None.ensures)
-
 pub column_of-returns-then-selects_none-clause-rows : goal.column_of-returns-then-selects_none-clause-rows
-column_of-returns-then-selects_none-clause-rows g c = ap length c.in_ok-empty.ensures.values ∙ sym (count_none c.args.mask.now c.if-selects_none.ensures)
+column_of-returns-then-selects_none-clause-rows g c =
+    IfOk-weaker c.no_rows.result (λ column. column.values ≡ []) (λ column. length column.values ≡ true_count c.args.mask.now) (λ column empty. ap length empty ∙ sym (count_none c.args.mask.now c.if-selects_none.ensures)) c.no_rows.ensures.none
 
 pub column_of-returns-then-selects_none-clause-computed : goal.column_of-returns-then-selects_none-clause-computed
-column_of-returns-then-selects_none-clause-computed g c = none_computed (held c.args.from) c.args.plan c.args.start c.args.mask.now c.in_ok-empty.field-0 c.if-selects_none.ensures c.in_ok-empty.ensures.values
+column_of-returns-then-selects_none-clause-computed g c = empty_computed (held c.args.from) c.args.plan c.args.start c.args.mask.now c.no_rows.result c.if-selects_none.ensures c.no_rows.ensures.none c.no_rows.ensures.memory
 
 pub column_of-column_of-requires : goal.column_of-column_of-requires
 column_of-column_of-requires g c =
@@ -64,18 +52,6 @@ column_of-column_of-requires-in-Zoned g c =
     let lt : c.in-Zoned.content < c.args.plan = like.lower in
     let rows : (node_at c.args.from.table.now c.args.plan).rows ≡ (node_at c.args.from.table.now c.in-Zoned.content).rows = like.rows in
     (omega arith, (like.known, (omega arith, (c.requires.held, ready_zoned (held c.args.from) c.args.plan c.in-Zoned.content c.in-Zoned.field-1 c.args.start c.args.mask.now (zoned_law c.args.from.table.now c.args.plan c.in-Zoned.content c.in-Zoned.field-1 c.requires.known c.in-Zoned.ensures.shape) c.requires.ready))))
-
-pub column_of-returns-in_ok-picked-in-Some-clause-rows : goal.column_of-returns-in_ok-picked-in-Some-clause-rows
-column_of-returns-in_ok-picked-in-Some-clause-rows g c =
-    let typed = c.requires.held.leaves c.args.plan c.in-Some.column.now (sym c.in-Some.ensures) in
-    let long : length c.in-Some.column.now.values ≡ (node_at c.args.from.table.now c.args.plan).rows = typed.1 in
-    ap length c.in_ok-picked-in-Some.ensures.values ∙ picked_count c.in-Some.column.now.values c.args.start c.args.mask.now (omega arith)
-
-pub column_of-returns-in_ok-picked-in-Some-clause-computed : goal.column_of-returns-in_ok-picked-in-Some-clause-computed
-column_of-returns-in_ok-picked-in-Some-clause-computed g c =
-    let typed = c.requires.held.leaves c.args.plan c.in-Some.column.now (sym c.in-Some.ensures) in
-    let long : length c.in-Some.column.now.values ≡ (node_at c.args.from.table.now c.args.plan).rows = typed.1 in
-    leaf_computed (held c.args.from) c.args.plan c.in-Leaf.field-0 c.args.start c.args.mask.now c.in-Some.column.now c.in_ok-picked-in-Some.field-0 (leaf_plan c.args.from.table.now c.args.plan c.in-Leaf.field-0 c.requires.known c.in-Leaf.ensures.shape) c.in-Leaf.ensures.shape (sym c.in-Some.ensures) (omega arith) c.in_ok-picked-in-Some.ensures.values
 
 pub column_of-returns-in-Same-clause-dtype : goal.column_of-returns-in-Same-clause-dtype
 column_of-returns-in-Same-clause-dtype g c =
@@ -93,19 +69,13 @@ column_of-returns-in-Zoned-clause-dtype g c =
 pub column_of-returns-in-Zoned-clause-computed : goal.column_of-returns-in-Zoned-clause-computed
 column_of-returns-in-Zoned-clause-computed g c = zoned_computed (held c.args.from) c.args.plan c.in-Zoned.content c.in-Zoned.field-1 c.args.start c.args.mask.now c.column_of-in-Zoned.result (zoned_law c.args.from.table.now c.args.plan c.in-Zoned.content c.in-Zoned.field-1 c.requires.known c.in-Zoned.ensures.shape) c.column_of-in-Zoned.ensures.computed
 
-pub column_of-returns-in_ok-numbered-in-RowNumbers-clause-dtype : goal.column_of-returns-in_ok-numbered-in-RowNumbers-clause-dtype
-column_of-returns-in_ok-numbered-in-RowNumbers-clause-dtype g c = c.in_ok-numbered-in-RowNumbers.ensures.dtype ∙ sym (numbers_type c.args.from.table.now c.args.plan c.requires.known c.in-RowNumbers.ensures.shape)
-
-pub column_of-returns-in_ok-numbered-in-RowNumbers-clause-rows : goal.column_of-returns-in_ok-numbered-in-RowNumbers-clause-rows
-column_of-returns-in_ok-numbered-in-RowNumbers-clause-rows g c = ap length c.in_ok-numbered-in-RowNumbers.ensures.values ∙ length-map (rows_of c.args.start c.args.mask.now) (λ row. natural (row + c.args.from.offset)) ∙ rows_count c.args.start c.args.mask.now
-
-pub column_of-returns-in_ok-numbered-in-RowNumbers-clause-computed : goal.column_of-returns-in_ok-numbered-in-RowNumbers-clause-computed
-column_of-returns-in_ok-numbered-in-RowNumbers-clause-computed g c = numbers_computed (held c.args.from) c.args.plan c.args.start c.args.mask.now c.in_ok-numbered-in-RowNumbers.field-0 (numbers_law c.args.from.table.now c.args.plan c.requires.known c.in-RowNumbers.ensures.shape) c.in_ok-numbered-in-RowNumbers.ensures.values
+pub column_of-leaf_of-requires-clause-leaf : goal.column_of-leaf_of-requires-clause-leaf
+column_of-leaf_of-requires-clause-leaf g c = (c.in-Leaf.field-0, c.in-Leaf.ensures.shape)
 
 -- ---- chunks
 
-pub chunks_of-range_of-requires : goal.chunks_of-range_of-requires
-chunks_of-range_of-requires g c =
+pub chunk_parts-range_of-requires : goal.chunk_parts-range_of-requires
+chunk_parts-range_of-requires g c =
     let is = c.chunk_at-chunk.ensures in
     let low : c.chunk_at-chunk.result.start ≤ c.args.start + c.loop-done.done = is.at_most in
     let end : c.chunk_at-chunk.result.end ≡ c.chunk_at-chunk.result.start + (node_at c.args.from.table.now c.chunk_at-chunk.result.child).rows = is.end in
@@ -113,36 +83,36 @@ chunks_of-range_of-requires g c =
     let over = concat_plan_at c.args.from.table.now c.args.plan c.requires.known c.requires.concat in
     (omega arith, (omega arith, (c.all_true-selects_all.ensures.0, (omega arith, (omega arith, (omega arith, (c.requires.held, ready_chunk (held c.args.from) c.requires.good c.args.plan c.args.start c.loop-done.done c.min-here.result c.args.mask.now c.chunk_at-chunk.result is over (omega arith) c.requires.ready)))))))
 
-pub chunks_of-returns-in-Err-clause-computed : goal.chunks_of-returns-in-Err-clause-computed
-chunks_of-returns-in-Err-clause-computed g c =
+pub chunk_parts-returns-in-Err-clause-fault : goal.chunk_parts-returns-in-Err-clause-fault
+chunk_parts-returns-in-Err-clause-fault g c =
     chunk_failed (held c.args.from) c.requires.good c.args.plan c.args.start c.loop-done.done c.min-here.result c.args.mask.now c.chunk_at-chunk.result c.in-Err.error c.chunk_at-chunk.ensures (concat_plan_at c.args.from.table.now c.args.plan c.requires.known c.requires.concat) (omega arith) c.in-Err.ensures.computed
 
-pub chunks_of-loop-done-preserved : goal.chunks_of-loop-done-preserved
-chunks_of-loop-done-preserved g c =
+pub chunk_parts-loop-done-preserved : goal.chunk_parts-loop-done-preserved
+chunk_parts-loop-done-preserved g c =
     let over = concat_plan_at c.args.from.table.now c.args.plan c.requires.known c.requires.concat in
     let pushed : c.push.new.self.items ≡ c.loop-done.parts.items ++ c.in-Ok.part ∷ [] = c.in_ok-push.ensures.items in
     let type_is : (node_at c.args.from.table.now c.chunk_at-chunk.result.child).dtype ≡ (node_at c.args.from.table.now c.args.plan).dtype = chunk_dtype c.args.from.table.now c.requires.good c.args.plan (c.args.start + c.loop-done.done) c.chunk_at-chunk.result c.requires.known c.requires.concat c.chunk_at-chunk.ensures in
     let count : length c.in-Ok.part.values ≡ true_count (slice_range c.args.mask.now c.loop-done.done (c.loop-done.done + c.min-here.result)) = c.in-Ok.ensures.rows in
+    let so_far = c.loop-done.invariant.parts in
     record {
       inside = omega arith;
-      dtypes = rw pushed (all_pushed (λ part. part.dtype ≡ (node_at c.args.from.table.now c.args.plan).dtype) c.loop-done.parts.items c.in-Ok.part c.loop-done.invariant.dtypes (c.in-Ok.ensures.dtype ∙ type_is));
-      rows = rw pushed (omega (arith, sum_by_push (λ (part : ColumnData). length part.values) c.loop-done.parts.items c.in-Ok.part, c.loop-done.invariant.rows, count, count_more c.args.mask.now c.loop-done.done c.min-here.result));
-      values = λ leaves are. rw pushed (chunk_values (held c.args.from) leaves c.requires.good c.args.plan c.args.start c.loop-done.done c.min-here.result c.args.mask.now c.chunk_at-chunk.result c.loop-done.parts.items c.in-Ok.part c.chunk_at-chunk.ensures over (omega arith) c.loop-done.invariant.inside (c.loop-done.invariant.values leaves are) (c.in-Ok.ensures.computed leaves are));
+      parts = record {
+        dtypes = rw pushed (all_pushed (λ part. part.dtype ≡ (node_at c.args.from.table.now c.args.plan).dtype) c.loop-done.parts.items c.in-Ok.part so_far.dtypes (c.in-Ok.ensures.dtype ∙ type_is));
+        rows = rw pushed (omega (arith, sum_by_push (λ (part : ColumnData). length part.values) c.loop-done.parts.items c.in-Ok.part, so_far.rows, count, count_more c.args.mask.now c.loop-done.done c.min-here.result));
+        values = λ leaves are. rw pushed (chunk_values (held c.args.from) leaves c.requires.good c.args.plan c.args.start c.loop-done.done c.min-here.result c.args.mask.now c.chunk_at-chunk.result c.loop-done.parts.items c.in-Ok.part c.chunk_at-chunk.ensures over (omega arith) c.loop-done.invariant.inside (so_far.values leaves are) (c.in-Ok.ensures.computed leaves are));
+      };
     }
 
-pub chunks_of-concat-requires : goal.chunks_of-concat-requires
-chunks_of-concat-requires g c =
-    let F : DataType → Type 0 = λ t. AllByRecursion (λ (part : ColumnData). part.dtype ≡ t) c.loop-done.parts.items in
-    subst F (sym (c.in_ok-copy.ensures ∙ c.dtype.ensures)) c.loop-done.invariant.dtypes
+pub chunk_parts-returns-clause-parts : goal.chunk_parts-returns-clause-parts
+chunk_parts-returns-clause-parts g c =
+    let P : List Bool → Type 0 = λ bits. AreChunkParts (held c.args.from) c.args.plan c.args.start bits c.loop-done.parts.items in
+    subst P (take_all c.loop-done.done c.args.mask.now (omega arith)) c.loop-done.invariant.parts
 
-pub chunks_of-returns-clause-rows : goal.chunks_of-returns-clause-rows
-chunks_of-returns-clause-rows g c =
-    ap length c.in_ok-concat.ensures.values ∙ length-flat_map (λ (part : ColumnData). part.values) c.loop-done.parts.items ∙ c.loop-done.invariant.rows ∙ ap true_count (take_all c.loop-done.done c.args.mask.now (omega arith))
+pub chunks_of-returns-in_ok-joined-in-Ok-clause-rows : goal.chunks_of-returns-in_ok-joined-in-Ok-clause-rows
+chunks_of-returns-in_ok-joined-in-Ok-clause-rows g c = ap length c.in_ok-joined-in-Ok.ensures.values ∙ length-flat_map (λ (part : ColumnData). part.values) c.in-Ok.parts.items ∙ c.in-Ok.ensures.parts.rows
 
-pub chunks_of-returns-clause-computed : goal.chunks_of-returns-clause-computed
-chunks_of-returns-clause-computed g c =
-    let F : List Bool → Type 0 = λ bits. (leaves : Leaves) → IsBy (held c.args.from) leaves → AreOf (row_value leaves (handed_in (held c.args.from)) c.args.from.offset (plan_at c.args.from.table.now c.args.plan)) (rows_of c.args.start bits) c.in_ok-concat.field-0.values in
-    subst F (take_all c.loop-done.done c.args.mask.now (omega arith)) (λ leaves are. c.loop-done.invariant.values leaves are ∙ ap (map Some) (sym c.in_ok-concat.ensures.values))
+pub chunks_of-returns-in_ok-joined-in-Ok-clause-computed : goal.chunks_of-returns-in_ok-joined-in-Ok-clause-computed
+chunks_of-returns-in_ok-joined-in-Ok-clause-computed g c = λ leaves are. c.in-Ok.ensures.parts.values leaves are ∙ ap (map Some) (sym c.in_ok-joined-in-Ok.ensures.values)
 
 pub range_of-range_of-requires : goal.range_of-range_of-requires
 range_of-range_of-requires g c =

@@ -1,14 +1,10 @@
 use Rattle.std.proofs.Common.{◌≡◌, ◌+◌, ◌*◌, ◌≤◌, ◌-◌, length, take}
-use Rattle.std.specs.List.{flat_map, sum_by, AllByRecursion}
+use Rattle.std.specs.List.{AllByRecursion}
 use Rattle.vx_base.specs.ColumnCalls.{IsFitting}
 use Rattle.vx_base.specs.Masks.{true_count}
-use Rattle.vx_rows.specs.Derivations.{Leaves}
-use Rattle.vx_plan.specs.Plans.{plan_at}
 use Rattle.vx_plan.specs.Rules.{node_at}
-use Rattle.vx_steps.specs.Computed.{AreParts}
-use Rattle.vx_steps.specs.Given.{row_value}
-use Rattle.vx_steps.specs.Held.{held, handed_in, IsBy}
-use Rattle.vx_steps.specs.Rows.{rows_of, AreOf}
+use Rattle.vx_steps.specs.Computed.{AreChunkParts, AreParts}
+use Rattle.vx_steps.specs.Held.{held}
 use Rattle.vx_steps.proofs.computing.+computing.Given as goal
 
 abbrev pub decreases-column_of : goal.decreases-column_of
@@ -17,8 +13,11 @@ decreases-column_of l = 5 * l.plan + 2
 abbrev pub decreases-whole_of_plan : goal.decreases-whole_of_plan
 decreases-whole_of_plan l = 5 * l.plan + 3
 
+abbrev pub decreases-chunk_parts : goal.decreases-chunk_parts
+decreases-chunk_parts l = 5 * l.plan
+
 abbrev pub decreases-chunks_of : goal.decreases-chunks_of
-decreases-chunks_of l = 5 * l.plan
+decreases-chunks_of l = 5 * l.plan + 1
 
 abbrev pub decreases-range_of : goal.decreases-range_of
 decreases-range_of l = 5 * l.plan + 3
@@ -38,16 +37,14 @@ decreases-share_of l = 5 * l.plan
 abbrev pub decreases-eval_of : goal.decreases-eval_of
 decreases-eval_of l = 5 * l.plan
 
-abbrev pub invariant-chunks_of-loop-done : goal.invariant-chunks_of-loop-done
-invariant-chunks_of-loop-done l = record {
+abbrev pub invariant-chunk_parts-loop-done : goal.invariant-chunk_parts-loop-done
+invariant-chunk_parts-loop-done l = record {
   inside : l.done ≤ length l.mask;
-  dtypes : AllByRecursion (λ part. part.dtype ≡ (node_at l.from.table.now l.plan).dtype) l.parts.items;
-  rows : sum_by (λ part. length part.values) l.parts.items ≡ true_count (take l.done l.mask);
-  values : (leaves : Leaves) → IsBy (held l.from) leaves → AreOf (row_value leaves (handed_in (held l.from)) l.from.offset (plan_at l.from.table.now l.plan)) (rows_of l.start (take l.done l.mask)) (flat_map (λ part. part.values) l.parts.items);
+  parts : AreChunkParts (held l.from) l.plan l.start (take l.done l.mask) l.parts.items;
 }
 
-abbrev pub decreases-chunks_of-loop-done : goal.decreases-chunks_of-loop-done
-decreases-chunks_of-loop-done l = length l.mask - l.done
+abbrev pub decreases-chunk_parts-loop-done : goal.decreases-chunk_parts-loop-done
+decreases-chunk_parts-loop-done l = length l.mask - l.done
 
 abbrev pub invariant-parts_of-loop-place : goal.invariant-parts_of-loop-place
 invariant-parts_of-loop-place l = record {

@@ -10,8 +10,11 @@ use Rattle.vx_steps.proofs.Selecting.{Reads, chunk_reads, chunks_done, field_mor
 use Rattle.vx_steps.proofs.Shaping.{leaf_plan, over_plan, pack_plan_at, same_law, share_plan_at, take_plan_at, zoned_law}
 use Rattle.vx_steps.proofs.leaf_reads.+leaf_reads.Goals as goal
 
-pub add_reads-returns-in_ok-push-in-Leaf-clause-added : goal.add_reads-returns-in_ok-push-in-Leaf-clause-added
-add_reads-returns-in_ok-push-in-Leaf-clause-added g c = rw c.in_ok-push-in-Leaf.ensures.items (leaf_reads c.args.table.now (handed_by c.args.table.now (option_map (λ kept. kept.now) c.args.given)) c.args.plan c.in-Leaf.segment c.args.start c.args.mask.now (leaf_plan c.args.table.now c.args.plan c.in-Leaf.segment c.requires.known c.in-Leaf.ensures.shape) c.if-selects_none.ensures c.args.reads.now.items)
+pub add_reads-returns-in-Leaf-clause-added : goal.add_reads-returns-in-Leaf-clause-added
+add_reads-returns-in-Leaf-clause-added g c =
+    let handed = handed_by c.args.table.now (option_map (λ kept. kept.now) c.args.given) in
+    let added = leaf_reads c.args.table.now handed c.args.plan c.in-Leaf.segment c.args.start c.args.mask.now (leaf_plan c.args.table.now c.args.plan c.in-Leaf.segment c.requires.known c.in-Leaf.ensures.shape) c.if-selects_none.ensures c.args.reads.now.items in
+    on_ok_weaker c.add_leaf.result (λ items. rw items added) c.add_leaf.ensures
 
 pub add_reads-returns-in-Same-clause-added : goal.add_reads-returns-in-Same-clause-added
 add_reads-returns-in-Same-clause-added g c = on_ok_weaker c.add_reads.result (same_reads c.args.table.now (handed_by c.args.table.now (option_map (λ kept. kept.now) c.args.given)) c.args.plan c.in-Same.child c.args.start c.args.mask.now (same_law c.args.table.now c.args.plan c.in-Same.child c.requires.known c.in-Same.ensures.shape) c.args.reads.now.items c.add_reads.new.reads.items) c.add_reads.ensures.added
