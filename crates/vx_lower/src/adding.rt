@@ -1,6 +1,6 @@
 //! New plans of a table that keep the rules of their kinds, so that memory alone can be wanting.
 
-ghost use Rattle.std.specs.Prelude.{◌≡◌, ◌+◌, ◌<◌, ◌≤◌, [], ◌∷◌, ◌++◌, length, IfOk, IfSome, option_map};
+ghost use Rattle.std.specs.Prelude.{◌≡◌, ◌+◌, ◌<◌, [], ◌∷◌, ◌++◌, length, IfOk, option_map};
 ghost use Rattle.std.specs.Arc.{arc_value};
 ghost use Rattle.vx_base.specs.Leaf.{IsLeaf};
 ghost use Rattle.vx_base.specs.Views.{data_type};

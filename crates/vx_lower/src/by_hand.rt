@@ -1,6 +1,6 @@
 //! Trees that were written by hand, on which the definitions of lowering and of the row index are checked.
 
-ghost use Rattle.std.specs.Prelude.{◌≡◌, ◌∷◌, [], codes, false, None, Some};
+ghost use Rattle.std.specs.Prelude.{◌≡◌, ◌∷◌, [], codes, None, Some};
 ghost use Rattle.vx_base.specs.declared.dtypes.Nullability.TheVariants.{NonNullable};
 ghost use Rattle.vx_base.specs.Data.{no_members, struct_type};
 ghost use Rattle.vx_base.specs.ColumnCalls.{natural};

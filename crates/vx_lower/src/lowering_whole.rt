@@ -5,7 +5,6 @@ ghost use Rattle.std.specs.Arc.{arc_value};
 ghost use Rattle.vx_base.specs.Fits.{nullability_of};
 ghost use Rattle.vx_base.specs.Views.{data_type};
 ghost use Rattle.vx_layout.specs.Kept.{all};
-ghost use Rattle.vx_layout.specs.Shape.{IsGoodTree};
 ghost use Rattle.vx_layout.specs.Trees.{subtree};
 ghost use Rattle.vx_plan.specs.Refs.{number_of};
 ghost use Rattle.vx_plan.specs.Rules.{given_validity, is_given};

@@ -1,13 +1,12 @@
 //! The plan of an expression over a plan and the numbers of its rows.
 
-ghost use Rattle.std.specs.Prelude.{◌≡◌, ◌+◌, ◌<◌, [], ◌∷◌, false, length, true, IfErr, IfOk, OnErr, OnOk};
+ghost use Rattle.std.specs.Prelude.{◌≡◌, ◌<◌, [], false, length, true, IfErr, IfOk, OnErr, OnOk};
 ghost use Rattle.vx_base.specs.Views.{data_type, members_of};
 ghost use Rattle.vx_expr.specs.Bound.{IsBoundTo};
 ghost use Rattle.vx_expr.specs.Mentions.{uses_root, uses_row_number};
 ghost use Rattle.vx_expr.specs.Types.{row_number_type};
 ghost use Rattle.vx_plan.specs.Limits.{most_plans, most_before_four};
 ghost use Rattle.vx_plan.specs.declared.errors.PlanError.TheVariants.{Memory};
-ghost use Rattle.vx_plan.specs.Nodes.{node_data};
 ghost use Rattle.vx_plan.specs.Plans.{plan_at};
 ghost use Rattle.vx_plan.specs.Refs.{number_of};
 ghost use Rattle.vx_plan.specs.Rules.{eval_node, node_at, row_idx_node};

@@ -1,5 +1,5 @@
 -- Plans that were written by hand, on which the definitions of rows, of reads and of what is reached are checked.
-use Rattle.std.specs.Prelude.{codes, ℕ, pos, List, [], ◌∷◌, map, Option}
+use Rattle.std.specs.Prelude.{codes, ℕ, pos, List, map, Option}
 use Rattle.std.specs.declared.ops.Range.{Range}
 use Rattle.vx_base.specs.declared.dtypes.IntKind.TheVariants.{U8}
 use Rattle.vx_base.specs.declared.dtypes.Nullability.TheVariants.{NonNullable, Nullable}

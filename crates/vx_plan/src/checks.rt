@@ -1,10 +1,8 @@
 //! The rules of plans, tried on a node before it comes into the table.
 
-ghost use Rattle.std.specs.Prelude.{◌≡◌, ◌<◌, ◌↔◌, length, map, IsTrue, IfErr, IfOk, OnOk, Some, option_map, slice_get, All};
-ghost use Rattle.vx_base.specs.Views.{data_type};
-ghost use Rattle.vx_rows.specs.TypeForms.{IsOffsets};
+ghost use Rattle.std.specs.Prelude.{◌≡◌, ◌<◌, ◌↔◌, length, map, IsTrue, IfErr, IfOk, OnOk, Some, option_map, slice_get};
 ghost use Rattle.vx_plan.specs.Nodes.{node_data};
-ghost use Rattle.vx_plan.specs.Rules.{field_count, nodes_at, Asks, HasLeafType, HasNoRowIndex, HasUnsignedCodes, IsBoundOver, IsValidityType, KeepsRules, RefusedBy, ValidityFits, ValidityRowsFit};
+ghost use Rattle.vx_plan.specs.Rules.{nodes_at, Asks, HasLeafType, HasNoRowIndex, HasUnsignedCodes, IsBoundOver, KeepsRules, RefusedBy};
 ghost use Rattle.vx_plan.specs.Tables.{AreIn};
 
 use crate::children::PlanChildren;

@@ -1,6 +1,6 @@
 //! What a table of zones holds: one field for each statistic.
 
-ghost use Rattle.std.specs.Prelude.{◌≡◌, ◌↔◌, codes, map, IfOk, IsTrue};
+ghost use Rattle.std.specs.Prelude.{◌≡◌, ◌↔◌, IfOk, IsTrue};
 ghost use Rattle.vx_base.specs.Views.{data_type, field_data};
 ghost use Rattle.vx_rows.specs.Zones.{name_of, statistic_type, statistic_field, zones_type, StandsOver, StandOver};
 

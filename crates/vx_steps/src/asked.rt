@@ -1,7 +1,7 @@
 //! Which whole values the selected rows of a plan ask for where nothing is handed in: the values of outermost takes,
 //! and outermost shares.
 
-ghost use Rattle.std.specs.Prelude.{◌≡◌, ◌+◌, ◌-◌, ◌<◌, ◌≤◌, [], length, map, slice_range, IfOk, OnOk};
+ghost use Rattle.std.specs.Prelude.{◌+◌, ◌-◌, ◌<◌, ◌≤◌, [], length, map, slice_range, IfOk, OnOk};
 ghost use Rattle.vx_plan.specs.declared.shapes.Shape.TheVariants.{Chunks};
 ghost use Rattle.vx_plan.specs.Kinds.{HasKind, IsPack};
 ghost use Rattle.vx_plan.specs.Refs.{number_of};

@@ -1,6 +1,6 @@
 //! Which child of a concat holds a row.
 
-ghost use Rattle.std.specs.Prelude.{◌≡◌, ◌+◌, ◌<◌, length, IsTrue};
+ghost use Rattle.std.specs.Prelude.{◌+◌, ◌<◌, length, IsTrue};
 ghost use Rattle.vx_plan.specs.declared.shapes.Shape.TheVariants.{Chunks};
 ghost use Rattle.vx_plan.specs.Rules.{node_at};
 ghost use Rattle.vx_plan.specs.Shapes.{HasShape};

@@ -1,6 +1,6 @@
 //! Whole columns that are kept, each for a plan.
 
-ghost use Rattle.std.specs.Prelude.{◌≡◌, ◌+◌, ◌<◌, length, take, [], ◌∷◌, ◌++◌, None, map, IfOk, MatchResult, OnOk, OnErr, option_copied};
+ghost use Rattle.std.specs.Prelude.{◌≡◌, ◌+◌, ◌<◌, length, take, [], ◌∷◌, ◌++◌, None, map, MatchResult, OnOk, OnErr, option_copied};
 ghost use Rattle.std.specs.Bool.{MatchBool};
 ghost use Rattle.vx_steps.specs.Kept.{kept_at, kept_data, ArePlaces};
 

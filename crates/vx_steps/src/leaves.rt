@@ -1,6 +1,6 @@
 //! The columns of needed leaves, decoded from what was delivered.
 
-ghost use Rattle.std.specs.Prelude.{◌≡◌, ◌<◌, ℕ, length, None, true, false, IfOk, IfErr};
+ghost use Rattle.std.specs.Prelude.{◌≡◌, ◌<◌, length, None, true, false, IfOk, IfErr};
 ghost use Rattle.std.specs.Bool.{MatchBool};
 ghost use Rattle.vx_plan.specs.declared.shapes.Shape.TheVariants.{Leaf};
 ghost use Rattle.vx_plan.specs.Shapes.{HasShape};

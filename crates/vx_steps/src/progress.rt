@@ -1,6 +1,6 @@
 //! The steps of a scan over what it is to do and how far it is.
 
-ghost use Rattle.std.specs.Prelude.{◌≡◌, ◌+◌, ◌<◌, ◌≤◌, ℕ, [], length, Some, None, true, IfOk, IfErr, IfSome, OnOk};
+ghost use Rattle.std.specs.Prelude.{◌≡◌, ◌+◌, ◌<◌, ◌≤◌, length, Some, None, true, IfOk, IfErr, IfSome};
 ghost use Rattle.std.specs.Bool.{MatchBool};
 ghost use Rattle.vx_steps.specs.Jobs.{active_of, AddsLeaves, IsGood, IsLast, KeepsBound, KeepsColumns, KeepsTold, KeepsWholesFor, OnlyKeeps, Starts, CanStart, WantsFor};
 ghost use Rattle.vx_steps.specs.Needs.{AreAmong};

@@ -1,6 +1,6 @@
 //! The splits of a scan: each a range of rows, and which of them are selected.
 
-ghost use Rattle.std.specs.Prelude.{◌≡◌, ◌-◌, ◌≤◌, true, replicate, IfOk, IsErrOf, OnOk};
+ghost use Rattle.std.specs.Prelude.{◌≡◌, ◌-◌, true, replicate, IfOk, IsErrOf, OnOk};
 ghost use Rattle.std.specs.List.{AllByRecursion};
 ghost use Rattle.std.specs.Bool.{MatchBool};
 ghost use Rattle.vx_steps.specs.Splits.{IsInside};

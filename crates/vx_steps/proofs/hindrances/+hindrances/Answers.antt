@@ -1,7 +1,6 @@
-use Rattle.std.proofs.Common.{arith, rules, ◌≡◌, ◌+◌, ◌<◌, ◌≤◌, Some, subst}
+use Rattle.std.proofs.Common.{arith, ◌≡◌, ◌<◌}
 use Rattle.vx_plan.specs.Rules.{node_at}
 use Rattle.vx_plan.proofs.Collecting.{field_part}
-use Rattle.vx_steps.specs.Hindrances.{AreHindered, IsOne}
 use Rattle.vx_steps.proofs.ChunkRows.{concat_plan_at}
 use Rattle.vx_steps.proofs.HinderedRows.{chunk_rows, chunks_done, chunks_more, field_more, field_rows, over_rows, pack_rows, same_rows, share_rows, take_rows, zoned_rows}
 use Rattle.vx_steps.proofs.Shaping.{over_plan, pack_plan_at, same_law, share_plan_at, take_plan_at, zoned_law}
