@@ -1,6 +1,6 @@
 //! The table of plans.
 
-ghost use Rattle.std.specs.Prelude.{◌≡◌, ◌<◌, ◌↔◌, [], length, map, IfErr, IfOk, IsSome, IsTrue, OnErr, Some, option_map, slice_get, take};
+ghost use Rattle.std.specs.Prelude.{◌≡◌, ◌^◌, ◌<◌, ◌↔◌, [], length, map, IfErr, IfOk, IsSome, IsTrue, OnErr, Some, option_map, slice_get, take};
 ghost use Rattle.std.specs.Arc.{arc_value};
 ghost use Rattle.vx_base.specs.Views.{data_type};
 ghost use Rattle.vx_plan.specs.Kinds.{has_validity_of, id_of, validity_of};
@@ -144,6 +144,14 @@ impl PlanTable {
         ensures { result ≡ (node_at self.now (number_of plan)).rows }
     {
         self.node(plan.0).row_count
+    }
+
+    /// The rows of a plan are so few that their numbers fit: a call that is made for this alone.
+    pub fn numbers_fit(&self, plan: PlanRef)
+        requires { number_of plan < length self.now }
+        ensures { (node_at self.now (number_of plan)).rows < 2 ^ 64 }
+    {
+        let _count = self.node(plan.0).row_count;
     }
 
     /// The children, in order.

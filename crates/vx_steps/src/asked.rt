@@ -99,8 +99,7 @@ fn add_chunks_asked(
     requires inside { start + length mask.now ≤ (node_at table.now plan).rows }
     ensures { OnOk result (Adds (Asks table.now [] plan start mask.now) asked.old.items asked.new.items) }
 {
-    // The contract of `row_count` says that the rows are so few that their numbers fit.
-    let _rows = table.row_count(PlanRef(plan));
+    table.numbers_fit(PlanRef(plan));
     let mut done: u64 = 0;
     let mut place: usize = 0;
     while done < mask.len() {
@@ -184,7 +183,6 @@ pub fn asked_wholes(
     ensures once { IfOk result (λ asked. AreEachOnce (map number_of asked.items)) }
     ensures known { IfOk result (λ asked. AreIn table.now (map number_of asked.items)) }
 {
-    // The contract of `len` says that the table is a good one.
     table.keeps_rules();
     let mut numbers = Vec::new(alloc);
     add_asked(alloc, table, plan.0, start, mask, &mut numbers)?;

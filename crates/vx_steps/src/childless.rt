@@ -68,7 +68,6 @@ pub(crate) fn numbers_of(
     ensures rows { IfOk result (λ column. length column.values ≡ true_count mask.now) }
     ensures computed { Computes (held from.entry) plan start mask.now result }
 {
-    // The contract of `row_count` says that the rows are so few that their numbers fit.
-    let _rows = from.table.row_count(PlanRef(plan));
+    from.table.numbers_fit(PlanRef(plan));
     Ok(numbered(alloc, start, from.offset, mask)?)
 }

@@ -135,8 +135,7 @@ fn chunk_parts(
     ensures parts { IfOk result (λ parts. AreChunkParts (held from.entry) plan start mask.now parts.items) }
     ensures fault { IfErr result (λ error. Computes (held from.entry) plan start mask.now (Err error)) }
 {
-    // The contract of `row_count` says that the rows are so few that their numbers fit.
-    let _rows = from.table.row_count(PlanRef(plan));
+    from.table.numbers_fit(PlanRef(plan));
     let selects_all = mask.all_true();
     let mut parts = Vec::new(alloc);
     let mut done: u64 = 0;
@@ -301,8 +300,7 @@ fn take_of(
     ensures rows { IfOk result (λ column. length column.values ≡ true_count mask.now) }
     ensures computed { Computes (held from.entry) plan start mask.now result }
 {
-    // The contract of `row_count` says that the rows are so few that their numbers fit.
-    let _rows = from.table.row_count(PlanRef(plan));
+    from.table.numbers_fit(PlanRef(plan));
     let codes = match column_of(alloc, from, codes, start, mask) {
         Ok(codes) => codes,
         Err(error) => return Err(error),
@@ -381,8 +379,7 @@ fn eval_of(
     ensures rows { IfOk result (λ column. length column.values ≡ true_count mask.now) }
     ensures computed { Computes (held from.entry) plan start mask.now result }
 {
-    // The contract of `row_count` says that the rows are so few that their numbers fit.
-    let _rows = from.table.row_count(PlanRef(plan));
+    from.table.numbers_fit(PlanRef(plan));
     let root = match column_of(alloc, from, child, start, mask) {
         Ok(root) => root,
         Err(error) => return Err(error),

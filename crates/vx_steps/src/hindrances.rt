@@ -107,8 +107,7 @@ fn hindrance_of_chunks(
     requires inside { start + count ≤ (node_at table.now plan).rows }
     ensures { IsOne (AreHindered places table.now plan start count) result }
 {
-    // The contract of `row_count` says that the rows are so few that their numbers fit.
-    let _rows = table.row_count(PlanRef(plan));
+    table.numbers_fit(PlanRef(plan));
     let mut done: u64 = 0;
     let mut place: usize = 0;
     while done < count {
@@ -159,8 +158,7 @@ fn hindrance_of_runs(
     requires inside { start + length mask.now ≤ (node_at table.now (number_of plan)).rows }
     ensures { IsOne (λ x. SomeVisit (IsHindrance places x) None (plan_at table.now (number_of plan)) start mask.now) result }
 {
-    // The contract of `row_count` says that the rows are so few that their numbers fit.
-    let _rows = table.row_count(plan);
+    table.numbers_fit(plan);
     let mut done: u64 = 0;
     while done < mask.len() {
         let end = run_end(mask, done);

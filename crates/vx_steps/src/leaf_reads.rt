@@ -144,8 +144,7 @@ fn add_chunk_reads(
     ensures added { OnOk result (Adds (λ read. SomeVisit (IsLeafRead read) (handed_by table.now (option_map (λ kept. kept.now) given.entry)) (plan_at table.now plan) start mask.now) reads.old.items reads.new.items) }
     ensures leaves { OnOk result (AreLeaves table.now reads.old.items → AreLeaves table.now reads.new.items) }
 {
-    // The contract of `row_count` says that the rows are so few that their numbers fit.
-    let _rows = table.row_count(PlanRef(plan));
+    table.numbers_fit(PlanRef(plan));
     let mut done: u64 = 0;
     let mut place: usize = 0;
     while done < mask.len() {

@@ -155,8 +155,7 @@ fn meet_chunks(table: &PlanTable, plan: u32, start: u64, count: u64, sieve: &mut
     requires inside { start + count ≤ (node_at table.now plan).rows }
     ensures { Meets (RowsRead table.now plan start count) sieve.old sieve.new }
 {
-    // The contract of `row_count` says that the rows are so few that their numbers fit.
-    let _rows = table.row_count(PlanRef(plan));
+    table.numbers_fit(PlanRef(plan));
     let mut done: u64 = 0;
     let mut place: usize = 0;
     while done < count {

@@ -210,8 +210,7 @@ fn ready_chunks(
     ensures cause { IfErr result (λ error. Computes (held_with grounds.entry wholes.old) plan start mask.now (Err error)) }
     ensures inside { IfErr result (λ error. FailsInside (held_with grounds.entry wholes.old) plan start mask.now error) }
 {
-    // The contract of `row_count` says that the rows are so few that their numbers fit.
-    let _rows = grounds.table.row_count(PlanRef(plan));
+    grounds.table.numbers_fit(PlanRef(plan));
     let mut done: u64 = 0;
     let mut place: usize = 0;
     while done < mask.len() {
