@@ -80,9 +80,14 @@ pub record FailsAgain (plans : ScanPlans) (chunks : List SelectedRows) (error : 
   pub cause : Causes (told_by_all plans sources) plans [] chunk error.error before after
 
 -- The chunk is the last that the worker of one of the sources claimed, and failed there; or, with several sources, it was
--- claimed and failed on the first one once all workers were done. Each chunk below it has its piece.
+-- claimed and failed on the first one once all workers were done.
+abbrev pub FailsOn : ScanPlans → List SelectedRows → ChunkError → List (List ℕ) → List SourceState → List SourceState → List SourceState → Type 0
+FailsOn plans chunks error lists befores middles afters =
+    SomeSourceBy (FailsLast plans chunks error) lists befores middles ⊎ ((1 < length befores) × (1 ≤ times_over error.chunk lists) × FirstSource (FailsAgain plans chunks error befores) middles afters)
+
+-- So it failed, and each chunk below it has its piece.
 pub record FailsLowest (plans : ScanPlans) (chunks : List SelectedRows) (error : ChunkError) (pieces : List Piece) (lists : List (List ℕ)) (befores middles afters : List SourceState) : Type 0 where
-  pub fails : SomeSourceBy (FailsLast plans chunks error) lists befores middles ⊎ ((1 < length befores) × (1 ≤ times_over error.chunk lists) × FirstSource (FailsAgain plans chunks error befores) middles afters)
+  pub fails : FailsOn plans chunks error lists befores middles afters
   pub lower : (x : ℕ) → x < error.chunk → times x (numbers_of pieces) ≡ 1
 
 pub record Executed (plans : ScanPlans) (chunks : List SelectedRows) (outcome : Outcome) (befores afters : List SourceState) : Type 0 where
@@ -109,7 +114,7 @@ pub record Executed (plans : ScanPlans) (chunks : List SelectedRows) (outcome : 
   -- each chunk of a worker has its piece, but for its last and those that lie no lower than the one that failed and ask
   -- for whole values; unless memory lacked outside of a run
   pub stops : outcome.error ≢ Some no_memory → AllByRecursion (StopsAtLast plans chunks (nat_lt 1 (length befores)) outcome.error outcome.pieces.items) outcome.claimed.items
-  -- a call on a source failed only at the last chunk of its worker, and none did where there is no error
+  -- a call on a source failed only where its worker's last chunk has no piece, and none did where there is no error
   pub faults : EachSourceBy (FaultsAtLast outcome.pieces.items) outcome.claimed.items befores middles
   pub quiet : outcome.error ≡ None → EachSource KeepsFaults befores afters
   -- each source was asked for the chunks that its own worker claimed, and the first one again for what had to be tested

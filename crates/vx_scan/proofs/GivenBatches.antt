@@ -41,7 +41,7 @@ use Rattle.vx_workers.specs.Workers.{HasDtype, HasItsRows, IsPieceOf, numbers_of
 use Rattle.vx_workers.proofs.WorkerEnds.{among_stands}
 use Rattle.vx_workers.proofs.Certifying.{each_weaker}
 use Rattle.vx_execute.specs.declared.outcomes.Outcome.{Outcome}
-use Rattle.vx_execute.specs.Executes.{stretch, AskedAgain, FailsAgain, FailsLowest, FaultsAtLast, MayHaveBorrowed, StopsAtLast, Executed, Executes}
+use Rattle.vx_execute.specs.Executes.{stretch, AskedAgain, FailsAgain, FailsLowest, FailsOn, FaultsAtLast, MayHaveBorrowed, StopsAtLast, Executed, Executes}
 use Rattle.vx_execute.specs.Validating.{rerun_chunks, AsksAgain}
 use Rattle.vx_scan.specs.BatchColumns.{Told, TakesBatches}
 use Rattle.vx_scan.specs.Batches.{AreBatches, AreUnhinderedButLast, FaultsFrom, HasPiece, HavePiecesButLast, Share, reasons_in, AsksOver, LowestFailure, GivesBatches}
@@ -262,7 +262,7 @@ module _ (plans : ScanPlans) (chunks : List SelectedRows) where
 
   module _ (outcome : Outcome) (befores afters : List SourceState) (executed : Executed plans chunks outcome befores afters) where
     abbrev Fails : ChunkError → Type 0
-    Fails error = SomeSourceBy (FailsLast plans chunks error) outcome.claimed.items befores executed.middles ⊎ ((1 < length befores) × (1 ≤ times_over error.chunk outcome.claimed.items) × FirstSource (FailsAgain plans chunks error befores) executed.middles afters)
+    Fails error = FailsOn plans chunks error outcome.claimed.items befores executed.middles afters
 
     chunk_there : (error : ChunkError) → Fails error → (chunk : SelectedRows) × (slice_get chunks error.chunk ≡ Some chunk)
     chunk_there error (inl fails) = fails_there error outcome.claimed.items befores executed.middles fails
@@ -297,27 +297,33 @@ module _ (plans : ScanPlans) (chunks : List SelectedRows) where
           chunk = there.0;
           here = there.1;
           claims = outcome.claimed.items;
-          apart = executed.apart;
-          ascend = executed.ascend;
-          all_before = λ x less. let one = fails.lower x less in let most = executed.claimed x in let once = executed.apart.once x in omega (arith, one, most, once);
           middles = executed.middles;
           reruns = rerun_chunks outcome.reruns.items;
-          ran = executed.sources;
-          again = subst (λ (one : Option ChunkError). FirstSource (AskedAgain plans chunks (rerun_chunks outcome.reruns.items) one) executed.middles afters) (told.is ∙ ap Some (is_failure error told)) executed.again;
-          alone = none_again;
-          faults = each_by (FaultsAtLast outcome.pieces.items) (FaultsFrom told.failed.chunk) (λ list before after at_last. faults_from told.failed.chunk list before after fails.lower at_last) outcome.claimed.items befores executed.middles executed.faults;
+          claimed = record {
+            apart = executed.apart;
+            ascend = executed.ascend;
+            all_before = λ x less. let one = fails.lower x less in let most = executed.claimed x in let once = executed.apart.once x in omega (arith, one, most, once);
+          };
+          asked = record {
+            ran = executed.sources;
+            again = subst (λ (one : Option ChunkError). FirstSource (AskedAgain plans chunks (rerun_chunks outcome.reruns.items) one) executed.middles afters) (told.is ∙ ap Some (is_failure error told)) executed.again;
+            alone = none_again;
+            faults = each_by (FaultsAtLast outcome.pieces.items) (FaultsFrom told.failed.chunk) (λ list before after at_last. faults_from told.failed.chunk list before after fails.lower at_last) outcome.claimed.items befores executed.middles executed.faults;
+          };
+          others = record {
+            lower = λ file tell.
+                all_taken (HasPiece (leaves_of (bytes_of plans file)) plans) told.failed.chunk chunks (λ i chunk less here.
+                let one = fails.lower i less in
+                chunk_piece (leaves_of (bytes_of plans file)) plans chunks i chunk outcome.pieces.items here (omega (arith, one)) (executed.content file tell));
+            stops = λ file tell.
+                pieces_but_last (leaves_of (bytes_of plans file)) plans chunks (nat_lt 1 (length befores)) told.failed outcome.pieces.items (executed.content file tell) outcome.claimed.items
+                (subst (λ (one : Option ChunkError). AllByRecursion (StopsAtLast plans chunks (nat_lt 1 (length befores)) one outcome.pieces.items) outcome.claimed.items) told.is (executed.stops enough));
+            unhindered = all_taken (IsUnhindered plans) told.failed.chunk chunks (λ i chunk less here.
+                let one = fails.lower i less in
+                subst (λ (got : Option SelectedRows). IsSomeAnd got (IsUnhindered plans)) here (piece_unhindered plans chunks i outcome.pieces.items (omega (arith, one)) executed.rows));
+            ran_unhindered = unhindered_but_last plans chunks (nat_lt 1 (length befores)) outcome.error outcome.pieces.items executed.rows outcome.claimed.items (executed.stops enough);
+          };
           cause = subst Fails (is_failure error told) fails.fails;
-          lower = λ file tell.
-              all_taken (HasPiece (leaves_of (bytes_of plans file)) plans) told.failed.chunk chunks (λ i chunk less here.
-              let one = fails.lower i less in
-              chunk_piece (leaves_of (bytes_of plans file)) plans chunks i chunk outcome.pieces.items here (omega (arith, one)) (executed.content file tell));
-          stops = λ file tell.
-              pieces_but_last (leaves_of (bytes_of plans file)) plans chunks (nat_lt 1 (length befores)) told.failed outcome.pieces.items (executed.content file tell) outcome.claimed.items
-              (subst (λ (one : Option ChunkError). AllByRecursion (StopsAtLast plans chunks (nat_lt 1 (length befores)) one outcome.pieces.items) outcome.claimed.items) told.is (executed.stops enough));
-          unhindered = all_taken (IsUnhindered plans) told.failed.chunk chunks (λ i chunk less here.
-              let one = fails.lower i less in
-              subst (λ (got : Option SelectedRows). IsSomeAnd got (IsUnhindered plans)) here (piece_unhindered plans chunks i outcome.pieces.items (omega (arith, one)) executed.rows));
-          ran_unhindered = unhindered_but_last plans chunks (nat_lt 1 (length befores)) outcome.error outcome.pieces.items executed.rows outcome.claimed.items (executed.stops enough);
         }
 
     cause_of : (error : ScanError) → TakesBatches outcome (Err error) → (error ≡ Memory) ⊎ LowestFailure plans chunks error befores afters

@@ -1,12 +1,11 @@
 -- The lowest chunk that failed is the lowest piece of the scan that has no batch.
-use Rattle.std.proofs.Common.{◌≡◌, ◌≢◌, ℕ, zero, suc, ◌<◌, ◌≤◌, ◌⊎◌, inl, inr, Bool, true, List, [], ◌∷◌, Some, length, map, take, sym, ap, ◌∙◌, subst}
+use Rattle.std.proofs.Common.{◌≡◌, ◌≢◌, ℕ, zero, suc, ◌≤◌, ◌⊎◌, inl, inr, Bool, true, List, [], ◌∷◌, Some, length, map, take, sym, ap, ◌∙◌, subst}
 use Rattle.std.specs.Prelude.{IsSomeAnd, nat_lt}
 use Rattle.std.specs.List.{slice_get, AllByRecursion}
 use Rattle.std.proofs.lemmas.List.{length-map}
 use Rattle.std.proofs.lemmas.Option.{same_Some}
 use Rattle.vx_base.specs.Sources.{SourceState}
 use Rattle.vx_base.proofs.Got.{got_mapped}
-use Rattle.vx_claims.specs.Apart.{times_over, AreApart}
 use Rattle.vx_rows.specs.SegmentLeaves.{Bytes, leaves_of}
 use Rattle.vx_splits.specs.declared.selected_rows.SelectedRows.{SelectedRows}
 use Rattle.vx_splits.specs.Trimmed.{chosen_rows}
@@ -15,7 +14,7 @@ use Rattle.vx_drive.specs.declared.errors.ScanError.TheVariants.{ReadFault, Memo
 use Rattle.vx_drive.specs.declared.plans.ScanPlans.{ScanPlans}
 use Rattle.vx_drive.specs.Asks.{KeepsFaults}
 use Rattle.vx_drive.specs.Plans.{bytes_of}
-use Rattle.vx_chunks.specs.Lent.{FirstSource, SomeSourceBy}
+use Rattle.vx_chunks.specs.Lent.{FirstSource}
 use Rattle.vx_chunks.specs.Outcomes.{Causes, told_by, told_by_all}
 use Rattle.vx_chunks.proofs.LentSources.{each_by, first_by, some_by}
 use Rattle.vx_workers.specs.declared.worker_states.ChunkError.{ChunkError}
@@ -23,12 +22,12 @@ use Rattle.vx_workers.specs.Merges.{no_memory}
 use Rattle.vx_workers.specs.Borrowers.{AsksForWholes, IsAsking}
 use Rattle.vx_workers.specs.Unhindered.{IsUnhindered, IsUnhinderedAt}
 use Rattle.vx_workers.specs.Workers.{IsLast, FailsLast, RunsSource}
-use Rattle.vx_execute.specs.Executes.{AskedAgain, FailsAgain}
+use Rattle.vx_execute.specs.Executes.{AskedAgain, FailsAgain, FailsOn}
 use Rattle.vx_scan.specs.Answer.{FileScan, row_count, scan_pieces}
-use Rattle.vx_scan.specs.Batches.{AreUnhinderedButLast, HasPiece, HavePiecesButLast, LowestFailure}
+use Rattle.vx_scan.specs.Batches.{AreUnhinderedButLast, AskedForChunks, ClaimedUpTo, HasPiece, HavePiecesButLast, LowestFailure, OthersHavePieces}
 use Rattle.vx_scan.specs.Causes.{ReadsDictionary}
 use Rattle.vx_scan.specs.FilePlans.{ArePlansOf, AreChunksOf, LiesInside}
-use Rattle.vx_scan.specs.Scanned.{AreUnhindered, FailsPiece, FailsPieceAgain, HasAnswer, HaveAnswersButLast, LowestCause, PieceReadsDictionary, PiecesUnhinderedButLast, RunsAgain, RunsPieces}
+use Rattle.vx_scan.specs.Scanned.{AreUnhindered, FailsPiece, FailsPieceAgain, FailsPieceOn, GainedForPieces, HasAnswer, HaveAnswersButLast, LowestCause, OthersHaveAnswers, PieceReadsDictionary, PiecesUnhinderedButLast, RunsAgain, RunsPieces}
 use Rattle.vx_scan.proofs.AskedDictionaries.{asks_reads}
 use Rattle.vx_scan.proofs.HinderedScans.{first_unhindered, unhindered_there}
 use Rattle.vx_scan.proofs.ScanAsks.{gains_again, gains_of}
@@ -79,8 +78,7 @@ module _ (scan : FileScan) (limit : ℕ) (plans : ScanPlans) (are : ArePlansOf s
         )
 
     fails_either : (error ≢ Memory) → (reruns : List ℕ) (claims : List (List ℕ)) (befores middles afters : List SourceState) → FirstSource (AskedAgain plans chunks reruns (Some (record { chunk = place; error = error }))) middles afters
-        → SomeSourceBy (FailsLast plans chunks (record { chunk = place; error = error })) claims befores middles ⊎ ((1 < length befores) × (1 ≤ times_over place claims) × FirstSource (FailsAgain plans chunks (record { chunk = place; error = error }) befores) middles afters)
-        → SomeSourceBy (FailsPiece scan limit place (chosen_rows chunk) error) claims befores middles ⊎ ((1 < length befores) × (1 ≤ times_over place claims) × FirstSource (FailsPieceAgain scan limit (chosen_rows chunk) error befores) middles afters)
+        → FailsOn plans chunks (record { chunk = place; error = error }) claims befores middles afters → FailsPieceOn scan limit place (chosen_rows chunk) error claims befores middles afters
     fails_either other reruns claims befores middles afters again (inl fails) =
         inl (some_by (FailsLast plans chunks (record { chunk = place; error = error })) (FailsPiece scan limit place (chosen_rows chunk) error) fails_piece claims befores middles fails)
     fails_either other reruns claims befores middles afters again (inr fails) = inr (fails.0, fails.1, fails_again other reruns befores middles afters fails.2 again)
@@ -120,30 +118,42 @@ module _ (scan : FileScan) (limit : ℕ) (plans : ScanPlans) (are : ArePlansOf s
       by_case x (inl is) = inl (subst (λ (pieces : List (List ℕ)). IsSomeAnd (slice_get pieces x) (AreUnhindered scan)) of_scan.pieces (unhindered_there scan limit plans are chunks of_scan.inside x is))
       by_case x (inr last) = inr last
 
+  claimed_pieces : (place : ℕ) (claims : List (List ℕ)) → ClaimedUpTo (length chunks) place claims → ClaimedUpTo (length (scan_pieces scan)) place claims
+  claimed_pieces place claims claimed = subst (λ (count : ℕ). ClaimedUpTo count place claims) (sym (length-map chunks chosen_rows) ∙ ap length of_scan.pieces) claimed
+
+  gained_pieces : (place : ℕ) (chunk : SelectedRows) → slice_get chunks place ≡ Some chunk → (error : ScanError) → error ≢ Memory → (claims : List (List ℕ)) (reruns : List ℕ) (befores middles afters : List SourceState)
+      → AskedForChunks plans chunks (record { chunk = place; error = error }) claims reruns befores middles afters → GainedForPieces scan place error claims reruns befores middles afters
+  gained_pieces place chunk here error other claims reruns befores middles afters asked = record {
+    ran = each_by (RunsSource plans chunks) (RunsPieces scan) runs_pieces claims befores middles asked.ran;
+    again = first_by (AskedAgain plans chunks reruns (Some (record { chunk = place; error = error }))) (RunsAgain scan reruns error)
+        (λ before after more. record { gains = gains_again scan limit plans are chunks of_scan reruns before after more.asks; faults = read_failed place chunk here error other before after more.faults; lasts = more.lasts }) middles afters asked.again;
+    alone = asked.alone;
+    faults = asked.faults;
+  }
+
+  others_have : (place : ℕ) (claims : List (List ℕ)) (sources : List SourceState) → OthersHavePieces plans chunks place claims sources → OthersHaveAnswers scan place claims sources
+  others_have place claims sources others = record {
+    lower = λ file told.
+        subst (λ (bytes : Bytes). AllByRecursion (HasAnswer (leaves_of bytes) scan.projection) (take place (scan_pieces scan))) (same_bytes scan limit plans are file)
+        (subst (λ (pieces : List (List ℕ)). AllByRecursion (HasAnswer (leaves_of (bytes_of plans file)) scan.projection) (take place pieces)) of_scan.pieces
+        (have_answers scan limit plans are (bytes_of plans file) chunks of_scan.inside place (others.lower file told)));
+    stops = λ file told.
+        subst (λ (bytes : Bytes). AllByRecursion (HaveAnswersButLast (leaves_of bytes) scan (nat_lt 1 (length sources)) place) claims) (same_bytes scan limit plans are file)
+        (answers_but_last (bytes_of plans file) (nat_lt 1 (length sources)) place claims (others.stops file told));
+    unhindered = subst (λ (pieces : List (List ℕ)). AllByRecursion (AreUnhindered scan) (take place pieces)) of_scan.pieces (first_unhindered scan limit plans are chunks of_scan.inside place others.unhindered);
+    ran_unhindered = unhindered_but_last claims others.ran_unhindered;
+  }
+
   pub lowest_of : (error : ScanError) → error ≢ Memory → (befores afters : List SourceState) → LowestFailure plans chunks error befores afters → LowestCause scan limit error befores afters
   lowest_of error other befores afters lowest = record {
     place = lowest.place;
     rows = chosen_rows lowest.chunk;
     here = ap (λ (pieces : List (List ℕ)). slice_get pieces lowest.place) (sym of_scan.pieces) ∙ got_mapped chosen_rows chunks lowest.place lowest.chunk lowest.here;
     claims = lowest.claims;
-    apart = subst (λ (count : ℕ). AreApart count lowest.claims) (sym (length-map chunks chosen_rows) ∙ ap length of_scan.pieces) lowest.apart;
-    ascend = lowest.ascend;
-    all_before = lowest.all_before;
     middles = lowest.middles;
     reruns = lowest.reruns;
-    ran = each_by (RunsSource plans chunks) (RunsPieces scan) runs_pieces lowest.claims befores lowest.middles lowest.ran;
-    again = first_by (AskedAgain plans chunks lowest.reruns (Some (record { chunk = lowest.place; error = error }))) (RunsAgain scan lowest.reruns error)
-        (λ before after asked. record { gains = gains_again scan limit plans are chunks of_scan lowest.reruns before after asked.asks; faults = read_failed lowest.place lowest.chunk lowest.here error other before after asked.faults; lasts = asked.lasts }) lowest.middles afters lowest.again;
-    alone = lowest.alone;
-    faults = lowest.faults;
-    cause = fails_either lowest.place lowest.chunk lowest.here error other lowest.reruns lowest.claims befores lowest.middles afters lowest.again lowest.cause;
-    lower = λ file told.
-        subst (λ (bytes : Bytes). AllByRecursion (HasAnswer (leaves_of bytes) scan.projection) (take lowest.place (scan_pieces scan))) (same_bytes scan limit plans are file)
-        (subst (λ (pieces : List (List ℕ)). AllByRecursion (HasAnswer (leaves_of (bytes_of plans file)) scan.projection) (take lowest.place pieces)) of_scan.pieces
-        (have_answers scan limit plans are (bytes_of plans file) chunks of_scan.inside lowest.place (lowest.lower file told)));
-    stops = λ file told.
-        subst (λ (bytes : Bytes). AllByRecursion (HaveAnswersButLast (leaves_of bytes) scan (nat_lt 1 (length befores)) lowest.place) lowest.claims) (same_bytes scan limit plans are file)
-        (answers_but_last (bytes_of plans file) (nat_lt 1 (length befores)) lowest.place lowest.claims (lowest.stops file told));
-    unhindered = subst (λ (pieces : List (List ℕ)). AllByRecursion (AreUnhindered scan) (take lowest.place pieces)) of_scan.pieces (first_unhindered scan limit plans are chunks of_scan.inside lowest.place lowest.unhindered);
-    ran_unhindered = unhindered_but_last lowest.claims lowest.ran_unhindered;
+    claimed = claimed_pieces lowest.place lowest.claims lowest.claimed;
+    gained = gained_pieces lowest.place lowest.chunk lowest.here error other lowest.claims lowest.reruns befores lowest.middles afters lowest.asked;
+    others = others_have lowest.place lowest.claims befores lowest.others;
+    cause = fails_either lowest.place lowest.chunk lowest.here error other lowest.reruns lowest.claims befores lowest.middles afters lowest.asked.again lowest.cause;
   }

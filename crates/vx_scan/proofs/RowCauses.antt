@@ -20,7 +20,7 @@ use Rattle.vx_scan.specs.Admission.{Refuses}
 use Rattle.vx_scan.specs.Causes.{ReadsTorn, FaultsAt}
 use Rattle.vx_scan.specs.PlainCauses.{PlainCause, ErrorsHavePlainCauses}
 use Rattle.vx_scan.specs.FilePlans.{node_of}
-use Rattle.vx_scan.specs.Scanned.{CausedIn, FailsPiece, FailsPieceAgain, FileClaims, LowestCause, ReadsBadCodePlan, RunsPieces}
+use Rattle.vx_scan.specs.Scanned.{CausedIn, FailsPiece, FailsPieceAgain, FailsPieceOn, FileClaims, LowestCause, ReadsBadCodePlan, RunsPieces}
 use Rattle.vx_scan.proofs.Answered.{pieces_join}
 use Rattle.vx_scan.proofs.ScanValid.{all_last}
 
@@ -110,14 +110,12 @@ module _ (scan : FileScan) (limit place : ℕ) (rows : List ℕ) (here : slice_g
 lowest_plain : (scan : FileScan) (limit : ℕ) (error : ScanError) (befores afters : List SourceState) → LowestCause scan limit error befores afters → PlainCause scan limit error befores afters
 lowest_plain scan limit error befores afters lowest = by_cause lowest.cause
   where
-    by_cause : SomeSourceBy (FailsPiece scan limit lowest.place lowest.rows error) lowest.claims befores lowest.middles
-        ⊎ ((1 < length befores) × (1 ≤ times_over lowest.place lowest.claims) × FirstSource (FailsPieceAgain scan limit lowest.rows error befores) lowest.middles afters)
-        → PlainCause scan limit error befores afters
+    by_cause : FailsPieceOn scan limit lowest.place lowest.rows error lowest.claims befores lowest.middles afters → PlainCause scan limit error befores afters
     by_cause (inl fails) =
         last_plain scan limit lowest.place lowest.rows lowest.here befores afters error lowest.claims befores lowest.middles afters (λ file told. told) (λ P some. some) fails
-        (all_last scan lowest.reruns error lowest.middles afters lowest.again)
+        (all_last scan lowest.reruns error lowest.middles afters lowest.gained.again)
     by_cause (inr fails) =
-        again_plain scan limit lowest.place lowest.rows lowest.here befores afters error lowest.claims befores lowest.middles afters (λ P some. some) fails.1 lowest.ran fails.2
+        again_plain scan limit lowest.place lowest.rows lowest.here befores afters error lowest.claims befores lowest.middles afters (λ P some. some) fails.1 lowest.gained.ran fails.2
 
 -- a scan that is refused is refused for its own reason
 refused_plain : (scan : FileScan) (limit : ℕ) (error : ScanError) (befores afters : List SourceState) → Refuses scan error → PlainCause scan limit error befores afters

@@ -29,7 +29,7 @@ use Rattle.vx_scan.specs.Answer.{FileScan, scan_rows, scan_pieces, size_of}
 use Rattle.vx_scan.specs.Admission.{Refuses}
 use Rattle.vx_scan.specs.Causes.{ScanFinds, ReadsTorn, IsFaultAt, FaultsAt}
 use Rattle.vx_scan.specs.FilePlans.{node_of}
-use Rattle.vx_scan.specs.Scanned.{CausedIn, FailsPiece, FailsPieceAgain, FileClaims, LowestCause, ReadsBadCodePlan, RunsAgain, RunsPieces}
+use Rattle.vx_scan.specs.Scanned.{CausedIn, FailsPiece, FailsPieceAgain, FailsPieceOn, FileClaims, LowestCause, ReadsBadCodePlan, RunsAgain, RunsPieces}
 use Rattle.vx_scan.specs.Valid.{IsValidScan}
 use Rattle.vx_scan.proofs.Answered.{pieces_join, fault_by}
 
@@ -190,22 +190,18 @@ valid_memory scan limit error befores afters lowest file told valid quiet = by_c
     answered : AllByRecursion (λ row. IsSome (projected_at (file_leaves file scan.locations) scan.projection row)) lowest.rows
     answered = of_piece (λ row. IsSome (projected_at (file_leaves file scan.locations) scan.projection row)) scan lowest.place lowest.rows lowest.here valid.answered
 
-    by_cause : SomeSourceBy (FailsPiece scan limit lowest.place lowest.rows error) lowest.claims befores lowest.middles
-        ⊎ ((1 < length befores) × (1 ≤ times_over lowest.place lowest.claims) × FirstSource (FailsPieceAgain scan limit lowest.rows error befores) lowest.middles afters)
-        → error ≡ Memory
-    by_cause (inl fails) = last_memory scan limit lowest.place lowest.rows error file fine answered lowest.claims befores lowest.middles afters fails (all_last scan lowest.reruns error lowest.middles afters lowest.again) told quiet
-    by_cause (inr fails) = again_memory scan limit lowest.place lowest.rows error file fine answered befores told lowest.claims befores lowest.middles afters fails.1 lowest.ran fails.2 quiet
+    by_cause : FailsPieceOn scan limit lowest.place lowest.rows error lowest.claims befores lowest.middles afters → error ≡ Memory
+    by_cause (inl fails) = last_memory scan limit lowest.place lowest.rows error file fine answered lowest.claims befores lowest.middles afters fails (all_last scan lowest.reruns error lowest.middles afters lowest.gained.again) told quiet
+    by_cause (inr fails) = again_memory scan limit lowest.place lowest.rows error file fine answered befores told lowest.claims befores lowest.middles afters fails.1 lowest.gained.ran fails.2 quiet
 
 -- what is no cause is none of the lowest piece
 pub no_lowest : (scan : FileScan) (limit : ℕ) (error : ScanError) (befores afters : List SourceState) → ((Told : FileClaims) (rows : List ℕ) (before after : SourceState) → CausedIn Told scan limit rows error before after → ⊥) → LowestCause scan limit error befores afters → ⊥
 no_lowest scan limit error befores afters never lowest = by_cause lowest.cause
   where
-    by_cause : SomeSourceBy (FailsPiece scan limit lowest.place lowest.rows error) lowest.claims befores lowest.middles
-        ⊎ ((1 < length befores) × (1 ≤ times_over lowest.place lowest.claims) × FirstSource (FailsPieceAgain scan limit lowest.rows error befores) lowest.middles afters)
-        → ⊥
+    by_cause : FailsPieceOn scan limit lowest.place lowest.rows error lowest.claims befores lowest.middles afters → ⊥
     by_cause (inl fails) = none_by (FailsPiece scan limit lowest.place lowest.rows error) (λ numbers before after fails. never (WhereTold before) lowest.rows before after fails.cause) lowest.claims befores lowest.middles fails
     by_cause (inr fails) =
-        let first = first_there (RunsPieces scan) (FailsPieceAgain scan limit lowest.rows error befores) lowest.place lowest.claims befores lowest.middles afters fails.1 lowest.ran fails.2 in
+        let first = first_there (RunsPieces scan) (FailsPieceAgain scan limit lowest.rows error befores) lowest.place lowest.claims befores lowest.middles afters fails.1 lowest.gained.ran fails.2 in
         never (WhereAllTell befores) lowest.rows first.0 first.1 first.2.cause
 
 -- ---- it is not refused

@@ -17,12 +17,13 @@ use Rattle.vx_drive.specs.Asks.{IsLeftClear, KeepsFaults, Lasts}
 use Rattle.vx_drive.specs.Fetched.{AreDistinct}
 use Rattle.vx_drive.specs.Plans.{bytes_of, projection_node}
 use Rattle.vx_chunks.specs.ChunkRows.{IsPiece}
-use Rattle.vx_chunks.specs.Lent.{EachSource, EachSourceBy, FirstSource, SomeSourceBy, WhereAllTell}
+use Rattle.vx_chunks.specs.Lent.{EachSource, EachSourceBy, FirstSource, WhereAllTell}
+use Rattle.vx_workers.specs.declared.worker_states.ChunkError.{ChunkError}
 use Rattle.vx_workers.specs.Borrowers.{IsAsking}
 use Rattle.vx_workers.specs.Reasons.{Reason, chunk_and_segment}
 use Rattle.vx_workers.specs.Unhindered.{IsUnhindered, IsUnhinderedAt}
-use Rattle.vx_workers.specs.Workers.{AsksReached, IsLast, FailsLast, RunsSource}
-use Rattle.vx_execute.specs.Executes.{AskedAgain, FailsAgain}
+use Rattle.vx_workers.specs.Workers.{AsksReached, IsLast, RunsSource}
+use Rattle.vx_execute.specs.Executes.{AskedAgain, FailsOn}
 use Rattle.vx_execute.specs.Validating.{AsksAgain}
 
 -- each batch is the piece of its chunk
@@ -56,7 +57,7 @@ pub record AsksOver (plans : ScanPlans) (chunks : List SelectedRows) (befores af
   pub again : FirstSource (AsksAgain plans chunks reruns) middles afters
   pub alone : length befores ≡ 1 → (afters ≡ middles) × (reruns ≡ [])
 
--- A call on the source failed only at the last of these chunks, which isn't before that place.
+-- No call on the source failed, or the last of these chunks isn't before that place.
 abbrev pub FaultsFrom : ℕ → List ℕ → SourceState → SourceState → Type 0
 FaultsFrom place numbers before after = KeepsFaults before after ⊎ ((last : ℕ) × IsLast last numbers × (place ≤ last))
 
@@ -70,33 +71,44 @@ HavePiecesButLast leaves plans chunks shares place numbers =
 abbrev pub AreUnhinderedButLast : ScanPlans → List SelectedRows → List ℕ → Type 0
 AreUnhinderedButLast plans chunks numbers = (x : ℕ) → IsAmong x numbers → IsUnhinderedAt plans chunks x ⊎ IsLast x numbers
 
--- The lowest chunk that failed, and why; those before it have pieces. The workers ran these chunks, in ascending order and
--- each one time at most: all before it, and it was the last of the worker whose source is its cause, or, with several
--- sources, one that asks for whole values and failed on the first one once all workers were done. Each source was asked for
--- the chunks of its worker, which have pieces, but for its last and, with several sources, those that don't lie before the
--- one that failed and ask for whole values; and while the workers ran, none failed at a chunk before it.
+-- Of so many the workers claimed these, in ascending order and each one time at most: all before the place.
+pub record ClaimedUpTo (count place : ℕ) (claims : List (List ℕ)) : Type 0 where
+  pub apart : AreApart count claims
+  pub ascend : AllByRecursion Ascend claims
+  pub all_before : (x : ℕ) → x < place → times_over x claims ≡ 1
+
+-- Each source was asked for the chunks of its worker, and the first one again for those that ran again, once all workers
+-- were done; with one source nothing is asked again. While the workers ran, no call failed on a source whose worker's last
+-- chunk is before the one that failed.
+pub record AskedForChunks (plans : ScanPlans) (chunks : List SelectedRows) (failure : ChunkError) (claims : List (List ℕ)) (reruns : List ℕ) (befores middles afters : List SourceState) : Type 0 where
+  pub ran : EachSourceBy (RunsSource plans chunks) claims befores middles
+  pub again : FirstSource (AskedAgain plans chunks reruns (Some failure)) middles afters
+  pub alone : length befores ≡ 1 → (afters ≡ middles) × (reruns ≡ [])
+  pub faults : EachSourceBy (FaultsFrom failure.chunk) claims befores middles
+
+-- The chunks before that place have pieces, and so have those of a worker, but for its last and, with several sources, those
+-- that aren't before that place and ask for whole values. Whatever the sources tell, none of those before it is hindered, nor
+-- is one of a worker, but for its last.
+pub record OthersHavePieces (plans : ScanPlans) (chunks : List SelectedRows) (place : ℕ) (claims : List (List ℕ)) (sources : List SourceState) : Type 0 where
+  pub lower : WhereAllTell sources (λ file. AllByRecursion (HasPiece (leaves_of (bytes_of plans file)) plans) (take place chunks))
+  pub stops : WhereAllTell sources (λ file. AllByRecursion (HavePiecesButLast (leaves_of (bytes_of plans file)) plans chunks (nat_lt 1 (length sources)) place) claims)
+  pub unhindered : AllByRecursion (IsUnhindered plans) (take place chunks)
+  pub ran_unhindered : AllByRecursion (AreUnhinderedButLast plans chunks) claims
+
+-- The lowest chunk that failed, what came before it, and why it failed: on the source of the worker whose last chunk it was;
+-- or, with several sources, on the first one once all workers were done.
 pub record LowestFailure (plans : ScanPlans) (chunks : List SelectedRows) (error : ScanError) (befores afters : List SourceState) : Type 0 where
   pub place : ℕ
   pub chunk : SelectedRows
   pub here : slice_get chunks place ≡ Some chunk
+  -- what the workers claimed, what the sources were when all workers were done, and which chunks ran again then
   pub claims : List (List ℕ)
-  pub apart : AreApart (length chunks) claims
-  pub ascend : AllByRecursion Ascend claims
-  pub all_before : (x : ℕ) → x < place → times_over x claims ≡ 1
-  -- what the sources were when all workers were done, and which chunks ran again then
   pub middles : List SourceState
   pub reruns : List ℕ
-  pub ran : EachSourceBy (RunsSource plans chunks) claims befores middles
-  pub again : FirstSource (AskedAgain plans chunks reruns (Some (record { chunk = place; error = error }))) middles afters
-  pub alone : length befores ≡ 1 → (afters ≡ middles) × (reruns ≡ [])
-  pub faults : EachSourceBy (FaultsFrom place) claims befores middles
-  pub cause : SomeSourceBy (FailsLast plans chunks (record { chunk = place; error = error })) claims befores middles
-      ⊎ ((1 < length befores) × (1 ≤ times_over place claims) × FirstSource (FailsAgain plans chunks (record { chunk = place; error = error }) befores) middles afters)
-  pub lower : WhereAllTell befores (λ file. AllByRecursion (HasPiece (leaves_of (bytes_of plans file)) plans) (take place chunks))
-  pub stops : WhereAllTell befores (λ file. AllByRecursion (HavePiecesButLast (leaves_of (bytes_of plans file)) plans chunks (nat_lt 1 (length befores)) place) claims)
-  -- whatever the sources tell
-  pub unhindered : AllByRecursion (IsUnhindered plans) (take place chunks)
-  pub ran_unhindered : AllByRecursion (AreUnhinderedButLast plans chunks) claims
+  pub claimed : ClaimedUpTo (length chunks) place claims
+  pub asked : AskedForChunks plans chunks (record { chunk = place; error = error }) claims reruns befores middles afters
+  pub others : OthersHavePieces plans chunks place claims befores
+  pub cause : FailsOn plans chunks (record { chunk = place; error = error }) claims befores middles afters
 
 pub record GivesBatches (plans : ScanPlans) (chunks : List SelectedRows) (result : Result (Vec ColumnData) ScanError) (befores afters : List SourceState) : Type 0 where
   -- the batches are the chunks' pieces by the file, in order

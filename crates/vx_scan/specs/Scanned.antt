@@ -5,9 +5,8 @@ use Rattle.std.specs.Global.{Vec}
 use Rattle.vx_base.specs.Columns.{ColumnData}
 use Rattle.vx_base.specs.Data.{Datum}
 use Rattle.vx_base.specs.declared.locations.AskedRange.{AskedRange}
-use Rattle.vx_base.specs.Masks.{Ascend}
 use Rattle.vx_base.specs.Sources.{SourceState, Rose, RoseBy, range_of}
-use Rattle.vx_claims.specs.Apart.{times, times_over, AreApart}
+use Rattle.vx_claims.specs.Apart.{times, times_over}
 use Rattle.vx_layout.specs.Rows.{file_leaves, segment_bytes}
 use Rattle.vx_lower.specs.Projected.{Projection, scan_reads}
 use Rattle.vx_plan.specs.Plans.{Plan, list_plan}
@@ -26,7 +25,7 @@ use Rattle.vx_workers.specs.Reasons.{Reason, read_for, leaf_of, chunk_and_segmen
 use Rattle.vx_workers.specs.Workers.{IsLast}
 use Rattle.vx_execute.specs.Validating.{direct_and_segment, IsDirectAmong}
 use Rattle.vx_scan.specs.Answer.{FileScan, scan_rows, scan_pieces, IsAnswer, ArePieces}
-use Rattle.vx_scan.specs.Batches.{FaultsFrom}
+use Rattle.vx_scan.specs.Batches.{ClaimedUpTo, FaultsFrom}
 use Rattle.vx_scan.specs.Admission.{Refuses}
 use Rattle.vx_scan.specs.Causes.{ScanReaches, ReadsDictionary, ReadsList, LacksLocation, ReadsTorn, ReadsBadCode, FaultsAt}
 use Rattle.vx_scan.specs.PlanTexts.{held_tree}
@@ -201,34 +200,44 @@ abbrev pub HaveAnswersButLast : Leaves → FileScan → Bool → ℕ → List �
 HaveAnswersButLast leaves scan shares place numbers =
     (x : ℕ) → IsAmong x numbers → IsSomeAnd (slice_get (scan_pieces scan) x) (HasAnswer leaves scan.projection) ⊎ (IsLast x numbers ⊎ ((shares ≡ true) × (place ≤ x) × PieceReadsDictionary scan x))
 
--- The lowest of the scan's pieces that has no batch, and why; those before it have answers. The workers ran these pieces, in
--- ascending order and each one time at most: all before it, and it was the last of the worker whose source is its cause, or,
--- with several sources, one that reads an outermost dictionary and failed on the first one once all workers were done. Those
--- of a worker have answers, but for its last and, with several sources, those that don't lie before the one that failed and
--- read an outermost dictionary; and while the workers ran, no call on a source failed at a piece before it. Whatever the
--- sources tell, neither those before it nor those of a worker, but for its last, read a list or lack a location.
-pub record LowestCause (scan : FileScan) (limit : ℕ) (error : ScanError) (befores afters : List SourceState) : Type 0 where
-  pub place : ℕ
-  pub rows : List ℕ
-  pub here : slice_get (scan_pieces scan) place ≡ Some rows
-  pub claims : List (List ℕ)
-  pub apart : AreApart (length (scan_pieces scan)) claims
-  pub ascend : AllByRecursion Ascend claims
-  pub all_before : (x : ℕ) → x < place → times_over x claims ≡ 1
-  -- what the sources were when all workers were done, and which pieces ran again then
-  pub middles : List SourceState
-  pub reruns : List ℕ
+-- Each source gained ranges for the pieces of its worker, and the first one again for those that ran again, once all workers
+-- were done; with one source nothing is asked again. While the workers ran, no call failed on a source whose worker's last
+-- piece is before that place.
+pub record GainedForPieces (scan : FileScan) (place : ℕ) (error : ScanError) (claims : List (List ℕ)) (reruns : List ℕ) (befores middles afters : List SourceState) : Type 0 where
   pub ran : EachSourceBy (RunsPieces scan) claims befores middles
   pub again : FirstSource (RunsAgain scan reruns error) middles afters
   pub alone : length befores ≡ 1 → (afters ≡ middles) × (reruns ≡ [])
   pub faults : EachSourceBy (FaultsFrom place) claims befores middles
-  pub cause : SomeSourceBy (FailsPiece scan limit place rows error) claims befores middles
-      ⊎ ((1 < length befores) × (1 ≤ times_over place claims) × FirstSource (FailsPieceAgain scan limit rows error befores) middles afters)
-  pub lower : WhereAllTell befores (λ file. AllByRecursion (HasAnswer (file_leaves file scan.locations) scan.projection) (take place (scan_pieces scan)))
-  pub stops : WhereAllTell befores (λ file. AllByRecursion (HaveAnswersButLast (file_leaves file scan.locations) scan (nat_lt 1 (length befores)) place) claims)
-  -- whatever the sources tell, no row of these reads a list, or reaches a segment without a location
+
+-- The pieces before that place have answers, and so have those of a worker, but for its last and, with several sources, those
+-- that aren't before that place and read an outermost dictionary. Whatever the sources tell, none of those before it reads a
+-- list or lacks a location, nor does one of a worker, but for its last.
+pub record OthersHaveAnswers (scan : FileScan) (place : ℕ) (claims : List (List ℕ)) (sources : List SourceState) : Type 0 where
+  pub lower : WhereAllTell sources (λ file. AllByRecursion (HasAnswer (file_leaves file scan.locations) scan.projection) (take place (scan_pieces scan)))
+  pub stops : WhereAllTell sources (λ file. AllByRecursion (HaveAnswersButLast (file_leaves file scan.locations) scan (nat_lt 1 (length sources)) place) claims)
   pub unhindered : AllByRecursion (AreUnhindered scan) (take place (scan_pieces scan))
   pub ran_unhindered : AllByRecursion (PiecesUnhinderedButLast scan) claims
+
+-- The piece at the place is the last of the worker of one of the sources, and failed there; or, with several sources, it was
+-- claimed and failed on the first one once all workers were done.
+abbrev pub FailsPieceOn : FileScan → ℕ → ℕ → List ℕ → ScanError → List (List ℕ) → List SourceState → List SourceState → List SourceState → Type 0
+FailsPieceOn scan limit place rows error claims befores middles afters =
+    SomeSourceBy (FailsPiece scan limit place rows error) claims befores middles
+    ⊎ ((1 < length befores) × (1 ≤ times_over place claims) × FirstSource (FailsPieceAgain scan limit rows error befores) middles afters)
+
+-- The lowest of the scan's pieces that has no batch, what came before it, and why it has none.
+pub record LowestCause (scan : FileScan) (limit : ℕ) (error : ScanError) (befores afters : List SourceState) : Type 0 where
+  pub place : ℕ
+  pub rows : List ℕ
+  pub here : slice_get (scan_pieces scan) place ≡ Some rows
+  -- what the workers claimed, what the sources were when all workers were done, and which pieces ran again then
+  pub claims : List (List ℕ)
+  pub middles : List SourceState
+  pub reruns : List ℕ
+  pub claimed : ClaimedUpTo (length (scan_pieces scan)) place claims
+  pub gained : GainedForPieces scan place error claims reruns befores middles afters
+  pub others : OthersHaveAnswers scan place claims befores
+  pub cause : FailsPieceOn scan limit place rows error claims befores middles afters
 
 -- ---- the scan
 
