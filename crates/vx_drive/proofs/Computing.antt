@@ -173,6 +173,7 @@ computes_output locations batch number column step old middle new asked held sta
       asked = all.counted;
       reads = all.reads;
       apart = all.are_asked.apart;
+      fresh = all.batched.fresh;
       located = all.batched.located;
       wanted = all.wanted;
       scan = all.scan;
@@ -220,6 +221,7 @@ computes_batch locations batch step old middle new asked held state empty all st
       asked = all.counted;
       reads = all.reads;
       apart = all.are_asked.apart;
+      fresh = all.batched.fresh;
       located = all.batched.located;
       wanted = all.wanted;
       scan = all.scan;

@@ -1,5 +1,6 @@
 -- Reads that follow one another, as one batch of fetches.
-use Rattle.std.proofs.Common.{◌≡◌, ◌≢◌, ℕ, suc, ◌+◌, ◌-◌, ◌<◌, ◌≤◌, ◌⊎◌, inl, inr, List, [], ◌∷◌, ◌++◌, Some, length, map, take, drop, true, false, refl, sym, ap, ◌∙◌, subst, arith, append-nil, append_assoc}
+use Rattle.std.proofs.Common.{◌≡◌, ◌≢◌, ℕ, suc, ◌+◌, ◌-◌, ◌<◌, ◌≤◌, ◌⊎◌, inl, inr, List, [], ◌∷◌, ◌++◌, Option, Some, None, length, map, take, drop, true, false, refl, sym, ap, ◌∙◌, subst, arith, append-nil, append_assoc}
+use Rattle.std.specs.Prelude.{IsSomeAnd}
 use Rattle.std.specs.List.{All, slice_get}
 use Rattle.std.proofs.lemmas.List.{map-append, length-map, length-append}
 use Rattle.std.proofs.lemmas.List.Elements.{All-push, All-nil, All-cons, All-weaker}
@@ -11,7 +12,7 @@ use Rattle.vx_steps.specs.Jobs.{left_of}
 use Rattle.vx_steps.specs.ReadTable.{StandsAt}
 use Rattle.vx_steps.specs.ReadTableData.{Wanted}
 use Rattle.vx_steps.specs.ScanData.{ScanData}
-use Rattle.vx_steps.specs.Steps.{HandsRead}
+use Rattle.vx_steps.specs.Steps.{HandsRead, IsHandedOut}
 use Rattle.vx_steps.specs.Wants.{Grows, IsAsked}
 use Rattle.vx_steps.proofs.SelectedRows.{length_taken}
 use Rattle.vx_steps.proofs.Needing.{asked_grows}
@@ -77,6 +78,17 @@ read_here request old new hands = subst (λ (n : ℕ). slice_get new.progress.re
 read_asked : (request : ReadRequest) (old new : ScanData) → HandsRead old.job old.progress new.progress request → IsAsked new.progress.reads.wanted request.segment_id
 read_asked request old new hands = (old.progress.reads.handed, stands_by new.progress.reads.wanted old.progress.reads.handed (unread request.segment_id) (read_here request old new hands))
 
+stands_grown : (old new : List Wanted) → Grows old new → (segment place : ℕ) (found : Option Wanted) → slice_get old place ≡ found → IsSomeAnd found (λ w. w.segment ≡ segment) → StandsAt new segment place
+stands_grown old new grows segment place None at stands = absurd stands
+stands_grown old new grows segment place (Some w) at stands = subst (λ (s : ℕ). StandsAt new s place) stands (stands_by new place w (grows place w at))
+
+-- no read of the segment was handed out before, however long ago
+not_before : (request : ReadRequest) (first old new : ScanData) → Grows first.progress.reads.wanted new.progress.reads.wanted → first.progress.reads.handed ≤ old.progress.reads.handed → HandsRead old.job old.progress new.progress request → IsHandedOut first.progress.reads request.segment_id → ⊥
+not_before request first old new grows before hands (place, below, stands) =
+    let it = hands.first place (stands_grown first.progress.reads.wanted new.progress.reads.wanted grows request.segment_id place (slice_get first.progress.reads.wanted place) refl stands) in
+    let number = hands.number in
+    omega (arith, below, it, number, before)
+
 -- behind the first ones it stands as the next
 read_behind : (first : ℕ) (request : ReadRequest) (old new : ScanData) → first ≤ old.progress.reads.handed → HandsRead old.job old.progress new.progress request → slice_get (drop first new.progress.reads.wanted) (count_behind first old.progress.reads) ≡ Some (unread request.segment_id)
 read_behind first request old new before hands =
@@ -121,6 +133,7 @@ batch_none locations first batch scan none asked = record {
   segments = [];
   batch_is = none;
   located = All-nil (λ segment. segment < length locations);
+  fresh = All-nil (λ segment. IsHandedOut scan.progress.reads segment → ⊥);
   handed = omega arith;
   fits = λ fits. fits;
   reads = sym (append-nil (reads_behind first scan.progress.reads));
@@ -156,12 +169,15 @@ batch_more locations first batch more old middle new request at before so_far gi
     let counted = so_far.handed in
     let number : request.id.0 - first ≡ (old.progress.reads.handed - first) + length so_far.segments = omega (arith, is, counted, before) in
     let still : first ≤ middle.progress.reads.handed = omega (arith, counted, before) in
+    let goes_on = continues_then old middle new so_far.scan gives.scan in
     record {
       segments = so_far.segments ++ segment ∷ [];
       batch_is = added ∙ ap (λ (fs : List IoRequest). fs ++ fetch_at (request.id.0 - first) at ∷ []) so_far.batch_is
           ∙ (λ i. fetches_from locations (count_behind first old.progress.reads) so_far.segments ++ fetch_at (number i) (place i) ∷ [])
           ∙ sym (fetches_push locations (count_behind first old.progress.reads) so_far.segments segment);
       located = All-push (λ one. one < length locations) so_far.segments segment so_far.located within;
+      fresh = All-push (λ one. IsHandedOut old.progress.reads one → ⊥) so_far.segments segment so_far.fresh
+          (not_before request old middle new goes_on.keeps.grows (omega (arith, counted)) hands);
       handed = let next = hands.handed in omega (arith, next, counted, size);
       fits = λ fits. hands.bounded;
       reads = reads_push first request middle new grows still so_far.asked.wanted hands
@@ -174,7 +190,7 @@ batch_more locations first batch more old middle new request at before so_far gi
           (read_asked request middle new hands);
       left = ap (λ job. left_of job new.progress) gives.scan.keeps.job ∙ hands.left ∙ so_far.left;
       fewer = let p = gives.fewer tt in let q = so_far.fewer in omega (arith, p, q, size);
-      scan = continues_then old middle new so_far.scan gives.scan;
+      scan = goes_on;
       none = λ is. absurd (no_push so_far.segments segment is);
       live = λ some. live_read request middle new gives;
     }

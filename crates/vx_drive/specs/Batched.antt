@@ -6,7 +6,7 @@ use Rattle.vx_steps.specs.declared.progress.Turn.{Turn}
 use Rattle.vx_steps.specs.declared.progress.Turn.TheVariants as turns
 use Rattle.vx_steps.specs.ReadTableData.{ReadsData, Wanted}
 use Rattle.vx_steps.specs.ScanData.{ScanData}
-use Rattle.vx_steps.specs.Steps.{GoesOn, TakesTurn, work_left}
+use Rattle.vx_steps.specs.Steps.{GoesOn, IsHandedOut, TakesTurn, work_left}
 use Rattle.vx_steps.specs.Wants.{IsAsked}
 use Rattle.vx_io.specs.declared.requests.IoRequest.{IoRequest}
 use Rattle.vx_drive.specs.declared.adaptor_errors.AdaptorError.{AdaptorError}
@@ -39,12 +39,13 @@ reads_behind first reads = take (count_behind first reads) (drop first reads.wan
 abbrev pub IsLive : ScanData → Type 0
 IsLive scan = (scan.refused ≡ false) × (splits_left scan ≢ [])
 
--- The scan handed out reads of these segments and no output, and the batch is their fetches, numbered by the reads behind
--- the first ones.
+-- The scan handed out reads of these segments, of which it handed out none before, and no output; and the batch is their
+-- fetches, numbered by the reads behind the first ones.
 pub record Batched (locations : List SegmentLocation) (first : ℕ) (batch : List IoRequest) (old new : ScanData) : Type 0 where
   pub segments : List ℕ
   pub batch_is : batch ≡ fetches_from locations (count_behind first old.progress.reads) segments
   pub located : AllLocated locations segments
+  pub fresh : All (λ segment. IsHandedOut old.progress.reads segment → ⊥) segments
   pub handed : new.progress.reads.handed ≡ old.progress.reads.handed + length segments
   pub fits : old.progress.reads.handed < 2 ^ 64 → new.progress.reads.handed < 2 ^ 64
   pub reads : reads_behind first new.progress.reads ≡ reads_behind first old.progress.reads ++ map unread segments

@@ -6,7 +6,7 @@ use Rattle.vx_steps.specs.declared.errors.StepError.TheVariants as steps
 use Rattle.vx_steps.specs.Jobs.{CanStart}
 use Rattle.vx_steps.specs.ReadTable.{StandsAt}
 use Rattle.vx_steps.specs.ScanData.{ScanData, TakesBytes}
-use Rattle.vx_steps.specs.Steps.{AreHandedOut, IsWaiting, RefusesSplit}
+use Rattle.vx_steps.specs.Steps.{AreHandedOut, IsHandedOut, IsWaiting, RefusesSplit}
 use Rattle.vx_io.specs.declared.requests.IoRequest.{IoRequest}
 use Rattle.vx_drive.specs.declared.adaptor_errors.AdaptorError.{AdaptorError}
 use Rattle.vx_drive.specs.declared.adaptor_errors.AdaptorError.TheVariants.{NoLocation, Step, NotOutstanding, Memory}
@@ -35,8 +35,8 @@ pub record AwaitsBytes (scan : ScanData) : Type 0 where
   pub all_handed : scan.progress.reads.handed ≡ length scan.progress.reads.wanted
   pub are_handed : AreHandedOut scan.nodes scan.job scan.progress.leaves scan.progress
 
--- Reads that followed one another, at least one, each of a segment that was not read before and has a location, up to an
--- output or until the scan waits. The batch is their fetches, in their order.
+-- Reads that followed one another, at least one, each of a segment of which the scan handed out no read before and which has
+-- a location, up to an output or until the scan waits. The batch is their fetches, in their order.
 pub record Batches (locations : List SegmentLocation) (batch : List IoRequest) (old new : AdaptorData) : Type 0 where
   pub segments : List ℕ
   pub some : 0 < length segments
@@ -45,6 +45,7 @@ pub record Batches (locations : List SegmentLocation) (batch : List IoRequest) (
   pub asked : new.asked ≡ old.asked + length segments
   pub reads : reads_of new ≡ reads_of old ++ map unread segments
   pub apart : AreDistinctNumbers (segments_in (reads_of new))
+  pub fresh : All (λ segment. IsHandedOut old.scan.progress.reads segment → ⊥) segments
   pub located : AllLocated locations segments
   pub wanted : All (MayBeRead old.scan) segments
   pub scan : Continues old.scan new.scan

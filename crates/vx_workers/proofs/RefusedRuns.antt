@@ -89,5 +89,5 @@ pub runs_refused : (shares : Bool) (plans : ScanPlans) (chosen : SelectedRows) (
     → RunsIfUnhindered shares plans chosen handed shared before after
 runs_refused shares plans chosen handed shared error before after can is ran none clears = record {
   runs = shared_none shares plans chosen handed [] shared before after refl none (subst (λ (r : Ran). RunsOn plans chosen handed [] r before after) (sym ran) (refused_on plans chosen handed error before after can is clears));
-  unhindered = inr (none, (error, ap (λ (r : Ran). r.piece) ran));
+  unhindered = inr (record { alone = none; error = error; failed = ap (λ (r : Ran). r.piece) ran; asked = clears.asked });
 }

@@ -20,6 +20,7 @@ use Rattle.vx_workers.specs.declared.worker_states.WorkerState.{WorkerState}
 use Rattle.vx_workers.specs.declared.worker_states.Borrower.{Borrower}
 use Rattle.vx_workers.specs.declared.worker_states.Piece.{Piece}
 use Rattle.vx_workers.specs.Borrowing.{RecordsOutcome, RunsShared}
+use Rattle.vx_workers.specs.Hindered.{IsRefused}
 use Rattle.vx_workers.specs.Merges.{no_memory}
 use Rattle.vx_workers.specs.Borrowers.{borrower_chunks, RestsOnValues}
 use Rattle.vx_workers.specs.Unhindered.{IsUnhindered}
@@ -90,15 +91,15 @@ ok_any P (Err error) column is = absurd cc
 
 module _ (shares : Bool) (claims : Claims) (plans : ScanPlans) (chunks : List SelectedRows) (number : ℕ) (chunk : SelectedRows) (shared : Shared) (old worker next : WorkerState) (before now after : SourceState) (working : Working shares claims plans chunks old before now) (takes : TakesNumber claims number shared.ran.handed old worker)
     (good : IsGoodPlans plans) (is : IsChunkOf plans chunk) (here : slice_get chunks number ≡ Some chunk) (later : above old.claimed.items ≤ number) (runs : RunsShared shares plans chunk old.handed shared now after)
-    (which : IsUnhindered plans chunk ⊎ ((shared.borrowed.items ≡ []) × ((error : ScanError) × (shared.ran.piece ≡ Err error)))) where
+    (which : IsUnhindered plans chunk ⊎ IsRefused shared now after) where
   -- behind a chunk that is hindered the worker doesn't go on
-  free_piece : (column : ColumnData) → shared.ran.piece ≡ Ok column → IsUnhindered plans chunk ⊎ ((shared.borrowed.items ≡ []) × ((error : ScanError) × (shared.ran.piece ≡ Err error))) → IsUnhindered plans chunk
+  free_piece : (column : ColumnData) → shared.ran.piece ≡ Ok column → IsUnhindered plans chunk ⊎ IsRefused shared now after → IsUnhindered plans chunk
   free_piece column is (inl free) = free
-  free_piece column is (inr (none, (error, failed))) = let both : ◌≡◌ {A = Result ColumnData ScanError} (Ok column) (Err error) = sym is ∙ failed in absurd cc
+  free_piece column is (inr refused) = let both : ◌≡◌ {A = Result ColumnData ScanError} (Ok column) (Err refused.error) = sym is ∙ refused.failed in absurd cc
 
-  free_borrower : shared.borrowed.items ≢ [] → IsUnhindered plans chunk ⊎ ((shared.borrowed.items ≡ []) × ((error : ScanError) × (shared.ran.piece ≡ Err error))) → IsUnhindered plans chunk
+  free_borrower : shared.borrowed.items ≢ [] → IsUnhindered plans chunk ⊎ IsRefused shared now after → IsUnhindered plans chunk
   free_borrower some (inl free) = free
-  free_borrower some (inr (none, failed)) = absurd (some none)
+  free_borrower some (inr refused) = absurd (some refused.alone)
 
   piece_goes : (column : ColumnData) → shared.borrowed.items ≡ [] → shared.ran.piece ≡ Ok column → next ≡ record worker { pieces = next.pieces } → next.pieces.items ≡ worker.pieces.items ++ record { chunk = number; column = column } ∷ [] → Working shares claims plans chunks next before after
   piece_goes column none piece_is same more =

@@ -23,8 +23,15 @@ abbrev pub TellsHindrance : ScanPlans → SelectedRows → Option ScanError → 
 TellsHindrance plans chosen None = IsUnhindered plans chosen
 TellsHindrance plans chosen (Some error) = IsHinderedBy plans chosen error
 
--- The chunk ran with what was handed on and with what it borrowed, if nothing hinders its rows; else it failed, and its
--- worker stops.
+-- It failed with nothing borrowed, and nothing was asked for it.
+pub record IsRefused (shared : Shared) (before after : SourceState) : Type 0 where
+  pub alone : shared.borrowed.items ≡ []
+  pub error : ScanError
+  pub failed : shared.ran.piece ≡ Err error
+  pub asked : after.asked ≡ before.asked
+
+-- The chunk ran with what was handed on and with what it borrowed, if nothing hinders its rows; else it was refused before
+-- anything was asked for it, and its worker stops.
 pub record RunsIfUnhindered (shares : Bool) (plans : ScanPlans) (chosen : SelectedRows) (handed : HandedOn) (shared : Shared) (before after : SourceState) : Type 0 where
   pub runs : RunsShared shares plans chosen handed shared before after
-  pub unhindered : IsUnhindered plans chosen ⊎ ((shared.borrowed.items ≡ []) × ((error : ScanError) × (shared.ran.piece ≡ Err error)))
+  pub unhindered : IsUnhindered plans chosen ⊎ IsRefused shared before after
