@@ -1,4 +1,4 @@
--- How the settling of chunks that ran with borrowed values ends: behind the last of them, before one that lies no lower than
+-- How the validation of chunks that ran with borrowed values ends: behind the last of them, before one that lies no lower than
 -- the error, or with one that failed.
 use Rattle.std.proofs.Common.{◌≡◌, ℕ, ◌+◌, ◌<◌, ◌⊎◌, inl, inr, ⊎_elim, List, [], ◌∷◌, ◌++◌, Option, Some, None, Result, Ok, Err, refl, sym, ap, ◌∙◌, subst, arith}
 use Rattle.std.specs.Prelude.{IfErr, IsSomeAnd}
@@ -110,7 +110,7 @@ failed_faults result error before now after first (inr (lacks, (column, is))) (i
     let both : ◌≡◌ {A = Result ColumnData ScanError} (Ok column) (Err ReadFault) = sym is ∙ fault in
     absurd cc
 
--- a cause of the chunk is one since the settling began
+-- a cause of the chunk is one since the validation began
 cause_sound : (plans : ScanPlans) (chosen : SelectedRows) (result : Result ColumnData ScanError) (before now after : SourceState) (Told Other : Claims) → ((P : Bytes → Type 0) → Told P → Other P) → Lasts before now → IfErr result (λ one. Causes Told plans [] chosen one now after) → IfErr result (λ one. Causes Other plans [] chosen one before after)
 cause_sound plans chosen (Ok column) before now after Told Other carries lasts cause = tt
 cause_sound plans chosen (Err error) before now after Told Other carries lasts cause = cause_lasts Told Other carries plans [] chosen error before now after lasts cause

@@ -1,4 +1,4 @@
-//! The run of all chunks over all sources, by a worker for each source, and the settling of what they borrowed.
+//! The run of all chunks over all sources, by a worker for each source, and the validation of what they borrowed.
 //!
 //! - The run: [`execute`] with its [`Outcome`] and [`Rerun`].
 #![tactic(auto)]

@@ -19,9 +19,9 @@ use Rattle.vx_scan.specs.Scanned.{IsListAs}
 
 -- ---- what is found tells a plan
 
--- what is found of a plan's own row tells the plan, and no cell does
+-- what is found of a plan's own row tells the plan, and no row of a leaf does
 record Shows (P : Found → Type 0) (F : Plan → Type 0) : Type 0 where
-  cells : (at : LeafRow) → P (a_leaf_row at) → ⊥
+  leaf_rows : (at : LeafRow) → P (a_leaf_row at) → ⊥
   lists : (head : Head) (elements offsets : Plan) (validity : PlanValidity) (row : ℕ) → P (a_list_row head.number row) → F (list_plan head elements offsets validity)
   takes : (head : Head) (codes values : Plan) (code : CodeRow) → code.dictionary ≡ head.number → P (a_code code) → F (take_plan head codes values)
 
@@ -83,7 +83,7 @@ mutual
   found_stands P F shows offset way (list_plan head elements offsets validity) row (inl here) = inl (shows.lists head elements offsets validity row here)
   found_stands P F shows offset way (list_plan head elements offsets validity) row (inr none) = absurd none
   found_stands P F shows offset way (row_idx_plan head) row any = absurd any
-  found_stands P F shows offset way (scan_plan head segment) row (inl here) = absurd (shows.cells (record { dtype = head.dtype; rows = head.rows; segment = segment; row = row }) here)
+  found_stands P F shows offset way (scan_plan head segment) row (inl here) = absurd (shows.leaf_rows (record { dtype = head.dtype; rows = head.rows; segment = segment; row = row }) here)
   found_stands P F shows offset way (scan_plan head segment) row (inr none) = absurd none
   found_stands P F shows offset way (zoned_plan head zones content table) row any = inr (inl (found_stands P F shows offset way content row any))
 
@@ -108,14 +108,14 @@ mutual
 
 shows_list : (n : ℕ) → Shows (IsRowOf n) (IsListAs n)
 shows_list n = record {
-  cells = λ at is. is;
+  leaf_rows = λ at is. is;
   lists = λ head elements offsets validity row is. is;
   takes = λ head codes values code same is. absurd is;
 }
 
 shows_take : (leaves : Leaves) (n at : ℕ) → Shows (IsBadCodeAt leaves n at) (IsTakeAs n)
 shows_take leaves n at = record {
-  cells = λ cell is. is;
+  leaf_rows = λ at is. is;
   lists = λ head elements offsets validity row is. absurd is;
   takes = λ head codes values code same is. sym same ∙ is.0;
 }

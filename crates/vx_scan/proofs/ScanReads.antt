@@ -80,7 +80,7 @@ row_moved f number (a_code at) is = is
 row_moved f number (a_list_row list row) is = ap f is
 
 pub code_moved : (f : ℕ → ℕ) (leaves : Leaves) (number at : ℕ) (found : Found) → IsBadCodeAt leaves number at found → IsBadCodeAt leaves (f number) at (found_renumbered f found)
-code_moved f leaves number at (a_leaf_row cell) is = is
+code_moved f leaves number at (a_leaf_row leaf) is = is
 code_moved f leaves number at (a_code code) is =
     (ap f is.0, is.1, subst (λ (v : Option Datum). IsSomeAnd v (λ worth. ¬ (IsPlaceAmong code.count worth))) (sym (same_worth leaves f code.code)) is.2)
 code_moved f leaves number at (a_list_row list row) is = is

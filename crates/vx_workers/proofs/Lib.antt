@@ -11,8 +11,8 @@ pub mod NewReasons
 mod RefusedRuns
 pub mod Taken
 pub mod ValidatedCauses
-mod WorkOfWorkers
 mod WorkerCrossing
 pub mod WorkerEnds
 pub mod WorkerFacts
+mod WorkerStates
 mod Working

@@ -76,14 +76,14 @@ fn borrow_or_lack<R: Wait>(
     table: &PlanTable,
     plan: PlanRef,
     cache: &ValueCache,
-    loan: &mut Borrowed,
+    borrowed: &mut Borrowed,
 ) -> Result<(), AllocError>
     requires known { number_of plan < length table.now }
-    ensures { BorrowsOne table.now (number_of plan) (data_of loan.old.given.items) (data_of loan.new.given.items) }
+    ensures { BorrowsOne table.now (number_of plan) (data_of borrowed.old.given.items) (data_of borrowed.new.given.items) }
 {
     match borrow_one(rt, table, plan, cache)? {
-        Some(column) => loan.given.push(KeptValue { node: plan, column })?,
-        None => loan.lacking.push(plan)?,
+        Some(column) => borrowed.given.push(KeptValue { node: plan, column })?,
+        None => borrowed.lacking.push(plan)?,
     }
     Ok(())
 }
@@ -98,9 +98,9 @@ fn borrow<R: Wait>(
     cache: &ValueCache,
 ) -> Result<Borrowed, AllocError>
     requires known { AllByRecursion (λ plan. number_of plan < length table.now) asked.now }
-    ensures { IfOk result (λ loan. AreOfPlans table.now (map number_of asked.now) (data_of loan.given.items)) }
+    ensures { IfOk result (λ borrowed. AreOfPlans table.now (map number_of asked.now) (data_of borrowed.given.items)) }
 {
-    let mut loan = Borrowed {
+    let mut borrowed = Borrowed {
         asked: Vec::new(alloc),
         lacking: Vec::new(alloc),
         given: Vec::new(alloc),
@@ -108,10 +108,10 @@ fn borrow<R: Wait>(
     };
     for plan in asked {
         if first_for(made, *plan).is_none() {
-            borrow_or_lack(rt, table, *plan, cache, &mut loan)?;
+            borrow_or_lack(rt, table, *plan, cache, &mut borrowed)?;
         }
     }
-    Ok(loan)
+    Ok(borrowed)
 }
 
 /// Copies of whole values, which cost no rows where the columns are shared.
@@ -169,10 +169,10 @@ fn borrowed_for<R: Wait>(
 ) -> Result<Borrowed, AllocError>
     requires plans { ArePlans plans.now }
     requires chunk { IsChunkOf plans.now chosen.now }
-    ensures borrowed { IfOk result (λ loan. AreBorrowed plans.now chosen.now (data_of loan.given.items)) }
-    ensures kept { IfOk result (λ loan. data_of loan.kept.items ≡ data_of loan.given.items) }
-    ensures asked { IfOk result (λ loan. AreAskedPlans plans.now.table (number_of plans.now.projection) chosen.now.scope.rows.start chosen.now.mask (map number_of loan.asked.items)) }
-    ensures known { IfOk result (λ loan. AreIn plans.now.table (map number_of loan.asked.items)) }
+    ensures borrowed { IfOk result (λ borrowed. AreBorrowed plans.now chosen.now (data_of borrowed.given.items)) }
+    ensures kept { IfOk result (λ borrowed. data_of borrowed.kept.items ≡ data_of borrowed.given.items) }
+    ensures asked { IfOk result (λ borrowed. AreAskedPlans plans.now.table (number_of plans.now.projection) chosen.now.scope.rows.start chosen.now.mask (map number_of borrowed.asked.items)) }
+    ensures known { IfOk result (λ borrowed. AreIn plans.now.table (map number_of borrowed.asked.items)) }
 {
     let asked = asked_wholes(
         alloc,
@@ -181,10 +181,10 @@ fn borrowed_for<R: Wait>(
         chosen.scope.rows.start,
         &chosen.mask,
     )?;
-    let mut loan = borrow(rt, alloc, &plans.table, asked.as_slice(), made, cache)?;
-    loan.kept = copies(alloc, loan.given.as_slice())?;
-    loan.asked = asked;
-    Ok(loan)
+    let mut borrowed = borrow(rt, alloc, &plans.table, asked.as_slice(), made, cache)?;
+    borrowed.kept = copies(alloc, borrowed.given.as_slice())?;
+    borrowed.asked = asked;
+    Ok(borrowed)
 }
 
 /// Whether an error may come of a value that is wrong.
@@ -265,7 +265,7 @@ pub(crate) fn run_shared<R: Wait, S: SegmentSource>(
         };
     }
     let made = handed.made.as_slice();
-    let Ok(loan) = borrowed_for(rt, alloc, plans, chosen, made, cache) else {
+    let Ok(borrowed) = borrowed_for(rt, alloc, plans, chosen, made, cache) else {
         source.clear();
         return Shared {
             ran: Ran {
@@ -280,7 +280,7 @@ pub(crate) fn run_shared<R: Wait, S: SegmentSource>(
         lacking,
         given,
         kept,
-    } = loan;
+    } = borrowed;
     let ran = run_on(alloc, plans, chosen, source, handed, given);
     let made = ran.handed.made.as_slice();
     share(rt, alloc, lacking.as_slice(), made, cache);

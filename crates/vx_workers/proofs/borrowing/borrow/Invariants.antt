@@ -6,4 +6,4 @@ use Rattle.vx_workers.proofs.borrowing.borrow.Given as goal
 
 -- what was borrowed so far is of these plans
 abbrev pub invariant-loop-plan : goal.invariant-loop-plan
-invariant-loop-plan g l = AreOfPlans l.table (map number_of l.asked) (data_of l.loan.given.items)
+invariant-loop-plan g l = AreOfPlans l.table (map number_of l.asked) (data_of l.borrowed.given.items)

@@ -12,5 +12,5 @@ borrow-requires g c = record { known = subst (λ (asked : List PlanRef). AllByRe
 
 pub returns-clause-borrowed : goal.returns-clause-borrowed
 returns-clause-borrowed g c =
-    are_borrowed c.args.plans.now c.args.chosen.now c.in_ok-asked.asked.items (data_of c.in_ok-loan.loan.given.items) c.in_ok-asked.ensures.asked
-    (subst (λ (asked : List PlanRef). AreOfPlans c.args.plans.now.table (map number_of asked) (data_of c.in_ok-loan.loan.given.items)) c.as_slice.ensures.value c.in_ok-loan.ensures)
+    are_borrowed c.args.plans.now c.args.chosen.now c.in_ok-asked.asked.items (data_of c.in_ok-borrowed.borrowed.given.items) c.in_ok-asked.ensures.asked
+    (subst (λ (asked : List PlanRef). AreOfPlans c.args.plans.now.table (map number_of asked) (data_of c.in_ok-borrowed.borrowed.given.items)) c.as_slice.ensures.value c.in_ok-borrowed.ensures)

@@ -25,9 +25,9 @@ returns-in_default g c =
 pub returns : goal.returns
 returns g c =
     let shared : Shared = record { ran = c.run_on-ran-2.result; borrowed = c.rested_on-borrowed.result } in
-    let asked : List ℕ = map number_of c.in-Ok.loan.asked.items in
-    let rests : RestsOn shared.ran.piece asked (data_of shared.ran.handed.made.items) c.in-Ok.loan.kept.items shared.borrowed.items =
-    subst (λ (made : List KeptValue). RestsOn shared.ran.piece asked (data_of made) c.in-Ok.loan.kept.items shared.borrowed.items) c.as_slice-made-2.ensures.value
-    (subst (λ (plans : List PlanRef). RestsOn shared.ran.piece (map number_of plans) (data_of c.as_slice-made-2.result.now) c.in-Ok.loan.kept.items shared.borrowed.items) c.as_slice-2.ensures.value c.rested_on-borrowed.ensures) in
+    let asked : List ℕ = map number_of c.in-Ok.borrowed.asked.items in
+    let rests : RestsOn shared.ran.piece asked (data_of shared.ran.handed.made.items) c.in-Ok.borrowed.kept.items shared.borrowed.items =
+    subst (λ (made : List KeptValue). RestsOn shared.ran.piece asked (data_of made) c.in-Ok.borrowed.kept.items shared.borrowed.items) c.as_slice-made-2.ensures.value
+    (subst (λ (plans : List PlanRef). RestsOn shared.ran.piece (map number_of plans) (data_of c.as_slice-made-2.result.now) c.in-Ok.borrowed.kept.items shared.borrowed.items) c.as_slice-2.ensures.value c.rested_on-borrowed.ensures) in
     subst (λ (shares : Bool). RunsShared shares c.args.plans.now c.args.chosen.now c.args.handed shared (g.S.SegmentSource.state c.args.source.now) (g.S.SegmentSource.state c.run_on-ran-2.new.source)) (sym c.if-not-shares.false)
-    (shared_some c.args.plans.now c.args.chosen.now c.args.handed asked (data_of c.in-Ok.loan.given.items) c.in-Ok.loan.kept.items shared (g.S.SegmentSource.state c.args.source.now) (g.S.SegmentSource.state c.run_on-ran-2.new.source) c.keeps_rules.ensures c.requires.plans.known c.in-Ok.ensures.asked c.in-Ok.ensures.known c.in-Ok.ensures.borrowed c.in-Ok.ensures.kept c.run_on-ran-2.ensures rests)
+    (shared_some c.args.plans.now c.args.chosen.now c.args.handed asked (data_of c.in-Ok.borrowed.given.items) c.in-Ok.borrowed.kept.items shared (g.S.SegmentSource.state c.args.source.now) (g.S.SegmentSource.state c.run_on-ran-2.new.source) c.keeps_rules.ensures c.requires.plans.known c.in-Ok.ensures.asked c.in-Ok.ensures.known c.in-Ok.ensures.borrowed c.in-Ok.ensures.kept c.run_on-ran-2.ensures rests)

@@ -6,7 +6,7 @@ use Rattle.vx_chunks.specs.declared.outcomes.HandedOn.{HandedOn}
 use Rattle.vx_chunks.specs.Outcomes.{CanHandOn}
 use Rattle.vx_workers.specs.declared.worker_states.WorkerState.{WorkerState}
 use Rattle.vx_workers.specs.Hindered.{RunsIfUnhindered}
-use Rattle.vx_workers.proofs.WorkOfWorkers.{StaysAsWas, goes_on, lacks_memory, stops, told_end, works_none}
+use Rattle.vx_workers.proofs.WorkerStates.{StaysAsWas, goes_on, lacks_memory, stops, told_end, works_none}
 use Rattle.vx_workers.proofs.workers.work.Goals as goal
 use Rattle.vx_workers.proofs.workers.work.Goals.{then-is_err-via-then-is_err, then-is_err-via-else-is_err+then-is_err-2, then-is_err-via-else-is_err+else-is_err-2+then-is_err-3}
 use Rattle.vx_base.proofs.Got.{each_got, got_at}

@@ -1,7 +1,7 @@
 use Rattle.std.proofs.Common.{length, ◌-◌}
 use Rattle.vx_claims.specs.Views.{above}
 use Rattle.vx_claims.specs.Claims.{claimed}
-use Rattle.vx_workers.proofs.WorkOfWorkers.{Working}
+use Rattle.vx_workers.proofs.WorkerStates.{Working}
 use Rattle.vx_workers.proofs.workers.work.Given as goal
 
 abbrev pub invariant-working : goal.invariant-working
