@@ -3,7 +3,6 @@ use Rattle.std.proofs.Common.{◌≡◌, ℕ, ◌⊎◌, inl, inr, Bool, List, S
 use Rattle.std.proofs.lemmas.List.Elements.{All-weaker}
 use Rattle.vx_rows.specs.Reads.{Found}
 use Rattle.vx_rows.specs.SegmentLeaves.{Bytes, leaves_of}
-use Rattle.vx_plan.specs.Laws.{IsReadBy}
 use Rattle.vx_plan.specs.Nodes.{Node}
 use Rattle.vx_plan.specs.Plans.{plan_at}
 use Rattle.vx_plan.specs.Refs.{number_of}
@@ -31,9 +30,10 @@ use Rattle.vx_drive.specs.Asks.{AsksOnly}
 use Rattle.vx_drive.specs.Plans.{bytes_of, projection_plan}
 use Rattle.vx_drive.specs.Runs.{GivesSplit, IsReadByStart, LeavesFault, LeavesRead, RunCause}
 use Rattle.vx_drive.specs.Starts.{split_of}
-use Rattle.vx_chunks.specs.ChunkRows.{given_to, ChunkFailsInside, ChunkReadsSegment, ChunkVisits, IsPiece}
+use Rattle.vx_chunks.specs.ChunkRows.{given_to, ChunkFailsInside, ChunkReaches, ChunkReadsSegment, ChunkVisits, IsPiece}
 use Rattle.vx_chunks.specs.ChunkScans.{IsChunkScan}
 use Rattle.vx_chunks.specs.Outcomes.{Causes, ChunkAsks, Claims, GivesPiece, IsWanted}
+use Rattle.vx_chunks.proofs.NothingGiven.{plan_reaches}
 use Rattle.vx_base.specs.Columns.{ColumnData}
 use Rattle.vx_base.specs.Masks.{true_count}
 use Rattle.vx_base.specs.Sources.{SourceState}
@@ -131,8 +131,8 @@ is_wanted plans chosen given leaves made start segment is read =
       leaf = read.read.leaf;
       visited = subst (λ (s : ℕ). ChunkVisits (IsLeafRead (record { leaf = read.read.leaf; segment = s })) plans given chosen) read.segment_is one;
       not_handed = ap (λ (ls : List Kept). kept_at ls read.read.leaf) (sym is.leaves_are) ∙ read.not_kept;
-      reached = subst (λ (s : ℕ). IsReadBy plans.row_offset s (plan_at plans.table (number_of plans.projection)) chosen.scope.rows.start chosen.mask) read.segment_is
-          (selected_read (handed_by plans.table (Some given)) plans.row_offset (plan_at plans.table (number_of plans.projection)) chosen.scope.rows.start chosen.mask read.read one);
+      reached = subst (ChunkReaches plans chosen) read.segment_is
+          (plan_reaches plans chosen read.read.segment (selected_read (given_to plans given) plans.row_offset (projection_plan plans) chosen.scope.rows.start chosen.mask read.read one));
     }
 
 -- a segment that is wanted is read, with the given values in place of the whole ones

@@ -1,22 +1,23 @@
 -- What selected rows read of leaves and lists with values in place of whole ones, they read with none.
-use Rattle.std.proofs.Common.{ℕ, ◌+◌, inr, ⊎_elim, List, [], ◌++◌, Option, Some, None, sym, subst}
+use Rattle.std.proofs.Common.{ℕ, ◌+◌, inr, ⊎_elim, List, [], ◌++◌, Option, Some, None}
 use Rattle.std.specs.List.{slice_get}
 use Rattle.vx_rows.specs.Derivations.{Derivation, nothing, of_leaf, list_row, given, packed, valid_where, looked_up, worked_out, read_whole, Derivations, no_more, also}
 use Rattle.vx_rows.specs.Given.{GivenValues, values_with, share_with, with_given, each_with_given}
 use Rattle.vx_rows.specs.Reads.{Way, directly, inside, CodeRow, code_row, Found, a_code, Read, reads_of, reads_of_each, Finds, IsIn}
 use Rattle.vx_rows.proofs.ReadRows.{any_either, any_left, any_right}
 use Rattle.vx_rows.specs.SegmentLeaves.{Bytes}
+use Rattle.vx_plan.specs.Plans.{Plan}
 use Rattle.vx_plan.specs.PlanRows.{plan_derivation}
-use Rattle.vx_steps.specs.Given.{given_for, values_for}
+use Rattle.vx_steps.specs.Given.{given_for}
 use Rattle.vx_steps.specs.KeptData.{Kept}
 use Rattle.vx_steps.specs.Laws.{IsRowOf}
 use Rattle.vx_steps.specs.ScanLaws.{IsTornIn}
-use Rattle.vx_steps.proofs.ReadVisits.{no_columns, nothing_in, nothing_at}
-use Rattle.vx_steps.proofs.VisitedReads.{none_served}
+use Rattle.vx_steps.proofs.ReadVisits.{nothing_in, nothing_at}
 use Rattle.vx_splits.specs.declared.selected_rows.SelectedRows.{SelectedRows}
 use Rattle.vx_drive.specs.declared.plans.ScanPlans.{ScanPlans}
 use Rattle.vx_drive.specs.Plans.{projection_plan}
-use Rattle.vx_chunks.specs.ChunkRows.{given_to, ChunkFinds, ChunkReadsList, ChunkReadsSegment, ChunkReadsTorn}
+use Rattle.vx_chunks.specs.ChunkRows.{ChunkFinds, ChunkReadsList, ChunkReadsSegment, ChunkReadsTorn}
+use Rattle.vx_chunks.proofs.NothingGiven.{free_reads}
 use Rattle.vx_base.specs.Data.{Datum}
 
 -- ---- of a row
@@ -66,8 +67,9 @@ mutual
 
 pub finds_free : (P : Found → Type 0) → NoCode P → (plans : ScanPlans) (borrowed : List Kept) (chunk : SelectedRows) → ChunkFinds P plans borrowed chunk → ChunkFinds P plans [] chunk
 finds_free P out plans borrowed chunk (place, at, any) =
-    let d : Derivation = plan_derivation plans.row_offset (projection_plan plans) (chunk.scope.rows.start + place) in
-    (place, at, subst (λ (one : Derivation). Finds P (reads_of directly one)) (sym (none_served (values_for (given_to plans [])) (no_columns plans.table) d)) (fewer P out (given_for plans.table borrowed) d directly any))
+    let p : Plan = projection_plan plans in
+    let row : ℕ = chunk.scope.rows.start + place in
+    (place, at, free_reads P plans plans.row_offset p row (fewer P out (given_for plans.table borrowed) (plan_derivation plans.row_offset p row) directly any))
 
 pub list_free : (plans : ScanPlans) (borrowed : List Kept) (chunk : SelectedRows) (list : ℕ) → ChunkReadsList plans borrowed chunk list → ChunkReadsList plans [] chunk list
 list_free plans borrowed chunk list = finds_free (IsRowOf list) (λ code is. is) plans borrowed chunk

@@ -8,6 +8,7 @@ pub mod FewerReads
 pub mod HandedRuns
 pub mod LastingCauses
 pub mod LentSources
+pub mod NothingGiven
 pub mod OutsideReads
 pub mod OwnValues
 pub mod TakenReads

@@ -1,9 +1,8 @@
 -- What the selected rows of a chunk read and are worth, with the values that are given in place of whole ones.
-use Rattle.std.specs.Prelude.{ℕ, List, Some}
+use Rattle.std.specs.Prelude.{ℕ, List, [], Some}
 use Rattle.vx_rows.specs.Derivations.{Leaves}
 use Rattle.vx_rows.specs.Reads.{Found, IsIn}
 use Rattle.vx_rows.specs.SegmentLeaves.{Bytes}
-use Rattle.vx_plan.specs.Laws.{IsReadBy}
 use Rattle.vx_plan.specs.PlanRows.{plan_value}
 use Rattle.vx_steps.specs.declared.errors.StepError.{StepError}
 use Rattle.vx_steps.specs.Given.{Handed, handed_by, row_value}
@@ -32,10 +31,6 @@ ChunkFinds P plans given chosen = SomeRead P (given_to plans given) plans.row_of
 abbrev pub ChunkVisits : Test → ScanPlans → List Kept → SelectedRows → Type 0
 ChunkVisits P plans given chosen = SomeVisit P (given_to plans given) (projection_plan plans) chosen.scope.rows.start chosen.mask
 
--- some selected row reaches the segment, whatever is given
-abbrev pub ChunkReaches : ScanPlans → SelectedRows → ℕ → Type 0
-ChunkReaches plans chosen segment = IsReadBy plans.row_offset segment (projection_plan plans) chosen.scope.rows.start chosen.mask
-
 -- ---- why they have no piece
 
 -- some selected row reads a row of the list of that number
@@ -45,6 +40,10 @@ ChunkReadsList plans given chosen list = ChunkFinds (IsRowOf list) plans given c
 -- some selected row reads a leaf of the segment
 abbrev pub ChunkReadsSegment : ScanPlans → List Kept → SelectedRows → ℕ → Type 0
 ChunkReadsSegment plans given chosen segment = ChunkFinds (IsIn segment) plans given chosen
+
+-- some selected row reaches the segment: it reads a leaf of it where nothing is given
+abbrev pub ChunkReaches : ScanPlans → SelectedRows → ℕ → Type 0
+ChunkReaches plans chosen segment = ChunkReadsSegment plans [] chosen segment
 
 -- some selected row reads a leaf of the segment, whose bytes spell no values for it
 abbrev pub ChunkReadsTorn : Bytes → ScanPlans → List Kept → SelectedRows → ℕ → Type 0

@@ -21,7 +21,7 @@ use Rattle.vx_steps.specs.Kept.{kept_at, IsKept}
 use Rattle.vx_steps.specs.KeptData.{Kept}
 use Rattle.vx_steps.specs.Rows.{SomeRow}
 use Rattle.vx_steps.specs.Visits.{Visits}
-use Rattle.vx_steps.proofs.ReadVisits.{no_columns, selected_read}
+use Rattle.vx_steps.proofs.ReadVisits.{no_columns, selected_leaf}
 use Rattle.vx_splits.specs.declared.selected_rows.SelectedRows.{SelectedRows}
 use Rattle.vx_io.specs.Fetches.{asked_for}
 use Rattle.vx_drive.specs.declared.errors.ScanError.{ScanError}
@@ -71,7 +71,7 @@ free_of given none (through n) = none n
 -- what a row reads by a way it reaches
 way_reaches : (plans : ScanPlans) (chosen : SelectedRows) (way : Way) (read : LeafRead) → SomeRow (ReadsBy way read (projection_plan plans)) chosen.scope.rows.start chosen.mask → ChunkReaches plans chosen read.segment
 way_reaches plans chosen way read (place, at, v) =
-    selected_read (given_to plans []) plans.row_offset (projection_plan plans) chosen.scope.rows.start chosen.mask read
+    selected_leaf (given_to plans []) plans.row_offset (projection_plan plans) chosen.scope.rows.start chosen.mask read
     (place, at, read_visited way read (given_for plans.table []) (free_of (given_for plans.table []) (no_columns plans.table) way) (projection_plan plans) (chosen.scope.rows.start + place) v)
 
 is_reason : (plans : ScanPlans) (chosen : SelectedRows) (number leaf segment : ℕ) (way : Way) → SomeRow (ReadsBy way (record { leaf = leaf; segment = segment }) (projection_plan plans)) chosen.scope.rows.start chosen.mask →

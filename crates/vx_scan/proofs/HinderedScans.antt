@@ -2,21 +2,18 @@
 use Rattle.std.proofs.Common.{ℕ, zero, suc, ◌+◌, ◌<◌, inl, inr, Bool, true, false, List, [], ◌∷◌, length, map, take, refl, sym, ap, subst, arith}
 use Rattle.std.specs.Prelude.{IsSomeAnd}
 use Rattle.std.specs.List.{slice_get, AllByRecursion}
-use Rattle.vx_rows.specs.Derivations.{Derivation}
-use Rattle.vx_rows.specs.Reads.{directly, Found, a_leaf_row, a_code, a_list_row, Read, reads_of, AnyOf, Finds, IsIn}
+use Rattle.vx_rows.specs.Reads.{Found, a_leaf_row, a_code, a_list_row, Read, AnyOf, Finds, IsIn}
 use Rattle.vx_rows.specs.Renumbered.{found_renumbered, read_renumbered}
 use Rattle.vx_lower.specs.Projected.{scan_reads}
-use Rattle.vx_plan.specs.PlanRows.{plan_derivation, plan_reads}
+use Rattle.vx_plan.specs.PlanRows.{plan_reads}
 use Rattle.vx_splits.specs.declared.selected_rows.SelectedRows.{SelectedRows}
 use Rattle.vx_splits.specs.Trimmed.{chosen_rows}
-use Rattle.vx_steps.specs.Given.{values_for}
-use Rattle.vx_steps.specs.Laws.{IsRowOf, row_reads}
+use Rattle.vx_steps.specs.Laws.{IsRowOf}
 use Rattle.vx_steps.specs.Rows.{rows_of, SomeRow}
-use Rattle.vx_steps.proofs.ReadVisits.{no_columns}
-use Rattle.vx_steps.proofs.VisitedReads.{none_served}
 use Rattle.vx_drive.specs.declared.plans.ScanPlans.{ScanPlans}
 use Rattle.vx_drive.specs.Plans.{projection_plan}
-use Rattle.vx_chunks.specs.ChunkRows.{given_to, ChunkReaches}
+use Rattle.vx_chunks.specs.ChunkRows.{ChunkReaches}
+use Rattle.vx_chunks.proofs.NothingGiven.{free_reads}
 use Rattle.vx_workers.specs.Unhindered.{IsUnhindered}
 use Rattle.vx_scan.specs.Answer.{FileScan, row_count}
 use Rattle.vx_scan.specs.Causes.{ReadsList, ScanReaches}
@@ -62,17 +59,13 @@ lists_before f number (read ∷ reads) (inr later) = let one = lists_before f nu
 -- ---- a piece
 
 module _ (scan : FileScan) (limit : ℕ) (plans : ScanPlans) (are : ArePlansOf scan limit plans) where
-  free_reads : (P : Found → Type 0) (row : ℕ) → Finds P (plan_reads plans.row_offset (projection_plan plans) row) → Finds P (row_reads (given_to plans []) plans.row_offset (projection_plan plans) row)
-  free_reads P row any =
-      subst (λ (d : Derivation). Finds P (reads_of directly d)) (sym (none_served (values_for (given_to plans [])) (no_columns plans.table) (plan_derivation plans.row_offset (projection_plan plans) row))) any
-
   reaches_before : (chunk : SelectedRows) → LiesInside (row_count scan) chunk → (segment : ℕ) → ScanReaches scan.projection (chosen_rows chunk) segment → ChunkReaches plans chunk segment
   reaches_before chunk inside segment any =
       let some : SomeRow (λ row. Finds (IsIn segment) (scan_reads scan.projection row)) chunk.scope.rows.start chunk.mask = chosen_some (λ row. Finds (IsIn segment) (scan_reads scan.projection row)) (row_count scan) chunk inside any in
       let row : ℕ = chunk.scope.rows.start + some.0 in
       let there : Finds (IsIn segment) (plan_reads scan.projection.offset (projection_plan plans) row) =
       finds_before (node_of scan.projection) segment (plan_reads scan.projection.offset (projection_plan plans) row) (subst (Finds (IsIn segment)) (sym (are.plan.reads row)) some.2) in
-      record { row = some.0; chosen = some.1; read = subst (λ (offset : ℕ). Finds (IsIn segment) (plan_reads offset (projection_plan plans) row)) (sym are.offset) there }
+      (some.0, some.1, free_reads (IsIn segment) plans plans.row_offset (projection_plan plans) row (subst (λ (offset : ℕ). Finds (IsIn segment) (plan_reads offset (projection_plan plans) row)) (sym are.offset) there))
 
   no_list_before : (chunk : SelectedRows) → LiesInside (row_count scan) chunk → IsUnhindered plans chunk → (list : ℕ) → ReadsList scan.projection (chosen_rows chunk) list → ⊥
   no_list_before chunk inside free list any =
@@ -80,7 +73,7 @@ module _ (scan : FileScan) (limit : ℕ) (plans : ScanPlans) (are : ArePlansOf s
       let row : ℕ = chunk.scope.rows.start + some.0 in
       let one : (n : ℕ) × Finds (IsRowOf n) (plan_reads scan.projection.offset (projection_plan plans) row) =
       lists_before (node_of scan.projection) list (plan_reads scan.projection.offset (projection_plan plans) row) (subst (Finds (IsRowOf list)) (sym (are.plan.reads row)) some.2) in
-      free.no_list one.0 (some.0, some.1, free_reads (IsRowOf one.0) row (subst (λ (offset : ℕ). Finds (IsRowOf one.0) (plan_reads offset (projection_plan plans) row)) (sym are.offset) one.1))
+      free.no_list one.0 (some.0, some.1, free_reads (IsRowOf one.0) plans plans.row_offset (projection_plan plans) row (subst (λ (offset : ℕ). Finds (IsRowOf one.0) (plan_reads offset (projection_plan plans) row)) (sym are.offset) one.1))
 
   piece_unhindered : (chunk : SelectedRows) → LiesInside (row_count scan) chunk → IsUnhindered plans chunk → AreUnhindered scan (chosen_rows chunk)
   piece_unhindered chunk inside free = record {

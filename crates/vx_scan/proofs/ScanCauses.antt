@@ -9,9 +9,8 @@ use Rattle.vx_lower.specs.Projected.{Projection, projected_at}
 use Rattle.vx_plan.specs.Plans.{Plan}
 use Rattle.vx_plan.specs.PlanRows.{plan_derivation, plan_reads, plan_value}
 use Rattle.vx_plan.specs.Refs.{number_of}
-use Rattle.vx_rows.specs.Derivations.{Derivation, Leaves, derived}
-use Rattle.vx_rows.specs.Given.{with_given}
-use Rattle.vx_rows.specs.Reads.{directly, Found, reads_of, AnyOf, Finds, IsIn}
+use Rattle.vx_rows.specs.Derivations.{Leaves, derived}
+use Rattle.vx_rows.specs.Reads.{Found, AnyOf, Finds, IsIn}
 use Rattle.vx_rows.specs.Renumbered.{found_renumbered}
 use Rattle.vx_rows.specs.SegmentLeaves.{Bytes, leaves_of}
 use Rattle.vx_rows.specs.Whole.{GiveFitting}
@@ -19,13 +18,11 @@ use Rattle.vx_rows.proofs.ByteLeaves.{give_fitting}
 use Rattle.vx_splits.specs.declared.selected_rows.SelectedRows.{SelectedRows}
 use Rattle.vx_splits.specs.Trimmed.{chosen_rows}
 use Rattle.vx_steps.specs.Below.{StandsIn}
-use Rattle.vx_steps.specs.Given.{values_for, row_value}
-use Rattle.vx_steps.specs.Laws.{HandsNone, IsRowOf, IsBadCodeAt, row_reads}
+use Rattle.vx_steps.specs.Given.{row_value}
+use Rattle.vx_steps.specs.Laws.{IsRowOf, IsBadCodeAt, row_reads}
 use Rattle.vx_steps.specs.Rows.{rows_of, SomeRow}
 use Rattle.vx_steps.specs.ScanLaws.{IsTornIn}
 use Rattle.vx_steps.specs.Visits.{Visits, HasEvalFault}
-use Rattle.vx_steps.proofs.ReadVisits.{no_columns}
-use Rattle.vx_steps.proofs.VisitedReads.{none_served}
 use Rattle.vx_drive.specs.declared.errors.ScanError.{ScanError}
 use Rattle.vx_drive.specs.declared.errors.ScanError.TheVariants.{BadProjection, OffsetOverflow, OutOfRange, Unsupported, NoLocation, ReadFault, Stalled, BadSegment, BadCode, EvalFault, Memory}
 use Rattle.vx_drive.specs.declared.plans.ScanPlans.{ScanPlans}
@@ -33,6 +30,7 @@ use Rattle.vx_drive.specs.Plans.{bytes_of, projection_plan}
 use Rattle.vx_chunks.specs.ChunkRows.{given_to, ChunkFinds, IsPiece}
 use Rattle.vx_chunks.specs.Lent.{AllTell}
 use Rattle.vx_chunks.specs.Outcomes.{told_by, told_by_all, Causes}
+use Rattle.vx_chunks.proofs.NothingGiven.{none_given, plain_reads, same_row}
 use Rattle.vx_scan.specs.Answer.{FileScan, row_count, IsAnswer, ArePieces}
 use Rattle.vx_scan.specs.Batches.{AreBatches, HasPiece}
 use Rattle.vx_scan.specs.Causes.{ScanFinds, ReadsTorn, IsFaultAt, FaultsAt}
@@ -43,16 +41,6 @@ use Rattle.vx_scan.proofs.NamedPlans.{list_stands, take_stands}
 use Rattle.vx_scan.proofs.ScanReads.{chunk_rows, some_chosen, chunk_finds, in_moved, torn_moved, row_moved, code_moved}
 
 -- ---- nothing is given
-
-none_given : (plans : ScanPlans) → HandsNone (given_to plans [])
-none_given plans = no_columns plans.table
-
--- a row is derived as the plan says
-same_row : (plans : ScanPlans) (d : Derivation) → with_given (values_for (given_to plans [])) d ≡ d
-same_row plans d = none_served (values_for (given_to plans [])) (none_given plans) d
-
-same_reads : (plans : ScanPlans) (P : Found → Type 0) (offset : ℕ) (q : Plan) (row : ℕ) → Finds P (row_reads (given_to plans []) offset q row) → Finds P (plan_reads offset q row)
-same_reads plans P offset q row any = subst (λ (d : Derivation). Finds P (reads_of directly d)) (same_row plans (plan_derivation offset q row)) any
 
 same_value : (plans : ScanPlans) (leaves : Leaves) (offset : ℕ) (q : Plan) (row : ℕ) → row_value leaves (given_to plans []) offset q row ≡ plan_value leaves offset q row
 same_value plans leaves offset q row = ap (derived leaves) (same_row plans (plan_derivation offset q row))
@@ -66,7 +54,7 @@ finds_of : (scan : FileScan) (limit : ℕ) (plans : ScanPlans) → ArePlansOf sc
 finds_of scan limit plans are P Q moved chunk inside some =
     let q : Plan = projection_plan plans in
     let same : SomeRow (λ row. Finds P (plan_reads plans.row_offset q row)) chunk.scope.rows.start chunk.mask =
-    some_mapped (λ row. Finds P (row_reads (given_to plans []) plans.row_offset q row)) (λ row. Finds P (plan_reads plans.row_offset q row)) (same_reads plans P plans.row_offset q) chunk.scope.rows.start chunk.mask some in
+    some_mapped (λ row. Finds P (row_reads (given_to plans []) plans.row_offset q row)) (λ row. Finds P (plan_reads plans.row_offset q row)) (plain_reads P plans plans.row_offset q) chunk.scope.rows.start chunk.mask some in
     chunk_finds scan.projection q are.plan P Q moved (row_count scan) chunk inside
     (subst (λ (offset : ℕ). SomeRow (λ row. Finds P (plan_reads offset q row)) chunk.scope.rows.start chunk.mask) are.offset same)
 
@@ -130,7 +118,7 @@ faults_among leaves p at (row ∷ rows) (inr later) = let rest = faults_among le
 code_named : (scan : FileScan) (limit : ℕ) (plans : ScanPlans) → ArePlansOf scan limit plans → (leaves : Leaves) (n at : ℕ) (chunk : SelectedRows) → ChunkFinds (IsBadCodeAt leaves n at) plans [] chunk → StandsIn (IsTakeAs n) (held_tree scan.projection)
 code_named scan limit plans are leaves n at chunk (place, bit, any) =
     take_stands scan.projection (projection_plan plans) are.plan_is leaves n at plans.row_offset (chunk.scope.rows.start + place)
-    (same_reads plans (IsBadCodeAt leaves n at) plans.row_offset (projection_plan plans) (chunk.scope.rows.start + place) any)
+    (plain_reads (IsBadCodeAt leaves n at) plans plans.row_offset (projection_plan plans) (chunk.scope.rows.start + place) any)
 
 -- by any files of which it is told
 cause_in : (T : List ℕ → Type 0) (scan : FileScan) (limit : ℕ) (plans : ScanPlans) → ArePlansOf scan limit plans → (chunk : SelectedRows) → LiesInside (row_count scan) chunk → (error : ScanError) (before after : SourceState)
@@ -140,7 +128,7 @@ cause_in T scan limit plans are chunk inside OffsetOverflow before after cause =
 cause_in T scan limit plans are chunk inside OutOfRange before after cause = cause
 cause_in T scan limit plans are chunk inside (Unsupported list) before after cause = (
   list_stands scan.projection (projection_plan plans) are.plan_is (number_of list) plans.row_offset (chunk.scope.rows.start + cause.0)
-      (same_reads plans (IsRowOf (number_of list)) plans.row_offset (projection_plan plans) (chunk.scope.rows.start + cause.0) cause.2),
+      (plain_reads (IsRowOf (number_of list)) plans plans.row_offset (projection_plan plans) (chunk.scope.rows.start + cause.0) cause.2),
   finds_of scan limit plans are (IsRowOf (number_of list)) (IsRowOf (node_of scan.projection (number_of list))) (row_moved (node_of scan.projection) (number_of list)) chunk inside cause,
 )
 cause_in T scan limit plans are chunk inside (NoLocation segment) before after cause =

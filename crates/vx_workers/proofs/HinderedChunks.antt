@@ -1,11 +1,11 @@
 -- What the first hindrance of a plan's rows is to a chunk.
-use Rattle.std.proofs.Common.{◌≡◌, ℕ, ◌+◌, ◌<◌, ◌≤◌, ◌⊎◌, inl, inr, true, [], Some, None, length, refl, ap, sym, ◌∙◌, subst, arith}
+use Rattle.std.proofs.Common.{◌≡◌, ℕ, ◌+◌, ◌<◌, ◌≤◌, ◌⊎◌, inl, inr, true, [], Some, None, length, refl, ap, sym, subst, arith}
 use Rattle.std.specs.List.{slice_get}
 use Rattle.std.proofs.lemmas.Bool.{cases_lt}
 use Rattle.std.proofs.lemmas.Option.{slice_get_within}
 use Rattle.vx_rows.specs.Derivations.{Derivation}
 use Rattle.vx_rows.specs.Heads.{Head}
-use Rattle.vx_rows.specs.Reads.{directly, Found, reads_of, Finds}
+use Rattle.vx_rows.specs.Reads.{directly, Found, reads_of, Finds, IsIn}
 use Rattle.vx_plan.specs.Plans.{Plan, no_plan, concat_plan, eval_plan, filter_plan, pack_plan, take_plan, share_plan, list_plan, row_idx_plan, scan_plan, zoned_plan, plan_head}
 use Rattle.vx_plan.specs.PlanRows.{plan_derivation}
 use Rattle.vx_plan.specs.Refs.{number_of}
@@ -19,12 +19,13 @@ use Rattle.vx_steps.specs.Hindrances.{IsHindrance, IsOne}
 use Rattle.vx_steps.specs.Laws.{HandsNone, IsRowOf, row_reads}
 use Rattle.vx_steps.specs.Visits.{Test, SomeVisit, Visits, IsLeafRead, IsListRead}
 use Rattle.vx_steps.proofs.PlacedVisits.{visit_mapped, Implies}
-use Rattle.vx_steps.proofs.ReadVisits.{list_visit, no_columns, plan_leaf_visit, selected_read}
+use Rattle.vx_steps.proofs.ReadVisits.{list_visit, plan_leaf_visit, selected_read}
 use Rattle.vx_steps.proofs.VisitedReads.{list_found, none_served}
 use Rattle.vx_splits.specs.declared.selected_rows.SelectedRows.{SelectedRows}
 use Rattle.vx_drive.specs.declared.plans.ScanPlans.{ScanPlans}
 use Rattle.vx_drive.specs.Plans.{projection_node, projection_plan, IsChunkOf}
 use Rattle.vx_chunks.specs.ChunkRows.{given_to, ChunkReaches, ChunkReadsList}
+use Rattle.vx_chunks.proofs.NothingGiven.{free_reads, plain_reads, plan_reaches}
 use Rattle.vx_chunks.proofs.WholeReads.{visit_chosen, Chooses}
 use Rattle.vx_workers.specs.Unhindered.{IsUnhindered}
 
@@ -98,13 +99,11 @@ no_values n = refl
 -- with nothing handed in a row reads what the plan reads
 bare_reads : (P : Found → Type 0) (plans : ScanPlans) (p : Plan) (row : ℕ) → Finds P (row_reads None plans.row_offset p row) → Finds P (row_reads (given_to plans []) plans.row_offset p row)
 bare_reads P plans p row any =
-    let d : Derivation = plan_derivation plans.row_offset p row in
-    subst (λ (e : Derivation). Finds P (reads_of directly e)) (none_served (values_for None) no_values d ∙ sym (none_served (values_for (given_to plans [])) (no_columns plans.table) d)) any
+    free_reads P plans plans.row_offset p row (subst (λ (d : Derivation). Finds P (reads_of directly d)) (none_served (values_for None) no_values (plan_derivation plans.row_offset p row)) any)
 
 reads_bare : (P : Found → Type 0) (plans : ScanPlans) (p : Plan) (row : ℕ) → Finds P (row_reads (given_to plans []) plans.row_offset p row) → Finds P (row_reads None plans.row_offset p row)
 reads_bare P plans p row any =
-    let d : Derivation = plan_derivation plans.row_offset p row in
-    subst (λ (e : Derivation). Finds P (reads_of directly e)) (none_served (values_for (given_to plans [])) (no_columns plans.table) d ∙ sym (none_served (values_for None) no_values d)) any
+    subst (λ (d : Derivation). Finds P (reads_of directly d)) (sym (none_served (values_for None) no_values (plan_derivation plans.row_offset p row))) (plain_reads P plans plans.row_offset p row any)
 
 module _ (plans : ScanPlans) (chosen : SelectedRows) (good : IsGoodTable plans.table) (known : number_of plans.projection < length plans.table) (is : IsChunkOf plans chosen) (places : ℕ) (many : places ≡ length plans.locations.items) where
   -- a selected row is one of the plan's
@@ -131,16 +130,17 @@ module _ (plans : ScanPlans) (chosen : SelectedRows) (good : IsGoodTable plans.t
       )
 
   located_there : IsOne Hinders None → (segment : ℕ) → ChunkReaches plans chosen segment → segment < length plans.locations.items
-  located_there none segment by = by_order (cases_lt segment places)
+  located_there none segment (place, at, any) = by_order (cases_lt segment places)
     where
       by_order : (segment < places) ⊎ (places ≤ segment) → segment < length plans.locations.items
       by_order (inl below) = omega (arith, many, below)
       by_order (inr past) =
-          let leaf = plan_leaf_visit None plans.row_offset (projection_plan plans) (chosen.scope.rows.start + by.row) segment no_values (rows_fit plans.table good (number_of plans.projection) known) (row_there by.row by.chosen) by.read in
+          let row : ℕ = chosen.scope.rows.start + place in
+          let leaf = plan_leaf_visit None plans.row_offset (projection_plan plans) row segment no_values (rows_fit plans.table good (number_of plans.projection) known) (row_there place at) (plain_reads (IsIn segment) plans plans.row_offset (projection_plan plans) row any) in
           absurd (none (hindrances.Segment segment) (
-            by.row,
-            by.chosen,
-            visit_mapped (IsLeafRead (record { leaf = leaf.0; segment = segment })) (IsHindrance places (hindrances.Segment segment)) (leaf_hinders places leaf.0 segment past) None (projection_plan plans) (chosen.scope.rows.start + by.row) leaf.1,
+            place,
+            at,
+            visit_mapped (IsLeafRead (record { leaf = leaf.0; segment = segment })) (IsHindrance places (hindrances.Segment segment)) (leaf_hinders places leaf.0 segment past) None (projection_plan plans) row leaf.1,
           ))
 
   -- nothing hinders it
@@ -162,4 +162,7 @@ module _ (plans : ScanPlans) (chosen : SelectedRows) (good : IsGoodTable plans.t
   segment_hindered segment (place, at, v) =
       let one : (x : Unplaced places segment) × Visits (is_unplaced places segment x) None (projection_plan plans) (chosen.scope.rows.start + place) =
       visit_chosen (IsHindrance places (hindrances.Segment segment)) (is_unplaced places segment) (hinders_leaf places segment) None (projection_plan plans) (chosen.scope.rows.start + place) v in
-      (selected_read None plans.row_offset (projection_plan plans) chosen.scope.rows.start chosen.mask (record { leaf = one.0.leaf; segment = segment }) (place, at, one.1), (let past = one.0.past in omega (arith, many, past)))
+      (
+        plan_reaches plans chosen segment (selected_read None plans.row_offset (projection_plan plans) chosen.scope.rows.start chosen.mask (record { leaf = one.0.leaf; segment = segment }) (place, at, one.1)),
+        (let past = one.0.past in omega (arith, many, past)),
+      )

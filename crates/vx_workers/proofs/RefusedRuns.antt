@@ -1,22 +1,14 @@
 -- A chunk that is refused before it runs, for what its rows read.
-use Rattle.std.proofs.Common.{◌≡◌, ℕ, ◌+◌, inl, inr, Bool, [], Err, refl, sym, ap, subst}
+use Rattle.std.proofs.Common.{◌≡◌, inl, inr, Bool, [], Err, refl, sym, ap, subst}
 use Rattle.std.specs.Prelude.{IfSome}
-use Rattle.vx_rows.specs.Derivations.{Derivation}
-use Rattle.vx_rows.specs.Reads.{directly, reads_of, Finds, IsIn}
-use Rattle.vx_plan.specs.PlanRows.{plan_derivation}
 use Rattle.vx_steps.specs.declared.errors.StepError.{StepError}
-use Rattle.vx_steps.specs.Given.{values_for}
-use Rattle.vx_steps.proofs.ReadVisits.{no_columns}
-use Rattle.vx_steps.proofs.VisitedReads.{none_served}
 use Rattle.vx_splits.specs.declared.selected_rows.SelectedRows.{SelectedRows}
 use Rattle.vx_drive.specs.declared.errors.ScanError.{ScanError}
 use Rattle.vx_drive.specs.declared.errors.ScanError.TheVariants.{BadProjection, OffsetOverflow, OutOfRange, Unsupported, NoLocation, ReadFault, Stalled, BadSegment, BadCode, EvalFault, Memory}
 use Rattle.vx_drive.specs.declared.plans.ScanPlans.{ScanPlans}
-use Rattle.vx_drive.specs.Plans.{projection_plan}
 use Rattle.vx_drive.specs.Runs.{row_fault}
 use Rattle.vx_chunks.specs.declared.outcomes.HandedOn.{HandedOn}
 use Rattle.vx_chunks.specs.declared.outcomes.Ran.{Ran}
-use Rattle.vx_chunks.specs.ChunkRows.{given_to, ChunkReaches, ChunkReadsSegment}
 use Rattle.vx_chunks.specs.Outcomes.{CanHandOn, Causes, Claims, IsWanted, RunsOn, data_of, told_on}
 use Rattle.vx_chunks.proofs.ChunkOutcomes.{asks_nothing, lasts_cleared}
 use Rattle.vx_workers.specs.declared.borrowing.Shared.{Shared}
@@ -24,20 +16,12 @@ use Rattle.vx_workers.specs.Hindered.{IsHinderedBy, RunsIfUnhindered}
 use Rattle.vx_workers.proofs.Borrowed.{shared_none}
 use Rattle.vx_base.specs.Sources.{SourceState, Cleared}
 
--- with nothing given a row reads what the plan reads
-free_segment : (plans : ScanPlans) (chosen : SelectedRows) (segment : ℕ) → ChunkReaches plans chosen segment → ChunkReadsSegment plans [] chosen segment
-free_segment plans chosen segment by = (
-  by.row,
-  by.chosen,
-  subst (λ (d : Derivation). Finds (IsIn segment) (reads_of directly d)) (sym (none_served (values_for (given_to plans [])) (no_columns plans.table) (plan_derivation plans.row_offset (projection_plan plans) (chosen.scope.rows.start + by.row)))) by.read,
-)
-
 hindered_cause : (Told : Claims) (plans : ScanPlans) (chosen : SelectedRows) (error : ScanError) (before after : SourceState) → IsHinderedBy plans chosen error → Causes Told plans [] chosen error before after
 hindered_cause Told plans chosen BadProjection before after is = absurd is
 hindered_cause Told plans chosen OffsetOverflow before after is = absurd is
 hindered_cause Told plans chosen OutOfRange before after is = absurd is
 hindered_cause Told plans chosen (Unsupported list) before after is = is
-hindered_cause Told plans chosen (NoLocation segment) before after is = (free_segment plans chosen segment is.0, is.1)
+hindered_cause Told plans chosen (NoLocation segment) before after is = is
 hindered_cause Told plans chosen ReadFault before after is = absurd is
 hindered_cause Told plans chosen Stalled before after is = absurd is
 hindered_cause Told plans chosen (BadSegment segment) before after is = absurd is

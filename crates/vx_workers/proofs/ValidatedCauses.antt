@@ -1,11 +1,11 @@
 -- What comes of given values that are whole comes where none are given; and why whole values can't be read is why the chunk
 -- has no piece that asks for them.
-use Rattle.std.proofs.Common.{◌≡◌, ℕ, ◌+◌, ◌<◌, ◌≤◌, inl, true, List, [], ◌∷◌, Option, Some, Ok, Err, length, replicate, refl, sym, ap, ◌∙◌, subst, arith}
+use Rattle.std.proofs.Common.{◌≡◌, ℕ, ◌+◌, ◌<◌, ◌≤◌, inl, true, List, [], ◌∷◌, Option, Some, Ok, Err, length, replicate, refl, sym, ap, ◌∙◌, arith}
 use Rattle.std.specs.Prelude.{Result}
 use Rattle.std.specs.List.{slice_get, AllByRecursion}
 use Rattle.std.proofs.lemmas.List.{length-replicate}
 use Rattle.std.proofs.lemmas.Option.{slice_get_within}
-use Rattle.vx_rows.specs.Derivations.{Derivation, Leaves}
+use Rattle.vx_rows.specs.Derivations.{Leaves}
 use Rattle.vx_rows.specs.Reads.{directly, Found, reads_of, Finds, IsIn}
 use Rattle.vx_rows.specs.SegmentLeaves.{Bytes, leaves_of}
 use Rattle.vx_rows.specs.Heads.{Head}
@@ -19,10 +19,10 @@ use Rattle.vx_plan.specs.Tables.{IsGoodTable}
 use Rattle.vx_plan.proofs.Adding.{head_in_table}
 use Rattle.vx_plan.proofs.FittingPlans.{rows_fit}
 use Rattle.vx_steps.specs.declared.errors.StepError.TheVariants as step_errors
-use Rattle.vx_steps.specs.Given.{row_value, values_for}
+use Rattle.vx_steps.specs.Given.{row_value}
 use Rattle.vx_steps.specs.Held.{AreMade, AreTyped}
 use Rattle.vx_steps.specs.KeptData.{Kept}
-use Rattle.vx_steps.specs.Laws.{IsRowOf, IsBadCodeAt, row_reads}
+use Rattle.vx_steps.specs.Laws.{IsRowOf, IsBadCodeAt}
 use Rattle.vx_steps.specs.Offers.{IsForPlan, Keeps}
 use Rattle.vx_steps.specs.ScanLaws.{IsTornIn}
 use Rattle.vx_steps.specs.Visits.{SomeVisit, Visits, HasBadCode, IsWholeRead}
@@ -32,7 +32,6 @@ use Rattle.vx_steps.proofs.CodeVisits.{code_found, code_visit}
 use Rattle.vx_steps.proofs.HandedRows.{typed_fit}
 use Rattle.vx_steps.proofs.ReadVisits.{no_columns}
 use Rattle.vx_steps.proofs.UsedValues.{selected_same}
-use Rattle.vx_steps.proofs.VisitedReads.{none_served}
 use Rattle.vx_steps.proofs.WholeCauses.{whole_cause}
 use Rattle.vx_steps.proofs.Fitting.{fitting_typed, none_made, none_typed}
 use Rattle.vx_splits.specs.declared.selected_rows.SelectedRows.{SelectedRows}
@@ -48,19 +47,13 @@ use Rattle.vx_chunks.specs.Values.{all_rows}
 use Rattle.vx_chunks.proofs.ChunkScanning.{IsGoodChunk}
 use Rattle.vx_chunks.proofs.WholeReads.{whole_found}
 use Rattle.vx_chunks.proofs.FewerReads.{finds_free, segment_free, NoCode}
+use Rattle.vx_chunks.proofs.NothingGiven.{free_reads, plain_reads}
 use Rattle.vx_workers.specs.Borrowers.{IsResultBy, RestsOnValues}
 use Rattle.vx_base.specs.Columns.{ColumnData}
 use Rattle.vx_base.specs.Data.{Datum}
 use Rattle.vx_base.specs.Sources.{SourceState}
 
--- ---- what is read with none given
-
--- a row reads the same where none are given as by the plan alone
-free_reads : (Q : Found → Type 0) (plans : ScanPlans) (p : Plan) (row : ℕ) → Finds Q (reads_of directly (plan_derivation plans.row_offset p row)) → Finds Q (row_reads (given_to plans []) plans.row_offset p row)
-free_reads Q plans p row any = subst (λ (d : Derivation). Finds Q (reads_of directly d)) (sym (none_served (values_for (given_to plans [])) (no_columns plans.table) (plan_derivation plans.row_offset p row))) any
-
-plain_reads : (Q : Found → Type 0) (plans : ScanPlans) (p : Plan) (row : ℕ) → Finds Q (row_reads (given_to plans []) plans.row_offset p row) → Finds Q (reads_of directly (plan_derivation plans.row_offset p row))
-plain_reads Q plans p row any = subst (λ (d : Derivation). Finds Q (reads_of directly d)) (none_served (values_for (given_to plans [])) (no_columns plans.table) (plan_derivation plans.row_offset p row)) any
+-- ---- what is no code
 
 no_code_torn : (bytes : Bytes) (segment : ℕ) → NoCode (IsTornIn bytes segment)
 no_code_torn bytes segment code is = is
@@ -185,8 +178,8 @@ chunk_finds_asked : (Q : Found → Type 0) (plans : ScanPlans) (node : PlanRef) 
 chunk_finds_asked Q plans node chosen is there (row, bit, v) (place, at, any) = (
   row,
   bit,
-  free_reads Q plans (projection_plan plans) (chosen.scope.rows.start + row)
-      (finds_asked Q plans node (chosen.scope.rows.start + row) is.good is.known there v place at (plain_reads Q plans (plan_at plans.table (number_of node)) (0 + place) any)),
+  free_reads Q plans plans.row_offset (projection_plan plans) (chosen.scope.rows.start + row)
+      (finds_asked Q plans node (chosen.scope.rows.start + row) is.good is.known there v place at (plain_reads Q plans plans.row_offset (plan_at plans.table (number_of node)) (0 + place) any)),
 )
 
 -- why all rows of a plan can't be read is why the chunk has no piece
