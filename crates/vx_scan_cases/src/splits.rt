@@ -5,12 +5,12 @@ use vx_base::Mask;
 use vx_notation::bits_of;
 use vx_steps::Split;
 
-/// The split that is written so. A reversed one without a mask has one of no rows.
+/// The split that is written so.
 pub(crate) fn split_of(alloc: Global, word: &str) -> Result<Split, AllocError> {
     let (rows, signs) = word.split_once(':').unwrap_or((word, ""));
     let (start, end) = rows.split_once("..").unwrap_or((rows, ""));
     let rows = start.parse::<u64>().unwrap_or(0)..end.parse::<u64>().unwrap_or(0);
-    if signs.is_empty() && rows.start <= rows.end {
+    if signs.is_empty() {
         return Split::all(alloc, rows);
     }
     let bits = bits_of(alloc, signs).unwrap_or(Vec::new(alloc));
