@@ -2,13 +2,13 @@
 
 ghost use Rattle.std.specs.Prelude.{◌≡◌, ◌≤◌, ◌<◌, IfOk, length, map};
 ghost use Rattle.std.specs.List.{All, AllByRecursion};
-ghost use Rattle.vx_claims.specs.Claims.{count_of};
 ghost use Rattle.vx_claims.specs.Limits.{most_chunks};
 ghost use Rattle.vx_drive.specs.Plans.{ArePlans, IsChunkOf};
 ghost use Rattle.vx_chunks.specs.Lent.{EachSourceBy};
+ghost use Rattle.vx_workers.specs.Common.{CanWork, WorkedOn};
 ghost use Rattle.vx_workers.specs.Joins.{JoinedAll};
 ghost use Rattle.vx_workers.specs.Limits.{most_workers};
-ghost use Rattle.vx_workers.specs.Workers.{IsFreshWorker, Worked};
+ghost use Rattle.vx_workers.specs.Workers.{IsFreshWorker};
 ghost use Rattle.vx_execute.specs.Executes.{Opens, CanRun, Executes as ExecutesAll};
 
 use crate::outcomes::Outcome;
@@ -21,7 +21,8 @@ use vx_claims::{ClaimSeat, Claiming, Claims};
 use vx_drive::ScanPlans;
 use vx_splits::SelectedRows;
 use vx_workers::{
-    ClaimList, Joined, ValueCache, WorkerState, join_workers, open_workers, spread, want_of_memory,
+    ClaimList, Common, Joined, ValueCache, WorkerState, join_workers, open_workers, spread,
+    want_of_memory,
 };
 
 /// What is made before the fork: the claims, a state for each source, and room for the list of each.
@@ -53,23 +54,16 @@ fn open(alloc: Global, count: usize, workers: usize) -> Result<Opened, AllocErro
 /// The states after the run of all workers.
 fn run<R: Threads + Wait + Sync, S: SegmentSource + Send>(
     rt: &R,
-    plans: &ScanPlans,
-    chunks: &[SelectedRows],
-    claims: &Claims,
-    cache: &ValueCache,
-    shares: bool,
+    common: &Common<'_>,
     mut worker_states: Vec<WorkerState>,
     sources: &mut [S],
 ) -> Vec<WorkerState>
-    requires plans { ArePlans plans.now }
-    requires chunks { AllByRecursion (IsChunkOf plans.now) chunks.now }
-    requires count { count_of claims.now ≡ length chunks.now }
-    requires worker_states { All (IsFreshWorker claims.now) worker_states.items }
+    requires common { CanWork common.now }
+    requires worker_states { All (IsFreshWorker common.now.claims.now) worker_states.items }
     requires sources { length sources.old ≡ length worker_states.items }
-    ensures { EachSourceBy (Worked shares claims.now plans.now chunks.now) result.items (map S.state sources.old) (map S.state sources.new) }
+    ensures { EachSourceBy (WorkedOn common.now) result.items (map S.state sources.old) (map S.state sources.new) }
 {
-    let lent = worker_states.as_mut_slice();
-    spread(rt, plans, chunks, claims, cache, shares, lent, sources);
+    spread(rt, common, worker_states.as_mut_slice(), sources);
     worker_states
 }
 
@@ -96,17 +90,14 @@ fn work_all<R: Threads + Wait + Sync, S: SegmentSource + Send>(
         worker_states,
         lists,
     } = opened;
-    let shares = sources.len() > 1;
-    let worker_states = run(
-        rt,
+    let common = Common {
         plans,
         chunks,
-        &claims,
+        claims: &claims,
         cache,
-        shares,
-        worker_states,
-        sources,
-    );
+        shares: sources.len() > 1,
+    };
+    let worker_states = run(rt, &common, worker_states, sources);
     join_workers(alloc, claims, seat, worker_states, lists)
 }
 

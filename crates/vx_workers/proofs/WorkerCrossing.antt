@@ -1,11 +1,12 @@
--- States may go to other threads, and the plans of a scan and the cache of whole values may be shared among them.
+-- States may go to other threads, and what workers have in common may be shared among these.
 use mathlib.Core.List.{[], ◌∷◌}
 use mir.Syntax.{Sym}
 use denote.Builtin.{bool}
 use denote.RattleType.{RattleType}
 use denote.Struct.Tuple.{TupleAt, type_at}
 use denote.Struct.Field.{row_field, u64-field}
-use denote.Param.Send.{IsSend, IsSync, plain_send, plain_sync, view_send}
+use denote.Ref.{NamedLft}
+use denote.Param.Send.{IsSend, IsSync, plain_send, plain_sync, shr_slice_sync, shr_sync, view_send}
 use denote.Param.SendFields.{as_row_send, as_row_sync, declared_send, declared_sync}
 use Rattle.std.specs.contracts.alloc.Global as alloc
 use Rattle.std.specs.contracts.impls.GlobalAllocator.TheImpl as impl
@@ -19,6 +20,8 @@ use Rattle.vx_plan.proofs.children.PlanRef.TheSendSync as refs
 use Rattle.vx_plan.proofs.Crossing.{send_column, sync_table}
 use Rattle.vx_steps.specs.contracts.kept.KeptValue as kept
 use Rattle.vx_io.proofs.ranges.SegmentRanges.TheSendSync as ranges
+use Rattle.vx_splits.proofs.selected_rows.SelectedRows.TheSendSync as selected
+use Rattle.vx_claims.proofs.claims.Claims.TheSendSync as claims
 use Rattle.vx_claims.proofs.claims.ClaimSeat.TheSendSync as seats
 use Rattle.vx_drive.proofs.errors.ScanError.TheSendSync as scan_errors
 use Rattle.vx_drive.specs.contracts.plans.ScanPlans as plans
@@ -27,6 +30,7 @@ use Rattle.vx_workers.proofs.worker_states.ChunkError.TheSendSync as errors
 use Rattle.vx_workers.specs.contracts.books.Book as books
 use Rattle.vx_workers.specs.contracts.books.Book.TheInside as inside_books
 use Rattle.vx_workers.specs.contracts.books.ValueCache as caches
+use Rattle.vx_workers.specs.contracts.commons.Common as commons
 use Rattle.vx_workers.specs.contracts.worker_states.Borrower as borrowers
 use Rattle.vx_workers.specs.contracts.worker_states.Piece as pieces
 use Rattle.vx_workers.specs.contracts.worker_states.WorkerState as worker_states
@@ -67,12 +71,12 @@ send_book = view_send inside_books.the_row _ _ _ _ (declared_send inside_books.t
   ),
 ))
 
-pub sync_cache : IsSync caches.the_row
+sync_cache : IsSync caches.the_row
 sync_cache = declared_sync caches.the_type (mutex.the_sync books.the_row send_book, tt)
 
 -- ---- states, and what workers share
 
-pub sync_bool : IsSync bool
+sync_bool : IsSync bool
 sync_bool = plain_sync _ _ _ _ _
 
 pub send_worker : IsSend worker_states.the_row
@@ -99,7 +103,7 @@ send_worker = declared_send worker_states.the_type (
   ),
 )
 
-pub sync_plans : IsSync plans.the_row
+sync_plans : IsSync plans.the_row
 sync_plans = declared_sync plans.the_type (
   sync_table,
   (
@@ -120,7 +124,21 @@ sync_plans = declared_sync plans.the_type (
   ),
 )
 
+pub sync_common : (lent : NamedLft) → IsSync (commons.the_row lent)
+sync_common lent = declared_sync (commons.the_type lent) (
+  shr_sync _ _ _ sync_plans,
+  (
+    shr_slice_sync _ _ _ selected.the_sync,
+    (
+      shr_sync _ _ _ claims.the_sync,
+      (
+        shr_sync _ _ _ sync_cache,
+        (sync_bool, tt),
+      ),
+    ),
+  ),
+)
+
 -- a closure may go to another thread where all that it captured may
-pub send_closure : (name : Sym) (A B C D E F G H : RattleType) → IsSend A → IsSend B → IsSend C → IsSend D → IsSend E → IsSend F → IsSend G → IsSend H → IsSend (TupleAt name (A ∷ B ∷ C ∷ D ∷ E ∷ F ∷ G ∷ H ∷ []))
-send_closure name A B C D E F G H a b c d e f g h = declared_send (type_at name (A ∷ B ∷ C ∷ D ∷ E ∷ F ∷ G ∷ H ∷ []))
-    (as_row_send (row_field A) a, (as_row_send (row_field B) b, (as_row_send (row_field C) c, (as_row_send (row_field D) d, (as_row_send (row_field E) e, (as_row_send (row_field F) f, (as_row_send (row_field G) g, (as_row_send (row_field H) h, tt))))))))
+pub send_closure : (name : Sym) (A B C D : RattleType) → IsSend A → IsSend B → IsSend C → IsSend D → IsSend (TupleAt name (A ∷ B ∷ C ∷ D ∷ []))
+send_closure name A B C D a b c d = declared_send (type_at name (A ∷ B ∷ C ∷ D ∷ [])) (as_row_send (row_field A) a, (as_row_send (row_field B) b, (as_row_send (row_field C) c, (as_row_send (row_field D) d, tt))))

@@ -2,6 +2,7 @@ pub mod Books
 pub mod Borrowers
 pub mod Borrowing
 pub mod Certified
+pub mod Common
 pub mod Hindered
 pub mod Joins
 pub mod Limits

@@ -15,6 +15,7 @@ ghost use Rattle.vx_workers.specs.Borrowing.{AreHad, AreOfPlans, BorrowsOne, Rec
 ghost use Rattle.vx_workers.specs.Borrowers.{AreBorrowed, RestsOnValues};
 
 use crate::books::ValueCache;
+use crate::commons::Common;
 use crate::worker_states::{Borrower, ChunkError, Piece, WorkerState};
 use std::alloc::{AllocError, Global};
 use std::sync::Wait;
@@ -245,19 +246,18 @@ fn rested_on(
 pub(crate) fn run_shared<R: Wait, S: SegmentSource>(
     rt: &R,
     alloc: Global,
-    plans: &ScanPlans,
+    common: &Common<'_>,
     chosen: &SelectedRows,
-    cache: &ValueCache,
-    shares: bool,
     source: &mut S,
     handed: HandedOn,
 ) -> Shared
-    requires plans { ArePlans plans.now }
-    requires chunk { IsChunkOf plans.now chosen.now }
-    requires handed { CanHandOn plans.now handed }
-    ensures { RunsShared shares plans.now chosen.now handed result (S.state source.old) (S.state source.new) }
+    requires plans { ArePlans common.now.plans.now }
+    requires chunk { IsChunkOf common.now.plans.now chosen.now }
+    requires handed { CanHandOn common.now.plans.now handed }
+    ensures { RunsShared common.now.shares common.now.plans.now chosen.now handed result (S.state source.old) (S.state source.new) }
 {
-    if !shares {
+    let plans = common.plans;
+    if !common.shares {
         let ran = run_on(alloc, plans, chosen, source, handed, Vec::new(alloc));
         return Shared {
             ran,
@@ -265,7 +265,7 @@ pub(crate) fn run_shared<R: Wait, S: SegmentSource>(
         };
     }
     let made = handed.made.as_slice();
-    let Ok(borrowed) = borrowed_for(rt, alloc, plans, chosen, made, cache) else {
+    let Ok(borrowed) = borrowed_for(rt, alloc, plans, chosen, made, common.cache) else {
         source.clear();
         return Shared {
             ran: Ran {
@@ -283,7 +283,7 @@ pub(crate) fn run_shared<R: Wait, S: SegmentSource>(
     } = borrowed;
     let ran = run_on(alloc, plans, chosen, source, handed, given);
     let made = ran.handed.made.as_slice();
-    share(rt, alloc, lacking.as_slice(), made, cache);
+    share(rt, alloc, lacking.as_slice(), made, common.cache);
     let borrowed = rested_on(alloc, &ran.piece, asked.as_slice(), made, kept);
     plans.table.keeps_rules();
     Shared { ran, borrowed }

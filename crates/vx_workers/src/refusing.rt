@@ -5,8 +5,8 @@ ghost use Rattle.vx_drive.specs.Plans.{ArePlans, IsChunkOf};
 ghost use Rattle.vx_chunks.specs.Outcomes.{CanHandOn};
 ghost use Rattle.vx_workers.specs.Hindered.{RunsIfUnhindered, TellsHindrance};
 
-use crate::books::ValueCache;
 use crate::borrowing::{Shared, run_shared};
+use crate::commons::Common;
 use std::alloc::Global;
 use std::sync::Wait;
 use vx_base::SegmentSource;
@@ -37,20 +37,18 @@ fn hindrance_of(plans: &ScanPlans, chosen: &SelectedRows) -> Option<ScanError>
 pub(crate) fn run_unhindered<R: Wait, S: SegmentSource>(
     rt: &R,
     alloc: Global,
-    plans: &ScanPlans,
+    common: &Common<'_>,
     chosen: &SelectedRows,
-    cache: &ValueCache,
-    shares: bool,
     source: &mut S,
     handed: HandedOn,
 ) -> Shared
-    requires plans { ArePlans plans.now }
-    requires chunk { IsChunkOf plans.now chosen.now }
-    requires handed { CanHandOn plans.now handed }
-    ensures { RunsIfUnhindered shares plans.now chosen.now handed result (S.state source.old) (S.state source.new) }
+    requires plans { ArePlans common.now.plans.now }
+    requires chunk { IsChunkOf common.now.plans.now chosen.now }
+    requires handed { CanHandOn common.now.plans.now handed }
+    ensures { RunsIfUnhindered common.now.shares common.now.plans.now chosen.now handed result (S.state source.old) (S.state source.new) }
 {
-    let Some(error) = hindrance_of(plans, chosen) else {
-        return run_shared(rt, alloc, plans, chosen, cache, shares, source, handed);
+    let Some(error) = hindrance_of(common.plans, chosen) else {
+        return run_shared(rt, alloc, common, chosen, source, handed);
     };
     source.clear();
     Shared {

@@ -5,8 +5,8 @@ use Rattle.vx_workers.proofs.WorkerStates.{Working}
 use Rattle.vx_workers.proofs.workers.work.Given as goal
 
 abbrev pub invariant-working : goal.invariant-working
-invariant-working g l = Working l.shares l.claims l.plans l.chunks l.worker (g.S.SegmentSource.state l.fn.source) (g.S.SegmentSource.state l.source)
+invariant-working g l = Working l.common.shares l.common.claims.now l.common.plans.now l.common.chunks.now l.worker (g.S.SegmentSource.state l.fn.source) (g.S.SegmentSource.state l.source)
 
 -- the numbers that the worker may still claim
 abbrev pub decreases-working : goal.decreases-working
-decreases-working g l = length l.chunks - above (claimed l.worker.seat)
+decreases-working g l = length l.common.chunks.now - above (claimed l.worker.seat)
