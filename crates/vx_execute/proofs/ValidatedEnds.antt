@@ -124,13 +124,13 @@ lower_error (Some error) (Some other) number same below failed is =
     omega (arith, f, below, is)
 
 pub validates_failing : (plans : ScanPlans) (chunks : List SelectedRows) (borrowers done : List Borrower) (old now new : Validated) (borrower : Borrower) (chosen : SelectedRows) (result : Result ColumnData ScanError) (error : ScanError) (before source after : SourceState) → (next : IsNext plans chunks borrowers done borrower chosen) → IsNonDecreasingBy (λ (one : Borrower). one.chunk) borrowers
-    → Validating plans chunks borrowers done old now before source → IsBelow now.error borrower.chunk → ValidatesOne plans chosen borrower (data_of now.right.items) (data_of new.right.items) now.reruns.items new.reruns.items result source after → IsErrorOf result error → new.error ≡ Some (record { chunk = borrower.chunk; error = error })
+    → Validating plans chunks borrowers done old now before source → IsBelow now.error borrower.chunk → ValidatesOne plans chosen borrower (data_of now.checked.right.items) (data_of new.checked.right.items) now.checked.reruns.items new.checked.reruns.items result source after → IsErrorOf result error → new.error ≡ Some (record { chunk = borrower.chunk; error = error })
     → new.pieces.items ≡ now.pieces.items → ValidatesAll plans chunks borrowers old new before after
 validates_failing plans chunks borrowers done old now new borrower chosen result error before source after next sorted so_far below one fails failed pieces =
-    let Told : Claims = told_of_borrower plans chosen (data_of now.right.items) borrower source in
+    let Told : Claims = told_of_borrower plans chosen (data_of now.checked.right.items) borrower source in
     let Other : Claims = told_sound plans chunks borrowers old before in
     let carries : (P : Bytes → Type 0) → Told P → Other P = borrower_told plans chunks borrowers done old now borrower chosen before source next so_far in
-    let more : RerunsMore plans chunks Other borrower.chunk now.reruns.items new.reruns.items = reruns_more plans chunks chosen borrower.chunk Told Other carries next.here now.reruns.items new.reruns.items so_far.reruns_are one.reran in
+    let more : RerunsMore plans chunks Other borrower.chunk now.checked.reruns.items new.checked.reruns.items = reruns_more plans chunks chosen borrower.chunk Told Other carries next.here now.checked.reruns.items new.checked.reruns.items so_far.reruns_are one.reran in
     let split : (x : ℕ) → times x (borrower_chunks borrowers) ≡ times x (borrower_chunks done) + times x (borrower_chunks (borrower ∷ next.rest)) = λ x. ap (λ (ls : List Borrower). times x (borrower_chunks ls)) (sym next.all) ∙ borrower_chunks_both x done (borrower ∷ next.rest) in
     let at : ChunkError = record { chunk = borrower.chunk; error = error } in
     record {
@@ -170,8 +170,8 @@ validates_failing plans chunks borrowers done old now new borrower chosen result
           let both = split x in
           let cons = times_cons x borrower.chunk (borrower_chunks next.rest) in
           omega (arith, most, before_most, both, cons));
-      again = (again_more plans chunks chosen borrower.chunk (data_of now.right.items) (data_of new.right.items) (rerun_chunks now.reruns.items) (rerun_chunks new.reruns.items) result before source after next.here
-          (first_time plans chunks borrowers done borrower chosen (rerun_chunks now.reruns.items) next so_far.reruns_once) more.stays so_far.again so_far.kept one.asks).again;
+      again = (again_more plans chunks chosen borrower.chunk (data_of now.checked.right.items) (data_of new.checked.right.items) (rerun_chunks now.checked.reruns.items) (rerun_chunks new.checked.reruns.items) result before source after next.here
+          (first_time plans chunks borrowers done borrower chosen (rerun_chunks now.checked.reruns.items) next so_far.reruns_once) more.stays so_far.again so_far.kept one.asks).again;
       none = λ empty. absurd (not_empty plans chunks borrowers done borrower next.rest next.all empty);
       lasts = lasts_then before source after so_far.lasts one.lasts;
       in_flight = clear_then before source after so_far.in_flight one.in_flight;

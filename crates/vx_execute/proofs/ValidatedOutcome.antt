@@ -77,7 +77,7 @@ none_permuted old new permutes empty =
 
 -- what is validated before the first one
 abbrev pub first_validated : Joined → Vec Rerun → Validated
-first_validated joined reruns = record { pieces = joined.pieces; right = joined.made; reruns = reruns; error = joined.error }
+first_validated joined reruns = record { pieces = joined.pieces; checked = record { right = joined.made; reruns = reruns }; error = joined.error }
 
 joined_told : (plans : ScanPlans) (chunks : List SelectedRows) (joined : Joined) (borrowers : List Borrower) (reruns : Vec Rerun) (source : SourceState) → IsPermutation joined.borrowers.items borrowers → (P : Bytes → Type 0) → told_sound plans chunks borrowers (first_validated joined reruns) source P → told_right plans chunks joined source P
 joined_told plans chunks joined borrowers reruns source permutes P holds file told right =
@@ -124,7 +124,7 @@ error_fault (Some error) before after (inr fault) = inr (inr fault)
 -- ---- all pieces in order
 
 pub validates_sorted : (plans : ScanPlans) (chunks : List SelectedRows) (joined : Joined) (borrowers : List Borrower) (reruns : Vec Rerun) (new : Validated) (pieces : Vec Piece) (before after : SourceState) → IsPermutation joined.borrowers.items borrowers → ValidatesAll plans chunks borrowers (first_validated joined reruns) new before after
-    → IsPermutation new.pieces.items pieces.items → IsNonDecreasingBy (λ (piece : Piece). piece.chunk) pieces.items → Validates plans chunks joined (record { pieces = pieces; claimed = joined.claimed; reruns = new.reruns; error = new.error }) before after
+    → IsPermutation new.pieces.items pieces.items → IsNonDecreasingBy (λ (piece : Piece). piece.chunk) pieces.items → Validates plans chunks joined (record { pieces = pieces; claimed = joined.claimed; reruns = new.checked.reruns; error = new.error }) before after
 validates_sorted plans chunks joined borrowers reruns new pieces before after permutes all moved sorted =
     let carries : (P : Bytes → Type 0) → told_sound plans chunks borrowers (first_validated joined reruns) before P → told_right plans chunks joined before P = joined_told plans chunks joined borrowers reruns before permutes in
     record {
@@ -152,7 +152,7 @@ validates_sorted plans chunks joined borrowers reruns new pieces before after pe
       lowest = all.lowest;
       faults = error_fault new.error before after all.faults;
       reruns = each_weaker (IsRerun plans chunks (told_sound plans chunks borrowers (first_validated joined reruns) before)) (IsRerun plans chunks (told_right plans chunks joined before))
-          (rerun_told plans chunks (told_sound plans chunks borrowers (first_validated joined reruns) before) (told_right plans chunks joined before) carries) new.reruns.items all.reruns;
+          (rerun_told plans chunks (told_sound plans chunks borrowers (first_validated joined reruns) before) (told_right plans chunks joined before) carries) new.checked.reruns.items all.reruns;
       reruns_once = λ x. (let most = all.reruns_once x in let borrowing = borrowers_permuted x joined.borrowers.items borrowers permutes in omega (arith, most, borrowing));
       again = all.again;
       none = λ empty. all.none (none_permuted joined.borrowers.items borrowers permutes empty);
@@ -162,7 +162,7 @@ validates_sorted plans chunks joined borrowers reruns new pieces before after pe
 
 -- there is no memory for the order
 pub validates_unordered : (plans : ScanPlans) (chunks : List SelectedRows) (joined : Joined) (borrowers : List Borrower) (reruns : Vec Rerun) (new : Validated) (pieces : Vec Piece) (before after : SourceState) → IsPermutation joined.borrowers.items borrowers → ValidatesAll plans chunks borrowers (first_validated joined reruns) new before after
-    → pieces.items ≡ [] → IsNonDecreasingBy (λ (piece : Piece). piece.chunk) pieces.items → Validates plans chunks joined (record { pieces = pieces; claimed = joined.claimed; reruns = new.reruns; error = Some no_memory }) before after
+    → pieces.items ≡ [] → IsNonDecreasingBy (λ (piece : Piece). piece.chunk) pieces.items → Validates plans chunks joined (record { pieces = pieces; claimed = joined.claimed; reruns = new.checked.reruns; error = Some no_memory }) before after
 validates_unordered plans chunks joined borrowers reruns new pieces before after permutes all empty sorted =
     let carries : (P : Bytes → Type 0) → told_sound plans chunks borrowers (first_validated joined reruns) before P → told_right plans chunks joined before P = joined_told plans chunks joined borrowers reruns before permutes in
     record {
@@ -178,7 +178,7 @@ validates_unordered plans chunks joined borrowers reruns new pieces before after
       lowest = no_memory_least joined.error;
       faults = inr (inl refl);
       reruns = each_weaker (IsRerun plans chunks (told_sound plans chunks borrowers (first_validated joined reruns) before)) (IsRerun plans chunks (told_right plans chunks joined before))
-          (rerun_told plans chunks (told_sound plans chunks borrowers (first_validated joined reruns) before) (told_right plans chunks joined before) carries) new.reruns.items all.reruns;
+          (rerun_told plans chunks (told_sound plans chunks borrowers (first_validated joined reruns) before) (told_right plans chunks joined before) carries) new.checked.reruns.items all.reruns;
       reruns_once = λ x. (let most = all.reruns_once x in let borrowing = borrowers_permuted x joined.borrowers.items borrowers permutes in omega (arith, most, borrowing));
       again = all.again;
       none = λ empty. all.none (none_permuted joined.borrowers.items borrowers permutes empty);

@@ -50,16 +50,16 @@ pub record Validating (plans : ScanPlans) (chunks : List SelectedRows) (borrower
   pub error : now.error ≡ old.error
   pub pieces_are : (x : ℕ) → times x (numbers_of now.pieces.items) ≡ times x (numbers_of old.pieces.items) + times x (borrower_chunks done)
   pub content : told_sound plans chunks borrowers old before (λ bytes. All (IsPieceOf (leaves_of bytes) plans chunks) now.pieces.items)
-  pub right_is : told_sound plans chunks borrowers old before (λ bytes. AreMade plans.table plans.row_offset (data_of now.right.items) (leaves_of bytes))
-  pub typed : AreTyped plans.table (data_of now.right.items)
+  pub right_is : told_sound plans chunks borrowers old before (λ bytes. AreMade plans.table plans.row_offset (data_of now.checked.right.items) (leaves_of bytes))
+  pub typed : AreTyped plans.table (data_of now.checked.right.items)
   pub dtype : All (HasDtype plans) old.pieces.items → All (HasDtype plans) now.pieces.items
   pub rows : All (HasItsRows plans chunks) old.pieces.items → All (HasItsRows plans chunks) now.pieces.items
   pub faults : KeepsFaults before source
-  pub reruns_are : AllByRecursion (IsRerun plans chunks (told_sound plans chunks borrowers old before)) now.reruns.items
-  pub reruns_once : (x : ℕ) → times x (rerun_chunks now.reruns.items) ≤ times x (borrower_chunks done)
-  pub again : AsksAgain plans chunks (rerun_chunks now.reruns.items) before source
-  pub kept : AllByRecursion (IsThroughKept plans (data_of now.right.items)) again.reasons
-  pub none : done ≡ [] → (source ≡ before) × (now.reruns.items ≡ [])
+  pub reruns_are : AllByRecursion (IsRerun plans chunks (told_sound plans chunks borrowers old before)) now.checked.reruns.items
+  pub reruns_once : (x : ℕ) → times x (rerun_chunks now.checked.reruns.items) ≤ times x (borrower_chunks done)
+  pub again : AsksAgain plans chunks (rerun_chunks now.checked.reruns.items) before source
+  pub kept : AllByRecursion (IsThroughKept plans (data_of now.checked.right.items)) again.reasons
+  pub none : done ≡ [] → (source ≡ before) × (now.checked.reruns.items ≡ [])
   pub lasts : Lasts before source
   pub in_flight : IsLeftClear before source
 
@@ -75,7 +75,7 @@ asked_none plans chunks numbers source = record {
   once_a_take = distinct_none;
 }
 
-pub validating_none : (plans : ScanPlans) (chunks : List SelectedRows) (borrowers : List Borrower) (old : Validated) (source : SourceState) → AreTyped plans.table (data_of old.right.items) → old.reruns.items ≡ [] → Validating plans chunks borrowers [] old old source source
+pub validating_none : (plans : ScanPlans) (chunks : List SelectedRows) (borrowers : List Borrower) (old : Validated) (source : SourceState) → AreTyped plans.table (data_of old.checked.right.items) → old.checked.reruns.items ≡ [] → Validating plans chunks borrowers [] old old source source
 unfolding asked_none
 validating_none plans chunks borrowers old source typed none = record {
   error = refl;
@@ -88,7 +88,7 @@ validating_none plans chunks borrowers old source typed none = record {
   faults = refl;
   reruns_are = subst (AllByRecursion (IsRerun plans chunks (told_sound plans chunks borrowers old source))) (sym none) tt;
   reruns_once = λ x. (let same = ap (λ (reruns : List Rerun). times x (rerun_chunks reruns)) none in omega (arith, same));
-  again = asked_none plans chunks (rerun_chunks old.reruns.items) source;
+  again = asked_none plans chunks (rerun_chunks old.checked.reruns.items) source;
   kept = tt;
   none = λ empty. (refl, none);
   lasts = lasts_same source;
@@ -130,7 +130,7 @@ at_chunk P (Some one) chosen here is = let same : one ≡ chosen = cc in subst P
 
 -- what is claimed of the borrower is claimed where all that was joined is right
 pub borrower_told : (plans : ScanPlans) (chunks : List SelectedRows) (borrowers done : List Borrower) (old now : Validated) (borrower : Borrower) (chosen : SelectedRows) (before source : SourceState) → IsNext plans chunks borrowers done borrower chosen → Validating plans chunks borrowers done old now before source →
-    (P : Bytes → Type 0) → told_of_borrower plans chosen (data_of now.right.items) borrower source P → told_sound plans chunks borrowers old before P
+    (P : Bytes → Type 0) → told_of_borrower plans chosen (data_of now.checked.right.items) borrower source P → told_sound plans chunks borrowers old before P
 borrower_told plans chunks borrowers done old now borrower chosen before source next so_far P holds file told sound =
     let each : All (IsBorrowerBy (bytes_of plans file) plans chunks) (done ++ borrower ∷ next.rest) = subst (All (IsBorrowerBy (bytes_of plans file) plans chunks)) (sym next.all) sound.borrowers_are in
     holds file (so_far.lasts.file ∙ told) (so_far.right_is file told sound)
@@ -188,18 +188,18 @@ quiet_for result column before after is (inr fault) = let both : ◌≡◌ {A = 
 
 -- what became of the chunk, with its piece
 pub validating_more : (plans : ScanPlans) (chunks : List SelectedRows) (borrowers done : List Borrower) (old now new : Validated) (borrower : Borrower) (chosen : SelectedRows) (result : Result ColumnData ScanError) (column : ColumnData) (before source after : SourceState) → IsNext plans chunks borrowers done borrower chosen → Validating plans chunks borrowers done old now before source
-    → ValidatesOne plans chosen borrower (data_of now.right.items) (data_of new.right.items) now.reruns.items new.reruns.items result source after → result ≡ Ok column → new.error ≡ now.error → new.pieces.items ≡ now.pieces.items ++ record { chunk = borrower.chunk; column = column } ∷ [] → IsUnhindered plans chosen →
+    → ValidatesOne plans chosen borrower (data_of now.checked.right.items) (data_of new.checked.right.items) now.checked.reruns.items new.checked.reruns.items result source after → result ≡ Ok column → new.error ≡ now.error → new.pieces.items ≡ now.pieces.items ++ record { chunk = borrower.chunk; column = column } ∷ [] → IsUnhindered plans chosen →
     Validating plans chunks borrowers (done ++ borrower ∷ []) old new before after
 validating_more plans chunks borrowers done old now new borrower chosen result column before source after next so_far one is error pieces free =
-    let Told : Claims = told_of_borrower plans chosen (data_of now.right.items) borrower source in
+    let Told : Claims = told_of_borrower plans chosen (data_of now.checked.right.items) borrower source in
     let Other : Claims = told_sound plans chunks borrowers old before in
     let carries : (P : Bytes → Type 0) → Told P → Other P = borrower_told plans chunks borrowers done old now borrower chosen before source next so_far in
     let piece : Piece = record { chunk = borrower.chunk; column = column } in
     let gives : GivesPiece Told plans [] chosen column = piece_of (GivesPiece Told plans [] chosen) result column is one.content in
-    let more : RerunsMore plans chunks Other borrower.chunk now.reruns.items new.reruns.items = reruns_more plans chunks chosen borrower.chunk Told Other carries next.here now.reruns.items new.reruns.items so_far.reruns_are one.reran in
-    let asks : AsksFor plans chunks (rerun_chunks new.reruns.items) (so_far.again.reasons ++ one.asks.reasons) before after =
-    again_more plans chunks chosen borrower.chunk (data_of now.right.items) (data_of new.right.items) (rerun_chunks now.reruns.items) (rerun_chunks new.reruns.items) result before source after next.here
-    (first_time plans chunks borrowers done borrower chosen (rerun_chunks now.reruns.items) next so_far.reruns_once) more.stays so_far.again so_far.kept one.asks in
+    let more : RerunsMore plans chunks Other borrower.chunk now.checked.reruns.items new.checked.reruns.items = reruns_more plans chunks chosen borrower.chunk Told Other carries next.here now.checked.reruns.items new.checked.reruns.items so_far.reruns_are one.reran in
+    let asks : AsksFor plans chunks (rerun_chunks new.checked.reruns.items) (so_far.again.reasons ++ one.asks.reasons) before after =
+    again_more plans chunks chosen borrower.chunk (data_of now.checked.right.items) (data_of new.checked.right.items) (rerun_chunks now.checked.reruns.items) (rerun_chunks new.checked.reruns.items) result before source after next.here
+    (first_time plans chunks borrowers done borrower chosen (rerun_chunks now.checked.reruns.items) next so_far.reruns_once) more.stays so_far.again so_far.kept one.asks in
     record {
       error = error ∙ so_far.error;
       pieces_are = λ x.
@@ -213,7 +213,7 @@ validating_more plans chunks borrowers done old now new borrower chosen result c
           (All-push (IsPieceOf (leaves_of (bytes_of plans file)) plans chunks) now.pieces.items piece (so_far.content file told sound)
           (of_chunk (λ (chunk : SelectedRows). IsPiece (leaves_of (bytes_of plans file)) plans [] chunk column) (slice_get chunks borrower.chunk) chosen next.here
           (carries (λ bytes. IsPiece (leaves_of bytes) plans [] chosen column) gives.values file told sound)));
-      right_is = carries (λ bytes. AreMade plans.table plans.row_offset (data_of new.right.items) (leaves_of bytes)) one.right;
+      right_is = carries (λ bytes. AreMade plans.table plans.row_offset (data_of new.checked.right.items) (leaves_of bytes)) one.right;
       typed = one.typed;
       dtype = λ all. subst (All (HasDtype plans)) (sym pieces) (All-push (HasDtype plans) now.pieces.items piece (so_far.dtype all) gives.dtype);
       rows = λ all. subst (All (HasItsRows plans chunks)) (sym pieces)
@@ -226,10 +226,10 @@ validating_more plans chunks borrowers done old now new borrower chosen result c
           let borrowing = borrower_chunks_push x done borrower in
           omega (arith, most, before_most, borrowing));
       again = asks.again;
-      kept = subst (AllByRecursion (IsThroughKept plans (data_of new.right.items))) (sym asks.same)
-          (all-append (IsThroughKept plans (data_of new.right.items)) so_far.again.reasons one.asks.reasons
-          (each_weaker (IsThroughKept plans (data_of now.right.items)) (IsThroughKept plans (data_of new.right.items)) (λ reason there take same. ((there take same).0, one.grows (whole_number (plan_at plans.table take)) (there take same).0 (there take same).1)) so_far.again.reasons so_far.kept)
-          (piece_of (λ column. AllByRecursion (IsThroughKept plans (data_of new.right.items)) one.asks.reasons) result column is one.asks.kept));
+      kept = subst (AllByRecursion (IsThroughKept plans (data_of new.checked.right.items))) (sym asks.same)
+          (all-append (IsThroughKept plans (data_of new.checked.right.items)) so_far.again.reasons one.asks.reasons
+          (each_weaker (IsThroughKept plans (data_of now.checked.right.items)) (IsThroughKept plans (data_of new.checked.right.items)) (λ reason there take same. ((there take same).0, one.grows (whole_number (plan_at plans.table take)) (there take same).0 (there take same).1)) so_far.again.reasons so_far.kept)
+          (piece_of (λ column. AllByRecursion (IsThroughKept plans (data_of new.checked.right.items)) one.asks.reasons) result column is one.asks.kept));
       none = λ empty. absurd (no_end done borrower empty);
       lasts = lasts_then before source after so_far.lasts one.lasts;
       in_flight = clear_then before source after so_far.in_flight one.in_flight;

@@ -33,6 +33,7 @@ use Rattle.vx_workers.specs.Borrowers.{borrower_chunks, AreBorrowed, IsBorrowerB
 use Rattle.vx_workers.specs.Reasons.{Reason, read_for, segment_of, take_and_segment}
 use Rattle.vx_workers.specs.Workers.{HasDtype, HasItsRows, IsPieceOf, numbers_of}
 use Rattle.vx_execute.specs.declared.outcomes.Rerun.{Rerun}
+use Rattle.vx_execute.specs.declared.rerunning.Checked.{Checked}
 use Rattle.vx_execute.specs.declared.validating.Validated.{Validated}
 use Rattle.vx_execute.specs.Validating.{direct_and_segment, IsDirectAmong, AsksAgain, IsRerun, rerun_chunks}
 use Rattle.vx_base.specs.Columns.{ColumnData}
@@ -119,6 +120,10 @@ pub record ValidatesOne (plans : ScanPlans) (chosen : SelectedRows) (borrower : 
   pub lasts : Lasts before after
   pub in_flight : IsLeftClear before after
 
+-- so it does, by what was made sure of before it and after it
+abbrev pub ChecksOne : ScanPlans → SelectedRows → Borrower → Checked → Checked → Result ColumnData ScanError → SourceState → SourceState → Type 0
+ChecksOne plans chosen borrower old new result before after = ValidatesOne plans chosen borrower (data_of old.right.items) (data_of new.right.items) old.reruns.items new.reruns.items result before after
+
 -- the piece stands behind the others, or there is none, with the error of the result or for want of memory
 abbrev pub KeepsPiece : ℕ → Result ColumnData ScanError → Result (Unit {0}) ScanError → List Piece → List Piece → Type 0
 KeepsPiece number result (Ok done) old new = (column : ColumnData) × (result ≡ Ok column) × (new ≡ old ++ record { chunk = number; column = column } ∷ [])
@@ -135,7 +140,7 @@ pub record AreSound (plans : ScanPlans) (chunks : List SelectedRows) (pieces : L
 -- what is claimed of the bytes of the file, where the source tells it and what was joined is right by it
 abbrev pub told_sound : ScanPlans → List SelectedRows → List Borrower → Validated → SourceState → Claims
 told_sound plans chunks borrowers validated source P =
-    (file : List ℕ) → source.file ≡ Some file → AreSound plans chunks validated.pieces.items borrowers (data_of validated.right.items) (bytes_of plans file) → P (bytes_of plans file)
+    (file : List ℕ) → source.file ≡ Some file → AreSound plans chunks validated.pieces.items borrowers (data_of validated.checked.right.items) (bytes_of plans file) → P (bytes_of plans file)
 
 -- A chunk of these failed, below the one that failed before, if one did, with its cause.
 pub record FailsNow (plans : ScanPlans) (chunks : List SelectedRows) (borrowers : List Borrower) (Told : Claims) (old : Option ChunkError) (error : ChunkError) (before after : SourceState) : Type 0 where
@@ -156,10 +161,10 @@ pub record ValidatesAll (plans : ScanPlans) (chunks : List SelectedRows) (borrow
   pub cause : (new.error ≡ old.error) ⊎ IsSomeAnd new.error (λ error. FailsNow plans chunks borrowers (told_sound plans chunks borrowers old before) old.error error before after)
   pub lowest : IsAtMost new.error old.error
   pub faults : KeepsFaults before after ⊎ IsSomeAnd new.error (λ error. error.error ≡ ReadFault)
-  pub reruns : AllByRecursion (IsRerun plans chunks (told_sound plans chunks borrowers old before)) new.reruns.items
-  pub reruns_once : (x : ℕ) → times x (rerun_chunks new.reruns.items) ≤ times x (borrower_chunks borrowers)
-  pub again : AsksAgain plans chunks (rerun_chunks new.reruns.items) before after
-  pub none : borrowers ≡ [] → (after ≡ before) × (new.reruns.items ≡ [])
+  pub reruns : AllByRecursion (IsRerun plans chunks (told_sound plans chunks borrowers old before)) new.checked.reruns.items
+  pub reruns_once : (x : ℕ) → times x (rerun_chunks new.checked.reruns.items) ≤ times x (borrower_chunks borrowers)
+  pub again : AsksAgain plans chunks (rerun_chunks new.checked.reruns.items) before after
+  pub none : borrowers ≡ [] → (after ≡ before) × (new.checked.reruns.items ≡ [])
   pub lasts : Lasts before after
   pub in_flight : IsLeftClear before after
 

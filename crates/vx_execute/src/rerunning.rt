@@ -10,8 +10,8 @@ ghost use Rattle.vx_steps.specs.Kept.{kept_at, kept_data, IsKept};
 ghost use Rattle.vx_steps.specs.Offers.{IsForPlan};
 ghost use Rattle.vx_drive.specs.Plans.{ArePlans, IsChunkOf};
 ghost use Rattle.vx_chunks.specs.Outcomes.{data_of};
-ghost use Rattle.vx_workers.specs.Certified.{error_in, AreGiven, Certifies, GivesRight, IsTested, Tests};
-ghost use Rattle.vx_execute.specs.Validated.{IsBorrowerOf, ListsRerun, ValidatesOne};
+ghost use Rattle.vx_workers.specs.Certified.{error_in, Certifies, GivesRight, IsTested, Tests};
+ghost use Rattle.vx_execute.specs.Validated.{ChecksOne, IsBorrowerOf, ListsRerun};
 
 use crate::outcomes::Rerun;
 use std::alloc::{AllocError, Global};
@@ -22,6 +22,14 @@ use vx_plan::PlanRef;
 use vx_splits::SelectedRows;
 use vx_steps::{KeptValue, asked_wholes};
 use vx_workers::Borrower;
+
+/// What was made sure of for chunks that were validated: the whole values that are right, by their plans, and which chunks
+/// ran again.
+#[derive(Drop)]
+pub(crate) struct Checked {
+    pub(crate) right: Vec<KeptValue>,
+    pub(crate) reruns: Vec<Rerun>,
+}
 
 /// Makes sure that there are whole values for the plan which are right: those that a worker made, or else what is read now
 /// on the source, once.
@@ -120,13 +128,13 @@ fn all_right<S: SegmentSource>(
 /// right.
 fn list_rerun(
     alloc: Global,
-    borrower: Borrower,
+    borrower: &Borrower,
     place: usize,
     right: &[KeptValue],
     reruns: &mut Vec<Rerun>,
 ) -> Result<(), AllocError>
-    requires wrong { IsTested (data_of borrower.borrowed.items) (data_of right.now) (Some place) }
-    ensures { ListsRerun borrower place (data_of right.now) result reruns.old.items reruns.new.items }
+    requires wrong { IsTested (data_of borrower.now.borrowed.items) (data_of right.now) (Some place) }
+    ensures { ListsRerun borrower.now place (data_of right.now) result reruns.old.items reruns.new.items }
 {
     let one = &borrower.borrowed[place];
     if let Some(made) = first_for(right, one.node) {
@@ -140,61 +148,33 @@ fn list_rerun(
     Ok(())
 }
 
-/// Lists the chunk of a borrower with the borrowed value at the place, which is wrong, and runs it again on the source
-/// with the given values, which are right for all that it asks for.
-fn run_listed<S: SegmentSource>(
-    alloc: Global,
-    plans: &ScanPlans,
-    chosen: &SelectedRows,
-    borrower: Borrower,
-    place: usize,
-    given: Vec<KeptValue>,
-    right: &[KeptValue],
-    reruns: &mut Vec<Rerun>,
-    source: &mut S,
-) -> Result<Column, ScanError>
-    requires plans { ArePlans plans.now }
-    requires good { IsGoodTable plans.now.table }
-    requires chunk { IsChunkOf plans.now chosen.now }
-    requires borrower { IsBorrowerOf plans.now chosen.now borrower }
-    requires typed { AreTyped plans.now.table (data_of right.now) }
-    requires wrong { IsTested (data_of borrower.borrowed.items) (data_of right.now) (Some place) }
-    requires given { AreGiven plans.now chosen.now (data_of right.now) (data_of given.items) }
-    ensures { ValidatesOne plans.now chosen.now borrower (data_of right.now) (data_of right.now) reruns.old.items reruns.new.items result (S.state source.old) (S.state source.new) }
-{
-    match list_rerun(alloc, borrower, place, right, reruns) {
-        Ok(()) => {
-            let ChunkOutcome { piece, .. } = run_chunk(alloc, plans, chosen, source, given);
-            piece
-        }
-        Err(_) => Err(ScanError::Memory),
-    }
-}
-
 /// Runs the chunk of a borrower again on the source, with right values for all that it asks for, and lists it with the
 /// borrowed value at the place, which is wrong.
 fn run_again<S: SegmentSource>(
     alloc: Global,
     plans: &ScanPlans,
     chosen: &SelectedRows,
-    borrower: Borrower,
+    borrower: &Borrower,
     place: usize,
-    right: &mut Vec<KeptValue>,
-    reruns: &mut Vec<Rerun>,
+    checked: &mut Checked,
     source: &mut S,
 ) -> Result<Column, ScanError>
     requires plans { ArePlans plans.now }
     requires good { IsGoodTable plans.now.table }
     requires chunk { IsChunkOf plans.now chosen.now }
-    requires borrower { IsBorrowerOf plans.now chosen.now borrower }
-    requires typed { AreTyped plans.now.table (data_of right.old.items) }
-    requires wrong { IsTested (data_of borrower.borrowed.items) (data_of right.old.items) (Some place) }
-    ensures { ValidatesOne plans.now chosen.now borrower (data_of right.old.items) (data_of right.new.items) reruns.old.items reruns.new.items result (S.state source.old) (S.state source.new) }
+    requires borrower { IsBorrowerOf plans.now chosen.now borrower.now }
+    requires typed { AreTyped plans.now.table (data_of checked.old.right.items) }
+    requires wrong { IsTested (data_of borrower.now.borrowed.items) (data_of checked.old.right.items) (Some place) }
+    ensures { ChecksOne plans.now chosen.now borrower.now checked.old checked.new result (S.state source.old) (S.state source.new) }
 {
-    match all_right(alloc, plans, chosen, right, source) {
-        Ok(given) => run_listed(
-            alloc, plans, chosen, borrower, place, given, right, reruns, source,
-        ),
+    match all_right(alloc, plans, chosen, &mut checked.right, source) {
+        Ok(given) => match list_rerun(alloc, borrower, place, &checked.right, &mut checked.reruns) {
+            Ok(()) => {
+                let ChunkOutcome { piece, .. } = run_chunk(alloc, plans, chosen, source, given);
+                piece
+            }
+            Err(_) => Err(ScanError::Memory),
+        },
         Err(error) => Err(error),
     }
 }
@@ -206,22 +186,25 @@ pub(crate) fn validate_one<S: SegmentSource>(
     plans: &ScanPlans,
     chosen: &SelectedRows,
     borrower: Borrower,
-    right: &mut Vec<KeptValue>,
-    reruns: &mut Vec<Rerun>,
+    checked: &mut Checked,
     source: &mut S,
 ) -> Result<Column, ScanError>
     requires plans { ArePlans plans.now }
     requires good { IsGoodTable plans.now.table }
     requires chunk { IsChunkOf plans.now chosen.now }
     requires borrower { IsBorrowerOf plans.now chosen.now borrower }
-    requires typed { AreTyped plans.now.table (data_of right.old.items) }
-    ensures { ValidatesOne plans.now chosen.now borrower (data_of right.old.items) (data_of right.new.items) reruns.old.items reruns.new.items result (S.state source.old) (S.state source.new) }
+    requires typed { AreTyped plans.now.table (data_of checked.old.right.items) }
+    ensures { ChecksOne plans.now chosen.now borrower checked.old checked.new result (S.state source.old) (S.state source.new) }
 {
     let borrowed = borrower.borrowed.as_slice();
-    match first_wrong(alloc, plans, borrowed, right, source) {
+    match first_wrong(alloc, plans, borrowed, &mut checked.right, source) {
         Ok(wrong) => match wrong {
             None => borrower.result,
-            Some(place) => run_again(alloc, plans, chosen, borrower, place, right, reruns, source),
+            Some(place) => {
+                let piece = run_again(alloc, plans, chosen, &borrower, place, checked, source);
+                drop(borrower);
+                piece
+            }
         },
         Err(error) => Err(error),
     }

@@ -15,22 +15,20 @@ ghost use Rattle.vx_workers.specs.Borrowers.{borrower_chunks, IsBorrower};
 ghost use Rattle.vx_execute.specs.Validated.{IsNotBelow, KeepsPiece, ValidatesAll, Sorts, SortsBorrowers};
 ghost use Rattle.vx_execute.specs.Validating.{Validates};
 
-use crate::outcomes::{Outcome, Rerun};
-use crate::rerunning::validate_one;
+use crate::outcomes::Outcome;
+use crate::rerunning::{Checked, validate_one};
 use std::alloc::Global;
 use vx_base::{Column, SegmentSource};
 use vx_drive::{ScanError, ScanPlans};
 use vx_splits::SelectedRows;
-use vx_steps::KeptValue;
 use vx_workers::{Borrower, ChunkError, Joined, Piece, want_of_memory};
 
-/// What is validated so far: the pieces; the whole values that are right, by their plans; the chunks that ran again;
-/// and why the lowest chunk that failed has no piece.
+/// What is validated so far: the pieces; what was made sure of for them; and why the lowest chunk that failed has no
+/// piece.
 #[derive(Drop)]
 pub(crate) struct Validated {
     pub(crate) pieces: Vec<Piece>,
-    pub(crate) right: Vec<KeptValue>,
-    pub(crate) reruns: Vec<Rerun>,
+    pub(crate) checked: Checked,
     pub(crate) error: Option<ChunkError>,
 }
 
@@ -80,8 +78,8 @@ fn validate_all<S: SegmentSource>(
     requires borrowers { All (IsBorrower plans.now chunks.now) borrowers.items }
     requires ordered { IsNonDecreasingBy (λ borrower. borrower.chunk) borrowers.items }
     requires once { (x : ℕ) → times x (borrower_chunks borrowers.items) ≤ 1 }
-    requires typed { AreTyped plans.now.table (data_of validated.old.right.items) }
-    requires none { validated.old.reruns.items ≡ [] }
+    requires typed { AreTyped plans.now.table (data_of validated.old.checked.right.items) }
+    requires none { validated.old.checked.reruns.items ≡ [] }
     ensures { ValidatesAll plans.now chunks.now borrowers.items validated.old validated.new (S.state source.old) (S.state source.new) }
 {
     for borrower in borrowers {
@@ -95,8 +93,7 @@ fn validate_all<S: SegmentSource>(
             plans,
             chosen,
             borrower,
-            &mut validated.right,
-            &mut validated.reruns,
+            &mut validated.checked,
             source,
         );
         if let Err(error) = keep_piece(&mut validated.pieces, number, one) {
@@ -167,17 +164,19 @@ pub(crate) fn validate<S: SegmentSource>(
     }
     let mut validated = Validated {
         pieces,
-        right: made,
-        reruns: Vec::new(alloc),
+        checked: Checked {
+            right: made,
+            reruns: Vec::new(alloc),
+        },
         error,
     };
     validate_all(alloc, plans, chunks, borrowers, &mut validated, source);
     let Validated {
         mut pieces,
-        right: _,
-        reruns,
+        checked,
         mut error,
     } = validated;
+    let Checked { right: _, reruns } = checked;
     if !sort(&mut pieces) {
         error = Some(want_of_memory());
     }
