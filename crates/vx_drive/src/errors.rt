@@ -4,47 +4,71 @@ ghost use Rattle.std.specs.Prelude.{◌≡◌};
 ghost use Rattle.vx_drive.specs.declared.errors.ScanError.TheVariants as errors;
 
 use std::alloc::{AllocError, AllocFailed};
-use thiserror::Error;
+use std::error::Error;
+use std::fmt;
+use std::fmt::{Display, Formatter, Write};
 use vx_plan::PlanRef;
 
 /// Why a scan has no rows. A plan is named by its number in the table of the scan, a row of a plan or of the file by
 /// its number from 0, a segment by its number.
-#[derive(Clone, Copy, Debug, Error)]
+#[derive(Clone, Copy, Debug)]
 pub enum ScanError {
     /// The projection isn't bound to the layout's dtype.
-    #[error("the projection is not bound to the dtype of the file")]
     BadProjection,
     /// The number of a row, with the row offset, could pass the greatest `u64`.
-    #[error("the row offset is too great for the rows of the file")]
     OffsetOverflow,
     /// A selected row of the given range isn't one of the file's.
-    #[error("a selected row is out of range")]
     OutOfRange,
     /// A selected row reads a row of the list.
-    #[error("the rows of a list are not supported")]
     Unsupported(PlanRef),
     /// A selected row reaches the segment, and it has no location.
-    #[error("segment {0} has no location")]
     NoLocation(u32),
     /// A source failed, and its count of faults rose.
-    #[error("a read failed")]
     ReadFault,
     /// A source answered as often as the idle limit that a read goes on.
-    #[error("a read made no progress")]
     Stalled,
     /// The bytes of the segment spell no rows of a leaf that a selected row reads.
-    #[error("segment {0} does not hold the rows that it should")]
     BadSegment(u32),
     /// The code of the row of the dictionary is neither null nor the place of a value.
-    #[error("the code at row {row} is none of the values")]
     BadCode { node: PlanRef, row: u64 },
     /// The projection is a fault at that selected row.
-    #[error("the expression is a fault at row {0}")]
     EvalFault(u64),
     /// There is no memory left.
-    #[error("out of memory")]
     Memory,
 }
+
+impl ScanError {
+    /// The message of an error that names no segment and no row.
+    fn plain_message(&self) -> &'static str {
+        match self {
+            ScanError::BadProjection => "the projection is not bound to the dtype of the file",
+            ScanError::OffsetOverflow => "the row offset is too great for the rows of the file",
+            ScanError::OutOfRange => "a selected row is out of range",
+            ScanError::Unsupported(_) => "the rows of a list are not supported",
+            ScanError::ReadFault => "a read failed",
+            ScanError::Stalled => "a read made no progress",
+            _ => "out of memory",
+        }
+    }
+}
+
+impl Display for ScanError {
+    fn fmt<W: Write>(&self, f: &mut Formatter<W>) -> fmt::Result {
+        match self {
+            ScanError::NoLocation(segment) => write!(f, "segment {segment} has no location"),
+            ScanError::BadSegment(segment) => {
+                write!(f, "segment {segment} does not hold the rows that it should")
+            }
+            ScanError::BadCode { row, .. } => {
+                write!(f, "the code at row {row} is none of the values")
+            }
+            ScanError::EvalFault(row) => write!(f, "the expression is a fault at row {row}"),
+            plain => f.write_str(plain.plain_message()),
+        }
+    }
+}
+
+impl Error for ScanError {}
 
 impl From<AllocError> for ScanError {
     ghost from_gives = { λ _ e. e ≡ errors.Memory };
