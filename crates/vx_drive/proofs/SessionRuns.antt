@@ -23,7 +23,7 @@ use Rattle.vx_drive.specs.declared.adaptor_errors.AdaptorError.TheVariants as er
 use Rattle.vx_drive.specs.declared.adaptors.AdaptorStep.{AdaptorStep}
 use Rattle.vx_drive.specs.declared.adaptors.State.{State}
 use Rattle.vx_drive.specs.declared.adaptors.State.TheVariants.{NeedsCompute, Waiting, Done}
-use Rattle.vx_drive.specs.AdaptorData.{AdaptorData, AreAskedReads, IsReady, reads_of, work_of}
+use Rattle.vx_drive.specs.AdaptorData.{AdaptorData, AreAskedReads, IsOutstanding, IsReady, reads_of, work_of}
 use Rattle.vx_drive.specs.Computes.{Batches, HandsOn, HoldsNext, IsNextOutput, Yields, WhyYields, Computes, ComputeGives, ResultGives, TakesResult, after_result}
 use Rattle.vx_drive.specs.Continues.{splits_left}
 use Rattle.vx_drive.specs.Fetched.{fetches_from, location_of, segments_in, unread, delivered}
@@ -215,16 +215,20 @@ completed_read : (locations : List SegmentLocation) (completion : Completion) (r
 completed_read locations completion reads old new fetches ended =
     outstanding_at locations 0 reads ended.place (record { owner = completion.owner; request = completion.request; at = ended.at }) (ap (λ (ws : List WantedFetch). slice_get ws ended.place) (sym fetches) ∙ ended.here)
 
--- a result of a completion is never refused
-pub not_refused : (locations : List SegmentLocation) (completion : Completion) (adaptor next : AdaptorData) (old new : SessionState) (error : AdaptorError) → AreAskedReads locations adaptor.first adaptor.asked adaptor.scan.progress.reads → fetches_of old.table ≡ outstanding locations 0 (reads_of adaptor) → FetchEnded completion old new →
-    ResultGives (Err error) completion.request.0 completion.bytes.items adaptor next → ⊥
-not_refused locations completion adaptor next old new (errors.NoLocation segment) ready fetches ended gives = gives
-not_refused locations completion adaptor next old new (errors.Step error) ready fetches ended gives = gives
-not_refused locations completion adaptor next old new errors.Memory ready fetches ended gives = gives
-not_refused locations completion adaptor next old new errors.NotOutstanding ready fetches ended gives =
+-- the fetch of a completion was outstanding
+pub was_outstanding : (locations : List SegmentLocation) (completion : Completion) (adaptor : AdaptorData) (old new : SessionState) → AreAskedReads locations adaptor.first adaptor.asked adaptor.scan.progress.reads → fetches_of old.table ≡ outstanding locations 0 (reads_of adaptor) → FetchEnded completion old new →
+    IsOutstanding adaptor completion.request.0
+was_outstanding locations completion adaptor old new ready fetches ended =
     let at = completed_read locations completion (reads_of adaptor) old new fetches ended in
     let number : completion.request.0 ≡ at.read = let is = at.number_is in omega (arith, is) in
-    gives.0 (is_outstanding adaptor completion.request.0 at.segment ready.all (ap (slice_get (reads_of adaptor)) number ∙ at.here))
+    is_outstanding adaptor completion.request.0 at.segment ready.all (ap (slice_get (reads_of adaptor)) number ∙ at.here)
+
+-- and the bytes of such a one are never refused
+pub not_refused : (number : ℕ) (bytes : List ℕ) (adaptor next : AdaptorData) (error : AdaptorError) → IsOutstanding adaptor number → ResultGives (Err error) number bytes adaptor next → ⊥
+not_refused number bytes adaptor next (errors.NoLocation segment) waits gives = gives
+not_refused number bytes adaptor next (errors.Step error) waits gives = gives
+not_refused number bytes adaptor next errors.Memory waits gives = gives
+not_refused number bytes adaptor next errors.NotOutstanding waits gives = gives.0 waits
 
 live_after : (state : State) → state ≢ Done → after_result state ≢ Done
 live_after NeedsCompute live done = live done

@@ -4,7 +4,9 @@ ghost use Rattle.std.specs.Prelude.{◌≡◌};
 ghost use Rattle.vx_io.specs.Ranges.{IsTableOf};
 ghost use Rattle.vx_io.specs.Session.{empty_table};
 ghost use Rattle.vx_io.specs.Tables.{session_state, KeepsLoans};
+ghost use Rattle.vx_drive.specs.AdaptorData.{IsOutstanding};
 ghost use Rattle.vx_drive.specs.Adaptors.{adaptor_data};
+ghost use Rattle.vx_drive.specs.Computes.{TakesResult};
 ghost use Rattle.vx_drive.specs.Finished.{Finishes};
 ghost use Rattle.vx_drive.specs.Plans.{ArePlans};
 ghost use Rattle.vx_drive.specs.Runs.{scan_error, RunGives};
@@ -44,6 +46,19 @@ fn refusal(error: AdaptorError) -> ScanError
     }
 }
 
+/// Hands the bytes of a fetch that ended to the read that it was made for.
+fn hand_in(adaptor: &mut ScanAdaptor<'_>, completion: Completion)
+    requires { IsOutstanding (adaptor_data adaptor.old) completion.request.0 }
+    ensures locations { adaptor.new.locations.now ≡ adaptor.old.locations.now }
+    ensures takes { TakesResult completion.request.0 completion.bytes.items (adaptor_data adaptor.old) (adaptor_data adaptor.new) }
+{
+    let Completion { request, bytes, .. } = completion;
+    match adaptor.set_io_result(request, bytes) {
+        Ok(()) => {}
+        Err(_) => unreachable!(),
+    }
+}
+
 /// Runs the scan of an adaptor over a session until it is done: its reads are fetched, and what a fetch gives is
 /// handed to the read that it was made for. It gives the column of the scan's split, and none where no row of the split
 /// is selected.
@@ -72,13 +87,7 @@ fn run<S: SegmentSource>(
                     return Ok(output);
                 }
                 match next_completion(session, idle_limit) {
-                    Ok(completion) => {
-                        let Completion { request, bytes, .. } = completion;
-                        match adaptor.set_io_result(request, bytes) {
-                            Ok(()) => {}
-                            Err(_) => unreachable!(),
-                        }
-                    }
+                    Ok(completion) => hand_in(adaptor, completion),
                     Err(error) => return Err(error),
                 }
             }

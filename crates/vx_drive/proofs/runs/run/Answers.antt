@@ -4,7 +4,7 @@ use Rattle.vx_drive.specs.declared.adaptors.State.TheVariants as states
 use Rattle.vx_drive.specs.declared.adaptors.AdaptorStep.TheVariants.{Yield, NeedsIo, Piece}
 use Rattle.vx_drive.specs.Adaptors.{adaptor_data}
 use Rattle.vx_drive.proofs.RunEnds.{run_returns, run_stalls, run_stops, run_unsent}
-use Rattle.vx_drive.proofs.SessionRuns.{needs_is_live, ready_of, run_begins, run_batch, run_piece, run_waits, run_result, not_refused, computes_live, batch_known, batch_fetches, some_in_flight, less_batch, less_piece, less_result}
+use Rattle.vx_drive.proofs.SessionRuns.{needs_is_live, ready_of, run_begins, run_batch, run_piece, run_waits, run_result, was_outstanding, computes_live, batch_known, batch_fetches, some_in_flight, less_batch, less_piece, less_result}
 use Rattle.vx_drive.proofs.runs.run.Goals as goal
 
 pub turns-init : goal.turns-init
@@ -75,10 +75,10 @@ turns-smaller g c =
     let live : c.compute.new.self.state ≢ states.Done = search rules in
     let waits = run_waits c.args.adaptor.now.locations.now (adaptor_data c.args.adaptor.now).scan (session_state c.args.session.now).source (adaptor_data c.turns.adaptor) (adaptor_data c.compute.new.self) c.turns.output (session_state c.turns.session) c.turns.invariant.0 yields live (ready_of c.args.adaptor.now.locations.now c.compute.new.self.locations.now (adaptor_data c.compute.new.self) c.compute.new.self.ready (c.compute.ensures.locations ∙ c.turns.invariant.2) live) in
     let done = (c.in-Ok-next_completion.ensures {u = tt}).gives in
-    let takes = (c.in-Ok-set_io_result.ensures {u = tt}).gives in
-    let after = run_result c.args.adaptor.now.locations.now (adaptor_data c.args.adaptor.now).scan (session_state c.args.session.now).source c.in-Ok-next_completion.completion (adaptor_data c.compute.new.self) (adaptor_data c.set_io_result.new.self) c.turns.output (session_state c.turns.session) (session_state c.next_completion.new.session) waits done takes
-    (λ alive. ready_of c.args.adaptor.now.locations.now c.set_io_result.new.self.locations.now (adaptor_data c.set_io_result.new.self) c.set_io_result.new.self.ready (c.set_io_result.ensures.locations ∙ c.compute.ensures.locations ∙ c.turns.invariant.2) alive) in
-    less_result c.args.adaptor.now.locations.now c.in-Ok-next_completion.completion (adaptor_data c.turns.adaptor) (adaptor_data c.compute.new.self) (adaptor_data c.set_io_result.new.self) (session_state c.turns.session) (session_state c.next_completion.new.session) waits.fetches yields done.ended takes after.fetches
+    let takes = c.hand_in.ensures.takes in
+    let after = run_result c.args.adaptor.now.locations.now (adaptor_data c.args.adaptor.now).scan (session_state c.args.session.now).source c.in-Ok-next_completion.completion (adaptor_data c.compute.new.self) (adaptor_data c.hand_in.new.adaptor) c.turns.output (session_state c.turns.session) (session_state c.next_completion.new.session) waits done takes
+    (λ alive. ready_of c.args.adaptor.now.locations.now c.hand_in.new.adaptor.locations.now (adaptor_data c.hand_in.new.adaptor) c.hand_in.new.adaptor.ready (c.hand_in.ensures.locations ∙ c.compute.ensures.locations ∙ c.turns.invariant.2) alive) in
+    less_result c.args.adaptor.now.locations.now c.in-Ok-next_completion.completion (adaptor_data c.turns.adaptor) (adaptor_data c.compute.new.self) (adaptor_data c.hand_in.new.adaptor) (session_state c.turns.session) (session_state c.next_completion.new.session) waits.fetches yields done.ended takes after.fetches
 
 pub turns-preserved : goal.turns-preserved
 turns-preserved g c =
@@ -86,21 +86,21 @@ turns-preserved g c =
     let live : c.compute.new.self.state ≢ states.Done = search rules in
     let waits = run_waits c.args.adaptor.now.locations.now (adaptor_data c.args.adaptor.now).scan (session_state c.args.session.now).source (adaptor_data c.turns.adaptor) (adaptor_data c.compute.new.self) c.turns.output (session_state c.turns.session) c.turns.invariant.0 yields live (ready_of c.args.adaptor.now.locations.now c.compute.new.self.locations.now (adaptor_data c.compute.new.self) c.compute.new.self.ready (c.compute.ensures.locations ∙ c.turns.invariant.2) live) in
     let done = (c.in-Ok-next_completion.ensures {u = tt}).gives in
-    let takes = (c.in-Ok-set_io_result.ensures {u = tt}).gives in
-    let after = run_result c.args.adaptor.now.locations.now (adaptor_data c.args.adaptor.now).scan (session_state c.args.session.now).source c.in-Ok-next_completion.completion (adaptor_data c.compute.new.self) (adaptor_data c.set_io_result.new.self) c.turns.output (session_state c.turns.session) (session_state c.next_completion.new.session) waits done takes
-    (λ alive. ready_of c.args.adaptor.now.locations.now c.set_io_result.new.self.locations.now (adaptor_data c.set_io_result.new.self) c.set_io_result.new.self.ready (c.set_io_result.ensures.locations ∙ c.compute.ensures.locations ∙ c.turns.invariant.2) alive) in (
+    let takes = c.hand_in.ensures.takes in
+    let after = run_result c.args.adaptor.now.locations.now (adaptor_data c.args.adaptor.now).scan (session_state c.args.session.now).source c.in-Ok-next_completion.completion (adaptor_data c.compute.new.self) (adaptor_data c.hand_in.new.adaptor) c.turns.output (session_state c.turns.session) (session_state c.next_completion.new.session) waits done takes
+    (λ alive. ready_of c.args.adaptor.now.locations.now c.hand_in.new.adaptor.locations.now (adaptor_data c.hand_in.new.adaptor) c.hand_in.new.adaptor.ready (c.hand_in.ensures.locations ∙ c.compute.ensures.locations ∙ c.turns.invariant.2) alive) in (
       after,
       record { same_reference = (c.in-Ok-next_completion.ensures {u = tt}).loans.same_reference ∙ c.turns.invariant.1.same_reference; ranges = (c.in-Ok-next_completion.ensures {u = tt}).loans.ranges ∙ c.turns.invariant.1.ranges },
-      c.set_io_result.ensures.locations ∙ c.compute.ensures.locations ∙ c.turns.invariant.2,
+      c.hand_in.ensures.locations ∙ c.compute.ensures.locations ∙ c.turns.invariant.2,
     )
 
-pub unreachable-requires : goal.unreachable-requires
-unreachable-requires g c =
+pub hand_in-requires : goal.hand_in-requires
+hand_in-requires g c =
     let yields = computes_live c.turns.adaptor.locations.now (Ok Yield) (adaptor_data c.turns.adaptor) (adaptor_data c.compute.new.self) c.turns.invariant.0.live (rw c.in-Ok-Yield.field-0-is at (c.in-Ok-Yield.ensures {u = tt}).gives) in
     let live : c.compute.new.self.state ≢ states.Done = search rules in
     let waits = run_waits c.args.adaptor.now.locations.now (adaptor_data c.args.adaptor.now).scan (session_state c.args.session.now).source (adaptor_data c.turns.adaptor) (adaptor_data c.compute.new.self) c.turns.output (session_state c.turns.session) c.turns.invariant.0 yields live (ready_of c.args.adaptor.now.locations.now c.compute.new.self.locations.now (adaptor_data c.compute.new.self) c.compute.new.self.ready (c.compute.ensures.locations ∙ c.turns.invariant.2) live) in
     let done = (c.in-Ok-next_completion.ensures {u = tt}).gives in
-    not_refused c.args.adaptor.now.locations.now c.in-Ok-next_completion.completion (adaptor_data c.compute.new.self) (adaptor_data c.set_io_result.new.self) (session_state c.turns.session) (session_state c.next_completion.new.session) c.in-Err-set_io_result.field-0 waits.ready waits.fetches done.ended (c.in-Err-set_io_result.ensures {u = tt}).gives
+    was_outstanding c.args.adaptor.now.locations.now c.in-Ok-next_completion.completion (adaptor_data c.compute.new.self) (session_state c.turns.session) (session_state c.next_completion.new.session) waits.ready waits.fetches done.ended
 
 pub returns-in-Err-next_completion-clause-gives : goal.returns-in-Err-next_completion-clause-gives
 returns-in-Err-next_completion-clause-gives g c =
