@@ -25,11 +25,8 @@ use Rattle.vx_drive.proofs.Sessions.{asked_nothing}
 use Rattle.vx_chunks.specs.Lent.{EachSource, AllTell}
 use Rattle.vx_chunks.proofs.LentSources.{each_clear, each_lasts, each_same, each_same_by, first_same, for_each, joined_none}
 use Rattle.vx_workers.specs.Reasons.{Reason, chunk_and_segment}
-use Rattle.vx_execute.specs.declared.outcomes.Outcome.{Outcome}
-use Rattle.vx_execute.specs.Executes.{Executes}
 use Rattle.vx_scan.specs.declared.prepared_scans.Prepared.{Prepared}
 use Rattle.vx_scan.specs.Answer.{FileScan, row_count, scan_rows, scan_pieces, ArePieces}
-use Rattle.vx_scan.specs.BatchColumns.{TakesBatches}
 use Rattle.vx_scan.specs.Batches.{LowestFailure, GivesBatches}
 use Rattle.vx_scan.specs.Admission.{Refuses}
 use Rattle.vx_scan.specs.Prepared.{IsPreparedFor}
@@ -37,7 +34,7 @@ use Rattle.vx_scan.specs.FilePlans.{ArePlansOf, AreChunksOf, LiesInside}
 use Rattle.vx_scan.specs.Scanned.{AreUnhindered, Gains, GainsAgain, GainsOver, LowestCause, AnswersScan}
 use Rattle.vx_scan.specs.Valid.{HasRows, IsValidScan}
 use Rattle.vx_scan.proofs.AdmittedRows.{no_pieces}
-use Rattle.vx_scan.proofs.GivenBatches.{gives_batches, is_memory}
+use Rattle.vx_scan.proofs.GivenBatches.{is_memory}
 use Rattle.vx_scan.proofs.HinderedScans.{all_unhindered}
 use Rattle.vx_scan.proofs.LowestCauses.{lowest_of}
 use Rattle.vx_scan.proofs.ScanAsks.{gains_over}
@@ -107,10 +104,9 @@ answers_scan scan limit plans are chunks of_scan (Err error) befores afters give
     }
 
 -- what the workers give of a scan that is prepared
-pub run_answers : (scan : FileScan) (limit : ℕ) (ordered : Bool) (prepared : Prepared) → IsPreparedFor scan limit ordered prepared → HasRows scan.range (row_count scan) → (outcome : Outcome) (result : Result (Vec ColumnData Global) ScanError) (befores afters : List SourceState)
-    → Executes prepared.plans prepared.chunks.items outcome befores afters → TakesBatches outcome result → AnswersScan scan limit result befores afters
-run_answers scan limit ordered prepared is some outcome result befores afters executes takes =
-    answers_scan scan limit prepared.plans (is.plan some) prepared.chunks.items (is.inside some) result befores afters (gives_batches prepared.plans prepared.chunks.items outcome result befores afters executes takes)
+pub run_answers : (scan : FileScan) (limit : ℕ) (ordered : Bool) (prepared : Prepared) → IsPreparedFor scan limit ordered prepared → HasRows scan.range (row_count scan) → (result : Result (Vec ColumnData Global) ScanError) (befores afters : List SourceState)
+    → GivesBatches prepared.plans prepared.chunks.items result befores afters → AnswersScan scan limit result befores afters
+run_answers scan limit ordered prepared is some result befores afters gives = answers_scan scan limit prepared.plans (is.plan some) prepared.chunks.items (is.inside some) result befores afters gives
 
 -- ---- nothing was asked
 

@@ -6,9 +6,12 @@ ghost use Rattle.vx_base.specs.Views.{data_type};
 ghost use Rattle.vx_splits.specs.declared.selections.Selection.TheVariants.{IncludeByIndex};
 ghost use Rattle.vx_drive.specs.declared.errors.ScanError.{ScanError as Refusal};
 ghost use Rattle.vx_drive.specs.declared.errors.ScanError.TheVariants.{Memory as lacking};
+ghost use Rattle.vx_drive.specs.Plans.{ArePlans};
 ghost use Rattle.vx_workers.specs.Limits.{most_workers};
+ghost use Rattle.vx_execute.specs.Executes.{CanRun};
 ghost use Rattle.vx_scan.specs.Answer.{row_count};
 ghost use Rattle.vx_scan.specs.Admission.{Refuses};
+ghost use Rattle.vx_scan.specs.Batches.{GivesBatches};
 ghost use Rattle.vx_scan.specs.Builders.{new_building, scan_of};
 ghost use Rattle.vx_scan.specs.Prepared.{IsPreparedFor};
 ghost use Rattle.vx_scan.specs.Scanned.{AnswersScan};
@@ -203,6 +206,31 @@ fn prepare_file(alloc: Global, file: ScanFile, settings: Settings) -> Result<Pre
     }
 }
 
+/// Runs the chunks of a prepared scan over the sources.
+fn run_prepared<R: Threads + Wait + Sync, S: SegmentSource + Send>(
+    rt: &R,
+    alloc: Global,
+    prepared: &Prepared,
+    sources: &mut [S],
+) -> Result<Vec<Column>, ScanError>
+    requires some { 0 < length sources.old }
+    requires workers { length sources.old ≤ most_workers }
+    requires plans { ArePlans prepared.now.plans }
+    requires chunks { CanRun prepared.now.plans prepared.now.chunks.items }
+    ensures { GivesBatches prepared.now.plans prepared.now.chunks.items result (map S.state sources.old) (map S.state sources.new) }
+{
+    let cache = ValueCache::new(alloc);
+    let outcome = execute(
+        rt,
+        alloc,
+        &prepared.plans,
+        &prepared.chunks,
+        sources,
+        &cache,
+    );
+    batches_of(alloc, outcome)
+}
+
 /// Runs the scan of the file by the settings over the sources.
 fn scan_file<R: Threads + Wait + Sync, S: SegmentSource + Send>(
     rt: &R,
@@ -229,7 +257,6 @@ fn scan_file<R: Threads + Wait + Sync, S: SegmentSource + Send>(
             return Err(error);
         }
     };
-    let Prepared { plans, chunks, .. } = prepare_rows(alloc, file, settings, rows)?;
-    let cache = ValueCache::new(alloc);
-    batches_of(alloc, execute(rt, alloc, &plans, &chunks, sources, &cache))
+    let prepared = prepare_rows(alloc, file, settings, rows)?;
+    run_prepared(rt, alloc, &prepared, sources)
 }
