@@ -5,18 +5,15 @@ use mathlib.Core.Logic.{dite}
 use Rattle.std.specs.Prelude.{Option, IfSome, IsSomeAnd, nat_lt}
 use Rattle.std.specs.List.{slice_get, All, AllByRecursion, flat_map}
 use Rattle.std.proofs.lemmas.Bool.{cases_lt}
-use Rattle.std.proofs.lemmas.List.{length-map, map-append}
+use Rattle.std.proofs.lemmas.List.{length-map}
 use Rattle.std.proofs.lemmas.List.Elements.{All-nil, All-head, All-tail}
-use Rattle.std.proofs.lemmas.List.Sums.{sum_by-cons}
 use Rattle.std.proofs.lemmas.Option.{same_Some}
 use Rattle.vx_base.specs.Columns.{ColumnData}
 use Rattle.vx_base.specs.Masks.{true_count}
 use Rattle.vx_base.specs.Sources.{SourceState}
-use Rattle.vx_base.proofs.AllFit.{all-append}
-use Rattle.vx_claims.specs.Apart.{times, times_over}
+use Rattle.vx_claims.specs.Apart.{times}
 use Rattle.vx_claims.proofs.Numbers.{times_other}
 use Rattle.vx_rows.specs.Derivations.{Leaves}
-use Rattle.vx_rows.specs.Reads.{IsAmong}
 use Rattle.vx_rows.specs.SegmentLeaves.{leaves_of}
 use Rattle.vx_splits.specs.declared.selected_rows.SelectedRows.{SelectedRows}
 use Rattle.vx_drive.specs.declared.errors.ScanError.{ScanError}
@@ -25,26 +22,26 @@ use Rattle.vx_drive.specs.declared.plans.ScanPlans.{ScanPlans}
 use Rattle.vx_drive.specs.Asks.{IsLeftClear, Lasts}
 use Rattle.vx_drive.specs.Fetched.{AreDistinct}
 use Rattle.vx_drive.specs.Plans.{bytes_of, projection_node}
-use Rattle.vx_drive.proofs.Distinct.{distinct_none, distinct_then, apart_from}
+use Rattle.vx_drive.proofs.Distinct.{distinct_none}
 use Rattle.vx_drive.proofs.Lasting.{lasts_then}
 use Rattle.vx_drive.proofs.Sessions.{asked_nothing}
 use Rattle.vx_chunks.specs.ChunkRows.{IsPiece}
-use Rattle.vx_chunks.specs.Lent.{EachSource, EachSourceBy, FirstSource, SomeSourceBy}
+use Rattle.vx_chunks.specs.Lent.{EachSource, FirstSource, SomeSourceBy}
 use Rattle.vx_chunks.proofs.LentSources.{each_by, each_clear, each_first, each_lasts, first_by, first_same, first_there}
 use Rattle.vx_workers.specs.declared.worker_states.ChunkError.{ChunkError}
 use Rattle.vx_workers.specs.declared.worker_states.Piece.{Piece}
 use Rattle.vx_workers.specs.Merges.{no_memory}
 use Rattle.vx_workers.specs.Borrowers.{AsksForWholes, IsAsking}
-use Rattle.vx_workers.specs.Reasons.{Reason, chunk_and_segment}
+use Rattle.vx_workers.specs.Reasons.{chunk_and_segment}
 use Rattle.vx_workers.specs.Unhindered.{IsUnhindered, IsUnhinderedAt}
 use Rattle.vx_workers.specs.Workers.{HasDtype, HasItsRows, IsPieceOf, numbers_of, IsLast, AsksReached, RunsSource, FailsLast}
-use Rattle.vx_workers.proofs.WorkerEnds.{among_stands}
 use Rattle.vx_workers.proofs.Certifying.{each_weaker}
 use Rattle.vx_execute.specs.declared.outcomes.Outcome.{Outcome}
 use Rattle.vx_execute.specs.Executes.{stretch, AskedAgain, FailsAgain, FailsLowest, FailsOn, FaultsAtLast, MayHaveBorrowed, StopsAtLast, Executed, Executes}
 use Rattle.vx_execute.specs.Validating.{rerun_chunks, AsksAgain}
 use Rattle.vx_scan.specs.BatchColumns.{Told, TakesBatches}
 use Rattle.vx_scan.specs.Batches.{AreBatches, AreUnhinderedButLast, FaultsFrom, HasPiece, HavePiecesButLast, Share, reasons_in, AsksOver, LowestFailure, GivesBatches}
+use Rattle.vx_scan.proofs.AskedShares.{AsksShares, each_from, shared}
 
 -- ---- the batches
 
@@ -181,75 +178,9 @@ is_memory (BadCode code row) = inr (λ same. cc)
 is_memory (EvalFault row) = inr (λ same. cc)
 is_memory Memory = inl refl
 
--- ---- what all sources were asked for
+-- ---- what came of all chunks
 
 module _ (plans : ScanPlans) (chunks : List SelectedRows) where
-  abbrev Ran : List (List ℕ) → List SourceState → List SourceState → Type 0
-  Ran lists befores afters = EachSourceBy (RunsSource plans chunks) lists befores afters
-
-  abbrev AsksShares : List Share → List SourceState → List SourceState → Type 0
-  AsksShares shares befores afters = EachSourceBy (λ (share : Share). AsksReached plans chunks share.numbers share.reasons) shares befores afters
-
-  -- the chunk of the reason stands in the lists
-  abbrev IsClaimed : List (List ℕ) → Reason → Type 0
-  IsClaimed lists reason = 1 ≤ times_over reason.chunk lists
-
-  -- The shares of the sources whose workers claimed these lists.
-  record Shared (lists : List (List ℕ)) (befores afters : List SourceState) : Type 0 where
-    shares : List Share
-    each : AsksShares shares befores afters
-    claimed : AllByRecursion (IsClaimed lists) (flat_map reasons_in shares)
-    distinct : AreDistinct (map chunk_and_segment (flat_map reasons_in shares))
-
-  over_cons : (x : ℕ) (list : List ℕ) (lists : List (List ℕ)) → times_over x (list ∷ lists) ≡ times x list + times_over x lists
-  over_cons x list lists = sum_by-cons (times x) list lists
-
-  claimed_here : (list : List ℕ) (lists : List (List ℕ)) (reason : Reason) → IsAmong reason.chunk list → IsClaimed (list ∷ lists) reason
-  claimed_here list lists reason among = let stands = among_stands reason.chunk list among in let cons = over_cons reason.chunk list lists in omega (arith, stands, cons)
-
-  claimed_behind : (list : List ℕ) (lists : List (List ℕ)) (reason : Reason) → IsClaimed lists reason → IsClaimed (list ∷ lists) reason
-  claimed_behind list lists reason claimed = let cons = over_cons reason.chunk list lists in omega (arith, claimed, cons)
-
-  -- a reason of this list's chunks is none of the other lists' chunks
-  differ : (list : List ℕ) (lists : List (List ℕ)) → ((x : ℕ) → times_over x (list ∷ lists) ≤ 1) → (one two : Reason) → IsAmong one.chunk list → IsClaimed lists two → chunk_and_segment one ≢ chunk_and_segment two
-  differ list lists once one two among claimed same =
-      let chunk : one.chunk ≡ two.chunk = ap (λ (pair : ℕ × ℕ). pair.0) same in
-      let stands : 1 ≤ times two.chunk list = subst (λ (x : ℕ). 1 ≤ times x list) chunk (among_stands one.chunk list among) in
-      let most = once two.chunk in
-      let cons = over_cons two.chunk list lists in
-      absurd (omega (arith, stands, claimed, most, cons))
-
-  shared : (lists : List (List ℕ)) (befores afters : List SourceState) → ((x : ℕ) → times_over x lists ≤ 1) → Ran lists befores afters → Shared lists befores afters
-  shared [] [] [] once ran = record { shares = []; each = tt; claimed = tt; distinct = distinct_none }
-  shared [] [] (after ∷ afters) once ran = absurd ran
-  shared [] (before ∷ befores) afters once ran = absurd ran
-  shared (list ∷ lists) [] afters once ran = absurd ran
-  shared (list ∷ lists) (before ∷ befores) [] once ran = absurd ran
-  shared (list ∷ lists) (before ∷ befores) (after ∷ afters) once ran =
-      let rest = shared lists befores afters (λ x. let most = once x in let cons = over_cons x list lists in omega (arith, most, cons)) ran.1 in
-      let mine : List Reason = ran.0.reasons in
-      let others : List Reason = flat_map reasons_in rest.shares in
-      record {
-        shares = record { numbers = list; reasons = mine } ∷ rest.shares;
-        each = (ran.0.asks, rest.each);
-        claimed = all-append (IsClaimed (list ∷ lists)) mine others
-            (each_weaker (λ (reason : Reason). IsAmong reason.chunk list) (IsClaimed (list ∷ lists)) (claimed_here list lists) mine ran.0.asks.own)
-            (each_weaker (IsClaimed lists) (IsClaimed (list ∷ lists)) (claimed_behind list lists) others rest.claimed);
-        distinct = subst (λ (pairs : List (ℕ × ℕ)). AreDistinct pairs) (sym (map-append chunk_and_segment mine others))
-            (distinct_then (map chunk_and_segment mine) (map chunk_and_segment others) ran.0.asks.once_a_chunk rest.distinct
-            (apart_from (λ (reason : Reason). IsAmong reason.chunk list) (IsClaimed lists) chunk_and_segment (differ list lists once) mine others ran.0.asks.own rest.claimed));
-      }
-
-  -- what follows of each source
-  each_from : (P : SourceState → SourceState → Type 0) → ((list : List ℕ) (before after : SourceState) → RunsSource plans chunks list before after → P before after)
-      → (lists : List (List ℕ)) (befores afters : List SourceState) → Ran lists befores afters → EachSource P befores afters
-  each_from P from [] [] [] ran = tt
-  each_from P from [] [] (after ∷ afters) ran = absurd ran
-  each_from P from [] (before ∷ befores) afters ran = absurd ran
-  each_from P from (list ∷ lists) [] afters ran = absurd ran
-  each_from P from (list ∷ lists) (before ∷ befores) [] ran = absurd ran
-  each_from P from (list ∷ lists) (before ∷ befores) (after ∷ afters) ran = (from list before after ran.0, each_from P from lists befores afters ran.1)
-
   -- ---- why there are none
 
   -- on which chunk it failed
@@ -341,7 +272,7 @@ module _ (plans : ScanPlans) (chunks : List SelectedRows) where
 
     asks_of : AsksOver plans chunks befores afters
     asks_of =
-        let all = shared outcome.claimed.items befores executed.middles executed.apart.once executed.sources in
+        let all = shared plans chunks outcome.claimed.items befores executed.middles executed.apart.once executed.sources in
         record {
           shares = all.shares;
           middles = executed.middles;
@@ -362,11 +293,11 @@ module _ (plans : ScanPlans) (chunks : List SelectedRows) where
 
     all_last : EachSource Lasts befores afters
     all_last = each_first Lasts (AskedAgain plans chunks (rerun_chunks outcome.reruns.items) outcome.error) (λ before now after one two. lasts_then before now after one two.lasts) befores executed.middles afters
-        (each_from Lasts (λ list before after runs. runs.lasts) outcome.claimed.items befores executed.middles executed.sources) executed.again
+        (each_from plans chunks Lasts (λ list before after runs. runs.lasts) outcome.claimed.items befores executed.middles executed.sources) executed.again
 
     all_clear : EachSource IsLeftClear befores afters
     all_clear = each_first IsLeftClear (AskedAgain plans chunks (rerun_chunks outcome.reruns.items) outcome.error) (λ before now after one two. clear_then before now after one two.in_flight) befores executed.middles afters
-        (each_from IsLeftClear (λ list before after runs. runs.in_flight) outcome.claimed.items befores executed.middles executed.sources) executed.again
+        (each_from plans chunks IsLeftClear (λ list before after runs. runs.in_flight) outcome.claimed.items befores executed.middles executed.sources) executed.again
 
     from_executed : (result : Result (Vec ColumnData Global) ScanError) → TakesBatches outcome result → GivesBatches plans chunks result befores afters
     from_executed (Ok batches) takes =
@@ -429,7 +360,7 @@ module _ (plans : ScanPlans) (chunks : List SelectedRows) where
     once_a_take = distinct_none;
   }
 
-  all_idle : (sources : List SourceState) → AsksShares (idle_shares sources) sources sources
+  all_idle : (sources : List SourceState) → AsksShares plans chunks (idle_shares sources) sources sources
   all_idle [] = tt
   all_idle (source ∷ sources) = (idle_asks source, all_idle sources)
 

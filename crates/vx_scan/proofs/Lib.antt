@@ -3,6 +3,7 @@ mod Answered
 mod ApartDictionaries
 mod ApartTakes
 mod AskedDictionaries
+mod AskedShares
 mod CarriedVisits
 mod ChunkCauses
 mod ChunkLaws
