@@ -79,7 +79,10 @@ fn run<S: SegmentSource>(
         match adaptor.compute() {
             Ok(AdaptorStep::NeedsIo(batch)) => match send(session, batch) {
                 Ok(()) => {}
-                Err(error) => return Err(error),
+                Err(error) => {
+                    drop(output);
+                    return Err(error);
+                }
             },
             Ok(AdaptorStep::Piece(column)) => output = Some(column),
             Ok(AdaptorStep::Yield) => {
@@ -88,10 +91,16 @@ fn run<S: SegmentSource>(
                 }
                 match next_completion(session, idle_limit) {
                     Ok(completion) => hand_in(adaptor, completion),
-                    Err(error) => return Err(error),
+                    Err(error) => {
+                        drop(output);
+                        return Err(error);
+                    }
                 }
             }
-            Err(error) => return Err(refusal(error)),
+            Err(error) => {
+                drop(output);
+                return Err(refusal(error));
+            }
         }
     }
 }
