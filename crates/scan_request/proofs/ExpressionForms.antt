@@ -55,12 +55,12 @@ each_named_is no_items = refl
 each_named_is (item d ds) = ap (λ (o : Option (List (List ℕ × Term))). named_form d >>= λ part. o >>= λ parts. here (part ∷ parts)) (each_named_is ds)
 
 -- the same named expressions by their pairs and by their data
-pub terms_of_pairs : (pairs : List (List ℕ × Expr)) → terms_of pairs ≡ terms_from (map named_term pairs)
+terms_of_pairs : (pairs : List (List ℕ × Expr)) → terms_of pairs ≡ terms_from (map named_term pairs)
 terms_of_pairs [] = refl
 terms_of_pairs (pair ∷ pairs) = ap (named pair.0 (term pair.1)) (terms_of_pairs pairs)
 
-pub packed : (pairs : List (List ℕ × Expr)) (e : Term) (parts : Option (List (List ℕ × Term))) → e ≡ pack (terms_of pairs) → Some (map named_term pairs) ≡ parts → Some e ≡ option_map (λ fields. pack (terms_from fields)) parts
-packed pairs e parts is all = rw (← all) (ap here (is ∙ ap pack (terms_of_pairs pairs)))
+pub pack_of_pairs : (pairs : List (List ℕ × Expr)) → pack (terms_of pairs) ≡ pack (terms_from (map named_term pairs))
+pack_of_pairs pairs = ap pack (terms_of_pairs pairs)
 
 -- a named expression is the name and the expression of a list of two
 named_is : (d : Data) → named_form d ≡ (two_items d >>= λ pair. as_str pair.0 >>= λ name. expression_form pair.1 >>= λ e. here (name, e))

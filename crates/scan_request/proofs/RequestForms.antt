@@ -21,7 +21,7 @@ use Rattle.scan_request.specs.ExpressionForms.{expression_form}
 use Rattle.scan_request.specs.JsonForms.{has_members, list_form, most_items, optional_form}
 use Rattle.scan_request.specs.LocationForms.{location_form}
 use Rattle.scan_request.specs.NodeForms.{node_form}
-use Rattle.scan_request.specs.RequestForms.{Asked, Parts, members_of, request_form, json_value, requested, root_dtype, IsRequest, HasBadProjection, RefusedBy}
+use Rattle.scan_request.specs.RequestForms.{Asked, FileSaid, Parts, file_form, members_of, request_form, json_value, requested, root_dtype, IsRequest, HasBadProjection, RefusedBy}
 use Rattle.scan_request.specs.RowForms.{rows_form}
 use Rattle.scan_request.specs.declared.row_forms.RowsAsked.{RowsAsked}
 use Rattle.scan_request.proofs.JsonForms.{here, list_few, some_is}
@@ -88,24 +88,31 @@ is_unbound bytes parts layout t error form same good typed gives =
 
 -- ---- a request has few locations and nodes
 
-abbrev parts_by : Option (List SegmentLocation) → Option (List Node) → Option RowsAsked → Option Term → Option Parts
-parts_by locations nodes rows projection =
-    locations >>= λ ls. nodes >>= λ ns. rows >>= λ r. projection >>= λ e. here (record { locations = ls; nodes = ns; projection = e; range = r.range; selection = r.selection; row_offset = r.row_offset })
+abbrev parts_by : Option FileSaid → Option RowsAsked → Option Term → Option Parts
+parts_by file rows projection =
+    file >>= λ f. rows >>= λ r. projection >>= λ e. here (record { locations = f.locations; nodes = f.nodes; projection = e; range = r.range; selection = r.selection; row_offset = r.row_offset })
 
-both : (b : Bool) (locations : Option (List SegmentLocation)) (nodes : Option (List Node)) (rows : Option RowsAsked) (projection : Option Term) (parts : Parts) → cond b (parts_by locations nodes rows projection) None ≡ Some parts → (locations ≡ Some parts.locations) × (nodes ≡ Some parts.nodes)
-both false locations nodes rows projection parts e = absurd cc
-both true None nodes rows projection parts e = absurd cc
-both true (Some ls) None rows projection parts e = absurd cc
-both true (Some ls) (Some ns) None projection parts e = absurd cc
-both true (Some ls) (Some ns) (Some r) None parts e = absurd cc
-both true (Some ls) (Some ns) (Some r) (Some term) parts e =
-    let same = some_is (record { locations = ls; nodes = ns; projection = term; range = r.range; selection = r.selection; row_offset = r.row_offset }) parts e in
-    (ap (λ (p : Parts). here p.locations) same, ap (λ (p : Parts). here p.nodes) same)
+file_is : (b : Bool) (file : Option FileSaid) (rows : Option RowsAsked) (projection : Option Term) (parts : Parts) → cond b (parts_by file rows projection) None ≡ Some parts → file ≡ Some (record { locations = parts.locations; nodes = parts.nodes })
+file_is false file rows projection parts e = absurd cc
+file_is true None rows projection parts e = absurd cc
+file_is true (Some f) None projection parts e = absurd cc
+file_is true (Some f) (Some r) None parts e = absurd cc
+file_is true (Some f) (Some r) (Some term) parts e =
+    let same = some_is (record { locations = f.locations; nodes = f.nodes; projection = term; range = r.range; selection = r.selection; row_offset = r.row_offset }) parts e in
+    ap (λ (p : Parts). here (let file : FileSaid = record { locations = p.locations; nodes = p.nodes } in file)) same
+
+both : (locations : Option (List SegmentLocation)) (nodes : Option (List Node)) (file : FileSaid) → (locations >>= λ ls. nodes >>= λ ns. here (let said : FileSaid = record { locations = ls; nodes = ns } in said)) ≡ Some file → (locations ≡ Some file.locations) × (nodes ≡ Some file.nodes)
+both None nodes file e = absurd cc
+both (Some ls) None file e = absurd cc
+both (Some ls) (Some ns) file e =
+    let same = some_is (record { locations = ls; nodes = ns }) file e in
+    (ap (λ (f : FileSaid). here f.locations) same, ap (λ (f : FileSaid). here f.nodes) same)
 
 form_few : (d : Data) (parts : Parts) → request_form d ≡ Some parts → (length parts.locations ≤ most_items) × (length parts.nodes ≤ most_items)
-unfolding request_form
+unfolding request_form file_form
 form_few d parts e =
-    let is = both (has_members (members_of d) d) (get (codes "locations") d >>= list_form location_form) (get (codes "nodes") d >>= list_form node_form) (rows_form d) (optional_form root expression_form (get (codes "projection") d)) parts e in
+    let is = both (get (codes "locations") d >>= list_form location_form) (get (codes "nodes") d >>= list_form node_form) (record { locations = parts.locations; nodes = parts.nodes })
+    (file_is (has_members (members_of d) d) (file_form d) (rows_form d) (optional_form root expression_form (get (codes "projection") d)) parts e) in
     (list_few location_form (get (codes "locations") d) parts.locations is.0, list_few node_form (get (codes "nodes") d) parts.nodes is.1)
 
 pub requested_few : (bytes : List ℕ) (parts : Parts) → requested bytes ≡ Some parts → (length parts.locations ≤ most_items) × (length parts.nodes ≤ most_items)

@@ -6,6 +6,7 @@ pub mod JsonForms
 pub mod LayoutRefusals
 pub mod LocationForms
 pub mod NodeForms
+pub mod NodeViews
 pub mod RequestForms
 pub mod RequestViews
 pub mod RowForms

@@ -30,10 +30,14 @@ zones_form d = get (codes "zone_len") d >>= whole_form (2 ^ 64) >>= λ zone_len.
 abbrev pub plain_kinds : List (List ℕ × LayoutKind)
 plain_kinds = (codes "chunked", kinds.Chunked) ∷ (codes "struct", kinds.Struct) ∷ (codes "dict", kinds.Dict) ∷ (codes "list", kinds.List) ∷ []
 
+-- a flat one has its segment
+abbrev pub flat_form : Data → Option LayoutKind
+flat_form d = get (codes "segment") d >>= whole_form (2 ^ 32) >>= λ segment. Some (kinds.Flat segment)
+
 -- a kind by its name, with the members that it has besides children
 abbrev pub kind_named : Data → List ℕ → Option LayoutKind
 kind_named d name =
-    if bytes_eq name (codes "flat") then (get (codes "segment") d >>= whole_form (2 ^ 32) >>= λ segment. Some (kinds.Flat segment))
+    if bytes_eq name (codes "flat") then flat_form d
     else (if bytes_eq name (codes "zoned") then (zones_form d >>= λ zones. Some (kinds.Zoned zones.0 zones.1))
     else (if bytes_eq name (codes "legacy_stats") then (zones_form d >>= λ zones. Some (kinds.LegacyStats zones.0 zones.1))
     else lookup (bytes_eq name) plain_kinds))
@@ -66,5 +70,9 @@ children_form kinds.List d = numbers_under d
 children_form (kinds.Zoned zone_len stats) d = numbers_under d
 children_form (kinds.LegacyStats zone_len stats) d = numbers_under d
 
+-- a node of a kind, which tells how many rows it has, the numbers of its children and its dtype
+unfoldable pub node_of_kind : LayoutKind → Data → Option Node
+node_of_kind kind d = if has_members (member_count kind) d then (get (codes "rows") d >>= whole_form (2 ^ 64) >>= λ rows. children_form kind d >>= λ children. get (codes "dtype") d >>= dtype_form >>= λ dtype. Some (record { kind = kind; dtype = dtype; rows = rows; children = children })) else None
+
 unfoldable pub node_form : Data → Option Node
-node_form d = kind_form d >>= λ kind. if has_members (member_count kind) d then (get (codes "dtype") d >>= dtype_form >>= λ dtype. get (codes "rows") d >>= whole_form (2 ^ 64) >>= λ rows. children_form kind d >>= λ children. Some (record { kind = kind; dtype = dtype; rows = rows; children = children })) else None
+node_form d = kind_form d >>= λ kind. node_of_kind kind d

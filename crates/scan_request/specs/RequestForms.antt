@@ -26,6 +26,11 @@ use Rattle.vx_base.specs.Data.{DataType, bool_type}
 use Rattle.vx_base.specs.declared.dtypes.Nullability.TheVariants.{NonNullable}
 use Rattle.vx_base.specs.declared.locations.SegmentLocation.{SegmentLocation}
 
+-- Where each segment lies, and the nodes of the layout.
+pub record FileSaid : Type 0 where
+  pub locations : List SegmentLocation
+  pub nodes : List Node
+
 -- What a request says: where each segment lies, the nodes of the layout, what is projected of a row, which rows are
 -- asked for, and the number of the first row.
 pub record Parts : Type 0 where
@@ -44,14 +49,20 @@ present name d = if is_some (get name d) then 1 else 0
 abbrev pub members_of : Data → ℕ
 members_of d = 2 + present (codes "projection") d + present (codes "range") d + present (codes "indices") d + present (codes "exclude") d + present (codes "row_offset") d
 
+-- by the members `locations` and `nodes`
+unfoldable pub file_form : Data → Option FileSaid
+file_form d =
+    get (codes "locations") d >>= list_form location_form >>= λ locations.
+    get (codes "nodes") d >>= list_form node_form >>= λ nodes.
+    Some (record { locations = locations; nodes = nodes })
+
 -- an object of exactly those members
 unfoldable pub request_form : Data → Option Parts
 request_form d = if has_members (members_of d) d then (
-    get (codes "locations") d >>= list_form location_form >>= λ locations.
-    get (codes "nodes") d >>= list_form node_form >>= λ nodes.
+    file_form d >>= λ file.
     rows_form d >>= λ rows.
     optional_form root expression_form (get (codes "projection") d) >>= λ projection.
-    Some (record { locations = locations; nodes = nodes; projection = projection; range = rows.range; selection = rows.selection; row_offset = rows.row_offset })) else None
+    Some (record { locations = file.locations; nodes = file.nodes; projection = projection; range = rows.range; selection = rows.selection; row_offset = rows.row_offset })) else None
 
 -- ---- of bytes
 

@@ -2,10 +2,12 @@
 //! name where nulls are taken.
 
 ghost use Rattle.std.specs.Prelude.{◌≡◌, IfOk, option_map};
+ghost use Rattle.serde_json.specs.Find.{get};
 ghost use Rattle.serde_json.specs.View.{view, items_view, members_view};
 ghost use Rattle.vx_base.specs.Views.{data_type, field_data, members_from};
 ghost use Rattle.std.specs.Map.{lookup};
 ghost use Rattle.std.specs.Str.{bytes_eq};
+ghost use Rattle.scan_words.specs.Words.{◌>>=◌};
 ghost use Rattle.scan_request.specs.JsonForms.{each_form};
 ghost use Rattle.scan_request.specs.DtypeForms.{dtype_form, nested_form, nested_named as nested_by_name, fields_form, field_form, leaf_form, kind_names, unmarked as without_mark};
 
@@ -141,4 +143,18 @@ fn field_of(alloc: Global, value: &Value) -> Result<Option<Field>, AllocError>
     };
     let name = Text::from_string(String::from_str(alloc, name)?);
     Ok(Some(Field { name, dtype }))
+}
+
+/// The dtype that the member of that name is.
+pub(crate) fn dtype_under(
+    alloc: Global,
+    value: &Value,
+    name: &str,
+) -> Result<Option<DType>, AllocError>
+    ensures { IfOk result (λ dtype. option_map data_type dtype ≡ (get name.now (view value.now) >>= dtype_form)) }
+{
+    match value.get(name) {
+        Some(dtype) => dtype_of(alloc, dtype),
+        None => Ok(None),
+    }
 }

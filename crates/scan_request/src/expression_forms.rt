@@ -1,17 +1,20 @@
 //! The form of expressions: the name of one without parts, an object of one member with its parts, or a literal,
 //! which is an object of its value and its dtype.
 
-ghost use Rattle.std.specs.Prelude.{◌≡◌, IfOk, length, map, option_map};
+ghost use Rattle.std.specs.Prelude.{◌≡◌, IfOk, codes, length, map, option_map};
 ghost use Rattle.std.specs.Map.{lookup};
 ghost use Rattle.std.specs.Str.{bytes_eq};
+ghost use Rattle.serde_json.specs.Find.{get};
 ghost use Rattle.serde_json.specs.View.{view, items_view, members_view};
+ghost use Rattle.vx_expr.specs.Terms.{get_field, pack};
 ghost use Rattle.vx_expr.specs.TermViews.{term};
+ghost use Rattle.scan_words.specs.Words.{◌>>=◌};
 ghost use Rattle.scan_request.specs.JsonForms.{each_form};
-ghost use Rattle.scan_request.specs.ExpressionForms.{bare_names, pair_names, value_form, literal_form, expression_form, object_form, joined_form, named_form, all_named_form, pair_form};
-ghost use Rattle.scan_request.specs.ExpressionViews.{named_term, joined_by};
+ghost use Rattle.scan_request.specs.ExpressionForms.{bare_names, pair_names, value_form, literal_form, terms_from, expression_form, object_form, joined_form, named_form, all_named_form, pair_form};
+ghost use Rattle.scan_request.specs.ExpressionViews.{named_term, joined_by, tested_by};
 ghost use Rattle.vx_base.specs.ValueViews.{datum};
 
-use crate::dtype_forms::dtype_of;
+use crate::dtype_forms::dtype_under;
 use crate::json_forms::{has_members, two_of};
 use serde_json::{Map, Value};
 use std::alloc::{AllocError, Global};
@@ -71,6 +74,54 @@ impl Join {
     }
 }
 
+/// What is asked of one expression.
+#[derive(Clone, Copy)]
+enum Test {
+    Not,
+    IsNull,
+    IsNotNull,
+}
+
+impl Test {
+    fn test(self, alloc: Global, operand: Expr) -> Result<Expr, AllocError>
+        ensures { IfOk result (λ expr. term expr ≡ tested_by self (term operand)) }
+    {
+        match self {
+            Test::Not => Expr::negation(alloc, operand),
+            Test::IsNull => Expr::is_null(alloc, operand),
+            Test::IsNotNull => Expr::is_not_null(alloc, operand),
+        }
+    }
+}
+
+/// The test of an operand, where there is one.
+fn tested(alloc: Global, test: Test, operand: Option<Expr>) -> Result<Option<Expr>, AllocError>
+    ensures { IfOk result (λ expr. option_map term expr ≡ option_map (tested_by test) (option_map term operand)) }
+{
+    match operand {
+        Some(operand) => Ok(Some(test.test(alloc, operand)?)),
+        None => Ok(None),
+    }
+}
+
+/// The field of an operand, where there are a name and an operand.
+fn field_got(alloc: Global, part: Option<(Text, Expr)>) -> Result<Option<Expr>, AllocError>
+    ensures { IfOk result (λ expr. option_map term expr ≡ option_map (λ field. get_field field.0 field.1) (option_map named_term part)) }
+{
+    match part {
+        Some((name, operand)) => Ok(Some(Expr::get_field(alloc, name, operand)?)),
+        None => Ok(None),
+    }
+}
+
+/// The struct of named expressions, where there are any.
+#[tactic(auto, using(crate::proofs::ExpressionForms::pack_of_pairs))]
+fn packed(parts: Option<Vec<(Text, Expr)>>) -> Option<Expr>
+    ensures { option_map term result ≡ option_map (λ fields. pack (terms_from fields)) (option_map (λ v. map named_term v.items) parts) }
+{
+    Some(Expr::pack(parts?))
+}
+
 /// The value of a literal, which may be of any leaf dtype.
 fn literal_value(alloc: Global, value: &Value) -> Result<Option<Literal>, AllocError>
     ensures { IfOk result (λ literal. option_map datum literal ≡ value_form (view value.now)) }
@@ -90,25 +141,36 @@ fn literal_value(alloc: Global, value: &Value) -> Result<Option<Literal>, AllocE
     }
 }
 
+/// The value that a literal says.
+fn value_said(alloc: Global, value: &Value) -> Result<Option<Literal>, AllocError>
+    ensures { IfOk result (λ literal. option_map datum literal ≡ (get (codes "lit") (view value.now) >>= value_form)) }
+{
+    match value.get("lit") {
+        Some(literal) => literal_value(alloc, literal),
+        None => Ok(None),
+    }
+}
+
 fn literal_of(alloc: Global, value: &Value) -> Result<Option<Expr>, AllocError>
     ensures { IfOk result (λ expr. option_map term expr ≡ literal_form (view value.now)) }
 {
     if !has_members(value, 2) {
         return Ok(None);
     }
-    let Some(literal) = value.get("lit") else {
+    let Some(literal) = value_said(alloc, value)? else {
         return Ok(None);
     };
-    let Some(literal) = literal_value(alloc, literal)? else {
-        return Ok(None);
-    };
-    let Some(dtype) = value.get("type") else {
-        return Ok(None);
-    };
-    let Some(dtype) = dtype_of(alloc, dtype)? else {
-        return Ok(None);
-    };
-    Ok(Some(Expr::Lit(literal, dtype)))
+    match dtype_under(alloc, value, "type") {
+        Ok(Some(dtype)) => Ok(Some(Expr::Lit(literal, dtype))),
+        Ok(None) => {
+            drop(literal);
+            Ok(None)
+        }
+        Err(error) => {
+            drop(literal);
+            Err(error)
+        }
+    }
 }
 
 /// An expression, which nests as deep as the value does.
@@ -148,26 +210,11 @@ fn joined_of(alloc: Global, name: &str, inside: &Value) -> Result<Option<Expr>, 
         (named_form (view inside.now)) (all_named_form (view inside.now)) (pair_form (view inside.now))) }
 {
     match name {
-        "get" => match named_of(alloc, inside)? {
-            Some((name, operand)) => Ok(Some(Expr::get_field(alloc, name, operand)?)),
-            None => Ok(None),
-        },
-        "pack" => match all_named_of(alloc, inside)? {
-            Some(parts) => Ok(Some(Expr::pack(parts))),
-            None => Ok(None),
-        },
-        "not" => match expression_of(alloc, inside)? {
-            Some(operand) => Ok(Some(Expr::negation(alloc, operand)?)),
-            None => Ok(None),
-        },
-        "is_null" => match expression_of(alloc, inside)? {
-            Some(operand) => Ok(Some(Expr::is_null(alloc, operand)?)),
-            None => Ok(None),
-        },
-        "is_not_null" => match expression_of(alloc, inside)? {
-            Some(operand) => Ok(Some(Expr::is_not_null(alloc, operand)?)),
-            None => Ok(None),
-        },
+        "get" => field_got(alloc, named_of(alloc, inside)?),
+        "pack" => Ok(packed(all_named_of(alloc, inside)?)),
+        "not" => tested(alloc, Test::Not, expression_of(alloc, inside)?),
+        "is_null" => tested(alloc, Test::IsNull, expression_of(alloc, inside)?),
+        "is_not_null" => tested(alloc, Test::IsNotNull, expression_of(alloc, inside)?),
         _ => match Join::of_name(name) {
             Some(join) => pair_joined(alloc, join, inside),
             None => Ok(None),

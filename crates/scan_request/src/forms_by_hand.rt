@@ -38,7 +38,7 @@ pub fn dtype_forms_by_hand()
 {}
 
 /// A flat node has four members and no children, a zoned one six; one member too many makes it none.
-#[tactic(auto, unfolding(crate::specs::NodeForms::node_form))]
+#[tactic(auto, unfolding(crate::specs::NodeForms::node_form, crate::specs::NodeForms::node_of_kind))]
 pub fn node_forms_by_hand()
     ensures flat { node_form (object (member (codes "dtype") (string (codes "i64")) (member (codes "kind")
         (string (codes "flat")) (member (codes "rows") (number (unsigned 3)) (member (codes "segment")

@@ -1,15 +1,21 @@
 //! The form of nodes: objects of exactly kind, dtype and rows, and the members of the kind.
 
-ghost use Rattle.std.specs.Prelude.{◌≡◌, IfOk, map, option_map};
+ghost use Rattle.std.specs.Prelude.{◌≡◌, Some, IfOk, map, option_map};
+ghost use Rattle.std.specs.Map.{lookup};
+ghost use Rattle.std.specs.Str.{bytes_eq};
 ghost use Rattle.serde_json.specs.View.{view, items_view};
 ghost use Rattle.vx_layout.specs.Nodes.{node_data};
+ghost use Rattle.vx_layout.specs.declared.nodes.LayoutKind.TheVariants.{LegacyStats, Zoned};
+ghost use Rattle.scan_words.specs.Words.{◌>>=◌};
 ghost use Rattle.scan_request.specs.JsonForms.{each_form};
-ghost use Rattle.scan_request.specs.NodeForms.{statistic_form, zones_form, kind_form, kind_named as named_kind, member_count as members_of_kind, children_form, node_form};
+ghost use Rattle.scan_request.specs.NodeForms.{statistic_form, zones_form, flat_form, plain_kinds, kind_form, kind_named as named_kind, member_count as members_of_kind, children_form, node_form, node_of_kind};
+ghost use Rattle.scan_request.specs.NodeViews.{node_with};
 
-use crate::dtype_forms::dtype_of;
+use crate::dtype_forms::dtype_under;
 use crate::json_forms::{has_members, numbers_in, whole_32, whole_64};
 use serde_json::Value;
 use std::alloc::{AllocError, Global};
+use vx_base::DType;
 use vx_expr::{Statistic, Statistics};
 use vx_layout::{LayoutKind, LayoutNode};
 
@@ -62,28 +68,52 @@ fn kind_of(alloc: Global, value: &Value) -> Result<Option<LayoutKind>, AllocErro
     }
 }
 
+/// The flat kind over the segment that its node tells.
+fn flat_kind(value: &Value) -> Option<LayoutKind>
+    ensures { result ≡ flat_form (view value.now) }
+{
+    let segment = value.get("segment").and_then(whole_32)?;
+    Some(LayoutKind::Flat { segment })
+}
+
+/// The zoned kind with such zones, where there are any.
+fn zoned_kind(zones: Option<(u64, Statistics)>) -> Option<LayoutKind>
+    ensures { result ≡ (zones >>= λ told. Some (Zoned told.0 told.1)) }
+{
+    let (zone_len, stats) = zones?;
+    Some(LayoutKind::Zoned { zone_len, stats })
+}
+
+/// The older zoned kind with such zones, where there are any.
+fn legacy_kind(zones: Option<(u64, Statistics)>) -> Option<LayoutKind>
+    ensures { result ≡ (zones >>= λ told. Some (LegacyStats told.0 told.1)) }
+{
+    let (zone_len, stats) = zones?;
+    Some(LayoutKind::LegacyStats { zone_len, stats })
+}
+
+/// The kind of that name, where its children tell all else of it.
+fn plain_kind(name: &str) -> Option<LayoutKind>
+    ensures { result ≡ lookup (bytes_eq name.now) plain_kinds }
+{
+    match name {
+        "chunked" => Some(LayoutKind::Chunked),
+        "struct" => Some(LayoutKind::Struct),
+        "dict" => Some(LayoutKind::Dict),
+        "list" => Some(LayoutKind::List),
+        _ => None,
+    }
+}
+
 /// The kind of that name, with what its node tells of it.
 fn kind_named(alloc: Global, value: &Value, name: &str) -> Result<Option<LayoutKind>, AllocError>
     ensures { IfOk result (λ kind. kind ≡ named_kind (view value.now) name.now) }
 {
     match name {
-        "flat" => match value.get("segment").and_then(whole_32) {
-            Some(segment) => Ok(Some(LayoutKind::Flat { segment })),
-            None => Ok(None),
-        },
-        "zoned" => match zones_of(alloc, value)? {
-            Some((zone_len, stats)) => Ok(Some(LayoutKind::Zoned { zone_len, stats })),
-            None => Ok(None),
-        },
-        "legacy_stats" => match zones_of(alloc, value)? {
-            Some((zone_len, stats)) => Ok(Some(LayoutKind::LegacyStats { zone_len, stats })),
-            None => Ok(None),
-        },
-        "chunked" => Ok(Some(LayoutKind::Chunked)),
-        "struct" => Ok(Some(LayoutKind::Struct)),
-        "dict" => Ok(Some(LayoutKind::Dict)),
-        "list" => Ok(Some(LayoutKind::List)),
-        _ => Ok(None),
+        "flat" => Ok(flat_kind(value)),
+        "zoned" => Ok(zoned_kind(zones_of(alloc, value)?)),
+        "legacy_stats" => Ok(legacy_kind(zones_of(alloc, value)?)),
+        _ => Ok(plain_kind(name)),
     }
 }
 
@@ -114,34 +144,75 @@ fn children_of(
     }
 }
 
+/// What a node tells besides its kind.
+struct NodeFacts {
+    row_count: u64,
+    children: Vec<u32>,
+    dtype: DType,
+}
+
+/// What a node of the kind tells besides. The dtype is dear to let go, so it is made last.
+#[tactic(auto, unfolding(crate::specs::NodeForms::node_of_kind))]
+fn facts_of(
+    alloc: Global,
+    value: &Value,
+    kind: &LayoutKind,
+) -> Result<Option<NodeFacts>, AllocError>
+    ensures { IfOk result (λ facts. option_map (node_with kind.now) facts ≡ node_of_kind kind.now (view value.now)) }
+{
+    if !has_members(value, member_count(kind)) {
+        return Ok(None);
+    }
+    let Some(row_count) = value.get("rows").and_then(whole_64) else {
+        return Ok(None);
+    };
+    let Some(children) = children_of(alloc, value, kind)? else {
+        return Ok(None);
+    };
+    match dtype_under(alloc, value, "dtype")? {
+        Some(dtype) => Ok(Some(NodeFacts {
+            row_count,
+            children,
+            dtype,
+        })),
+        None => Ok(None),
+    }
+}
+
+/// The node of a kind, with what it tells besides.
+fn node_of_kind(
+    alloc: Global,
+    value: &Value,
+    kind: LayoutKind,
+) -> Result<Option<LayoutNode>, AllocError>
+    ensures { IfOk result (λ node. option_map node_data node ≡ node_of_kind kind (view value.now)) }
+{
+    match facts_of(alloc, value, &kind) {
+        Ok(Some(facts)) => Ok(Some(LayoutNode {
+            kind,
+            dtype: facts.dtype,
+            row_count: facts.row_count,
+            children: facts.children,
+        })),
+        Ok(None) => {
+            drop(kind);
+            Ok(None)
+        }
+        Err(error) => {
+            drop(kind);
+            Err(error)
+        }
+    }
+}
+
 #[tactic(auto, unfolding(crate::specs::NodeForms::node_form))]
 fn node_of(alloc: Global, value: &Value) -> Result<Option<LayoutNode>, AllocError>
     ensures { IfOk result (λ node. option_map node_data node ≡ node_form (view value.now)) }
 {
-    let Some(kind) = kind_of(alloc, value)? else {
-        return Ok(None);
-    };
-    if !has_members(value, member_count(&kind)) {
-        return Ok(None);
+    match kind_of(alloc, value)? {
+        Some(kind) => node_of_kind(alloc, value, kind),
+        None => Ok(None),
     }
-    let Some(dtype) = value.get("dtype") else {
-        return Ok(None);
-    };
-    let Some(dtype) = dtype_of(alloc, dtype)? else {
-        return Ok(None);
-    };
-    let Some(row_count) = value.get("rows").and_then(whole_64) else {
-        return Ok(None);
-    };
-    let Some(children) = children_of(alloc, value, &kind)? else {
-        return Ok(None);
-    };
-    Ok(Some(LayoutNode {
-        kind,
-        dtype,
-        row_count,
-        children,
-    }))
 }
 
 /// The nodes that the items are, in order.

@@ -1,16 +1,20 @@
 //! The form of a request: a JSON object with exactly the members of docs/FORMATS.md, whose nodes are a layout, and whose
 //! projection is bound to the dtype of the layout's root.
 
-ghost use Rattle.std.specs.Prelude.{◌≡◌, ◌<◌, ◌≤◌, Some, IfOk, IfErr, codes, length, option_map};
+ghost use Rattle.std.specs.Prelude.{◌≡◌, ◌<◌, ◌≤◌, Some, IfOk, IfErr, codes, length, map, option_map};
 ghost use Rattle.serde_json.specs.Find.{get};
 ghost use Rattle.serde_json.specs.View.{view};
 ghost use Rattle.vx_expr.specs.Terms.{root};
 ghost use Rattle.vx_expr.specs.TermViews.{term};
+ghost use Rattle.vx_layout.specs.Nodes.{node_data};
 ghost use Rattle.vx_layout.specs.Shape.{node_limit};
+ghost use Rattle.scan_words.specs.Words.{◌>>=◌};
 ghost use Rattle.scan_request.specs.ExpressionForms.{expression_form};
-ghost use Rattle.scan_request.specs.JsonForms.{most_items, optional_form};
-ghost use Rattle.scan_request.specs.RequestForms.{present, members_of as members_of_request, request_form, requested, IsRequest, RefusedBy};
-ghost use Rattle.scan_request.specs.RequestViews.{asked_of, parts_said};
+ghost use Rattle.scan_request.specs.JsonForms.{list_form, most_items, optional_form};
+ghost use Rattle.scan_request.specs.LocationForms.{location_form};
+ghost use Rattle.scan_request.specs.NodeForms.{node_form};
+ghost use Rattle.scan_request.specs.RequestForms.{present, members_of as members_of_request, file_form, request_form, requested, IsRequest, RefusedBy};
+ghost use Rattle.scan_request.specs.RequestViews.{asked_of, file_of_parts, parts_said};
 
 use crate::expression_forms::expression_of;
 use crate::json_forms::{few_items_of, has_members};
@@ -23,8 +27,7 @@ use std::alloc::{AllocError, Global};
 use std::ops::Range;
 use vx_base::SegmentLocation;
 use vx_expr::{BoundExpression, Expr, bind};
-use vx_layout::{LayoutNode, LayoutTree};
-use vx_layout::ScanFile;
+use vx_layout::{LayoutNode, LayoutTree, ScanFile};
 use vx_splits::Selection;
 
 /// What a request asks for.
@@ -42,11 +45,16 @@ pub struct Request {
     pub row_offset: u64,
 }
 
-/// A request in its form, before its nodes are checked and its projection is bound.
+/// Where each segment lies, and the nodes of the layout.
 #[derive(Drop)]
-pub struct RequestParts {
+struct FileParts {
     locations: Vec<SegmentLocation>,
     nodes: Vec<LayoutNode>,
+}
+
+/// A request in its form, before its nodes are checked and its projection is bound.
+struct RequestParts {
+    file: FileParts,
     projection: Expr,
     rows: RowsAsked,
 }
@@ -59,26 +67,42 @@ pub fn request_of(alloc: Global, bytes: &[u8]) -> Result<Request, RequestError>
     ensures refused { IfErr result (RefusedBy bytes.now) }
 {
     let parts = parts_of(alloc, bytes)?;
-    let layout = LayoutTree::try_new(alloc, parts.nodes)?;
-    let projection = bind(alloc, &parts.projection, layout.dtype())?;
-    let file = ScanFile {
-        layout,
-        locations: parts.locations,
-    };
-    Ok(Request {
-        file,
+    let RequestParts {
+        file: FileParts { locations, nodes },
         projection,
-        range: parts.rows.range,
-        selection: parts.rows.selection,
-        row_offset: parts.rows.row_offset,
-    })
+        rows,
+    } = parts;
+    let layout = match LayoutTree::try_new(alloc, nodes) {
+        Ok(layout) => layout,
+        Err(error) => {
+            drop(projection);
+            drop(rows);
+            return Err(RequestError::from(error));
+        }
+    };
+    let bound = bind(alloc, &projection, layout.dtype());
+    drop(projection);
+    match bound {
+        Ok(projection) => Ok(Request {
+            file: ScanFile { layout, locations },
+            projection,
+            range: rows.range,
+            selection: rows.selection,
+            row_offset: rows.row_offset,
+        }),
+        Err(error) => {
+            drop(layout);
+            drop(rows);
+            Err(RequestError::from(error))
+        }
+    }
 }
 
 /// The parts of the request that these bytes are, by their form alone.
 fn parts_of(alloc: Global, bytes: &[u8]) -> Result<RequestParts, RequestError>
     ensures parts { IfOk result (λ parts. requested bytes.now ≡ Some (parts_said parts)) }
-    ensures few { IfOk result (λ parts. length parts.locations.items ≤ most_items) }
-    ensures few_nodes { IfOk result (λ parts. length parts.nodes.items < node_limit) }
+    ensures few { IfOk result (λ parts. length parts.file.locations.items ≤ most_items) }
+    ensures few_nodes { IfOk result (λ parts. length parts.file.nodes.items < node_limit) }
     ensures refused { IfErr result (RefusedBy bytes.now) }
 {
     let value = match Value::from_slice(alloc, bytes) {
@@ -90,9 +114,12 @@ fn parts_of(alloc: Global, bytes: &[u8]) -> Result<RequestParts, RequestError>
             return Err(RequestError::BadRequest);
         }
     };
-    match parts_in(alloc, &value)? {
-        Some(parts) => Ok(parts),
-        None => Err(RequestError::BadRequest),
+    let parts = parts_in(alloc, &value);
+    drop(value);
+    match parts {
+        Ok(Some(parts)) => Ok(parts),
+        Ok(None) => Err(RequestError::BadRequest),
+        Err(_) => Err(RequestError::Memory),
     }
 }
 
@@ -125,6 +152,39 @@ fn projection_asked(alloc: Global, value: &Value) -> Result<Option<Expr>, AllocE
     }
 }
 
+/// Where each segment lies.
+fn locations_said(alloc: Global, value: &Value) -> Result<Option<Vec<SegmentLocation>>, AllocError>
+    ensures { IfOk result (λ list. option_map (λ v. v.items) list ≡ (get (codes "locations") (view value.now) >>= list_form location_form)) }
+{
+    match value.get("locations").and_then(few_items_of) {
+        Some(items) => locations_in(alloc, items),
+        None => Ok(None),
+    }
+}
+
+/// The nodes of the layout.
+fn nodes_said(alloc: Global, value: &Value) -> Result<Option<Vec<LayoutNode>>, AllocError>
+    ensures { IfOk result (λ list. option_map (λ v. map node_data v.items) list ≡ (get (codes "nodes") (view value.now) >>= list_form node_form)) }
+{
+    match value.get("nodes").and_then(few_items_of) {
+        Some(items) => nodes_in(alloc, items),
+        None => Ok(None),
+    }
+}
+
+#[tactic(auto, unfolding(crate::specs::RequestForms::file_form))]
+fn file_said(alloc: Global, value: &Value) -> Result<Option<FileParts>, AllocError>
+    ensures { IfOk result (λ file. option_map file_of_parts file ≡ file_form (view value.now)) }
+{
+    let Some(locations) = locations_said(alloc, value)? else {
+        return Ok(None);
+    };
+    match nodes_said(alloc, value)? {
+        Some(nodes) => Ok(Some(FileParts { locations, nodes })),
+        None => Ok(None),
+    }
+}
+
 #[tactic(auto, unfolding(crate::specs::RequestForms::request_form))]
 fn parts_in(alloc: Global, value: &Value) -> Result<Option<RequestParts>, AllocError>
     ensures { IfOk result (λ parts. option_map parts_said parts ≡ request_form (view value.now)) }
@@ -132,28 +192,35 @@ fn parts_in(alloc: Global, value: &Value) -> Result<Option<RequestParts>, AllocE
     if !has_members(value, members_of(value)) {
         return Ok(None);
     }
-    let Some(items) = value.get("locations").and_then(few_items_of) else {
+    let Some(file) = file_said(alloc, value)? else {
         return Ok(None);
     };
-    let Some(locations) = locations_in(alloc, items)? else {
-        return Ok(None);
+    let rows = match rows_asked(alloc, value) {
+        Ok(Some(rows)) => rows,
+        Ok(None) => {
+            drop(file);
+            return Ok(None);
+        }
+        Err(error) => {
+            drop(file);
+            return Err(error);
+        }
     };
-    let Some(items) = value.get("nodes").and_then(few_items_of) else {
-        return Ok(None);
-    };
-    let Some(nodes) = nodes_in(alloc, items)? else {
-        return Ok(None);
-    };
-    let Some(rows) = rows_asked(alloc, value)? else {
-        return Ok(None);
-    };
-    match projection_asked(alloc, value)? {
-        Some(projection) => Ok(Some(RequestParts {
-            locations,
-            nodes,
+    match projection_asked(alloc, value) {
+        Ok(Some(projection)) => Ok(Some(RequestParts {
+            file,
             projection,
             rows,
         })),
-        None => Ok(None),
+        Ok(None) => {
+            drop(file);
+            drop(rows);
+            Ok(None)
+        }
+        Err(error) => {
+            drop(file);
+            drop(rows);
+            Err(error)
+        }
     }
 }

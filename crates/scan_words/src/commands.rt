@@ -9,7 +9,7 @@ use vx_base::Text;
 use vx_readers::SplitBy;
 
 /// What the words ask of the program.
-#[derive(Debug, Drop)]
+#[derive(Drop)]
 pub enum Command {
     /// The rows that a request asks of segment files, in their order unless they may come in any. `segments` and
     /// `request` are names of files, `workers` is at most 64, `idle` is how often a read may stand idle.

@@ -3,7 +3,8 @@
 ghost use Rattle.std.specs.Prelude.{◌≡◌, map, string_bytes, IfOk};
 ghost use Rattle.scan_words.specs.Answers.{Answers};
 ghost use Rattle.scan_words.specs.Bounds.{IsWithinBounds};
-ghost use Rattle.scan_words.specs.Words.{mode_command, command_of, has_lone_dash};
+ghost use Rattle.scan_words.specs.Grammar.{demo_app, parse_rows, read_app, scan_app, tree_app};
+ghost use Rattle.scan_words.specs.Words.{◌>>=◌, demo_command, mode_command, command_of, has_lone_dash, read_command, scan_command, tree_command};
 
 use crate::arguments::{demo_of, read_of, scan_of, tree_of};
 use crate::commands::{Command, WordsError};
@@ -32,12 +33,56 @@ fn command_in(alloc: Global, mode: &str, words: &[String]) -> Result<Command, Wo
     ensures bounds { IfOk result IsWithinBounds }
 {
     match mode {
-        "scan" => scan_of(alloc, &scan_matches(alloc, words)?),
-        "read" => read_of(alloc, &read_matches(alloc, words)?),
-        "tree" => tree_of(alloc, &tree_matches(alloc, words)?),
-        "demo" => demo_of(&demo_matches(alloc, words)?),
+        "scan" => scan_asked(alloc, words),
+        "read" => read_asked(alloc, words),
+        "tree" => tree_asked(alloc, words),
+        "demo" => demo_asked(alloc, words),
         _ => Err(WordsError::Usage),
     }
+}
+
+/// What the words after `scan` ask.
+fn scan_asked(alloc: Global, words: &[String]) -> Result<Command, WordsError>
+    ensures command { Answers (parse_rows scan_app (map string_bytes words.now) >>= scan_command) result }
+    ensures bounds { IfOk result IsWithinBounds }
+{
+    let matches = scan_matches(alloc, words)?;
+    let command = scan_of(alloc, &matches);
+    drop(matches);
+    command
+}
+
+/// What the words after `read` ask.
+fn read_asked(alloc: Global, words: &[String]) -> Result<Command, WordsError>
+    ensures command { Answers (parse_rows read_app (map string_bytes words.now) >>= read_command) result }
+    ensures bounds { IfOk result IsWithinBounds }
+{
+    let matches = read_matches(alloc, words)?;
+    let command = read_of(alloc, &matches);
+    drop(matches);
+    command
+}
+
+/// What the words after `tree` ask.
+fn tree_asked(alloc: Global, words: &[String]) -> Result<Command, WordsError>
+    ensures command { Answers (parse_rows tree_app (map string_bytes words.now) >>= tree_command) result }
+    ensures bounds { IfOk result IsWithinBounds }
+{
+    let matches = tree_matches(alloc, words)?;
+    let command = tree_of(alloc, &matches);
+    drop(matches);
+    command
+}
+
+/// What the words after `demo` ask.
+fn demo_asked(alloc: Global, words: &[String]) -> Result<Command, WordsError>
+    ensures command { Answers (parse_rows demo_app (map string_bytes words.now) >>= demo_command) result }
+    ensures bounds { IfOk result IsWithinBounds }
+{
+    let matches = demo_matches(alloc, words)?;
+    let command = demo_of(&matches);
+    drop(matches);
+    command
 }
 
 /// Whether a word that is `-` stands before any `--`.

@@ -8,7 +8,7 @@ use Rattle.scan_request.specs.JsonForms.{each_form}
 use Rattle.scan_request.specs.ExpressionForms.{literal_form, expression_form, all_named_form, named_form, pair_form}
 use Rattle.scan_request.specs.ExpressionViews.{named_term, joined_by}
 use Rattle.scan_request.proofs.DtypeForms.{item_depth, first_depth}
-use Rattle.scan_request.proofs.ExpressionForms.{each_named_is, many_members, one_member, packed, joined_pair, named_from, pair_from}
+use Rattle.scan_request.proofs.ExpressionForms.{each_named_is, many_members, one_member, joined_pair, named_from, pair_from}
 use Rattle.scan_request.proofs.JsonForms.{each_begun, each_done, each_more, each_none, two_depth}
 use Rattle.scan_request.proofs.expression_forms.+expressions.Goals as goal
 
@@ -88,12 +88,6 @@ expression_of-returns-else-len-eq1 t c =
     let is : expression_form (view c.args.value.now) ≡ literal_form (view c.args.value.now) =
     ap (λ (v : Value). expression_form (view v)) c.in-Object.is ∙ (ap expression_form (view-Object c.in-Object.members) ∙ (sym (many_members c.in-Object.members.entries other) ∙ (sym (ap literal_form (view-Object c.in-Object.members)) ∙ sym (ap (λ (v : Value). literal_form (view v)) c.in-Object.is)))) in
     rw is c.literal_of.ensures
-
-pub joined_of-returns-in-Some-2 : goal.joined_of-returns-in-Some-2
-joined_of-returns-in-Some-2 t c =
-    let all : Some (map named_term c.in-Some-2.parts.items) ≡ all_named_form (view c.args.inside.now) = rw c.in-Some-2.is at c.in_ok-parts-in-pack.ensures in
-    let is = packed c.in-Some-2.parts.items (term c.pack.result) (all_named_form (view c.args.inside.now)) c.pack.ensures all in
-    rw c.in-pack.is is
 
 pub joined_of-returns-in-Some-of_name : goal.joined_of-returns-in-Some-of_name
 joined_of-returns-in-Some-of_name t c =

@@ -24,4 +24,4 @@ pub returns-in-Some-clause-few_nodes : goal.returns-in-Some-clause-few_nodes
 returns-in-Some-clause-few_nodes c =
     let formed : Some (parts_said c.in-Some.parts) ≡ request_form (view c.in-Ok.value) = rw c.in-Some.is at c.in_ok-parts.ensures in
     let few = (requested_few c.args.bytes.now (parts_said c.in-Some.parts) (in_form c.args.bytes.now (view c.in-Ok.value) (parts_said c.in-Some.parts) (json_is c.args.bytes.now _ c.in-Ok.ensures.ok.0 c.in-Ok.ensures.ok.1) formed)).1 in
-    omega (arith, few, length-map c.in-Some.parts.nodes.items node_data)
+    omega (arith, few, length-map c.in-Some.parts.file.nodes.items node_data)
