@@ -1,29 +1,50 @@
 -- What each way through a run that draws a plan ends in.
-use Rattle.std.proofs.Common.{◌≡◌, ℕ, suc, ◌<◌, ◌≤◌, ◌⊎◌, List, length, Option, Some, None, refl, sym, subst, inl, inr, arith}
-use Rattle.std.specs.Prelude.{IfSome}
-use Rattle.scan_request.specs.declared.request_errors.RequestError.{RequestError}
-use Rattle.scan_request.specs.declared.request_errors.RequestError.TheVariants as requests
-use Rattle.scan_request.specs.RequestForms.{Asked, requested, IsRequest, HasBadLayout, HasBadProjection, RefusedBy}
+use Rattle.std.proofs.Common.{◌≡◌, ℕ, suc, ◌<◌, ◌≤◌, ◌⊎◌, List, length, Option, Some, None, Result, Ok, Err, refl, sym, subst, inl, inr, arith}
+use Rattle.std.specs.Prelude.{IfSome, ⊤}
+use Rattle.scan_request.specs.RequestForms.{Asked, requested, IsRequest, HasBadLayout, HasBadProjection}
 use Rattle.scan_request.proofs.OneRequest.{has_good_layout, has_good_projection}
+use Rattle.scan_output.specs.Writing.{WritingGives}
 use Rattle.vx_base.specs.Sources.{Rose}
+use Rattle.vx_base.specs.Streams.{ReadState, WriteState}
+use Rattle.vx_base.specs.declared.outside.StreamError.{StreamError}
+use Rattle.vx_base.specs.declared.outside.StreamError.TheVariants as stream
 use Rattle.scan_commands.specs.declared.endings.Ending.{Ending}
 use Rattle.scan_commands.specs.declared.endings.Ending.TheVariants.{Done, RequestTooLarge, BadRequest, BadLayout, BadProjection, ScanFailed, WriteFault, RequestFault, OutOfMemory}
-use Rattle.scan_commands.specs.LentStreams.{LentStreams}
-use Rattle.scan_commands.specs.Endings.{refused_ending, status_of}
-use Rattle.scan_commands.specs.PlanRuns.{Draws, IsPlanComplete, ServesPlan}
-use Rattle.scan_commands.specs.Reading.{most_bytes, ReadsAll, ReadsPieces}
+use Rattle.scan_commands.specs.LentRequests.{EndsAtOnce}
+use Rattle.scan_commands.specs.LentStreams.{LentStreams, ReadsRequest}
+use Rattle.scan_commands.specs.Endings.{status_of, writing_ending}
+use Rattle.scan_commands.specs.PlanRuns.{Draws, IsPlanComplete, IsTextOfPlan, ServesPlan}
+use Rattle.scan_commands.specs.Reading.{most_bytes, ReadsPieces}
+use Rattle.scan_commands.proofs.LentRequests.{lent_streams}
 use Rattle.scan_commands.proofs.Pieces.{few_in_all}
 use Rattle.scan_commands.proofs.Serving.{large_told, not_both, told_bytes, well_known}
 
--- the request is refused
-pub request_refused : (ending : Ending) (error : RequestError) (bytes : List ℕ) (before after : LentStreams) → ending ≡ refused_ending error → ReadsAll bytes before.request after.request → RefusedBy bytes error → after.sink ≡ before.sink → Draws ending before after
-request_refused ending error bytes before after ends reads refused same = subst (λ (e : Ending). Draws e before after) (sym ends) (by error refused)
+-- there is no request
+pub draws_at_once : (ending : Ending) (before after : LentStreams) → EndsAtOnce ending before after → Draws ending before after
+draws_at_once RequestTooLarge before after ends = ends
+draws_at_once BadRequest before after ends = ends
+draws_at_once (BadLayout node rule) before after ends = ends
+draws_at_once BadProjection before after ends = ends
+draws_at_once RequestFault before after ends = ends
+draws_at_once OutOfMemory before after ends = inl ends
+draws_at_once Done before after ends = absurd ends
+draws_at_once (ScanFailed error) before after ends = absurd ends
+draws_at_once WriteFault before after ends = absurd ends
+
+-- there is no memory for the text
+pub lacks_text : (asked : Asked) (old new : ReadState) (sink : WriteState) → ReadsRequest asked old new → Draws OutOfMemory (lent_streams old sink) (lent_streams new sink)
+lacks_text asked old new sink reads = inl (record { few = few_in_all reads.bytes old new reads.reads; faults = reads.reads.faults; sink = refl })
+
+-- the text was written, or as much of it as could be
+pub text_ends : (ending : Ending) (written : Result ⊤ StreamError) (asked : Asked) (text lines : List ℕ) (old new : ReadState) (sink sink_after : WriteState) → ending ≡ writing_ending written → lines ≡ text → ReadsRequest asked old new → IsTextOfPlan asked text → WritingGives written lines sink sink_after
+    → Draws ending (lent_streams old sink) (lent_streams new sink_after)
+text_ends ending written asked text lines old new sink sink_after ends same reads is wrote =
+    subst (λ (e : Ending). Draws e (lent_streams old sink) (lent_streams new sink_after)) (sym ends) (by written (subst (λ (t : List ℕ). WritingGives written t sink sink_after) same wrote))
   where
-    by : (error : RequestError) → RefusedBy bytes error → Draws (refused_ending error) before after
-    by requests.BadRequest refused = record { reads = record { bytes = bytes; reads = reads; are = refused }; sink = same }
-    by (requests.BadLayout node rule) refused = record { reads = record { bytes = bytes; reads = reads; are = refused }; sink = same }
-    by (requests.BadProjection error) refused = record { error = error; reads = record { bytes = bytes; reads = reads; are = refused }; sink = same }
-    by requests.Memory refused = inl (record { few = few_in_all bytes before.request after.request reads; faults = reads.faults; sink = same })
+    by : (written : Result ⊤ StreamError) → WritingGives written text sink sink_after → Draws (writing_ending written) (lent_streams old sink) (lent_streams new sink_after)
+    by (Ok done) wrote = record { asked = asked; reads = reads; text = text; is = is; written = wrote.0; faults = wrote.1 }
+    by (Err stream.Failed) wrote = record { drawn = record { asked = asked; reads = reads; text = text; is = is; front = wrote.0 }; rose = wrote.1 }
+    by (Err stream.Memory) wrote = inr (record { asked = asked; reads = reads; text = text; is = is; front = wrote.0 }, reads.reads.faults, wrote.1)
 
 -- ---- completeness
 

@@ -1,6 +1,6 @@
 -- What each way through a run ends in.
 use Rattle.std.proofs.Common.{◌≡◌, ℕ, ◌<◌, ◌⊎◌, List, [], ◌++◌, length, map, take, drop, Option, Some, None, option_map, Result, Ok, Err, refl, sym, ap, ◌∙◌, subst, inl, inr, arith}
-use Rattle.std.specs.Prelude.{IfSome}
+use Rattle.std.specs.Prelude.{IfSome, ⊤}
 use Rattle.std.specs.Global.{Vec}
 use Rattle.std.proofs.Math.Seq.{drop-append_seam, take-append_seam}
 use Rattle.std.proofs.lemmas.List.{drop-map, take-map}
@@ -8,6 +8,7 @@ use Rattle.std.proofs.lemmas.Option.{same_Some}
 use Rattle.vx_base.specs.Columns.{ColumnData}
 use Rattle.vx_base.specs.Sources.{SourceState, Rose}
 use Rattle.vx_base.specs.Streams.{ReadState, WriteState}
+use Rattle.vx_base.specs.declared.outside.StreamError.{StreamError}
 use Rattle.vx_base.specs.declared.outside.StreamError.TheVariants as stream
 use Rattle.vx_layout.specs.Rows.{file_leaves}
 use Rattle.vx_scan.specs.declared.errors.ScanError.{ScanError}
@@ -18,20 +19,19 @@ use Rattle.vx_scan.specs.Plans.{IsQuiet}
 use Rattle.vx_scan.specs.Scanned.{LowestCause}
 use Rattle.vx_scan.specs.Valid.{IsValidScan}
 use Rattle.vx_scan.proofs.ScanValid.{no_lowest, valid_begins}
-use Rattle.scan_request.specs.declared.request_errors.RequestError.{RequestError}
-use Rattle.scan_request.specs.declared.request_errors.RequestError.TheVariants as requests
-use Rattle.scan_request.specs.RequestForms.{Asked, requested, IsRequest, HasBadLayout, HasBadProjection, RefusedBy}
+use Rattle.scan_request.specs.RequestForms.{Asked, requested, IsRequest, HasBadLayout, HasBadProjection}
 use Rattle.scan_request.proofs.OneRequest.{same_request, projection_is_bound, has_good_layout, has_good_projection}
 use Rattle.scan_output.specs.RowWriting.{batch_lines}
 use Rattle.scan_output.specs.Writing.{WritingGives}
 use Rattle.scan_commands.specs.declared.endings.Ending.{Ending}
 use Rattle.scan_commands.specs.declared.endings.Ending.TheVariants.{Done, RequestTooLarge, BadRequest, BadLayout, BadProjection, ScanFailed, WriteFault, RequestFault, OutOfMemory}
+use Rattle.scan_commands.specs.LentRequests.{EndsAtOnce}
 use Rattle.scan_commands.specs.LentStreams.{ReadsBytes, ReadsRequest}
-use Rattle.scan_commands.specs.Endings.{refused_ending, scan_ending, status_of}
-use Rattle.scan_commands.specs.Reading.{most_bytes, ReadsAll, ReadsPieces}
+use Rattle.scan_commands.specs.Endings.{scan_ending, status_of, writing_ending}
+use Rattle.scan_commands.specs.Reading.{most_bytes, ReadsPieces}
 use Rattle.scan_commands.specs.Runs.{LentIo, Asks, WritesFront, Ends, Serves, IsRefused, RefusesScan, FailsToScan, ScanFails, IsValid, IsComplete}
 use Rattle.scan_commands.specs.Scans.{scan_of, ScanGives}
-use Rattle.scan_commands.proofs.Pieces.{few_in_all}
+use Rattle.scan_commands.proofs.LentRequests.{lent_streams}
 
 abbrev pub lent_io : ReadState → List SourceState → WriteState → LentIo
 lent_io request sources sink = record { request = request; sources = sources; sink = sink }
@@ -86,7 +86,7 @@ fails limit error asked old new befores afters sink other never reads gives = re
   sink = refl;
 }
 
-pub scan_failed : (limit : ℕ) → (error : ScanError) (asked : Asked) (old new : ReadState) (befores afters : List SourceState) (sink : WriteState) → ReadsRequest asked old new → ScanGives limit (scan_of asked) (Err error) befores afters → Ends limit (scan_ending error) (lent_io old befores sink) (lent_io new afters sink)
+scan_failed : (limit : ℕ) → (error : ScanError) (asked : Asked) (old new : ReadState) (befores afters : List SourceState) (sink : WriteState) → ReadsRequest asked old new → ScanGives limit (scan_of asked) (Err error) befores afters → Ends limit (scan_ending error) (lent_io old befores sink) (lent_io new afters sink)
 scan_failed limit scan.OutOfRange asked old new befores afters sink reads gives = begins_not limit scan.OutOfRange asked old new befores afters sink (no_lowest (scan_of asked) limit scan.OutOfRange befores afters (λ told rows before after cause. cause)) reads gives (cause_of limit asked scan.OutOfRange befores afters (λ e. absurd cc) gives.answers.cause)
 scan_failed limit scan.OffsetOverflow asked old new befores afters sink reads gives = begins_not limit scan.OffsetOverflow asked old new befores afters sink (no_lowest (scan_of asked) limit scan.OffsetOverflow befores afters (λ told rows before after cause. cause)) reads gives (cause_of limit asked scan.OffsetOverflow befores afters (λ e. absurd cc) gives.answers.cause)
 scan_failed limit scan.BadProjection asked old new befores afters sink reads gives = fails limit scan.BadProjection asked old new befores afters sink (λ e. absurd cc) (λ unbound. unbound (projection_is_bound reads.bytes asked reads.are)) reads gives
@@ -110,13 +110,10 @@ scan_failed limit scan.Memory asked old new befores afters sink reads gives = in
 
 -- ---- the lines
 
-pub reads_request : (asked : Asked) (bytes : List ℕ) (old new : ReadState) → ReadsAll bytes old new → IsRequest bytes asked → ReadsRequest asked old new
-reads_request asked bytes old new reads is = record { bytes = bytes; reads = reads; are = is }
-
 front_of : (limit : ℕ) → (asked : Asked) (batches : Vec ColumnData) (old new : ReadState) (befores afters : List SourceState) (sink sink_after : WriteState) → ScanGives limit (scan_of asked) (Ok batches) befores afters → (count : ℕ) → sink_after.written ≡ option_map (λ (w : List ℕ). w ++ take count (batch_lines batches.items)) sink.written → WritesFront asked (lent_io old befores sink) (lent_io new afters sink_after)
 front_of limit asked batches old new befores afters sink sink_after gives count is = λ file told. (batch_lines batches.items, gives.text file told, (count, is))
 
-pub all_written : (limit : ℕ) → (asked : Asked) (batches : Vec ColumnData) (old new : ReadState) (befores afters : List SourceState) (sink sink_after : WriteState) → ReadsRequest asked old new → ScanGives limit (scan_of asked) (Ok batches) befores afters → WritingGives (Ok tt) (batch_lines batches.items) sink sink_after → Ends limit Done (lent_io old befores sink) (lent_io new afters sink_after)
+all_written : (limit : ℕ) → (asked : Asked) (batches : Vec ColumnData) (old new : ReadState) (befores afters : List SourceState) (sink sink_after : WriteState) → ReadsRequest asked old new → ScanGives limit (scan_of asked) (Ok batches) befores afters → WritingGives (Ok tt) (batch_lines batches.items) sink sink_after → Ends limit Done (lent_io old befores sink) (lent_io new afters sink_after)
 all_written limit asked batches old new befores afters sink sink_after reads gives written = record {
   asked = asked;
   reads = reads;
@@ -125,7 +122,7 @@ all_written limit asked batches old new befores afters sink sink_after reads giv
   writes = record { text = λ file told. (batch_lines batches.items, gives.text file told, written.0); faults = written.1 };
 }
 
-pub not_written : (limit : ℕ) → (asked : Asked) (batches : Vec ColumnData) (old new : ReadState) (befores afters : List SourceState) (sink sink_after : WriteState) → ReadsRequest asked old new → ScanGives limit (scan_of asked) (Ok batches) befores afters → WritingGives (Err stream.Failed) (batch_lines batches.items) sink sink_after → Ends limit WriteFault (lent_io old befores sink) (lent_io new afters sink_after)
+not_written : (limit : ℕ) → (asked : Asked) (batches : Vec ColumnData) (old new : ReadState) (befores afters : List SourceState) (sink sink_after : WriteState) → ReadsRequest asked old new → ScanGives limit (scan_of asked) (Ok batches) befores afters → WritingGives (Err stream.Failed) (batch_lines batches.items) sink sink_after → Ends limit WriteFault (lent_io old befores sink) (lent_io new afters sink_after)
 not_written limit asked batches old new befores afters sink sink_after reads gives ((count, is), rose) = record {
   asked = asked;
   reads = reads;
@@ -135,7 +132,7 @@ not_written limit asked batches old new befores afters sink sink_after reads giv
   rose = rose;
 }
 
-pub lacks_writing : (limit : ℕ) → (asked : Asked) (batches : Vec ColumnData) (old new : ReadState) (befores afters : List SourceState) (sink sink_after : WriteState) → ReadsRequest asked old new → ScanGives limit (scan_of asked) (Ok batches) befores afters → WritingGives (Err stream.Memory) (batch_lines batches.items) sink sink_after → Ends limit OutOfMemory (lent_io old befores sink) (lent_io new afters sink_after)
+lacks_writing : (limit : ℕ) → (asked : Asked) (batches : Vec ColumnData) (old new : ReadState) (befores afters : List SourceState) (sink sink_after : WriteState) → ReadsRequest asked old new → ScanGives limit (scan_of asked) (Ok batches) befores afters → WritingGives (Err stream.Memory) (batch_lines batches.items) sink sink_after → Ends limit OutOfMemory (lent_io old befores sink) (lent_io new afters sink_after)
 lacks_writing limit asked batches old new befores afters sink sink_after reads gives ((count, is), same) = inr (
   asked,
   record {
@@ -147,39 +144,35 @@ lacks_writing limit asked batches old new befores afters sink sink_after reads g
   },
 )
 
--- ---- over the bytes that were read
+-- ---- by what each call gave
 
--- the request is refused
-pub request_refused : (limit : ℕ) (ending : Ending) (error : RequestError) (bytes : List ℕ) (old new : ReadState) (sink : WriteState) (sources : List SourceState) → ending ≡ refused_ending error → ReadsAll bytes old new → RefusedBy bytes error
-    → Ends limit ending (lent_io old sources sink) (lent_io new sources sink)
-request_refused limit ending error bytes old new sink sources ends reads refused =
-    subst (λ (e : Ending). Ends limit e (lent_io old sources sink) (lent_io new sources sink)) (sym ends) (by error refused)
-  where
-    by : (error : RequestError) → RefusedBy bytes error → Ends limit (refused_ending error) (lent_io old sources sink) (lent_io new sources sink)
-    by requests.BadRequest refused = (record { reads = record { bytes = bytes; reads = reads; are = refused }; sink = refl }, refl)
-    by (requests.BadLayout node rule) refused = (record { reads = record { bytes = bytes; reads = reads; are = refused }; sink = refl }, refl)
-    by (requests.BadProjection error) refused = (record { error = error; reads = record { bytes = bytes; reads = reads; are = refused }; sink = refl }, refl)
-    by requests.Memory refused = inl (record { few = few_in_all bytes old new reads; faults = reads.faults; sink = refl }, refl)
+-- there is no request
+pub ends_at_once : (limit : ℕ) (ending : Ending) (old new : ReadState) (sink : WriteState) (sources : List SourceState) → EndsAtOnce ending (lent_streams old sink) (lent_streams new sink) → Ends limit ending (lent_io old sources sink) (lent_io new sources sink)
+ends_at_once limit RequestTooLarge old new sink sources ends = (ends, refl)
+ends_at_once limit BadRequest old new sink sources ends = (ends, refl)
+ends_at_once limit (BadLayout node rule) old new sink sources ends = (ends, refl)
+ends_at_once limit BadProjection old new sink sources ends = (ends, refl)
+ends_at_once limit RequestFault old new sink sources ends = (ends, refl)
+ends_at_once limit OutOfMemory old new sink sources ends = inl (ends, refl)
+ends_at_once limit Done old new sink sources ends = absurd ends
+ends_at_once limit (ScanFailed error) old new sink sources ends = absurd ends
+ends_at_once limit WriteFault old new sink sources ends = absurd ends
 
-pub scan_fails : (limit : ℕ) → (ending : Ending) (error : ScanError) (asked : Asked) (bytes : List ℕ) (old new : ReadState) (sink : WriteState) (befores afters : List SourceState) → ending ≡ scan_ending error → ReadsAll bytes old new → IsRequest bytes asked → ScanGives limit (scan_of asked) (Err error) befores afters
+pub scan_fails : (limit : ℕ) → (ending : Ending) (error : ScanError) (asked : Asked) (old new : ReadState) (sink : WriteState) (befores afters : List SourceState) → ending ≡ scan_ending error → ReadsRequest asked old new → ScanGives limit (scan_of asked) (Err error) befores afters
     → Ends limit ending (lent_io old befores sink) (lent_io new afters sink)
-scan_fails limit ending error asked bytes old new sink befores afters ends reads is gives =
-    subst (λ (e : Ending). Ends limit e (lent_io old befores sink) (lent_io new afters sink)) (sym ends) (scan_failed limit error asked old new befores afters sink (reads_request asked bytes old new reads is) gives)
+scan_fails limit ending error asked old new sink befores afters ends reads gives =
+    subst (λ (e : Ending). Ends limit e (lent_io old befores sink) (lent_io new afters sink)) (sym ends) (scan_failed limit error asked old new befores afters sink reads gives)
 
-pub rows_written : (limit : ℕ) → (asked : Asked) (batches : Vec ColumnData) (lines bytes : List ℕ) (old new : ReadState) (sink sink_after : WriteState) (befores afters : List SourceState) → lines ≡ batch_lines batches.items → ReadsAll bytes old new → IsRequest bytes asked → ScanGives limit (scan_of asked) (Ok batches) befores afters
-    → WritingGives (Ok tt) lines sink sink_after → Ends limit Done (lent_io old befores sink) (lent_io new afters sink_after)
-rows_written limit asked batches lines bytes old new sink sink_after befores afters same reads is gives written =
-    all_written limit asked batches old new befores afters sink sink_after (reads_request asked bytes old new reads is) gives (subst (λ (text : List ℕ). WritingGives (Ok tt) text sink sink_after) same written)
-
-pub rows_not_written : (limit : ℕ) → (asked : Asked) (batches : Vec ColumnData) (lines bytes : List ℕ) (old new : ReadState) (sink sink_after : WriteState) (befores afters : List SourceState) → lines ≡ batch_lines batches.items → ReadsAll bytes old new → IsRequest bytes asked → ScanGives limit (scan_of asked) (Ok batches) befores afters
-    → WritingGives (Err stream.Failed) lines sink sink_after → Ends limit WriteFault (lent_io old befores sink) (lent_io new afters sink_after)
-rows_not_written limit asked batches lines bytes old new sink sink_after befores afters same reads is gives written =
-    not_written limit asked batches old new befores afters sink sink_after (reads_request asked bytes old new reads is) gives (subst (λ (text : List ℕ). WritingGives (Err stream.Failed) text sink sink_after) same written)
-
-pub rows_lack_memory : (limit : ℕ) → (asked : Asked) (batches : Vec ColumnData) (lines bytes : List ℕ) (old new : ReadState) (sink sink_after : WriteState) (befores afters : List SourceState) → lines ≡ batch_lines batches.items → ReadsAll bytes old new → IsRequest bytes asked → ScanGives limit (scan_of asked) (Ok batches) befores afters
-    → WritingGives (Err stream.Memory) lines sink sink_after → Ends limit OutOfMemory (lent_io old befores sink) (lent_io new afters sink_after)
-rows_lack_memory limit asked batches lines bytes old new sink sink_after befores afters same reads is gives written =
-    lacks_writing limit asked batches old new befores afters sink sink_after (reads_request asked bytes old new reads is) gives (subst (λ (text : List ℕ). WritingGives (Err stream.Memory) text sink sink_after) same written)
+-- the lines of the batches were written, or as many as could be
+pub rows_end : (limit : ℕ) → (ending : Ending) (written : Result ⊤ StreamError) (asked : Asked) (batches : Vec ColumnData) (lines : List ℕ) (old new : ReadState) (sink sink_after : WriteState) (befores afters : List SourceState) → ending ≡ writing_ending written → lines ≡ batch_lines batches.items → ReadsRequest asked old new
+    → ScanGives limit (scan_of asked) (Ok batches) befores afters → WritingGives written lines sink sink_after → Ends limit ending (lent_io old befores sink) (lent_io new afters sink_after)
+rows_end limit ending written asked batches lines old new sink sink_after befores afters ends same reads gives wrote =
+    subst (λ (e : Ending). Ends limit e (lent_io old befores sink) (lent_io new afters sink_after)) (sym ends) (by written (subst (λ (text : List ℕ). WritingGives written text sink sink_after) same wrote))
+  where
+    by : (written : Result ⊤ StreamError) → WritingGives written (batch_lines batches.items) sink sink_after → Ends limit (writing_ending written) (lent_io old befores sink) (lent_io new afters sink_after)
+    by (Ok done) wrote = all_written limit asked batches old new befores afters sink sink_after reads gives wrote
+    by (Err stream.Failed) wrote = not_written limit asked batches old new befores afters sink sink_after reads gives wrote
+    by (Err stream.Memory) wrote = lacks_writing limit asked batches old new befores afters sink sink_after reads gives wrote
 
 -- ---- completeness
 

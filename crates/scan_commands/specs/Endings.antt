@@ -1,9 +1,13 @@
 -- The endings of a run, and the status of each.
-use Rattle.std.specs.Prelude.{ℕ}
+use Rattle.std.specs.Prelude.{ℕ, Result, Ok, Err, ⊤}
+use Rattle.vx_base.specs.declared.outside.StreamError.{StreamError}
+use Rattle.vx_base.specs.declared.outside.StreamError.TheVariants as stream
 use Rattle.vx_scan.specs.declared.errors.ScanError.{ScanError}
 use Rattle.vx_scan.specs.declared.errors.ScanError.TheVariants as scan
 use Rattle.scan_request.specs.declared.request_errors.RequestError.{RequestError}
 use Rattle.scan_request.specs.declared.request_errors.RequestError.TheVariants as request
+use Rattle.scan_commands.specs.declared.requests.ReadingError.{ReadingError}
+use Rattle.scan_commands.specs.declared.requests.ReadingError.TheVariants as reading
 use Rattle.scan_commands.specs.declared.endings.Ending.{Ending}
 use Rattle.scan_commands.specs.declared.endings.Ending.TheVariants.{Done, RequestTooLarge, BadRequest, BadLayout, BadProjection, ScanFailed, WriteFault, RequestFault, OutOfMemory}
 use Rattle.scan_commands.specs.Statuses.{done_status, bad_request_status, bad_layout_status, bad_projection_status, row_out_of_range_status, row_offset_overflow_status, lists_unsupported_status, no_location_status, bad_segment_status, bad_code_status, expression_fault_status, read_fault_status, stalled_status, write_fault_status, request_fault_status, request_too_large_status, memory_status}
@@ -33,6 +37,12 @@ status_of WriteFault = write_fault_status
 status_of RequestFault = request_fault_status
 status_of OutOfMemory = memory_status
 
+-- how a run ends whose request can't be read
+abbrev pub reading_ending : ReadingError → Ending
+reading_ending reading.TooLarge = RequestTooLarge
+reading_ending reading.Failed = RequestFault
+reading_ending reading.Memory = OutOfMemory
+
 -- how a run ends whose request is refused
 abbrev pub refused_ending : RequestError → Ending
 refused_ending request.BadRequest = BadRequest
@@ -44,3 +54,9 @@ refused_ending request.Memory = OutOfMemory
 abbrev pub scan_ending : ScanError → Ending
 scan_ending scan.Memory = OutOfMemory
 scan_ending error = ScanFailed error
+
+-- how a run ends that has written all, or as much as it could
+abbrev pub writing_ending : Result ⊤ StreamError → Ending
+writing_ending (Ok done) = Done
+writing_ending (Err stream.Failed) = WriteFault
+writing_ending (Err stream.Memory) = OutOfMemory

@@ -1,6 +1,7 @@
 pub mod Commanded
 pub mod DemoRuns
 pub mod Endings
+pub mod LentRequests
 pub mod LentStreams
 pub mod PlanRuns
 pub mod Reading

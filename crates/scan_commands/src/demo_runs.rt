@@ -1,17 +1,21 @@
 //! A run of the demo: its file is made and scanned, and the summary of its rows is written.
 
-ghost use Rattle.std.specs.Prelude.{◌≡◌, ◌≤◌, IfOk};
+ghost use Rattle.std.specs.Prelude.{◌≡◌, ◌≤◌, IfOk, length};
+ghost use Rattle.vx_base.specs.Limits.{most_segments};
+ghost use Rattle.vx_scan.specs.Builders.{scan_of};
+ghost use Rattle.scan_demo.specs.DemoBytes.{demo_bytes};
 ghost use Rattle.scan_demo.specs.DemoRows.{most_demo_rows};
+ghost use Rattle.scan_demo.specs.DemoScans.{IsDemoScan};
 ghost use Rattle.scan_demo.specs.Summary.{summary};
 ghost use Rattle.scan_commands.specs.DemoRuns.{AreSourcesOf, Demonstrates};
 
-use crate::endings::Ending;
+use crate::endings::{Ending, of_writing};
 use scan_demo::{DemoFile, demo_file, scans_give_demo_rows, summary_of};
 use scan_output::write_all;
 use std::alloc::{AllocError, Global};
 use std::sync::Wait;
 use std::thread::Threads;
-use vx_base::{MemorySource, Sink, StreamError};
+use vx_base::{MemorySource, Sink};
 use vx_scan::ScanBuilder;
 
 /// How many workers scan the demo's file, each with a source of its own.
@@ -28,6 +32,25 @@ fn sources_of(alloc: Global, bytes: &[u8]) -> Result<Vec<MemorySource>, AllocErr
     Ok(sources)
 }
 
+/// A scan of the demo's file that is ready to run.
+struct DemoScan {
+    builder: ScanBuilder,
+    sources: Vec<MemorySource>,
+}
+
+/// The scan of all rows of the demo file of so many rows.
+fn demo_scan(alloc: Global, number: u64) -> Result<DemoScan, AllocError>
+    requires { number ≤ most_demo_rows }
+    ensures scan { IfOk result (λ scan. IsDemoScan number (scan_of scan.builder)) }
+    ensures few { IfOk result (λ scan. length scan.builder.locations ≤ most_segments) }
+    ensures sources { IfOk result (λ scan. AreSourcesOf (demo_bytes number) scan.sources.items) }
+{
+    let DemoFile { file, bytes } = demo_file(alloc, number)?;
+    let sources = sources_of(alloc, &bytes)?;
+    let builder = ScanBuilder::new(alloc, file)?;
+    Ok(DemoScan { builder, sources })
+}
+
 /// The summary of the demo file of so many rows, by a scan of all of them.
 fn scanned_summary<R: AllocGlobal + Threads + Wait + Sync>(
     rt: &R,
@@ -38,11 +61,18 @@ fn scanned_summary<R: AllocGlobal + Threads + Wait + Sync>(
 {
     scans_give_demo_rows();
     let alloc = rt.alloc();
-    let DemoFile { file, bytes } = demo_file(alloc, number)?;
-    let mut sources = sources_of(alloc, &bytes)?;
-    let builder = ScanBuilder::new(alloc, file)?;
-    match builder.into_batches(rt, alloc, &mut sources) {
-        Ok(batches) => summary_of(alloc, number, &batches),
+    let DemoScan {
+        builder,
+        mut sources,
+    } = demo_scan(alloc, number)?;
+    let scanned = builder.into_batches(rt, alloc, &mut sources);
+    drop(sources);
+    match scanned {
+        Ok(batches) => {
+            let text = summary_of(alloc, number, &batches);
+            drop(batches);
+            text
+        }
         // A source in memory neither fails nor waits, and the file is sound: memory ran out.
         Err(_) => Err(AllocError),
     }
@@ -61,9 +91,5 @@ pub(crate) fn demonstrate<R: AllocGlobal + Threads + Wait + Sync, K: Sink>(
         Ok(text) => text,
         Err(_) => return Ending::OutOfMemory,
     };
-    match write_all(out, &text) {
-        Ok(()) => Ending::Done,
-        Err(StreamError::Failed) => Ending::WriteFault,
-        Err(StreamError::Memory) => Ending::OutOfMemory,
-    }
+    of_writing(write_all(out, &text))
 }

@@ -1,14 +1,16 @@
 //! How a run ends, and with which status.
 
 ghost use Rattle.std.specs.Prelude.{◌≡◌};
-ghost use Rattle.scan_commands.specs.Endings.{refused_ending, scan_ending, scan_status as status_of_scan, status_of};
+ghost use Rattle.scan_commands.specs.Endings.{reading_ending, refused_ending, scan_ending, scan_status as status_of_scan, status_of, writing_ending};
 
+use crate::requests::ReadingError;
 use crate::statuses::{
     BAD_CODE, BAD_LAYOUT, BAD_PROJECTION, BAD_REQUEST, BAD_SEGMENT, DONE, EXPRESSION_FAULT,
     LISTS_UNSUPPORTED, NO_LOCATION, OUT_OF_MEMORY, READ_FAULT, REQUEST_FAULT, REQUEST_TOO_LARGE,
     ROW_OFFSET_OVERFLOW, ROW_OUT_OF_RANGE, STALLED, WRITE_FAULT,
 };
 use scan_request::RequestError;
+use vx_base::StreamError;
 use vx_scan::ScanError;
 
 /// How a run ends.
@@ -72,6 +74,17 @@ impl Ending {
     }
 }
 
+/// How a run ends whose request can't be read.
+pub(crate) fn of_reading(error: ReadingError) -> Ending
+    ensures { result ≡ reading_ending error }
+{
+    match error {
+        ReadingError::TooLarge => Ending::RequestTooLarge,
+        ReadingError::Failed => Ending::RequestFault,
+        ReadingError::Memory => Ending::OutOfMemory,
+    }
+}
+
 /// How a run ends whose request is refused.
 pub(crate) fn of_request(error: &RequestError) -> Ending
     ensures { result ≡ refused_ending error.now }
@@ -94,5 +107,16 @@ pub(crate) fn of_scan(error: ScanError) -> Ending
     match error {
         ScanError::Memory => Ending::OutOfMemory,
         error => Ending::ScanFailed(error),
+    }
+}
+
+/// How a run ends that has written all, or as much as it could.
+pub(crate) fn of_writing(written: Result<(), StreamError>) -> Ending
+    ensures { result ≡ writing_ending written }
+{
+    match written {
+        Ok(()) => Ending::Done,
+        Err(StreamError::Failed) => Ending::WriteFault,
+        Err(StreamError::Memory) => Ending::OutOfMemory,
     }
 }

@@ -16,6 +16,7 @@
 mod by_hand;
 mod demo_runs;
 mod endings;
+mod lent_requests;
 mod numbers;
 mod plan_runs;
 mod requests;

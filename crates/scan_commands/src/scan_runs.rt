@@ -5,14 +5,13 @@ ghost use Rattle.scan_words.specs.Limits.{most_workers};
 ghost use Rattle.scan_commands.specs.Reading.{ReadsPieces};
 ghost use Rattle.scan_commands.specs.Runs.{Ends};
 
-use crate::endings::{Ending, of_request, of_scan};
-use crate::requests::{ReadingError, read_request};
+use crate::endings::{Ending, of_scan, of_writing};
+use crate::lent_requests::lent_request;
 use crate::scans::batches_of;
 use scan_output::write_by;
-use scan_request::request_of;
 use std::sync::Wait;
 use std::thread::Threads;
-use vx_base::{SegmentSource, Sink, Source, StreamError};
+use vx_base::{SegmentSource, Sink, Source};
 
 /// Reads the request, scans the sources for its rows, and writes a line for each, once all rows are known: a fault of the
 /// scan writes nothing, and one while writing leaves a front of the lines. A source may answer as often as the idle
@@ -32,23 +31,15 @@ pub(crate) fn serve<
         (record { request = Q.state request.new; sources = map S.state sources.new; sink = K.state out.new }) }
 {
     let alloc = rt.alloc();
-    let bytes = match read_request(alloc, request) {
-        Ok(bytes) => bytes,
-        Err(ReadingError::TooLarge) => return Ending::RequestTooLarge,
-        Err(ReadingError::Failed) => return Ending::RequestFault,
-        Err(ReadingError::Memory) => return Ending::OutOfMemory,
-    };
-    let request = match request_of(alloc, &bytes) {
+    let request = match lent_request(alloc, request) {
         Ok(request) => request,
-        Err(error) => return of_request(&error),
+        Err(ending) => return ending,
     };
     let batches = match batches_of(rt, alloc, request, idle_limit, sources) {
         Ok(batches) => batches,
         Err(error) => return of_scan(error),
     };
-    match write_by(rt, alloc, out, &batches, sources.len()) {
-        Ok(()) => Ending::Done,
-        Err(StreamError::Failed) => Ending::WriteFault,
-        Err(StreamError::Memory) => Ending::OutOfMemory,
-    }
+    let written = write_by(rt, alloc, out, &batches, sources.len());
+    drop(batches);
+    of_writing(written)
 }
