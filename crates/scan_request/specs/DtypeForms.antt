@@ -4,7 +4,7 @@ use Rattle.std.specs.Prelude.{ℕ, ◌-◌, ◌==◌, codes, if◌then◌else◌
 use Rattle.std.specs.Map.{lookup}
 use Rattle.std.specs.Str.{bytes_eq}
 use Rattle.serde_json.specs.Data.{Data, null, boolean, number, string, array, object, Items, no_items, item, Members, no_members, member}
-use Rattle.serde_json.specs.Find.{as_str}
+use Rattle.serde_json.specs.Find.{as_str, get}
 use Rattle.scan_words.specs.Words.{◌>>=◌}
 use Rattle.vx_base.specs.declared.dtypes.IntKind.{IntKind}
 use Rattle.vx_base.specs.declared.dtypes.IntKind.TheVariants.{U8, U16, U32, U64, I8, I16, I32, I64}
@@ -84,3 +84,7 @@ abbrev mutual
   field_items (item a no_items) = None
   field_items (item a (item b no_items)) = as_str a >>= λ name. dtype_form b >>= λ t. Some (record { name = name; dtype = t })
   field_items (item a (item b (item c ds))) = None
+
+-- the dtype that the member of that name is
+abbrev pub dtype_under : List ℕ → Data → Option DataType
+dtype_under name d = get name d >>= dtype_form

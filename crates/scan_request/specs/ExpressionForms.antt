@@ -10,7 +10,7 @@ use Rattle.vx_expr.specs.declared.operators.CompareOp.TheVariants.{Eq, Ne, Lt, L
 use Rattle.vx_expr.specs.declared.operators.ArithOp.TheVariants.{Add, Sub, Mul, Div}
 use Rattle.scan_words.specs.Words.{◌>>=◌}
 use Rattle.scan_request.specs.JsonForms.{has_members}
-use Rattle.scan_request.specs.DtypeForms.{dtype_form}
+use Rattle.scan_request.specs.DtypeForms.{dtype_under}
 use Rattle.vx_base.specs.Data as values
 
 -- ---- names
@@ -36,9 +36,12 @@ value_form (string s) = Some (values.text s)
 value_form (array ds) = None
 value_form (object ms) = None
 
+abbrev pub value_said : Data → Option values.Datum
+value_said d = get (codes "lit") d >>= value_form
+
 -- an object of exactly the members `lit`, the value, and `type`, its dtype, which need not fit one another
 abbrev pub literal_form : Data → Option Term
-literal_form d = if has_members 2 d then (get (codes "lit") d >>= value_form >>= λ value. get (codes "type") d >>= dtype_form >>= λ dtype. Some (literal value dtype)) else None
+literal_form d = if has_members 2 d then (value_said d >>= λ value. dtype_under (codes "type") d >>= λ dtype. Some (literal value dtype)) else None
 
 -- ---- expressions
 

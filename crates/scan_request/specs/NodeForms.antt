@@ -11,7 +11,7 @@ use Rattle.vx_layout.specs.declared.nodes.LayoutKind.TheVariants as kinds
 use Rattle.vx_layout.specs.Nodes.{Node}
 use Rattle.scan_words.specs.Words.{◌>>=◌}
 use Rattle.scan_request.specs.JsonForms.{whole_form, has_members, each_form}
-use Rattle.scan_request.specs.DtypeForms.{dtype_form}
+use Rattle.scan_request.specs.DtypeForms.{dtype_under}
 
 -- ---- kinds
 
@@ -34,12 +34,19 @@ plain_kinds = (codes "chunked", kinds.Chunked) ∷ (codes "struct", kinds.Struct
 abbrev pub flat_form : Data → Option LayoutKind
 flat_form d = get (codes "segment") d >>= whole_form (2 ^ 32) >>= λ segment. Some (kinds.Flat segment)
 
+-- a zoned one of either form has such zones
+abbrev pub zoned_by : Option (ℕ × List Statistic) → Option LayoutKind
+zoned_by zones = zones >>= λ told. Some (kinds.Zoned told.0 told.1)
+
+abbrev pub legacy_by : Option (ℕ × List Statistic) → Option LayoutKind
+legacy_by zones = zones >>= λ told. Some (kinds.LegacyStats told.0 told.1)
+
 -- a kind by its name, with the members that it has besides children
 abbrev pub kind_named : Data → List ℕ → Option LayoutKind
 kind_named d name =
     if bytes_eq name (codes "flat") then flat_form d
-    else (if bytes_eq name (codes "zoned") then (zones_form d >>= λ zones. Some (kinds.Zoned zones.0 zones.1))
-    else (if bytes_eq name (codes "legacy_stats") then (zones_form d >>= λ zones. Some (kinds.LegacyStats zones.0 zones.1))
+    else (if bytes_eq name (codes "zoned") then zoned_by (zones_form d)
+    else (if bytes_eq name (codes "legacy_stats") then legacy_by (zones_form d)
     else lookup (bytes_eq name) plain_kinds))
 
 abbrev pub kind_form : Data → Option LayoutKind
@@ -72,7 +79,7 @@ children_form (kinds.LegacyStats zone_len stats) d = numbers_under d
 
 -- a node of a kind, which tells how many rows it has, the numbers of its children and its dtype
 unfoldable pub node_of_kind : LayoutKind → Data → Option Node
-node_of_kind kind d = if has_members (member_count kind) d then (get (codes "rows") d >>= whole_form (2 ^ 64) >>= λ rows. children_form kind d >>= λ children. get (codes "dtype") d >>= dtype_form >>= λ dtype. Some (record { kind = kind; dtype = dtype; rows = rows; children = children })) else None
+node_of_kind kind d = if has_members (member_count kind) d then (get (codes "rows") d >>= whole_form (2 ^ 64) >>= λ rows. children_form kind d >>= λ children. dtype_under (codes "dtype") d >>= λ dtype. Some (record { kind = kind; dtype = dtype; rows = rows; children = children })) else None
 
 unfoldable pub node_form : Data → Option Node
 node_form d = kind_form d >>= λ kind. node_of_kind kind d

@@ -49,11 +49,16 @@ present name d = if is_some (get name d) then 1 else 0
 abbrev pub members_of : Data → ℕ
 members_of d = 2 + present (codes "projection") d + present (codes "range") d + present (codes "indices") d + present (codes "exclude") d + present (codes "row_offset") d
 
--- by the members `locations` and `nodes`
+abbrev pub locations_form : Data → Option (List SegmentLocation)
+locations_form d = get (codes "locations") d >>= list_form location_form
+
+abbrev pub nodes_form : Data → Option (List Node)
+nodes_form d = get (codes "nodes") d >>= list_form node_form
+
 unfoldable pub file_form : Data → Option FileSaid
 file_form d =
-    get (codes "locations") d >>= list_form location_form >>= λ locations.
-    get (codes "nodes") d >>= list_form node_form >>= λ nodes.
+    locations_form d >>= λ locations.
+    nodes_form d >>= λ nodes.
     Some (record { locations = locations; nodes = nodes })
 
 -- an object of exactly those members

@@ -2,14 +2,12 @@
 //! name where nulls are taken.
 
 ghost use Rattle.std.specs.Prelude.{◌≡◌, IfOk, option_map};
-ghost use Rattle.serde_json.specs.Find.{get};
 ghost use Rattle.serde_json.specs.View.{view, items_view, members_view};
 ghost use Rattle.vx_base.specs.Views.{data_type, field_data, members_from};
 ghost use Rattle.std.specs.Map.{lookup};
 ghost use Rattle.std.specs.Str.{bytes_eq};
-ghost use Rattle.scan_words.specs.Words.{◌>>=◌};
 ghost use Rattle.scan_request.specs.JsonForms.{each_form};
-ghost use Rattle.scan_request.specs.DtypeForms.{dtype_form, nested_form, nested_named as nested_by_name, fields_form, field_form, leaf_form, kind_names, unmarked as without_mark};
+ghost use Rattle.scan_request.specs.DtypeForms.{dtype_form, dtype_under, nested_form, nested_named as nested_by_name, fields_form, field_form, leaf_form, kind_names, unmarked as without_mark};
 
 use crate::json_forms::two_of;
 use serde_json::{Map, Value};
@@ -151,7 +149,7 @@ pub(crate) fn dtype_under(
     value: &Value,
     name: &str,
 ) -> Result<Option<DType>, AllocError>
-    ensures { IfOk result (λ dtype. option_map data_type dtype ≡ (get name.now (view value.now) >>= dtype_form)) }
+    ensures { IfOk result (λ dtype. option_map data_type dtype ≡ dtype_under name.now (view value.now)) }
 {
     match value.get(name) {
         Some(dtype) => dtype_of(alloc, dtype),

@@ -1,16 +1,14 @@
 //! The form of expressions: the name of one without parts, an object of one member with its parts, or a literal,
 //! which is an object of its value and its dtype.
 
-ghost use Rattle.std.specs.Prelude.{◌≡◌, IfOk, codes, length, map, option_map};
+ghost use Rattle.std.specs.Prelude.{◌≡◌, IfOk, length, map, option_map};
 ghost use Rattle.std.specs.Map.{lookup};
 ghost use Rattle.std.specs.Str.{bytes_eq};
-ghost use Rattle.serde_json.specs.Find.{get};
 ghost use Rattle.serde_json.specs.View.{view, items_view, members_view};
 ghost use Rattle.vx_expr.specs.Terms.{get_field, pack};
 ghost use Rattle.vx_expr.specs.TermViews.{term};
-ghost use Rattle.scan_words.specs.Words.{◌>>=◌};
 ghost use Rattle.scan_request.specs.JsonForms.{each_form};
-ghost use Rattle.scan_request.specs.ExpressionForms.{bare_names, pair_names, value_form, literal_form, terms_from, expression_form, object_form, joined_form, named_form, all_named_form, pair_form};
+ghost use Rattle.scan_request.specs.ExpressionForms.{bare_names, pair_names, value_form, value_said, literal_form, terms_from, expression_form, object_form, joined_form, named_form, all_named_form, pair_form};
 ghost use Rattle.scan_request.specs.ExpressionViews.{named_term, joined_by, tested_by};
 ghost use Rattle.vx_base.specs.ValueViews.{datum};
 
@@ -143,7 +141,7 @@ fn literal_value(alloc: Global, value: &Value) -> Result<Option<Literal>, AllocE
 
 /// The value that a literal says.
 fn value_said(alloc: Global, value: &Value) -> Result<Option<Literal>, AllocError>
-    ensures { IfOk result (λ literal. option_map datum literal ≡ (get (codes "lit") (view value.now) >>= value_form)) }
+    ensures { IfOk result (λ literal. option_map datum literal ≡ value_said (view value.now)) }
 {
     match value.get("lit") {
         Some(literal) => literal_value(alloc, literal),

@@ -1,14 +1,12 @@
 //! The form of nodes: objects of exactly kind, dtype and rows, and the members of the kind.
 
-ghost use Rattle.std.specs.Prelude.{◌≡◌, Some, IfOk, map, option_map};
+ghost use Rattle.std.specs.Prelude.{◌≡◌, IfOk, map, option_map};
 ghost use Rattle.std.specs.Map.{lookup};
 ghost use Rattle.std.specs.Str.{bytes_eq};
 ghost use Rattle.serde_json.specs.View.{view, items_view};
 ghost use Rattle.vx_layout.specs.Nodes.{node_data};
-ghost use Rattle.vx_layout.specs.declared.nodes.LayoutKind.TheVariants.{LegacyStats, Zoned};
-ghost use Rattle.scan_words.specs.Words.{◌>>=◌};
 ghost use Rattle.scan_request.specs.JsonForms.{each_form};
-ghost use Rattle.scan_request.specs.NodeForms.{statistic_form, zones_form, flat_form, plain_kinds, kind_form, kind_named as named_kind, member_count as members_of_kind, children_form, node_form, node_of_kind};
+ghost use Rattle.scan_request.specs.NodeForms.{statistic_form, zones_form, flat_form, zoned_by, legacy_by, plain_kinds, kind_form, kind_named as named_kind, member_count as members_of_kind, children_form, node_form, node_of_kind};
 ghost use Rattle.scan_request.specs.NodeViews.{node_with};
 
 use crate::dtype_forms::dtype_under;
@@ -78,7 +76,7 @@ fn flat_kind(value: &Value) -> Option<LayoutKind>
 
 /// The zoned kind with such zones, where there are any.
 fn zoned_kind(zones: Option<(u64, Statistics)>) -> Option<LayoutKind>
-    ensures { result ≡ (zones >>= λ told. Some (Zoned told.0 told.1)) }
+    ensures { result ≡ zoned_by zones }
 {
     let (zone_len, stats) = zones?;
     Some(LayoutKind::Zoned { zone_len, stats })
@@ -86,7 +84,7 @@ fn zoned_kind(zones: Option<(u64, Statistics)>) -> Option<LayoutKind>
 
 /// The older zoned kind with such zones, where there are any.
 fn legacy_kind(zones: Option<(u64, Statistics)>) -> Option<LayoutKind>
-    ensures { result ≡ (zones >>= λ told. Some (LegacyStats told.0 told.1)) }
+    ensures { result ≡ legacy_by zones }
 {
     let (zone_len, stats) = zones?;
     Some(LayoutKind::LegacyStats { zone_len, stats })

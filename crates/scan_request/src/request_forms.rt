@@ -8,12 +8,9 @@ ghost use Rattle.vx_expr.specs.Terms.{root};
 ghost use Rattle.vx_expr.specs.TermViews.{term};
 ghost use Rattle.vx_layout.specs.Nodes.{node_data};
 ghost use Rattle.vx_layout.specs.Shape.{node_limit};
-ghost use Rattle.scan_words.specs.Words.{◌>>=◌};
 ghost use Rattle.scan_request.specs.ExpressionForms.{expression_form};
-ghost use Rattle.scan_request.specs.JsonForms.{list_form, most_items, optional_form};
-ghost use Rattle.scan_request.specs.LocationForms.{location_form};
-ghost use Rattle.scan_request.specs.NodeForms.{node_form};
-ghost use Rattle.scan_request.specs.RequestForms.{present, members_of as members_of_request, file_form, request_form, requested, IsRequest, RefusedBy};
+ghost use Rattle.scan_request.specs.JsonForms.{most_items, optional_form};
+ghost use Rattle.scan_request.specs.RequestForms.{present, members_of as members_of_request, locations_form, nodes_form, file_form, request_form, requested, IsRequest, RefusedBy};
 ghost use Rattle.scan_request.specs.RequestViews.{asked_of, file_of_parts, parts_said};
 
 use crate::expression_forms::expression_of;
@@ -154,7 +151,7 @@ fn projection_asked(alloc: Global, value: &Value) -> Result<Option<Expr>, AllocE
 
 /// Where each segment lies.
 fn locations_said(alloc: Global, value: &Value) -> Result<Option<Vec<SegmentLocation>>, AllocError>
-    ensures { IfOk result (λ list. option_map (λ v. v.items) list ≡ (get (codes "locations") (view value.now) >>= list_form location_form)) }
+    ensures { IfOk result (λ list. option_map (λ v. v.items) list ≡ locations_form (view value.now)) }
 {
     match value.get("locations").and_then(few_items_of) {
         Some(items) => locations_in(alloc, items),
@@ -164,7 +161,7 @@ fn locations_said(alloc: Global, value: &Value) -> Result<Option<Vec<SegmentLoca
 
 /// The nodes of the layout.
 fn nodes_said(alloc: Global, value: &Value) -> Result<Option<Vec<LayoutNode>>, AllocError>
-    ensures { IfOk result (λ list. option_map (λ v. map node_data v.items) list ≡ (get (codes "nodes") (view value.now) >>= list_form node_form)) }
+    ensures { IfOk result (λ list. option_map (λ v. map node_data v.items) list ≡ nodes_form (view value.now)) }
 {
     match value.get("nodes").and_then(few_items_of) {
         Some(items) => nodes_in(alloc, items),

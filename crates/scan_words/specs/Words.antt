@@ -64,13 +64,26 @@ abbrev pub has_lone_dash : List Text → Bool
 has_lone_dash [] = false
 has_lone_dash (word ∷ words) = if bytes_eq word (codes "--") then false else (if bytes_eq word (codes "-") then true else has_lone_dash words)
 
--- what the words after this mode ask
+-- what the words after each mode ask
+
+abbrev pub scan_asked : List Text → Option Command
+scan_asked words = parse_rows scan_app words >>= scan_command
+
+abbrev pub read_asked : List Text → Option Command
+read_asked words = parse_rows read_app words >>= read_command
+
+abbrev pub tree_asked : List Text → Option Command
+tree_asked words = parse_rows tree_app words >>= tree_command
+
+abbrev pub demo_asked : List Text → Option Command
+demo_asked words = parse_rows demo_app words >>= demo_command
+
 unfoldable pub mode_command : Text → List Text → Option Command
 mode_command mode words =
-    if bytes_eq mode (codes "scan") then (parse_rows scan_app words >>= scan_command)
-    else (if bytes_eq mode (codes "read") then (parse_rows read_app words >>= read_command)
-    else (if bytes_eq mode (codes "tree") then (parse_rows tree_app words >>= tree_command)
-    else (if bytes_eq mode (codes "demo") then (parse_rows demo_app words >>= demo_command)
+    if bytes_eq mode (codes "scan") then scan_asked words
+    else (if bytes_eq mode (codes "read") then read_asked words
+    else (if bytes_eq mode (codes "tree") then tree_asked words
+    else (if bytes_eq mode (codes "demo") then demo_asked words
     else None)))
 
 -- what the words ask, of which the first is the mode

@@ -13,8 +13,8 @@ use crate::numbers::number_between;
 use crate::split_rules::split_rule;
 use clap::ArgMatches;
 use std::alloc::Global;
-use vx_base::Text;
 use vx_readers::SplitBy;
+use vx_types::Text;
 
 /// The most workers that a scan has.
 const MAX_WORKERS: u64 = 64;

@@ -5,8 +5,8 @@ ghost use Rattle.scan_words.specs.declared.commands.WordsError.TheVariants.{Memo
 
 use std::alloc::{AllocError, AllocFailed};
 use thiserror::Error;
-use vx_base::Text;
 use vx_readers::SplitBy;
+use vx_types::Text;
 
 /// What the words ask of the program.
 #[derive(Drop)]

@@ -3,8 +3,7 @@
 ghost use Rattle.std.specs.Prelude.{◌≡◌, map, string_bytes, IfOk};
 ghost use Rattle.scan_words.specs.Answers.{Answers};
 ghost use Rattle.scan_words.specs.Bounds.{IsWithinBounds};
-ghost use Rattle.scan_words.specs.Grammar.{demo_app, parse_rows, read_app, scan_app, tree_app};
-ghost use Rattle.scan_words.specs.Words.{◌>>=◌, demo_command, mode_command, command_of, has_lone_dash, read_command, scan_command, tree_command};
+ghost use Rattle.scan_words.specs.Words.{mode_command, command_of, demo_asked, has_lone_dash, read_asked, scan_asked, tree_asked};
 
 use crate::arguments::{demo_of, read_of, scan_of, tree_of};
 use crate::commands::{Command, WordsError};
@@ -43,7 +42,7 @@ fn command_in(alloc: Global, mode: &str, words: &[String]) -> Result<Command, Wo
 
 /// What the words after `scan` ask.
 fn scan_asked(alloc: Global, words: &[String]) -> Result<Command, WordsError>
-    ensures command { Answers (parse_rows scan_app (map string_bytes words.now) >>= scan_command) result }
+    ensures command { Answers (scan_asked (map string_bytes words.now)) result }
     ensures bounds { IfOk result IsWithinBounds }
 {
     let matches = scan_matches(alloc, words)?;
@@ -54,7 +53,7 @@ fn scan_asked(alloc: Global, words: &[String]) -> Result<Command, WordsError>
 
 /// What the words after `read` ask.
 fn read_asked(alloc: Global, words: &[String]) -> Result<Command, WordsError>
-    ensures command { Answers (parse_rows read_app (map string_bytes words.now) >>= read_command) result }
+    ensures command { Answers (read_asked (map string_bytes words.now)) result }
     ensures bounds { IfOk result IsWithinBounds }
 {
     let matches = read_matches(alloc, words)?;
@@ -65,7 +64,7 @@ fn read_asked(alloc: Global, words: &[String]) -> Result<Command, WordsError>
 
 /// What the words after `tree` ask.
 fn tree_asked(alloc: Global, words: &[String]) -> Result<Command, WordsError>
-    ensures command { Answers (parse_rows tree_app (map string_bytes words.now) >>= tree_command) result }
+    ensures command { Answers (tree_asked (map string_bytes words.now)) result }
     ensures bounds { IfOk result IsWithinBounds }
 {
     let matches = tree_matches(alloc, words)?;
@@ -76,7 +75,7 @@ fn tree_asked(alloc: Global, words: &[String]) -> Result<Command, WordsError>
 
 /// What the words after `demo` ask.
 fn demo_asked(alloc: Global, words: &[String]) -> Result<Command, WordsError>
-    ensures command { Answers (parse_rows demo_app (map string_bytes words.now) >>= demo_command) result }
+    ensures command { Answers (demo_asked (map string_bytes words.now)) result }
     ensures bounds { IfOk result IsWithinBounds }
 {
     let matches = demo_matches(alloc, words)?;
