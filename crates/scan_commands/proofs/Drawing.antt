@@ -14,9 +14,9 @@ use Rattle.scan_commands.specs.LentRequests.{EndsAtOnce}
 use Rattle.scan_commands.specs.LentStreams.{LentStreams, ReadsRequest}
 use Rattle.scan_commands.specs.Endings.{status_of, writing_ending}
 use Rattle.scan_commands.specs.PlanRuns.{Draws, IsPlanComplete, IsTextOfPlan, ServesPlan}
-use Rattle.scan_commands.specs.Reading.{most_bytes, ReadsPieces}
+use Rattle.scan_input.specs.Reading.{most_bytes, ReadsPieces}
 use Rattle.scan_commands.proofs.LentRequests.{lent_streams}
-use Rattle.scan_commands.proofs.Pieces.{few_in_all}
+use Rattle.scan_input.proofs.Pieces.{few_in_all}
 use Rattle.scan_commands.proofs.Serving.{large_told, not_both, told_bytes, well_known}
 
 -- there is no request

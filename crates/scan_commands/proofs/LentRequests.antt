@@ -4,13 +4,13 @@ use Rattle.vx_base.specs.Streams.{ReadState, WriteState}
 use Rattle.scan_request.specs.declared.request_errors.RequestError.{RequestError}
 use Rattle.scan_request.specs.declared.request_errors.RequestError.TheVariants as requests
 use Rattle.scan_request.specs.RequestForms.{RefusedBy}
-use Rattle.scan_commands.specs.declared.requests.ReadingError.{ReadingError}
-use Rattle.scan_commands.specs.declared.requests.ReadingError.TheVariants.{TooLarge, Failed, Memory}
+use Rattle.scan_input.specs.declared.reading.ReadingError.{ReadingError}
+use Rattle.scan_input.specs.declared.reading.ReadingError.TheVariants.{TooLarge, Failed, Memory}
 use Rattle.scan_commands.specs.LentRequests.{EndsAtOnce}
 use Rattle.scan_commands.specs.LentStreams.{LentStreams}
 use Rattle.scan_commands.specs.Endings.{reading_ending, refused_ending}
-use Rattle.scan_commands.specs.Reading.{ReadingGives, ReadsAll}
-use Rattle.scan_commands.proofs.Pieces.{few_in_all}
+use Rattle.scan_input.specs.Reading.{ReadingGives, ReadsAll}
+use Rattle.scan_input.proofs.Pieces.{few_in_all}
 
 abbrev pub lent_streams : ReadState → WriteState → LentStreams
 lent_streams request sink = record { request = request; sink = sink }

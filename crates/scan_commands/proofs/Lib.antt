@@ -1,7 +1,6 @@
 pub mod Demonstrating
 pub mod Drawing
 pub mod LentRequests
-pub mod Pieces
 pub mod Running
 pub mod Scanning
 pub mod Serving

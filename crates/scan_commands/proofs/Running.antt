@@ -12,10 +12,10 @@ use Rattle.scan_commands.specs.Commanded.{have_sources, workers_of, with_first, 
 use Rattle.scan_commands.specs.LentStreams.{LentStreams}
 use Rattle.scan_commands.specs.Endings.{status_of}
 use Rattle.scan_commands.specs.PlanRuns.{ServesPlan}
-use Rattle.scan_commands.specs.Reading.{ReadsPieces}
+use Rattle.scan_input.specs.Reading.{ReadsPieces}
 use Rattle.scan_commands.specs.Runs.{Ends, Serves, LentIo, without_sources}
 use Rattle.scan_commands.proofs.Drawing.{draws_complete}
-use Rattle.scan_commands.proofs.Pieces.{none_read}
+use Rattle.scan_input.proofs.Pieces.{none_read}
 use Rattle.scan_commands.proofs.Serving.{ends_alike, first_back, first_whole, rest_same, serves_complete, serves_so, lent_io}
 
 no_pieces : (old : ReadState) → ReadsPieces old old

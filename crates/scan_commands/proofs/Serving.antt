@@ -28,7 +28,7 @@ use Rattle.scan_commands.specs.declared.endings.Ending.TheVariants.{Done, Reques
 use Rattle.scan_commands.specs.LentRequests.{EndsAtOnce}
 use Rattle.scan_commands.specs.LentStreams.{ReadsBytes, ReadsRequest}
 use Rattle.scan_commands.specs.Endings.{scan_ending, status_of, writing_ending}
-use Rattle.scan_commands.specs.Reading.{most_bytes, ReadsPieces}
+use Rattle.scan_input.specs.Reading.{most_bytes, ReadsPieces}
 use Rattle.scan_commands.specs.Runs.{LentIo, Asks, WritesFront, Ends, Serves, IsRefused, RefusesScan, FailsToScan, ScanFails, IsValid, IsComplete}
 use Rattle.scan_commands.specs.Scans.{scan_of, ScanGives}
 use Rattle.scan_commands.proofs.LentRequests.{lent_streams}

@@ -6,8 +6,8 @@ use Rattle.vx_scan.specs.declared.errors.ScanError.{ScanError}
 use Rattle.vx_scan.specs.declared.errors.ScanError.TheVariants as scan
 use Rattle.scan_request.specs.declared.request_errors.RequestError.{RequestError}
 use Rattle.scan_request.specs.declared.request_errors.RequestError.TheVariants as request
-use Rattle.scan_commands.specs.declared.requests.ReadingError.{ReadingError}
-use Rattle.scan_commands.specs.declared.requests.ReadingError.TheVariants as reading
+use Rattle.scan_input.specs.declared.reading.ReadingError.{ReadingError}
+use Rattle.scan_input.specs.declared.reading.ReadingError.TheVariants as reading
 use Rattle.scan_commands.specs.declared.endings.Ending.{Ending}
 use Rattle.scan_commands.specs.declared.endings.Ending.TheVariants.{Done, RequestTooLarge, BadRequest, BadLayout, BadProjection, ScanFailed, WriteFault, RequestFault, OutOfMemory}
 use Rattle.scan_commands.specs.Statuses.{done_status, bad_request_status, bad_layout_status, bad_projection_status, row_out_of_range_status, row_offset_overflow_status, lists_unsupported_status, no_location_status, bad_segment_status, bad_code_status, expression_fault_status, read_fault_status, stalled_status, write_fault_status, request_fault_status, request_too_large_status, memory_status}

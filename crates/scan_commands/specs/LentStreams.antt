@@ -4,7 +4,7 @@ use Rattle.vx_base.specs.Sources.{Rose}
 use Rattle.vx_base.specs.Streams.{ReadState, WriteState}
 use Rattle.vx_expr.specs.declared.binding.BindError.{BindError}
 use Rattle.scan_request.specs.RequestForms.{Asked, requested, IsRequest, HasBadLayout, HasBadProjection}
-use Rattle.scan_commands.specs.Reading.{ReadsAll, ReadsFew, ReadsTooMany}
+use Rattle.scan_input.specs.Reading.{ReadsAll, ReadsFew, ReadsTooMany}
 
 -- What a run reads its request from, and what it writes to.
 pub record LentStreams : Type 0 where

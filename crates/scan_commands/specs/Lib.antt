@@ -4,7 +4,6 @@ pub mod Endings
 pub mod LentRequests
 pub mod LentStreams
 pub mod PlanRuns
-pub mod Reading
 pub mod Runs
 pub mod Scans
 pub mod Statuses

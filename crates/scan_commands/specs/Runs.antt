@@ -17,7 +17,7 @@ use Rattle.scan_commands.specs.declared.endings.Ending.{Ending}
 use Rattle.scan_commands.specs.declared.endings.Ending.TheVariants.{Done, RequestTooLarge, BadRequest, BadLayout, BadProjection, ScanFailed, WriteFault, RequestFault, OutOfMemory}
 use Rattle.scan_commands.specs.LentStreams.{LentStreams, ReadsRequest, IsTooLarge, IsBadRequest, IsBadLayout, IsBadProjection, FailsToRead, RunsOutAtOnce}
 use Rattle.scan_commands.specs.Endings.{status_of}
-use Rattle.scan_commands.specs.Reading.{most_bytes, ReadsPieces}
+use Rattle.scan_input.specs.Reading.{most_bytes, ReadsPieces}
 use Rattle.scan_commands.specs.Scans.{scan_of, IsText}
 use Rattle.scan_commands.specs.Statuses.{done_status, memory_status}
 

@@ -3,12 +3,12 @@
 ghost use Rattle.std.specs.Prelude.{◌≡◌};
 ghost use Rattle.scan_commands.specs.Endings.{reading_ending, refused_ending, scan_ending, scan_status as status_of_scan, status_of, writing_ending};
 
-use crate::requests::ReadingError;
 use crate::statuses::{
     BAD_CODE, BAD_LAYOUT, BAD_PROJECTION, BAD_REQUEST, BAD_SEGMENT, DONE, EXPRESSION_FAULT,
     LISTS_UNSUPPORTED, NO_LOCATION, OUT_OF_MEMORY, READ_FAULT, REQUEST_FAULT, REQUEST_TOO_LARGE,
     ROW_OFFSET_OVERFLOW, ROW_OUT_OF_RANGE, STALLED, WRITE_FAULT,
 };
+use scan_input::ReadingError;
 use scan_request::RequestError;
 use vx_base::StreamError;
 use vx_scan::ScanError;

@@ -2,11 +2,11 @@
 
 ghost use Rattle.std.specs.Prelude.{◌≤◌, IfOk, length};
 ghost use Rattle.scan_request.specs.JsonForms.{most_items};
-ghost use Rattle.scan_commands.specs.Reading.{ReadsPieces};
+ghost use Rattle.scan_input.specs.Reading.{ReadsPieces};
 ghost use Rattle.scan_commands.specs.LentRequests.{RequestGives};
 
 use crate::endings::{Ending, of_reading, of_request};
-use crate::requests::read_request;
+use scan_input::read_request;
 use scan_request::{Request, request_of};
 use std::alloc::Global;
 use vx_base::Source;

@@ -19,7 +19,6 @@ mod endings;
 mod lent_requests;
 mod numbers;
 mod plan_runs;
-mod requests;
 mod runs;
 mod scan_runs;
 mod scans;

@@ -5,7 +5,7 @@ ghost use Rattle.vx_expr.specs.Bound.{IsBoundTo};
 ghost use Rattle.vx_layout.specs.Trees.{head_of, subtree};
 ghost use Rattle.scan_request.specs.RequestViews.{asked_of};
 ghost use Rattle.scan_commands.specs.PlanRuns.{Draws, IsTextOfPlan};
-ghost use Rattle.scan_commands.specs.Reading.{ReadsPieces};
+ghost use Rattle.scan_input.specs.Reading.{ReadsPieces};
 
 use crate::endings::{Ending, of_writing};
 use crate::lent_requests::lent_request;

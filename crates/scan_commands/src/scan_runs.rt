@@ -2,7 +2,7 @@
 
 ghost use Rattle.std.specs.Prelude.{◌<◌, ◌≤◌, length, map};
 ghost use Rattle.scan_words.specs.Limits.{most_workers};
-ghost use Rattle.scan_commands.specs.Reading.{ReadsPieces};
+ghost use Rattle.scan_input.specs.Reading.{ReadsPieces};
 ghost use Rattle.scan_commands.specs.Runs.{Ends};
 
 use crate::endings::{Ending, of_scan, of_writing};

@@ -6,10 +6,10 @@ use Rattle.std.specs.Result.{IsErrAnd}
 use Rattle.std.proofs.lemmas.List.{take-append-drop, append-nil}
 use Rattle.std.proofs.lemmas.List.Elements.{All-push}
 use Rattle.std.proofs.lemmas.List.Sums.{sum_by_push}
-use Rattle.vx_base.specs.Streams.{ReadState, Gave, GaveNothing}
-use Rattle.scan_commands.specs.Reading.{most_bytes, most_piece, IsFull, ReadingGives, ReadsAll, ReadsFew, ReadsPieces, ReadsTooMany}
-use Rattle.scan_commands.specs.declared.requests.ReadingError.{ReadingError}
-use Rattle.scan_commands.specs.declared.requests.ReadingError.TheVariants.{Memory}
+use Rattle.vx_outside.specs.Streams.{ReadState, Gave, GaveNothing}
+use Rattle.scan_input.specs.Reading.{most_bytes, most_piece, IsFull, ReadingGives, ReadsAll, ReadsFew, ReadsPieces, ReadsTooMany}
+use Rattle.scan_input.specs.declared.reading.ReadingError.{ReadingError}
+use Rattle.scan_input.specs.declared.reading.ReadingError.TheVariants.{Memory}
 
 -- the source told all of its bytes as what was read so far and a rest
 abbrev pub TellsRest : List ℕ → Option (List ℕ) → Option (List ℕ) → Type 0

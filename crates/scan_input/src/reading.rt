@@ -1,17 +1,17 @@
 //! Reading a request to its end.
 
 ghost use Rattle.std.specs.Prelude.{◌≡◌};
-ghost use Rattle.scan_commands.specs.Reading.{ReadingGives, ReadsPieces};
-ghost use Rattle.scan_commands.specs.declared.requests.ReadingError.TheVariants.{Memory};
+ghost use Rattle.scan_input.specs.Reading.{ReadingGives, ReadsPieces};
+ghost use Rattle.scan_input.specs.declared.reading.ReadingError.TheVariants.{Memory};
 
 use std::alloc::{AllocError, Global};
-use vx_base::{Source, StreamError};
+use vx_outside::{Source, StreamError};
 
 /// A request has at most so many bytes.
-pub(crate) const MOST_BYTES: usize = 16777216;
+pub const MOST_BYTES: usize = 16777216;
 
 /// A piece of the request has at most so many bytes.
-pub(crate) const PIECE_BYTES: usize = 65536;
+pub const PIECE_BYTES: usize = 65536;
 
 /// Why a request was not read.
 #[derive(Clone, Copy, Debug, PartialEq, Eq)]

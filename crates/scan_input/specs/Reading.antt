@@ -1,10 +1,10 @@
 -- Reading a request to its end.
 use Rattle.std.specs.Prelude.{◌≡◌, ℕ, ◌+◌, ◌<◌, ◌≤◌, ◌⊎◌, List, [], ◌∷◌, ◌++◌, length, sum, All, Some, IfSome, Result, Ok, Err}
 use Rattle.std.specs.Global.{Vec}
-use Rattle.vx_base.specs.Sources.{Rose}
-use Rattle.vx_base.specs.Streams.{ReadState}
-use Rattle.scan_commands.specs.declared.requests.ReadingError.{ReadingError}
-use Rattle.scan_commands.specs.declared.requests.ReadingError.TheVariants.{TooLarge, Failed, Memory}
+use Rattle.vx_outside.specs.Sources.{Rose}
+use Rattle.vx_outside.specs.Streams.{ReadState}
+use Rattle.scan_input.specs.declared.reading.ReadingError.{ReadingError}
+use Rattle.scan_input.specs.declared.reading.ReadingError.TheVariants.{TooLarge, Failed, Memory}
 
 -- a request has at most so many bytes
 abbrev pub most_bytes : ℕ

@@ -1,7 +1,7 @@
 use Rattle.std.proofs.Common.{◌≡◌, ◌+◌, ◌<◌, ◌≤◌, ◌++◌, ◌∙◌, length, arith, sym, subst, List, ℕ}
 use Rattle.std.proofs.lemmas.Grind.{common_steps}
-use Rattle.scan_commands.proofs.Pieces.{few_with_piece, pieces_of, ran_out, reads_more, too_many, ReadsSoFar}
-use Rattle.scan_commands.proofs.requests.read_request.Goals as goal
+use Rattle.scan_input.proofs.Pieces.{few_with_piece, pieces_of, ran_out, reads_more, too_many, ReadsSoFar}
+use Rattle.scan_input.proofs.reading.read_request.Goals as goal
 
 pub returns-then-len-clause-bytes : goal.returns-then-len-clause-bytes
 returns-then-len-clause-bytes g c =
