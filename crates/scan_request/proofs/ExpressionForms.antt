@@ -14,7 +14,7 @@ use Rattle.vx_expr.specs.Terms.{Term, pack, named}
 use Rattle.vx_expr.specs.TermViews.{term, terms_of}
 use Rattle.scan_words.specs.Words.{◌>>=◌}
 use Rattle.scan_request.specs.JsonForms.{each_form, two_items}
-use Rattle.scan_request.specs.ExpressionForms.{pair_names, terms_from, literal_form, joined_form, expression_form, object_form, named_form, all_named_form, each_named, pair_form}
+use Rattle.scan_request.specs.ExpressionForms.{test_names, pair_names, terms_from, test_or_pair, literal_form, joined_form, expression_form, object_form, named_form, all_named_form, each_named, pair_form}
 use Rattle.scan_request.specs.ExpressionViews.{named_term}
 use Rattle.scan_request.proofs.JsonForms.{here}
 
@@ -41,12 +41,12 @@ apart k l other = tested (bytes_eq k l) refl
     tested true e = absurd (other ((bytes_eq-Decides k l).0 e))
     tested false e = refl
 
--- any other name joins a pair
-pub joined_pair : (name : List ℕ) (join : Term → Term → Term) (part : Option Term) (named_part : Option (List ℕ × Term)) (parts : Option (List (List ℕ × Term))) (pair : Option (Term × Term))
-    → (name ≡ codes "get" → ⊥) → (name ≡ codes "pack" → ⊥) → (name ≡ codes "not" → ⊥) → (name ≡ codes "is_null" → ⊥) → (name ≡ codes "is_not_null" → ⊥) → Some join ≡ lookup (bytes_eq name) pair_names
-    → joined_form name part named_part parts pair ≡ option_map (λ es. join es.0 es.1) pair
-joined_pair name join part named_part parts pair get packs negates tests_null tests_value is =
-    rw (apart name (codes "get") get, apart name (codes "pack") packs, apart name (codes "not") negates, apart name (codes "is_null") tests_null, apart name (codes "is_not_null") tests_value, ← is) refl
+-- any other name is that of a test, or joins a pair
+pub joined_other : (name : List ℕ) (test : Option (Term → Term)) (join : Option (Term → Term → Term)) (part : Option Term) (named_part : Option (List ℕ × Term)) (parts : Option (List (List ℕ × Term))) (pair : Option (Term × Term))
+    → (name ≡ codes "get" → ⊥) → (name ≡ codes "pack" → ⊥) → test ≡ lookup (bytes_eq name) test_names → join ≡ lookup (bytes_eq name) pair_names
+    → joined_form name part named_part parts pair ≡ test_or_pair test join part pair
+joined_other name test join part named_part parts pair get packs is_test is_join =
+    rw (apart name (codes "get") get, apart name (codes "pack") packs) (ap (λ t. test_or_pair t (lookup (bytes_eq name) pair_names) part pair) (sym is_test) ∙ ap (λ j. test_or_pair test j part pair) (sym is_join))
 
 -- ---- named expressions
 

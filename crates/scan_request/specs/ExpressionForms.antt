@@ -19,6 +19,10 @@ use Rattle.vx_base.specs.Data as values
 abbrev pub bare_names : List (List ℕ × Term)
 bare_names = (codes "root", root) ∷ (codes "row_idx", row_number) ∷ []
 
+-- those of one other by their names
+abbrev pub test_names : List (List ℕ × (Term → Term))
+test_names = (codes "not", negation) ∷ (codes "is_null", null_test) ∷ (codes "is_not_null", value_test) ∷ []
+
 -- the expressions that join two others by their names
 abbrev pub pair_names : List (List ℕ × (Term → Term → Term))
 pair_names = (codes "and", conjunction) ∷ (codes "or", disjunction)
@@ -50,16 +54,19 @@ abbrev pub terms_from : List (List ℕ × Term) → Terms
 terms_from [] = no_terms
 terms_from (part ∷ parts) = named part.0 part.1 (terms_from parts)
 
--- The expression that an object of one member is, by the member's name. Its value is a named part of `get`, named
--- parts of `pack`, one part of the tests and `not`, and a pair of parts of all else.
+-- of one part or of a pair, by what the name makes of them
+abbrev pub test_or_pair : Option (Term → Term) → Option (Term → Term → Term) → Option Term → Option (Term × Term) → Option Term
+test_or_pair (Some test) join part pair = option_map test part
+test_or_pair None (Some join) part pair = option_map (λ es. join es.0 es.1) pair
+test_or_pair None None part pair = None
+
+-- The expression that an object of one member is, by the member's name. Its value is a named part of `get`, named parts of
+-- `pack`, one part of a test and of `not`, and a pair of parts of all else.
 abbrev pub joined_form : List ℕ → Option Term → Option (List ℕ × Term) → Option (List (List ℕ × Term)) → Option (Term × Term) → Option Term
 joined_form name part named_part named_parts pair =
     if bytes_eq name (codes "get") then option_map (λ field. get_field field.0 field.1) named_part
     else (if bytes_eq name (codes "pack") then option_map (λ fields. pack (terms_from fields)) named_parts
-    else (if bytes_eq name (codes "not") then option_map negation part
-    else (if bytes_eq name (codes "is_null") then option_map null_test part
-    else (if bytes_eq name (codes "is_not_null") then option_map value_test part
-    else (lookup (bytes_eq name) pair_names >>= λ join. option_map (λ es. join es.0 es.1) pair)))))
+    else test_or_pair (lookup (bytes_eq name) test_names) (lookup (bytes_eq name) pair_names) part pair)
 
 abbrev mutual
   pub expression_form : Data → Option Term

@@ -8,7 +8,7 @@ ghost use Rattle.serde_json.specs.View.{view, items_view, members_view};
 ghost use Rattle.vx_expr.specs.Terms.{get_field, pack};
 ghost use Rattle.vx_expr.specs.TermViews.{term};
 ghost use Rattle.scan_request.specs.JsonForms.{each_form};
-ghost use Rattle.scan_request.specs.ExpressionForms.{bare_names, pair_names, value_form, value_said, literal_form, terms_from, expression_form, object_form, joined_form, named_form, all_named_form, pair_form};
+ghost use Rattle.scan_request.specs.ExpressionForms.{bare_names, test_names, pair_names, value_form, value_said, literal_form, terms_from, expression_form, object_form, joined_form, named_form, all_named_form, pair_form};
 ghost use Rattle.scan_request.specs.ExpressionViews.{named_term, joined_by, tested_by};
 ghost use Rattle.vx_base.specs.ValueViews.{datum};
 
@@ -81,6 +81,17 @@ enum Test {
 }
 
 impl Test {
+    fn of_name(name: &str) -> Option<Test>
+        ensures { option_map tested_by result ≡ lookup (bytes_eq name.now) test_names }
+    {
+        match name {
+            "not" => Some(Test::Not),
+            "is_null" => Some(Test::IsNull),
+            "is_not_null" => Some(Test::IsNotNull),
+            _ => None,
+        }
+    }
+
     fn test(self, alloc: Global, operand: Expr) -> Result<Expr, AllocError>
         ensures { IfOk result (λ expr. term expr ≡ tested_by self (term operand)) }
     {
@@ -210,12 +221,12 @@ fn joined_of(alloc: Global, name: &str, inside: &Value) -> Result<Option<Expr>, 
     match name {
         "get" => field_got(alloc, named_of(alloc, inside)?),
         "pack" => Ok(packed(all_named_of(alloc, inside)?)),
-        "not" => tested(alloc, Test::Not, expression_of(alloc, inside)?),
-        "is_null" => tested(alloc, Test::IsNull, expression_of(alloc, inside)?),
-        "is_not_null" => tested(alloc, Test::IsNotNull, expression_of(alloc, inside)?),
-        _ => match Join::of_name(name) {
-            Some(join) => pair_joined(alloc, join, inside),
-            None => Ok(None),
+        _ => match Test::of_name(name) {
+            Some(test) => tested(alloc, test, expression_of(alloc, inside)?),
+            None => match Join::of_name(name) {
+                Some(join) => pair_joined(alloc, join, inside),
+                None => Ok(None),
+            },
         },
     }
 }

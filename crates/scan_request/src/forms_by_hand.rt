@@ -87,7 +87,7 @@ pub fn row_forms_by_hand()
 {}
 
 /// All rows whole where only locations and nodes are there; a further member makes it none, also an absent one's null.
-#[tactic(auto, unfolding(crate::specs::RequestForms::request_form))]
+#[tactic(auto, unfolding(crate::specs::RequestForms::request_form, crate::specs::RequestForms::file_form))]
 pub fn request_forms_by_hand()
     ensures least { request_form (object (member (codes "locations") (array no_items) (member (codes "nodes") (array no_items) no_members)))
         ≡ Some (record { locations = []; nodes = []; projection = root; range = None; selection = All; row_offset = 0 }) }

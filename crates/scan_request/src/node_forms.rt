@@ -186,12 +186,19 @@ fn node_of_kind(
     ensures { IfOk result (λ node. option_map node_data node ≡ node_of_kind kind (view value.now)) }
 {
     match facts_of(alloc, value, &kind) {
-        Ok(Some(facts)) => Ok(Some(LayoutNode {
-            kind,
-            dtype: facts.dtype,
-            row_count: facts.row_count,
-            children: facts.children,
-        })),
+        Ok(Some(facts)) => {
+            let NodeFacts {
+                row_count,
+                children,
+                dtype,
+            } = facts;
+            Ok(Some(LayoutNode {
+                kind,
+                dtype,
+                row_count,
+                children,
+            }))
+        }
         Ok(None) => {
             drop(kind);
             Ok(None)

@@ -8,7 +8,7 @@ use Rattle.scan_request.specs.JsonForms.{each_form}
 use Rattle.scan_request.specs.ExpressionForms.{literal_form, expression_form, all_named_form, named_form, pair_form}
 use Rattle.scan_request.specs.ExpressionViews.{named_term, joined_by}
 use Rattle.scan_request.proofs.DtypeForms.{item_depth, first_depth}
-use Rattle.scan_request.proofs.ExpressionForms.{each_named_is, many_members, one_member, joined_pair, named_from, pair_from}
+use Rattle.scan_request.proofs.ExpressionForms.{each_named_is, many_members, one_member, joined_other, named_from, pair_from}
 use Rattle.scan_request.proofs.JsonForms.{each_begun, each_done, each_more, each_none, two_depth}
 use Rattle.scan_request.proofs.expression_forms.+expressions.Goals as goal
 
@@ -88,9 +88,3 @@ expression_of-returns-else-len-eq1 t c =
     let is : expression_form (view c.args.value.now) ≡ literal_form (view c.args.value.now) =
     ap (λ (v : Value). expression_form (view v)) c.in-Object.is ∙ (ap expression_form (view-Object c.in-Object.members) ∙ (sym (many_members c.in-Object.members.entries other) ∙ (sym (ap literal_form (view-Object c.in-Object.members)) ∙ sym (ap (λ (v : Value). literal_form (view v)) c.in-Object.is)))) in
     rw is c.literal_of.ensures
-
-pub joined_of-returns-in-Some-of_name : goal.joined_of-returns-in-Some-of_name
-joined_of-returns-in-Some-of_name t c =
-    let is = joined_pair c.args.name.now (joined_by c.in-Some-of_name.join) (expression_form (view c.args.inside.now)) (named_form (view c.args.inside.now)) (all_named_form (view c.args.inside.now)) (pair_form (view c.args.inside.now))
-    c.in_default.not-get c.in_default.not-pack c.in_default.not-not c.in_default.not-is_null c.in_default.not-is_not_null c.in-Some-of_name.ensures in
-    rw is c.pair_joined.ensures
