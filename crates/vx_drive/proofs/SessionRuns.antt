@@ -24,14 +24,14 @@ use Rattle.vx_drive.specs.declared.adaptors.AdaptorStep.{AdaptorStep}
 use Rattle.vx_drive.specs.declared.adaptors.State.{State}
 use Rattle.vx_drive.specs.declared.adaptors.State.TheVariants.{NeedsCompute, Waiting, Done}
 use Rattle.vx_drive.specs.AdaptorData.{AdaptorData, AreAskedReads, IsOutstanding, IsReady, reads_of, work_of}
-use Rattle.vx_drive.specs.Computes.{Batches, HandsOn, HoldsNext, IsNextOutput, Yields, WhyYields, Computes, ComputeGives, ResultGives, TakesResult, after_result}
+use Rattle.vx_drive.specs.Computes.{Batches, HoldsNext, IsNextOutput, Yields, WhyYields, Computes, ComputeGives, ResultGives, TakesResult, after_result}
 use Rattle.vx_drive.specs.Continues.{splits_left}
 use Rattle.vx_drive.specs.Fetched.{fetches_from, location_of, segments_in, unread, delivered}
 use Rattle.vx_drive.specs.Runs.{GivesSplit}
 use Rattle.vx_drive.specs.Starts.{IsAtStart, IsUnread}
 use Rattle.vx_drive.specs.Waits.{owner, SendGives, Completed}
 use Rattle.vx_drive.proofs.Behind.{got_behind}
-use Rattle.vx_drive.proofs.Running.{ScanSoFar, so_far_start, so_far_then, so_far_taken, left_behind, gave_now, gave_on, gave_same}
+use Rattle.vx_drive.proofs.Running.{ScanSoFar, so_far_start, so_far_then, so_far_taken, left_behind, gave_now, gave_same}
 use Rattle.vx_drive.proofs.Sessions.{known_fetches, all_fetches, fetches_places, asked_then, asked_nothing, outstanding, outstanding_more, OutstandingAt, outstanding_at, some_outstanding, is_outstanding, bytes_told}
 use Rattle.vx_drive.proofs.Computing.{length_fetches}
 use Rattle.vx_drive.proofs.Resulting.{segments_set}
@@ -42,17 +42,14 @@ use Rattle.vx_base.proofs.Got.{got_mapped}
 
 -- ---- what a run keeps
 
--- the output of the scan: collected already, or held by the adaptor
-abbrev pub OneOf : Option ColumnData → Option (ℕ × ColumnData) → ColumnData → Type 0
-OneOf output held column = ((output ≡ Some column) × (held ≡ None)) ⊎ ((output ≡ None) × (number : ℕ) × (held ≡ Some (number, column)))
-
-abbrev pub OutputSoFar : List SegmentLocation → ScanData → SourceState → AdaptorData → Option ColumnData → Type 0
-OutputSoFar locations start before adaptor output =
-    ((splits_left adaptor.scan ≡ splits_left start) × (output ≡ None) × (adaptor.held ≡ None))
-    ⊎ ((splits_left adaptor.scan ≡ []) × (column : ColumnData) × OneOf output adaptor.held column × GivesSplit locations start adaptor.scan before column)
+-- the column of the split is still to come, or the adaptor holds it
+abbrev pub HeldSoFar : List SegmentLocation → ScanData → SourceState → AdaptorData → Type 0
+HeldSoFar locations start before adaptor =
+    ((splits_left adaptor.scan ≡ splits_left start) × (adaptor.held ≡ None))
+    ⊎ ((splits_left adaptor.scan ≡ []) × (number : ℕ) × (column : ColumnData) × (adaptor.held ≡ Some (number, column)) × GivesSplit locations start adaptor.scan before column)
 
 -- The fetches in flight are the reads whose bytes did not come, and exactly the ranges of the reads were asked for.
-pub record Running (locations : List SegmentLocation) (start : ScanData) (before : SourceState) (adaptor : AdaptorData) (output : Option ColumnData) (state : SessionState) : Type 0 where
+pub record Running (locations : List SegmentLocation) (start : ScanData) (before : SourceState) (adaptor : AdaptorData) (state : SessionState) : Type 0 where
   pub unread : IsUnread start
   pub scan : ScanSoFar locations start before adaptor.scan
   pub live : adaptor.state ≢ Done
@@ -64,7 +61,7 @@ pub record Running (locations : List SegmentLocation) (start : ScanData) (before
   pub file : state.source.file ≡ before.file
   pub faults : state.source.faults ≡ before.faults
   pub idle : before.idle ≤ state.source.idle
-  pub so_far : OutputSoFar locations start before adaptor output
+  pub held : HeldSoFar locations start before adaptor
 
 -- what stands of an adaptor that is not done
 pub ready_of : (locations others : List SegmentLocation) (adaptor : AdaptorData) → IsReady others adaptor.state adaptor.first adaptor.asked adaptor.scan.progress.reads → others ≡ locations → adaptor.state ≢ Done → AreAskedReads locations adaptor.first adaptor.asked adaptor.scan.progress.reads
@@ -73,7 +70,7 @@ ready_of locations others adaptor ready same live = subst (λ (ls : List Segment
 pub needs_is_live : (state : State) → state ≡ NeedsCompute → state ≢ Done
 needs_is_live state is done = let both : NeedsCompute ≡ Done = sym is ∙ done in absurd cc
 
-pub run_begins : (locations : List SegmentLocation) (adaptor : AdaptorData) (state : SessionState) → IsAtStart adaptor → IsReady locations adaptor.state adaptor.first adaptor.asked adaptor.scan.progress.reads → state.table ≡ empty_table → Running locations adaptor.scan state.source adaptor None state
+pub run_begins : (locations : List SegmentLocation) (adaptor : AdaptorData) (state : SessionState) → IsAtStart adaptor → IsReady locations adaptor.state adaptor.first adaptor.asked adaptor.scan.progress.reads → state.table ≡ empty_table → Running locations adaptor.scan state.source adaptor state
 run_begins locations adaptor state start ready empty =
     let none : reads_of adaptor ≡ [] = ap (λ (n : ℕ). take n (drop adaptor.first adaptor.scan.progress.reads.wanted)) start.asked in record {
       unread = start.scan;
@@ -87,7 +84,7 @@ run_begins locations adaptor state start ready empty =
       file = refl;
       faults = refl;
       idle = omega arith;
-      so_far = inl (refl, refl, start.held);
+      held = inl (refl, start.held);
     }
 
 -- ---- a batch
@@ -97,23 +94,17 @@ segments_more [] [] = refl
 segments_more [] (segment ∷ segments) = ap (λ (ss : List ℕ). segment ∷ ss) (segments_more [] segments)
 segments_more (read ∷ reads) segments = ap (λ (ss : List ℕ). read.segment ∷ ss) (segments_more reads segments)
 
-output_batch : (locations : List SegmentLocation) (start : ScanData) (before : SourceState) (batch : List IoRequest) (adaptor next : AdaptorData) (output : Option ColumnData) → IsUnread start → ScanSoFar locations start before adaptor.scan → Batches locations batch adaptor next →
-    OutputSoFar locations start before adaptor output → HoldsNext adaptor next → OutputSoFar locations start before next output
-output_batch locations start before batch adaptor next output fresh scan batched (inl (left, none, empty)) (inl (held, same)) = inl (same ∙ left, none, held)
-output_batch locations start before batch adaptor next output fresh scan batched (inl (left, none, empty)) (inr (number, column, held, out)) =
-    inr (left_behind start adaptor.scan next.scan number column fresh left out, column, inr (none, number, held), gave_now locations start adaptor.scan next.scan before number column fresh scan.kept out)
-output_batch locations start before batch adaptor next output fresh scan batched (inr (left, column, one, gave)) (inl (held, same)) =
-    inr (same ∙ left, column, moved one, gave_on locations start adaptor.scan next.scan before column batched.scan.keeps.wholes batched.scan.keeps.leaves gave)
-  where
-    moved : OneOf output adaptor.held column → OneOf output next.held column
-    moved (inl (is, empty)) = inl (is, held)
-    moved (inr (is, number, full)) = absurd (let both : None ≡ Some (number, column) = sym batched.held ∙ full in cc)
-output_batch locations start before batch adaptor next output fresh scan batched (inr (left, column, one, gave)) (inr (number, other, held, out)) =
-    absurd (let both : None ≡ Some number = sym (ap (λ (ns : List ℕ). slice_get ns out.place) left) ∙ out.at in cc)
+held_batch : (locations : List SegmentLocation) (start : ScanData) (before : SourceState) (batch : List IoRequest) (adaptor next : AdaptorData) → IsUnread start → ScanSoFar locations start before adaptor.scan → Batches locations batch adaptor next →
+    HeldSoFar locations start before adaptor → HoldsNext adaptor next → HeldSoFar locations start before next
+held_batch locations start before batch adaptor next fresh scan batched (inl (left, empty)) (inl (held, same)) = inl (same ∙ left, held)
+held_batch locations start before batch adaptor next fresh scan batched (inl (left, empty)) (inr (number, column, held, out)) =
+    inr (left_behind start adaptor.scan next.scan number column fresh left out, number, column, held, gave_now locations start adaptor.scan next.scan before number column fresh scan.kept out)
+held_batch locations start before batch adaptor next fresh scan batched (inr (left, number, column, full, gave)) one =
+    absurd (let both : None ≡ Some (number, column) = sym batched.held ∙ full in cc)
 
-pub run_batch : (locations : List SegmentLocation) (start : ScanData) (before : SourceState) (batch : List IoRequest) (adaptor next : AdaptorData) (output : Option ColumnData) (old new : SessionState) →
-    Running locations start before adaptor output old → Batches locations batch adaptor next → AreAskedReads locations next.first next.asked next.scan.progress.reads → SendGives batch (Ok tt) old new → Running locations start before next output new
-run_batch locations start before batch adaptor next output old new run batched ready (sent, stays, faults) =
+pub run_batch : (locations : List SegmentLocation) (start : ScanData) (before : SourceState) (batch : List IoRequest) (adaptor next : AdaptorData) (old new : SessionState) →
+    Running locations start before adaptor old → Batches locations batch adaptor next → AreAskedReads locations next.first next.asked next.scan.progress.reads → SendGives batch (Ok tt) old new → Running locations start before next new
+run_batch locations start before batch adaptor next old new run batched ready (sent, stays, faults) =
     let segments : segments_in (reads_of next) ≡ segments_in (reads_of adaptor) ++ batched.segments = ap segments_in batched.reads ∙ segments_more (reads_of adaptor) batched.segments in
     let size = length_taken (drop adaptor.first adaptor.scan.progress.reads.wanted) adaptor.asked run.ready.wanted in
     record {
@@ -134,15 +125,15 @@ run_batch locations start before batch adaptor next output old new run batched r
       file = stays.file ∙ run.file;
       faults = faults ∙ run.faults;
       idle = let p = stays.idle in let q = run.idle in omega (arith, p, q);
-      so_far = output_batch locations start before batch adaptor next output run.unread run.scan batched run.so_far batched.holds;
+      held = held_batch locations start before batch adaptor next run.unread run.scan batched run.held batched.holds;
     }
 
--- ---- a piece, and a wait
+-- ---- the column, and a wait
 
 -- a step that asks nothing leaves the session as it was
-moved_on : (locations : List SegmentLocation) (start : ScanData) (before : SourceState) (adaptor next : AdaptorData) (output later : Option ColumnData) (state : SessionState) →
-    Running locations start before adaptor output state → ScanSoFar locations start before next.scan → next.first ≡ adaptor.first → reads_of next ≡ reads_of adaptor → next.state ≢ Done → AreAskedReads locations next.first next.asked next.scan.progress.reads → OutputSoFar locations start before next later → Running locations start before next later state
-moved_on locations start before adaptor next output later state run scan first reads live ready is = record {
+moved_on : (locations : List SegmentLocation) (start : ScanData) (before : SourceState) (adaptor next : AdaptorData) (state : SessionState) →
+    Running locations start before adaptor state → ScanSoFar locations start before next.scan → next.first ≡ adaptor.first → reads_of next ≡ reads_of adaptor → next.state ≢ Done → AreAskedReads locations next.first next.asked next.scan.progress.reads → HeldSoFar locations start before next → Running locations start before next state
+moved_on locations start before adaptor next state run scan first reads live ready is = record {
   unread = run.unread;
   scan = scan;
   live = live;
@@ -154,7 +145,7 @@ moved_on locations start before adaptor next output later state run scan first r
   file = run.file;
   faults = run.faults;
   idle = run.idle;
-  so_far = is;
+  held = is;
 }
 
 -- the column of an output
@@ -162,41 +153,29 @@ abbrev column_or : ColumnData → Option (ℕ × ColumnData) → ColumnData
 column_or other None = other
 column_or other (Some output) = output.1
 
-output_piece : (locations : List SegmentLocation) (start : ScanData) (before : SourceState) (number : ℕ) (column : ColumnData) (adaptor next : AdaptorData) (output : Option ColumnData) → IsUnread start → ScanSoFar locations start before adaptor.scan → next.held ≡ None → IsNextOutput number column adaptor next →
-    OutputSoFar locations start before adaptor output → OutputSoFar locations start before next (Some column)
-output_piece locations start before number column adaptor next output fresh scan none (inl (full, same)) (inl (left, is, empty)) =
+pub piece_gives : (locations : List SegmentLocation) (start : ScanData) (before : SourceState) (number : ℕ) (column : ColumnData) (adaptor next : AdaptorData) → IsUnread start → ScanSoFar locations start before adaptor.scan → IsNextOutput number column adaptor next →
+    HeldSoFar locations start before adaptor → GivesSplit locations start next.scan before column
+piece_gives locations start before number column adaptor next fresh scan (inl (full, same)) (inl (left, empty)) =
     absurd (let both : None ≡ Some (number, column) = sym empty ∙ full in cc)
-output_piece locations start before number column adaptor next output fresh scan none (inl (full, same)) (inr (left, other, inl (is, empty), gave)) =
-    absurd (let both : None ≡ Some (number, column) = sym empty ∙ full in cc)
-output_piece locations start before number column adaptor next output fresh scan none (inl (full, same)) (inr (left, other, inr (is, place, there), gave)) =
+piece_gives locations start before number column adaptor next fresh scan (inl (full, same)) (inr (left, place, other, there, gave)) =
     let column_is : other ≡ column = ap (column_or column) (sym there ∙ full) in
-    inr (ap splits_left same ∙ left, column, inl (refl, none), subst (GivesSplit locations start next.scan before) column_is (gave_same locations start adaptor.scan next.scan before other (ap (λ (s : ScanData). s.progress.wholes) same) (ap (λ (s : ScanData). s.progress.leaves) same) gave))
-output_piece locations start before number column adaptor next output fresh scan none (inr (empty, out)) (inl (left, is, same)) =
-    inr (left_behind start adaptor.scan next.scan number column fresh left out, column, inl (refl, none), gave_now locations start adaptor.scan next.scan before number column fresh scan.kept out)
-output_piece locations start before number column adaptor next output fresh scan none (inr (empty, out)) (inr (left, other, one, gave)) =
-    absurd (let both : None ≡ Some number = sym (ap (λ (ns : List ℕ). slice_get ns out.place) left) ∙ out.at in cc)
+    subst (GivesSplit locations start next.scan before) column_is (gave_same locations start adaptor.scan next.scan before other (ap (λ (s : ScanData). s.progress.wholes) same) (ap (λ (s : ScanData). s.progress.leaves) same) gave)
+piece_gives locations start before number column adaptor next fresh scan (inr (empty, out)) held =
+    gave_now locations start adaptor.scan next.scan before number column fresh scan.kept out
 
-pub run_piece : (locations : List SegmentLocation) (start : ScanData) (before : SourceState) (column : ColumnData) (adaptor next : AdaptorData) (output : Option ColumnData) (state : SessionState) →
-    Running locations start before adaptor output state → HandsOn column adaptor next → AreAskedReads locations next.first next.asked next.scan.progress.reads → Running locations start before next (Some column) state
-run_piece locations start before column adaptor next output state run hands ready =
-    moved_on locations start before adaptor next output (Some column) state run (so_far_then locations start before adaptor.scan next.scan run.scan hands.scan) hands.asks.first hands.asks.reads (needs_is_live next.state hands.state) ready
-    (output_piece locations start before hands.number column adaptor next output run.unread run.scan hands.held hands.output run.so_far)
-
-pub output_waits : (locations : List SegmentLocation) (start : ScanData) (before : SourceState) (adaptor next : AdaptorData) (output : Option ColumnData) → Yields adaptor next → OutputSoFar locations start before adaptor output → OutputSoFar locations start before next output
-output_waits locations start before adaptor next output yields (inl (left, is, empty)) = inl (yields.left ∙ left, is, yields.none)
-output_waits locations start before adaptor next output yields (inr (left, column, inl (is, empty), gave)) =
-    inr (yields.left ∙ left, column, inl (is, yields.none), gave_on locations start adaptor.scan next.scan before column yields.scan.keeps.wholes yields.scan.keeps.leaves gave)
-output_waits locations start before adaptor next output yields (inr (left, column, inr (is, number, full), gave)) =
+held_waits : (locations : List SegmentLocation) (start : ScanData) (before : SourceState) (adaptor next : AdaptorData) → Yields adaptor next → HeldSoFar locations start before adaptor → HeldSoFar locations start before next
+held_waits locations start before adaptor next yields (inl (left, empty)) = inl (yields.left ∙ left, yields.none)
+held_waits locations start before adaptor next yields (inr (left, number, column, full, gave)) =
     absurd (let both : None ≡ Some (number, column) = sym yields.held ∙ full in cc)
 
-pub run_waits : (locations : List SegmentLocation) (start : ScanData) (before : SourceState) (adaptor next : AdaptorData) (output : Option ColumnData) (state : SessionState) →
-    Running locations start before adaptor output state → Yields adaptor next → next.state ≢ Done → AreAskedReads locations next.first next.asked next.scan.progress.reads → Running locations start before next output state
-run_waits locations start before adaptor next output state run yields live ready =
-    moved_on locations start before adaptor next output output state run (so_far_then locations start before adaptor.scan next.scan run.scan yields.scan) yields.asks.first yields.asks.reads live ready (output_waits locations start before adaptor next output yields run.so_far)
+pub run_waits : (locations : List SegmentLocation) (start : ScanData) (before : SourceState) (adaptor next : AdaptorData) (state : SessionState) →
+    Running locations start before adaptor state → Yields adaptor next → next.state ≢ Done → AreAskedReads locations next.first next.asked next.scan.progress.reads → Running locations start before next state
+run_waits locations start before adaptor next state run yields live ready =
+    moved_on locations start before adaptor next state run (so_far_then locations start before adaptor.scan next.scan run.scan yields.scan) yields.asks.first yields.asks.reads live ready (held_waits locations start before adaptor next yields run.held)
 
-pub some_in_flight : (locations : List SegmentLocation) (start : ScanData) (before : SourceState) (adaptor next : AdaptorData) (output : Option ColumnData) (state : SessionState) →
-    Running locations start before next output state → Yields adaptor next → next.state ≢ Done → 0 < length state.table.fetches
-some_in_flight locations start before adaptor next output state run yields live = by_cause yields.why
+pub some_in_flight : (locations : List SegmentLocation) (start : ScanData) (before : SourceState) (adaptor next : AdaptorData) (state : SessionState) →
+    Running locations start before next state → Yields adaptor next → next.state ≢ Done → 0 < length state.table.fetches
+some_in_flight locations start before adaptor next state run yields live = by_cause yields.why
   where
     by_cause : WhyYields adaptor next → 0 < length state.table.fetches
     by_cause (inl (waits, inr (number, earlier, out))) = let first = run.first in absurd (omega (arith, earlier, first))
@@ -235,18 +214,18 @@ live_after NeedsCompute live done = live done
 live_after Waiting live done = let both : NeedsCompute ≡ Done = done in absurd cc
 live_after Done live done = live done
 
-output_result : (locations : List SegmentLocation) (start : ScanData) (before : SourceState) (number : ℕ) (bytes : List ℕ) (adaptor next : AdaptorData) (output : Option ColumnData) → TakesResult number bytes adaptor next → OutputSoFar locations start before adaptor output → OutputSoFar locations start before next output
-output_result locations start before number bytes adaptor next output takes (inl (left, is, empty)) = inl (takes.takes.left ∙ left, is, takes.held ∙ empty)
-output_result locations start before number bytes adaptor next output takes (inr (left, column, one, gave)) =
-    inr (takes.takes.left ∙ left, column, subst (λ (h : Option (ℕ × ColumnData)). OneOf output h column) (sym takes.held) one, gave_same locations start adaptor.scan next.scan before column takes.takes.wholes takes.takes.leaves gave)
+held_result : (locations : List SegmentLocation) (start : ScanData) (before : SourceState) (number : ℕ) (bytes : List ℕ) (adaptor next : AdaptorData) → TakesResult number bytes adaptor next → HeldSoFar locations start before adaptor → HeldSoFar locations start before next
+held_result locations start before number bytes adaptor next takes (inl (left, empty)) = inl (takes.takes.left ∙ left, takes.held ∙ empty)
+held_result locations start before number bytes adaptor next takes (inr (left, place, column, full, gave)) =
+    inr (takes.takes.left ∙ left, place, column, takes.held ∙ full, gave_same locations start adaptor.scan next.scan before column takes.takes.wholes takes.takes.leaves gave)
 
 abbrev segment_or_none : Option Wanted → ℕ
 segment_or_none None = 0
 segment_or_none (Some read) = read.segment
 
-pub run_result : (locations : List SegmentLocation) (start : ScanData) (before : SourceState) (completion : Completion) (adaptor next : AdaptorData) (output : Option ColumnData) (old new : SessionState) →
-    Running locations start before adaptor output old → Completed completion old new → TakesResult completion.request.0 completion.bytes.items adaptor next → (next.state ≢ Done → AreAskedReads locations next.first next.asked next.scan.progress.reads) → Running locations start before next output new
-run_result locations start before completion adaptor next output old new run done takes ready =
+pub run_result : (locations : List SegmentLocation) (start : ScanData) (before : SourceState) (completion : Completion) (adaptor next : AdaptorData) (old new : SessionState) →
+    Running locations start before adaptor old → Completed completion old new → TakesResult completion.request.0 completion.bytes.items adaptor next → (next.state ≢ Done → AreAskedReads locations next.first next.asked next.scan.progress.reads) → Running locations start before next new
+run_result locations start before completion adaptor next old new run done takes ready =
     let ended = done.ended in
     let at = completed_read locations completion (reads_of adaptor) old new run.fetches ended in
     let bytes : List ℕ = completion.bytes.items in
@@ -271,7 +250,7 @@ run_result locations start before completion adaptor next output old new run don
       file = done.keeps.file ∙ run.file;
       faults = done.faults ∙ run.faults;
       idle = let p = done.idle in let q = run.idle in omega (arith, p, q);
-      so_far = output_result locations start before completion.request.0 bytes adaptor next output takes run.so_far;
+      held = held_result locations start before completion.request.0 bytes adaptor next takes run.held;
     }
   where
     got_taken : (wanted : List Wanted) (n i : ℕ) (read : Wanted) → i < n → slice_get wanted i ≡ Some read → slice_get (take n wanted) i ≡ Some read
@@ -279,7 +258,7 @@ run_result locations start before completion adaptor next output old new run don
 
 -- ---- the work that is left
 
--- each read is handed out and then ends, and the output is given and then collected
+-- each read is handed out and then ends
 abbrev pub work : List SegmentLocation → AdaptorData → ℕ
 work locations adaptor = 2 * work_of adaptor + length (outstanding locations 0 (reads_of adaptor))
 
@@ -292,12 +271,6 @@ less_batch locations batch adaptor next batched =
     let fewer = batched.fewer in
     let some = batched.some in
     omega (arith, more, sum, mapped, fetched, fewer, some)
-
-pub less_piece : (locations : List SegmentLocation) (column : ColumnData) (adaptor next : AdaptorData) → HandsOn column adaptor next → work locations next < work locations adaptor
-less_piece locations column adaptor next hands =
-    let out = ap (λ (rs : List Wanted). length (outstanding locations 0 rs)) hands.asks.reads in
-    let fewer = hands.fewer in
-    omega (arith, out, fewer)
 
 pub less_result : (locations : List SegmentLocation) (completion : Completion) (adaptor waiting next : AdaptorData) (old new : SessionState) → fetches_of old.table ≡ outstanding locations 0 (reads_of waiting) → Yields adaptor waiting → FetchEnded completion old new →
     TakesResult completion.request.0 completion.bytes.items waiting next → fetches_of new.table ≡ outstanding locations 0 (reads_of next) → work locations next < work locations adaptor

@@ -8,6 +8,7 @@ pub mod Fetched
 pub mod Finished
 pub mod Plans
 pub mod Refusals
+mod Receives
 pub mod Runs
 pub mod Starts
 pub mod Waits

@@ -1,6 +1,6 @@
 //! The run of a scan of one split over a session on a lent source, until the split's column is there.
 
-ghost use Rattle.std.specs.Prelude.{◌≡◌};
+ghost use Rattle.std.specs.Prelude.{◌≡◌, ◌<◌, length};
 ghost use Rattle.vx_io.specs.Ranges.{IsTableOf};
 ghost use Rattle.vx_io.specs.Session.{empty_table};
 ghost use Rattle.vx_io.specs.Tables.{session_state, KeepsLoans};
@@ -11,6 +11,7 @@ ghost use Rattle.vx_drive.specs.Finished.{Finishes};
 ghost use Rattle.vx_drive.specs.Plans.{ArePlans};
 ghost use Rattle.vx_drive.specs.Runs.{scan_error, RunGives};
 ghost use Rattle.vx_drive.specs.Starts.{IsAtStart, IsUnread};
+ghost use Rattle.vx_drive.specs.Receives.{AreOutstanding, ReceiveGives};
 
 use crate::adaptor_errors::AdaptorError;
 use crate::adaptors::{AdaptorStep, ScanAdaptor, State};
@@ -59,9 +60,30 @@ fn hand_in(adaptor: &mut ScanAdaptor<'_>, completion: Completion)
     }
 }
 
-/// Runs the scan of an adaptor over a session until it is done: its reads are fetched, and what a fetch gives is
-/// handed to the read that it was made for. It gives the column of the scan's split, and none where no row of the split
-/// is selected.
+/// Waits for a fetch to end, and hands its bytes to the read that it was made for.
+fn receive<S: SegmentSource>(
+    adaptor: &mut ScanAdaptor<'_>,
+    session: &mut SegmentIoSource<'_, S>,
+    idle_limit: u64,
+) -> Result<(), ScanError>
+    requires some { 0 < length (session_state session.old).table.fetches }
+    requires fetches { AreOutstanding (adaptor_data adaptor.old) (session_state session.old) }
+    ensures locations { adaptor.new.locations.now ≡ adaptor.old.locations.now }
+    ensures loans { KeepsLoans session.old session.new }
+    ensures gives { ReceiveGives idle_limit result (adaptor_data adaptor.old) (adaptor_data adaptor.new) (session_state session.old) (session_state session.new) }
+{
+    match next_completion(session, idle_limit) {
+        Ok(completion) => {
+            hand_in(adaptor, completion);
+            Ok(())
+        }
+        Err(error) => Err(error),
+    }
+}
+
+/// Runs the scan of an adaptor over a session until the column of its split is there, or it is done without one, where
+/// no row of the split is selected: its reads are fetched, and what a fetch gives is handed to the read that it was made
+/// for.
 fn run<S: SegmentSource>(
     adaptor: &mut ScanAdaptor<'_>,
     session: &mut SegmentIoSource<'_, S>,
@@ -74,33 +96,23 @@ fn run<S: SegmentSource>(
     ensures gives { RunGives adaptor.old.locations.now idle_limit (adaptor_data adaptor.old).scan result (adaptor_data adaptor.new).scan
         (session_state session.old).source (session_state session.new).source }
 {
-    let mut output: Option<Column> = None;
     'turns: loop {
         match adaptor.compute() {
             Ok(AdaptorStep::NeedsIo(batch)) => match send(session, batch) {
                 Ok(()) => {}
-                Err(error) => {
-                    drop(output);
-                    return Err(error);
-                }
+                Err(error) => return Err(error),
             },
-            Ok(AdaptorStep::Piece(column)) => output = Some(column),
+            Ok(AdaptorStep::Piece(column)) => return Ok(Some(column)),
             Ok(AdaptorStep::Yield) => {
                 if adaptor.state() == State::Done {
-                    return Ok(output);
+                    return Ok(None);
                 }
-                match next_completion(session, idle_limit) {
-                    Ok(completion) => hand_in(adaptor, completion),
-                    Err(error) => {
-                        drop(output);
-                        return Err(error);
-                    }
+                match receive(adaptor, session, idle_limit) {
+                    Ok(()) => {}
+                    Err(error) => return Err(error),
                 }
             }
-            Err(error) => {
-                drop(output);
-                return Err(refusal(error));
-            }
+            Err(error) => return Err(refusal(error)),
         }
     }
 }

@@ -1,10 +1,12 @@
-use Rattle.std.proofs.Common.{◌≡◌, ◌≢◌, ◌∙◌, Ok, Err, refl, rules}
+use Rattle.std.proofs.Common.{◌≡◌, ◌≢◌, ◌∙◌, Ok, Err, refl, sym, subst, rules}
 use Rattle.vx_io.specs.Tables.{session_state}
 use Rattle.vx_drive.specs.declared.adaptors.State.TheVariants as states
 use Rattle.vx_drive.specs.declared.adaptors.AdaptorStep.TheVariants.{Yield, NeedsIo, Piece}
+use Rattle.vx_drive.specs.AdaptorData.{AdaptorData}
 use Rattle.vx_drive.specs.Adaptors.{adaptor_data}
-use Rattle.vx_drive.proofs.RunEnds.{run_returns, run_stalls, run_stops, run_unsent}
-use Rattle.vx_drive.proofs.SessionRuns.{needs_is_live, ready_of, run_begins, run_batch, run_piece, run_waits, run_result, was_outstanding, computes_live, batch_known, batch_fetches, some_in_flight, less_batch, less_piece, less_result}
+use Rattle.vx_drive.specs.Runs.{RunGives}
+use Rattle.vx_drive.proofs.RunEnds.{run_hands, run_returns, run_stalls, run_stops, run_unsent}
+use Rattle.vx_drive.proofs.SessionRuns.{needs_is_live, ready_of, run_begins, run_batch, run_waits, run_result, was_outstanding, computes_live, batch_known, batch_fetches, some_in_flight, less_batch, less_result}
 use Rattle.vx_drive.proofs.runs.run.Goals as goal
 
 pub turns-init : goal.turns-init
@@ -33,7 +35,7 @@ pub turns-preserved-in-Ok : goal.turns-preserved-in-Ok
 turns-preserved-in-Ok g c =
     let batched = computes_live c.args.adaptor.now.locations.now (Ok (NeedsIo c.in-Ok-NeedsIo.batch)) (adaptor_data c.turns.adaptor) (adaptor_data c.compute.new.self) c.turns.invariant.0.live (rw (c.in-Ok-NeedsIo.field-0-is, c.turns.invariant.2) at (c.in-Ok-NeedsIo.ensures {u = tt}).gives) in
     let sent = c.in-Ok.ensures {u = tt} in (
-      run_batch c.args.adaptor.now.locations.now (adaptor_data c.args.adaptor.now).scan (session_state c.args.session.now).source c.in-Ok-NeedsIo.batch.items (adaptor_data c.turns.adaptor) (adaptor_data c.compute.new.self) c.turns.output (session_state c.turns.session) (session_state c.send.new.session) c.turns.invariant.0 batched (ready_of c.args.adaptor.now.locations.now c.compute.new.self.locations.now (adaptor_data c.compute.new.self) c.compute.new.self.ready (c.compute.ensures.locations ∙ c.turns.invariant.2) (needs_is_live c.compute.new.self.state batched.state)) sent.gives,
+      run_batch c.args.adaptor.now.locations.now (adaptor_data c.args.adaptor.now).scan (session_state c.args.session.now).source c.in-Ok-NeedsIo.batch.items (adaptor_data c.turns.adaptor) (adaptor_data c.compute.new.self) (session_state c.turns.session) (session_state c.send.new.session) c.turns.invariant.0 batched (ready_of c.args.adaptor.now.locations.now c.compute.new.self.locations.now (adaptor_data c.compute.new.self) c.compute.new.self.ready (c.compute.ensures.locations ∙ c.turns.invariant.2) (needs_is_live c.compute.new.self.state batched.state)) sent.gives,
       record { same_reference = sent.loans.same_reference ∙ c.turns.invariant.1.same_reference; ranges = sent.loans.ranges ∙ c.turns.invariant.1.ranges },
       c.compute.ensures.locations ∙ c.turns.invariant.2,
     )
@@ -41,75 +43,65 @@ turns-preserved-in-Ok g c =
 pub returns-in-Err-send-clause-gives : goal.returns-in-Err-send-clause-gives
 returns-in-Err-send-clause-gives g c =
     let batched = computes_live c.args.adaptor.now.locations.now (Ok (NeedsIo c.in-Ok-NeedsIo.batch)) (adaptor_data c.turns.adaptor) (adaptor_data c.compute.new.self) c.turns.invariant.0.live (rw (c.in-Ok-NeedsIo.field-0-is, c.turns.invariant.2) at (c.in-Ok-NeedsIo.ensures {u = tt}).gives) in
-    run_unsent c.args.adaptor.now.locations.now c.args.idle_limit (adaptor_data c.args.adaptor.now).scan (session_state c.args.session.now).source c.in-Ok-NeedsIo.batch.items (adaptor_data c.turns.adaptor) (adaptor_data c.compute.new.self) c.turns.output (session_state c.turns.session) (session_state c.send.new.session) c.in-Err-send.error c.turns.invariant.0 batched (c.in-Err-send.ensures {u = tt}).gives
+    run_unsent c.args.adaptor.now.locations.now c.args.idle_limit (adaptor_data c.args.adaptor.now).scan (session_state c.args.session.now).source c.in-Ok-NeedsIo.batch.items (adaptor_data c.turns.adaptor) (adaptor_data c.compute.new.self) (session_state c.turns.session) (session_state c.send.new.session) c.in-Err-send.error c.turns.invariant.0 batched (c.in-Err-send.ensures {u = tt}).gives
 
-pub turns-smaller-in-Ok-Piece : goal.turns-smaller-in-Ok-Piece
-turns-smaller-in-Ok-Piece g c =
+pub returns-in-Ok-Piece-clause-gives : goal.returns-in-Ok-Piece-clause-gives
+returns-in-Ok-Piece-clause-gives g c =
     let hands = computes_live c.turns.adaptor.locations.now (Ok (Piece c.in-Ok-Piece.column)) (adaptor_data c.turns.adaptor) (adaptor_data c.compute.new.self) c.turns.invariant.0.live (rw c.in-Ok-Piece.field-0-is at (c.in-Ok-Piece.ensures {u = tt}).gives) in
-    less_piece c.args.adaptor.now.locations.now c.in-Ok-Piece.column (adaptor_data c.turns.adaptor) (adaptor_data c.compute.new.self) hands
-
-pub turns-preserved-in-Ok-Piece : goal.turns-preserved-in-Ok-Piece
-turns-preserved-in-Ok-Piece g c =
-    let hands = computes_live c.turns.adaptor.locations.now (Ok (Piece c.in-Ok-Piece.column)) (adaptor_data c.turns.adaptor) (adaptor_data c.compute.new.self) c.turns.invariant.0.live (rw c.in-Ok-Piece.field-0-is at (c.in-Ok-Piece.ensures {u = tt}).gives) in (
-      run_piece c.args.adaptor.now.locations.now (adaptor_data c.args.adaptor.now).scan (session_state c.args.session.now).source c.in-Ok-Piece.column (adaptor_data c.turns.adaptor) (adaptor_data c.compute.new.self) c.turns.output (session_state c.turns.session) c.turns.invariant.0 hands (ready_of c.args.adaptor.now.locations.now c.compute.new.self.locations.now (adaptor_data c.compute.new.self) c.compute.new.self.ready (c.compute.ensures.locations ∙ c.turns.invariant.2) (needs_is_live c.compute.new.self.state hands.state)),
-      c.turns.invariant.1,
-      c.compute.ensures.locations ∙ c.turns.invariant.2,
-    )
+    run_hands c.args.adaptor.now.locations.now c.args.idle_limit (adaptor_data c.args.adaptor.now).scan (session_state c.args.session.now).source c.in-Ok-Piece.column (adaptor_data c.turns.adaptor) (adaptor_data c.compute.new.self) (session_state c.turns.session) c.turns.invariant.0 hands
 
 pub returns-then-eq-clause-gives : goal.returns-then-eq-clause-gives
 returns-then-eq-clause-gives g c =
     let yields = computes_live c.turns.adaptor.locations.now (Ok Yield) (adaptor_data c.turns.adaptor) (adaptor_data c.compute.new.self) c.turns.invariant.0.live (rw c.in-Ok-Yield.field-0-is at (c.in-Ok-Yield.ensures {u = tt}).gives) in
     let finished : c.compute.new.self.state ≡ states.Done = search rules in
-    run_returns c.args.adaptor.now.locations.now c.args.idle_limit (adaptor_data c.args.adaptor.now).scan (session_state c.args.session.now).source (adaptor_data c.turns.adaptor) (adaptor_data c.compute.new.self) c.turns.output (session_state c.turns.session) c.turns.invariant.0 yields finished
+    run_returns c.args.adaptor.now.locations.now c.args.idle_limit (adaptor_data c.args.adaptor.now).scan (session_state c.args.session.now).source (adaptor_data c.turns.adaptor) (adaptor_data c.compute.new.self) (session_state c.turns.session) c.turns.invariant.0 yields finished
 
-pub next_completion-requires : goal.next_completion-requires
-next_completion-requires g c =
+pub receive-requires-clause-some : goal.receive-requires-clause-some
+receive-requires-clause-some g c =
     let yields = computes_live c.turns.adaptor.locations.now (Ok Yield) (adaptor_data c.turns.adaptor) (adaptor_data c.compute.new.self) c.turns.invariant.0.live (rw c.in-Ok-Yield.field-0-is at (c.in-Ok-Yield.ensures {u = tt}).gives) in
     let live : c.compute.new.self.state ≢ states.Done = search rules in
-    let waits = run_waits c.args.adaptor.now.locations.now (adaptor_data c.args.adaptor.now).scan (session_state c.args.session.now).source (adaptor_data c.turns.adaptor) (adaptor_data c.compute.new.self) c.turns.output (session_state c.turns.session) c.turns.invariant.0 yields live (ready_of c.args.adaptor.now.locations.now c.compute.new.self.locations.now (adaptor_data c.compute.new.self) c.compute.new.self.ready (c.compute.ensures.locations ∙ c.turns.invariant.2) live) in
-    some_in_flight c.args.adaptor.now.locations.now (adaptor_data c.args.adaptor.now).scan (session_state c.args.session.now).source (adaptor_data c.turns.adaptor) (adaptor_data c.compute.new.self) c.turns.output (session_state c.turns.session) waits yields live
+    let waits = run_waits c.args.adaptor.now.locations.now (adaptor_data c.args.adaptor.now).scan (session_state c.args.session.now).source (adaptor_data c.turns.adaptor) (adaptor_data c.compute.new.self) (session_state c.turns.session) c.turns.invariant.0 yields live (ready_of c.args.adaptor.now.locations.now c.compute.new.self.locations.now (adaptor_data c.compute.new.self) c.compute.new.self.ready (c.compute.ensures.locations ∙ c.turns.invariant.2) live) in
+    some_in_flight c.args.adaptor.now.locations.now (adaptor_data c.args.adaptor.now).scan (session_state c.args.session.now).source (adaptor_data c.turns.adaptor) (adaptor_data c.compute.new.self) (session_state c.turns.session) waits yields live
+
+pub receive-requires-clause-fetches : goal.receive-requires-clause-fetches
+receive-requires-clause-fetches g c completion later ended =
+    let yields = computes_live c.turns.adaptor.locations.now (Ok Yield) (adaptor_data c.turns.adaptor) (adaptor_data c.compute.new.self) c.turns.invariant.0.live (rw c.in-Ok-Yield.field-0-is at (c.in-Ok-Yield.ensures {u = tt}).gives) in
+    let live : c.compute.new.self.state ≢ states.Done = search rules in
+    let waits = run_waits c.args.adaptor.now.locations.now (adaptor_data c.args.adaptor.now).scan (session_state c.args.session.now).source (adaptor_data c.turns.adaptor) (adaptor_data c.compute.new.self) (session_state c.turns.session) c.turns.invariant.0 yields live (ready_of c.args.adaptor.now.locations.now c.compute.new.self.locations.now (adaptor_data c.compute.new.self) c.compute.new.self.ready (c.compute.ensures.locations ∙ c.turns.invariant.2) live) in
+    was_outstanding c.args.adaptor.now.locations.now completion (adaptor_data c.compute.new.self) (session_state c.turns.session) later waits.ready waits.fetches ended
 
 pub turns-smaller : goal.turns-smaller
 turns-smaller g c =
     let yields = computes_live c.turns.adaptor.locations.now (Ok Yield) (adaptor_data c.turns.adaptor) (adaptor_data c.compute.new.self) c.turns.invariant.0.live (rw c.in-Ok-Yield.field-0-is at (c.in-Ok-Yield.ensures {u = tt}).gives) in
     let live : c.compute.new.self.state ≢ states.Done = search rules in
-    let waits = run_waits c.args.adaptor.now.locations.now (adaptor_data c.args.adaptor.now).scan (session_state c.args.session.now).source (adaptor_data c.turns.adaptor) (adaptor_data c.compute.new.self) c.turns.output (session_state c.turns.session) c.turns.invariant.0 yields live (ready_of c.args.adaptor.now.locations.now c.compute.new.self.locations.now (adaptor_data c.compute.new.self) c.compute.new.self.ready (c.compute.ensures.locations ∙ c.turns.invariant.2) live) in
-    let done = (c.in-Ok-next_completion.ensures {u = tt}).gives in
-    let takes = c.hand_in.ensures.takes in
-    let after = run_result c.args.adaptor.now.locations.now (adaptor_data c.args.adaptor.now).scan (session_state c.args.session.now).source c.in-Ok-next_completion.completion (adaptor_data c.compute.new.self) (adaptor_data c.hand_in.new.adaptor) c.turns.output (session_state c.turns.session) (session_state c.next_completion.new.session) waits done takes
-    (λ alive. ready_of c.args.adaptor.now.locations.now c.hand_in.new.adaptor.locations.now (adaptor_data c.hand_in.new.adaptor) c.hand_in.new.adaptor.ready (c.hand_in.ensures.locations ∙ c.compute.ensures.locations ∙ c.turns.invariant.2) alive) in
-    less_result c.args.adaptor.now.locations.now c.in-Ok-next_completion.completion (adaptor_data c.turns.adaptor) (adaptor_data c.compute.new.self) (adaptor_data c.hand_in.new.adaptor) (session_state c.turns.session) (session_state c.next_completion.new.session) waits.fetches yields done.ended takes after.fetches
+    let waits = run_waits c.args.adaptor.now.locations.now (adaptor_data c.args.adaptor.now).scan (session_state c.args.session.now).source (adaptor_data c.turns.adaptor) (adaptor_data c.compute.new.self) (session_state c.turns.session) c.turns.invariant.0 yields live (ready_of c.args.adaptor.now.locations.now c.compute.new.self.locations.now (adaptor_data c.compute.new.self) c.compute.new.self.ready (c.compute.ensures.locations ∙ c.turns.invariant.2) live) in
+    let received = (c.in-Ok-receive.ensures {u = tt}).gives in
+    let after = run_result c.args.adaptor.now.locations.now (adaptor_data c.args.adaptor.now).scan (session_state c.args.session.now).source received.completion (adaptor_data c.compute.new.self) (adaptor_data c.receive.new.adaptor) (session_state c.turns.session) (session_state c.receive.new.session) waits received.done received.takes
+    (λ alive. ready_of c.args.adaptor.now.locations.now c.receive.new.adaptor.locations.now (adaptor_data c.receive.new.adaptor) c.receive.new.adaptor.ready ((c.in-Ok-receive.ensures {u = tt}).locations ∙ c.compute.ensures.locations ∙ c.turns.invariant.2) alive) in
+    less_result c.args.adaptor.now.locations.now received.completion (adaptor_data c.turns.adaptor) (adaptor_data c.compute.new.self) (adaptor_data c.receive.new.adaptor) (session_state c.turns.session) (session_state c.receive.new.session) waits.fetches yields received.done.ended received.takes after.fetches
 
 pub turns-preserved : goal.turns-preserved
 turns-preserved g c =
     let yields = computes_live c.turns.adaptor.locations.now (Ok Yield) (adaptor_data c.turns.adaptor) (adaptor_data c.compute.new.self) c.turns.invariant.0.live (rw c.in-Ok-Yield.field-0-is at (c.in-Ok-Yield.ensures {u = tt}).gives) in
     let live : c.compute.new.self.state ≢ states.Done = search rules in
-    let waits = run_waits c.args.adaptor.now.locations.now (adaptor_data c.args.adaptor.now).scan (session_state c.args.session.now).source (adaptor_data c.turns.adaptor) (adaptor_data c.compute.new.self) c.turns.output (session_state c.turns.session) c.turns.invariant.0 yields live (ready_of c.args.adaptor.now.locations.now c.compute.new.self.locations.now (adaptor_data c.compute.new.self) c.compute.new.self.ready (c.compute.ensures.locations ∙ c.turns.invariant.2) live) in
-    let done = (c.in-Ok-next_completion.ensures {u = tt}).gives in
-    let takes = c.hand_in.ensures.takes in
-    let after = run_result c.args.adaptor.now.locations.now (adaptor_data c.args.adaptor.now).scan (session_state c.args.session.now).source c.in-Ok-next_completion.completion (adaptor_data c.compute.new.self) (adaptor_data c.hand_in.new.adaptor) c.turns.output (session_state c.turns.session) (session_state c.next_completion.new.session) waits done takes
-    (λ alive. ready_of c.args.adaptor.now.locations.now c.hand_in.new.adaptor.locations.now (adaptor_data c.hand_in.new.adaptor) c.hand_in.new.adaptor.ready (c.hand_in.ensures.locations ∙ c.compute.ensures.locations ∙ c.turns.invariant.2) alive) in (
+    let waits = run_waits c.args.adaptor.now.locations.now (adaptor_data c.args.adaptor.now).scan (session_state c.args.session.now).source (adaptor_data c.turns.adaptor) (adaptor_data c.compute.new.self) (session_state c.turns.session) c.turns.invariant.0 yields live (ready_of c.args.adaptor.now.locations.now c.compute.new.self.locations.now (adaptor_data c.compute.new.self) c.compute.new.self.ready (c.compute.ensures.locations ∙ c.turns.invariant.2) live) in
+    let received = (c.in-Ok-receive.ensures {u = tt}).gives in
+    let after = run_result c.args.adaptor.now.locations.now (adaptor_data c.args.adaptor.now).scan (session_state c.args.session.now).source received.completion (adaptor_data c.compute.new.self) (adaptor_data c.receive.new.adaptor) (session_state c.turns.session) (session_state c.receive.new.session) waits received.done received.takes
+    (λ alive. ready_of c.args.adaptor.now.locations.now c.receive.new.adaptor.locations.now (adaptor_data c.receive.new.adaptor) c.receive.new.adaptor.ready ((c.in-Ok-receive.ensures {u = tt}).locations ∙ c.compute.ensures.locations ∙ c.turns.invariant.2) alive) in (
       after,
-      record { same_reference = (c.in-Ok-next_completion.ensures {u = tt}).loans.same_reference ∙ c.turns.invariant.1.same_reference; ranges = (c.in-Ok-next_completion.ensures {u = tt}).loans.ranges ∙ c.turns.invariant.1.ranges },
-      c.hand_in.ensures.locations ∙ c.compute.ensures.locations ∙ c.turns.invariant.2,
+      record { same_reference = (c.in-Ok-receive.ensures {u = tt}).loans.same_reference ∙ c.turns.invariant.1.same_reference; ranges = (c.in-Ok-receive.ensures {u = tt}).loans.ranges ∙ c.turns.invariant.1.ranges },
+      (c.in-Ok-receive.ensures {u = tt}).locations ∙ c.compute.ensures.locations ∙ c.turns.invariant.2,
     )
 
-pub hand_in-requires : goal.hand_in-requires
-hand_in-requires g c =
+pub returns-in-Err-receive-clause-gives : goal.returns-in-Err-receive-clause-gives
+returns-in-Err-receive-clause-gives g c =
     let yields = computes_live c.turns.adaptor.locations.now (Ok Yield) (adaptor_data c.turns.adaptor) (adaptor_data c.compute.new.self) c.turns.invariant.0.live (rw c.in-Ok-Yield.field-0-is at (c.in-Ok-Yield.ensures {u = tt}).gives) in
     let live : c.compute.new.self.state ≢ states.Done = search rules in
-    let waits = run_waits c.args.adaptor.now.locations.now (adaptor_data c.args.adaptor.now).scan (session_state c.args.session.now).source (adaptor_data c.turns.adaptor) (adaptor_data c.compute.new.self) c.turns.output (session_state c.turns.session) c.turns.invariant.0 yields live (ready_of c.args.adaptor.now.locations.now c.compute.new.self.locations.now (adaptor_data c.compute.new.self) c.compute.new.self.ready (c.compute.ensures.locations ∙ c.turns.invariant.2) live) in
-    let done = (c.in-Ok-next_completion.ensures {u = tt}).gives in
-    was_outstanding c.args.adaptor.now.locations.now c.in-Ok-next_completion.completion (adaptor_data c.compute.new.self) (session_state c.turns.session) (session_state c.next_completion.new.session) waits.ready waits.fetches done.ended
-
-pub returns-in-Err-next_completion-clause-gives : goal.returns-in-Err-next_completion-clause-gives
-returns-in-Err-next_completion-clause-gives g c =
-    let yields = computes_live c.turns.adaptor.locations.now (Ok Yield) (adaptor_data c.turns.adaptor) (adaptor_data c.compute.new.self) c.turns.invariant.0.live (rw c.in-Ok-Yield.field-0-is at (c.in-Ok-Yield.ensures {u = tt}).gives) in
-    let live : c.compute.new.self.state ≢ states.Done = search rules in
-    let waits = run_waits c.args.adaptor.now.locations.now (adaptor_data c.args.adaptor.now).scan (session_state c.args.session.now).source (adaptor_data c.turns.adaptor) (adaptor_data c.compute.new.self) c.turns.output (session_state c.turns.session) c.turns.invariant.0 yields live (ready_of c.args.adaptor.now.locations.now c.compute.new.self.locations.now (adaptor_data c.compute.new.self) c.compute.new.self.ready (c.compute.ensures.locations ∙ c.turns.invariant.2) live) in
-    run_stalls c.args.adaptor.now.locations.now c.args.idle_limit (adaptor_data c.args.adaptor.now).scan (session_state c.args.session.now).source (adaptor_data c.compute.new.self) c.turns.output (session_state c.turns.session) (session_state c.next_completion.new.session).source c.in-Err-next_completion.error waits (c.in-Err-next_completion.ensures {u = tt}).gives
+    let waits = run_waits c.args.adaptor.now.locations.now (adaptor_data c.args.adaptor.now).scan (session_state c.args.session.now).source (adaptor_data c.turns.adaptor) (adaptor_data c.compute.new.self) (session_state c.turns.session) c.turns.invariant.0 yields live (ready_of c.args.adaptor.now.locations.now c.compute.new.self.locations.now (adaptor_data c.compute.new.self) c.compute.new.self.ready (c.compute.ensures.locations ∙ c.turns.invariant.2) live) in
+    let failed = (c.in-Err-receive.ensures {u = tt}).gives in
+    subst (λ (adaptor : AdaptorData). RunGives c.args.adaptor.now.locations.now c.args.idle_limit (adaptor_data c.args.adaptor.now).scan (Err c.in-Err-receive.error) adaptor.scan (session_state c.args.session.now).source (session_state c.receive.new.session).source) (sym failed.1) (run_stalls c.args.adaptor.now.locations.now c.args.idle_limit (adaptor_data c.args.adaptor.now).scan (session_state c.args.session.now).source (adaptor_data c.compute.new.self) (session_state c.turns.session) (session_state c.receive.new.session).source c.in-Err-receive.error waits failed.0)
 
 pub returns-in-Err-clause-gives : goal.returns-in-Err-clause-gives
 returns-in-Err-clause-gives g c =
     let stops = computes_live c.args.adaptor.now.locations.now (Err c.in-Err.error) (adaptor_data c.turns.adaptor) (adaptor_data c.compute.new.self) c.turns.invariant.0.live (rw c.turns.invariant.2 at (c.in-Err.ensures {u = tt}).gives) in
-    rw c.refusal.ensures (run_stops c.args.adaptor.now.locations.now c.args.idle_limit (adaptor_data c.args.adaptor.now).scan (session_state c.args.session.now).source (adaptor_data c.turns.adaptor) (adaptor_data c.compute.new.self) c.turns.output (session_state c.turns.session) c.in-Err.error c.turns.invariant.0 stops)
+    rw c.refusal.ensures (run_stops c.args.adaptor.now.locations.now c.args.idle_limit (adaptor_data c.args.adaptor.now).scan (session_state c.args.session.now).source (adaptor_data c.turns.adaptor) (adaptor_data c.compute.new.self) (session_state c.turns.session) c.in-Err.error c.turns.invariant.0 stops)

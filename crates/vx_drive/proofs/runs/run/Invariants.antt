@@ -6,7 +6,7 @@ use Rattle.vx_drive.proofs.runs.run.Given as goal
 
 abbrev pub invariant-turns : goal.invariant-turns
 invariant-turns g l =
-    Running l.fn.adaptor.locations.now (adaptor_data l.fn.adaptor).scan (session_state l.fn.session).source (adaptor_data l.adaptor) l.output (session_state l.session)
+    Running l.fn.adaptor.locations.now (adaptor_data l.fn.adaptor).scan (session_state l.fn.session).source (adaptor_data l.adaptor) (session_state l.session)
     × KeepsLoans l.fn.session l.session × (l.adaptor.locations.now ≡ l.fn.adaptor.locations.now)
 
 abbrev pub decreases-turns : goal.decreases-turns
