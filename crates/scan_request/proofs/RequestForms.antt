@@ -1,31 +1,22 @@
--- What a request's bytes are, from what reading them as JSON and binding the projection gave.
-use Rattle.std.proofs.Common.{◌≡◌, ℕ, ◌≤◌, Bool, true, false, cond, List, [], ◌∷◌, length, Option, Some, None, Ok, Err, codes, refl, sym, ap, ◌∙◌, subst}
-use Rattle.std.specs.Prelude.{IsSomeAnd}
-use Rattle.std.specs.List.{slice_get}
+-- What a request's bytes are, from what reading them as JSON gave.
+use Rattle.std.proofs.Common.{◌≡◌, ℕ, ◌≤◌, Bool, true, false, cond, List, length, Option, Some, None, codes, refl, sym, ap}
 use Rattle.std.specs.Str.{IsUtf8, is_utf8}
 use Rattle.std.proofs.lemmas.Str.{IsUtf8-from_is_utf8, is_utf8-from_IsUtf8}
 use Rattle.serde_json.specs.Data.{Data}
 use Rattle.serde_json.specs.Read.{read}
 use Rattle.serde_json.specs.Find.{get}
-use Rattle.vx_expr.specs.Bound.{Bound}
-use Rattle.vx_expr.specs.Mismatches.{BindGives}
 use Rattle.vx_expr.specs.Terms.{Term, root}
-use Rattle.vx_expr.specs.declared.binding.BindError.{BindError}
-use Rattle.vx_expr.specs.declared.binding.BindError.TheVariants as bind
 use Rattle.vx_layout.specs.Nodes.{Node}
-use Rattle.vx_layout.specs.Shape.{IsGoodTree}
 use Rattle.scan_words.specs.Words.{◌>>=◌}
 use Rattle.scan_request.specs.declared.request_errors.RequestError.TheVariants.{BadRequest}
-use Rattle.scan_request.specs.BindRefusals.{of_bind}
 use Rattle.scan_request.specs.ExpressionForms.{expression_form}
 use Rattle.scan_request.specs.JsonForms.{has_members, list_form, most_items, optional_form}
 use Rattle.scan_request.specs.LocationForms.{location_form}
 use Rattle.scan_request.specs.NodeForms.{node_form}
-use Rattle.scan_request.specs.RequestForms.{Asked, FileSaid, Parts, file_form, members_of, request_form, json_value, requested, root_dtype, IsRequest, HasBadProjection, RefusedBy}
+use Rattle.scan_request.specs.RequestForms.{FileSaid, Parts, file_form, members_of, request_form, json_value, requested, RefusedBy}
 use Rattle.scan_request.specs.RowForms.{rows_form}
 use Rattle.scan_request.specs.declared.row_forms.RowsAsked.{RowsAsked}
 use Rattle.scan_request.proofs.JsonForms.{here, list_few, some_is}
-use Rattle.vx_base.specs.Data.{DataType}
 use Rattle.vx_base.specs.declared.locations.SegmentLocation.{SegmentLocation}
 
 -- the bytes are JSON
@@ -45,46 +36,6 @@ no_json bytes none = rw none refl
 
 pub in_form : (bytes : List ℕ) (d : Data) (parts : Parts) → json_value bytes ≡ Some d → Some parts ≡ request_form d → requested bytes ≡ Some parts
 in_form bytes d parts is formed = rw is (sym formed)
-
--- ---- the tree and the projection
-
-root_is : (nodes : List Node) (t : DataType) → IsSomeAnd (slice_get nodes 0) (λ node. t ≡ node.dtype) → t ≡ root_dtype nodes
-root_is [] t is = absurd is
-root_is (node ∷ nodes) t is = is
-
-unbound : (bytes : List ℕ) (parts : Parts) (error : BindError) → (error ≡ bind.Memory → ⊥) → requested bytes ≡ Some parts → IsGoodTree parts.nodes → BindGives (root_dtype parts.nodes) parts.projection (Err error) → HasBadProjection bytes error
-unbound bytes parts error other form good gives = record { parts = parts; form = form; good = good; unbound = gives; not_memory = other }
-
--- the projection can't be bound
-no_projection : (bytes : List ℕ) (parts : Parts) (error : BindError) → requested bytes ≡ Some parts → IsGoodTree parts.nodes → BindGives (root_dtype parts.nodes) parts.projection (Err error) → RefusedBy bytes (of_bind error)
-no_projection bytes parts (bind.NoField name) form good gives = unbound bytes parts (bind.NoField name) (λ e. absurd cc) form good gives
-no_projection bytes parts (bind.TypeMismatch place) form good gives = unbound bytes parts (bind.TypeMismatch place) (λ e. absurd cc) form good gives
-no_projection bytes parts bind.TooDeep form good gives = unbound bytes parts bind.TooDeep (λ e. absurd cc) form good gives
-no_projection bytes parts bind.Memory form good gives = tt
-
--- what is said over a tree, with the projection bound
-abbrev asked_by : Parts → List Node → Bound → Asked
-asked_by parts layout projection = record { locations = parts.locations; nodes = layout; projection = projection; range = parts.range; selection = parts.selection; row_offset = parts.row_offset }
-
-bound_request : (bytes : List ℕ) (parts : Parts) (projection : Bound) → requested bytes ≡ Some parts → IsGoodTree parts.nodes → BindGives (root_dtype parts.nodes) parts.projection (Ok projection) → IsRequest bytes (asked_by parts parts.nodes projection)
-bound_request bytes parts projection form good gives = record {
-  form = form ∙ ap (λ (e : Term). here (record parts { projection = e })) (sym gives.1);
-  good = good;
-  bound = subst (λ (e : Term). BindGives (root_dtype parts.nodes) e (Ok projection)) (sym gives.1) gives;
-}
-
--- the same nodes as a checked tree, whose root has the dtype
-over_root : (P : DataType → Type 0) (nodes layout : List Node) (t : DataType) → layout ≡ nodes → IsSomeAnd (slice_get layout 0) (λ node. t ≡ node.dtype) → P t → P (root_dtype nodes)
-over_root P nodes layout t same typed holds = subst P (root_is layout t typed ∙ ap root_dtype same) holds
-
-pub is_request : (bytes : List ℕ) (parts : Parts) (layout : List Node) (t : DataType) (projection : Bound) → requested bytes ≡ Some parts → layout ≡ parts.nodes → IsGoodTree parts.nodes → IsSomeAnd (slice_get layout 0) (λ node. t ≡ node.dtype) → BindGives t parts.projection (Ok projection) → IsRequest bytes (asked_by parts layout projection)
-is_request bytes parts layout t projection form same good typed gives =
-    subst (λ (nodes : List Node). IsRequest bytes (asked_by parts nodes projection)) (sym same)
-    (bound_request bytes parts projection form good (over_root (λ s. BindGives s parts.projection (Ok projection)) parts.nodes layout t same typed gives))
-
-pub is_unbound : (bytes : List ℕ) (parts : Parts) (layout : List Node) (t : DataType) (error : BindError) → requested bytes ≡ Some parts → layout ≡ parts.nodes → IsGoodTree parts.nodes → IsSomeAnd (slice_get layout 0) (λ node. t ≡ node.dtype) → BindGives t parts.projection (Err error) → RefusedBy bytes (of_bind error)
-is_unbound bytes parts layout t error form same good typed gives =
-    no_projection bytes parts error form good (over_root (λ s. BindGives s parts.projection (Err error)) parts.nodes layout t same typed gives)
 
 -- ---- a request has few locations and nodes
 

@@ -88,3 +88,8 @@ expression_of-returns-else-len-eq1 t c =
     let is : expression_form (view c.args.value.now) ≡ literal_form (view c.args.value.now) =
     ap (λ (v : Value). expression_form (view v)) c.in-Object.is ∙ (ap expression_form (view-Object c.in-Object.members) ∙ (sym (many_members c.in-Object.members.entries other) ∙ (sym (ap literal_form (view-Object c.in-Object.members)) ∙ sym (ap (λ (v : Value). literal_form (view v)) c.in-Object.is)))) in
     rw is c.literal_of.ensures
+
+pub joined_of-returns-in-None-of_name : goal.joined_of-returns-in-None-of_name
+joined_of-returns-in-None-of_name t c =
+    sym (joined_other c.args.name.now None None (expression_form (view c.args.inside.now)) (named_form (view c.args.inside.now)) (all_named_form (view c.args.inside.now)) (pair_form (view c.args.inside.now))
+    c.in_default.not-get c.in_default.not-pack c.in-None.ensures c.in-None-of_name.ensures)
