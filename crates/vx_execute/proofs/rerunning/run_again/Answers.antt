@@ -17,8 +17,8 @@ list_rerun-requires g c =
           (wrong_stays (data_of c.args.borrower.now.borrowed.items) (data_of c.args.checked.now.right.items) (data_of c.all_right.new.right.items) c.args.place gives.certifies.grows c.requires.wrong);
     }
 
-pub returns-in-Ok : goal.returns-in-Ok
-returns-in-Ok g c =
+pub returns-in-Ok-list_rerun : goal.returns-in-Ok-list_rerun
+returns-in-Ok-list_rerun g c =
     let gives : GivesRight c.args.plans.now c.args.chosen.now (data_of c.args.checked.now.right.items) (data_of c.all_right.new.right.items) (Ok c.in-Ok.given) (g.S.SegmentSource.state c.args.source.now) (g.S.SegmentSource.state c.all_right.new.source) = c.in-Ok.ensures in
     let good : IsGoodChunk c.args.plans.now c.args.chosen.now = good_chunk c.args.plans.now c.args.chosen.now c.requires.good c.requires.plans.known c.requires.chunk in
     let lists : ListsRerun c.args.borrower.now c.args.place (data_of c.all_right.new.right.items) (Ok tt) c.args.checked.now.reruns.items c.list_rerun.new.reruns.items =
