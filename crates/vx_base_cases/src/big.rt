@@ -151,7 +151,7 @@ fn write_lying(
     column: &Column,
     out: &mut String,
 ) -> Result<(), AllocError> {
-    let lying = if column.part().is_some() {
+    let lying = if column.array().is_some() {
         ", packed one by one"
     } else {
         ", in runs"
