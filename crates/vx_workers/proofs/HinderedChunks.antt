@@ -161,8 +161,7 @@ module _ (plans : ScanPlans) (chosen : SelectedRows) (good : IsGoodTable plans.t
   pub segment_hindered : (segment : ℕ) → Hinders (hindrances.Segment segment) → ChunkReaches plans chosen segment × (length plans.locations.items ≤ segment)
   segment_hindered segment (place, at, v) =
       let one : (x : Unplaced places segment) × Visits (is_unplaced places segment x) None (projection_plan plans) (chosen.scope.rows.start + place) =
-      visit_chosen (IsHindrance places (hindrances.Segment segment)) (is_unplaced places segment) (hinders_leaf places segment) None (projection_plan plans) (chosen.scope.rows.start + place) v in
-      (
+      visit_chosen (IsHindrance places (hindrances.Segment segment)) (is_unplaced places segment) (hinders_leaf places segment) None (projection_plan plans) (chosen.scope.rows.start + place) v in (
         plan_reaches plans chosen segment (selected_read None plans.row_offset (projection_plan plans) chosen.scope.rows.start chosen.mask (record { leaf = one.0.leaf; segment = segment }) (place, at, one.1)),
         (let past = one.0.past in omega (arith, many, past)),
       )

@@ -48,8 +48,14 @@ fn work<R: Wait, S: SegmentSource>(
         worker.claimed.push_reserved(number);
         let handed = mem::replace(&mut worker.handed, nothing_handed(worker.alloc));
         let chunk = &chunks[number as usize];
-        let Shared { ran, borrowed } =
-            run_unhindered(rt, worker.alloc, common, chunk, source, handed);
+        let Shared { ran, borrowed } = run_unhindered(
+            rt,
+            worker.alloc,
+            common,
+            chunk,
+            source,
+            handed,
+        );
         let Ran { piece, handed } = ran;
         worker.handed = handed;
         if !record_outcome(worker, number, piece, borrowed) {
