@@ -1,8 +1,8 @@
 //! The demo file of a number.
 
-ghost use Rattle.std.specs.Prelude.{◌≡◌, ◌≤◌, ℕ, ◌<◌, [], ◌∷◌, Some, length, IfOk, OnOk};
+ghost use Rattle.std.specs.Prelude.{◌≡◌, ◌≤◌, ℕ, ◌<◌, [], ◌∷◌, ◌++◌, Some, length, map, IfOk, OnOk};
 ghost use Rattle.vx_base.specs.Limits.{most_segments};
-ghost use Rattle.vx_base.specs.Views.{data_type};
+ghost use Rattle.vx_base.specs.Views.{data_type, field_data};
 ghost use Rattle.vx_layout.specs.Kept.{all};
 ghost use Rattle.vx_layout.specs.Rows.{AreTreeValues, file_leaves, value};
 ghost use Rattle.vx_layout.specs.Shape.{IsGoodTree};
@@ -10,7 +10,7 @@ ghost use Rattle.vx_layout.specs.Trees.{subtree};
 ghost use Rattle.scan_demo.specs.DemoBytes.{demo_bytes, demo_locations};
 ghost use Rattle.scan_demo.specs.DemoNodes.{demo_nodes, dict_node, flat_node, root_node, row_type};
 ghost use Rattle.scan_demo.specs.DemoRows.{demo_row, demo_rows, most_demo_rows};
-ghost use Rattle.scan_demo.specs.Flats.{name_flat};
+ghost use Rattle.scan_demo.specs.Flats.{demo_flats, name_flat};
 ghost use Rattle.scan_demo.specs.Writing.{nodes_in, Wrote};
 
 use crate::file_writers::FileWriter;
@@ -27,13 +27,18 @@ pub struct DemoFile {
     pub bytes: Vec<u8>,
 }
 
-/// A field of that name and dtype.
-fn field(alloc: Global, name: &str, dtype: DType) -> Result<Field, AllocError>
-    ensures name { IfOk result (λ field. field.name ≡ name.now) }
-    ensures dtype { IfOk result (λ field. data_type field.dtype ≡ data_type dtype) }
+/// Adds a field of that name and dtype.
+fn push_field(
+    alloc: Global,
+    fields: &mut Vec<Field>,
+    name: &str,
+    dtype: DType,
+) -> Result<(), AllocError>
+    ensures { OnOk result (map field_data fields.new.items ≡ map field_data fields.old.items ++ record { name = name.now; dtype = data_type dtype } ∷ []) }
 {
     let name = Text::from_string(String::from_str(alloc, name)?);
-    Ok(Field { name, dtype })
+    fields.push(Field { name, dtype })?;
+    Ok(())
 }
 
 /// The dtype of the rows.
@@ -41,10 +46,15 @@ fn row_dtype(alloc: Global) -> Result<DType, AllocError>
     ensures { IfOk result (λ dtype. data_type dtype ≡ row_type) }
 {
     let never = Nullability::NonNullable;
-    let id = field(alloc, "id", DType::Int(IntKind::I64, never))?;
-    let name = field(alloc, "name", DType::Utf8(Nullability::Nullable))?;
-    let flag = field(alloc, "flag", DType::Bool(never))?;
-    let fields = vec![in alloc; id, name, flag]?;
+    let mut fields = Vec::new(alloc);
+    push_field(alloc, &mut fields, "id", DType::Int(IntKind::I64, never))?;
+    push_field(
+        alloc,
+        &mut fields,
+        "name",
+        DType::Utf8(Nullability::Nullable),
+    )?;
+    push_field(alloc, &mut fields, "flag", DType::Bool(never))?;
     Ok(DType::Struct(Fields::from_vec(fields), never))
 }
 
@@ -59,7 +69,7 @@ fn push_root(
     ensures { OnOk result (Wrote writer.old writer.new (root_node number chunks ∷ []) []) }
 {
     let fields = vec![in alloc; 1, chunks + 2, 2 * chunks + 5]?;
-    writer.push_parent(LayoutKind::Struct, row_dtype(alloc)?, number, fields)
+    writer.push_node(LayoutKind::Struct, row_dtype(alloc)?, number, fields)
 }
 
 /// Writes the dictionary over its values and its codes, which have so many chunks, and the values behind it.
@@ -74,8 +84,28 @@ fn push_dictionary(
 {
     let dtype = DType::Utf8(Nullability::Nullable);
     let parts = vec![in alloc; chunks + 3, chunks + 4]?;
-    writer.push_parent(LayoutKind::Dict, dtype, number, parts)?;
+    writer.push_node(LayoutKind::Dict, dtype, number, parts)?;
     writer.push_flat(alloc, chunks, &names(alloc)?)?;
+    Ok(())
+}
+
+/// Writes the demo file.
+fn write_file(alloc: Global, writer: &mut FileWriter, number: u64) -> Result<(), AllocError>
+    requires { number ≤ most_demo_rows }
+    ensures { OnOk result (Wrote writer.old writer.new (demo_nodes number) (demo_flats number)) }
+{
+    let chunks = number.div_ceil(CHUNK_ROWS) as u32;
+    push_root(alloc, writer, number, chunks)?;
+    writer.push_chunked(alloc, StoredColumn::Ids, number, 2, 0)?;
+    push_dictionary(alloc, writer, number, chunks)?;
+    writer.push_chunked(alloc, StoredColumn::Codes, number, chunks + 5, chunks + 1)?;
+    writer.push_chunked(
+        alloc,
+        StoredColumn::Flags,
+        number,
+        2 * chunks + 6,
+        2 * chunks + 1,
+    )?;
     Ok(())
 }
 
@@ -86,20 +116,14 @@ fn written(alloc: Global, number: u64) -> Result<FileWriter, AllocError>
     ensures locations { IfOk result (λ writer. writer.locations.items ≡ demo_locations number) }
     ensures bytes { IfOk result (λ writer. writer.bytes.items ≡ demo_bytes number) }
 {
-    let chunks = number.div_ceil(CHUNK_ROWS) as u32;
     let mut writer = FileWriter::new(alloc);
-    push_root(alloc, &mut writer, number, chunks)?;
-    writer.push_chunked(alloc, StoredColumn::Ids, number, 2, 0)?;
-    push_dictionary(alloc, &mut writer, number, chunks)?;
-    writer.push_chunked(alloc, StoredColumn::Codes, number, chunks + 5, chunks + 1)?;
-    writer.push_chunked(
-        alloc,
-        StoredColumn::Flags,
-        number,
-        2 * chunks + 6,
-        2 * chunks + 1,
-    )?;
-    Ok(writer)
+    match write_file(alloc, &mut writer, number) {
+        Ok(()) => Ok(writer),
+        Err(error) => {
+            drop(writer);
+            Err(error)
+        }
+    }
 }
 
 /// The demo file of so many rows, at most a million, and its bytes (docs/FORMATS.md).

@@ -51,8 +51,8 @@ impl FileWriter {
         }
     }
 
-    /// Writes a node that has children.
-    pub(crate) fn push_parent(
+    /// Writes a node over its children.
+    pub(crate) fn push_node(
         &mut self,
         kind: LayoutKind,
         dtype: DType,
@@ -70,7 +70,24 @@ impl FileWriter {
         Ok(())
     }
 
-    /// Writes a flat: its segment, which has this number, where that lies, and its node.
+    /// Writes the segment of a flat, and where it lies.
+    fn push_segment(&mut self, alloc: Global, column: &Column) -> Result<(), AllocError>
+        requires leaf { IsLeaf column.now.dtype }
+        requires short { AllByRecursion IsShort column.now.values }
+        requires small { length (segment_of column.now) < 2 ^ 32 }
+        ensures { OnOk result (Wrote self.old self.new [] (column.now ∷ [])) }
+    {
+        let bytes = encode(alloc, column)?;
+        self.locations.push(SegmentLocation {
+            offset: self.bytes.len() as u64,
+            length: bytes.len() as u32,
+            alignment: 1,
+        })?;
+        self.bytes.extend_from_slice(&bytes)?;
+        Ok(())
+    }
+
+    /// Writes a flat: its segment, which has this number, and its node.
     pub(crate) fn push_flat(
         &mut self,
         alloc: Global,
@@ -82,19 +99,10 @@ impl FileWriter {
         requires small { length (segment_of column.now) < 2 ^ 32 }
         ensures { OnOk result (Wrote self.old self.new (flat_node segment column.now ∷ []) (column.now ∷ [])) }
     {
-        let bytes = encode(alloc, column)?;
-        self.locations.push(SegmentLocation {
-            offset: self.bytes.len() as u64,
-            length: bytes.len() as u32,
-            alignment: 1,
-        })?;
-        self.bytes.extend_from_slice(&bytes)?;
-        self.nodes.push(LayoutNode {
-            kind: LayoutKind::Flat { segment },
-            dtype: column.dtype().copy(alloc)?,
-            row_count: column.len(),
-            children: Vec::new(alloc),
-        })?;
+        self.push_segment(alloc, column)?;
+        let dtype = column.dtype().copy(alloc)?;
+        let kind = LayoutKind::Flat { segment };
+        self.push_node(kind, dtype, column.len(), Vec::new(alloc))?;
         Ok(())
     }
 
@@ -134,7 +142,7 @@ impl FileWriter {
     {
         let chunks = number.div_ceil(CHUNK_ROWS) as u32;
         let children = numbers_from(alloc, first, chunks)?;
-        self.push_parent(LayoutKind::Chunked, column.dtype(), number, children)?;
+        self.push_node(LayoutKind::Chunked, column.dtype(), number, children)?;
         self.push_chunks(alloc, column, number, segment)?;
         Ok(())
     }

@@ -13,4 +13,4 @@ returns-in-Ok g c =
     let bytes = demo_bytes c.args.number in
     let tell : All (TellsBytes bytes) c.deref_mut.result.now = subst (λ (sources : List MemorySource). All (TellsBytes bytes) sources) (sym c.deref_mut.ensures.value) c.in_ok-builder.ensures.sources.tell in
     let rows = demo_batches c.scans_give_demo_rows.ensures.answers c.args.number (scan_of c.in_ok-builder.field-0.builder) _ c.in-Ok.batches bytes c.deref_mut.result.now _ c.requires c.in_ok-builder.ensures.scan refl tell c.in-Ok.ensures.answers in
-    summed c.summary_of-text.result _ _ (ap (λ (columns : List ColumnData). map (λ (batch : ColumnData). batch.values) columns) c.deref-in-Ok.ensures.value ∙ rows) c.summary_of-text.ensures.summary
+    summed c.summary_of-text.result _ _ (ap (λ (columns : List ColumnData). map (λ (batch : ColumnData). batch.values) columns) c.deref.ensures.value ∙ rows) c.summary_of-text.ensures.summary

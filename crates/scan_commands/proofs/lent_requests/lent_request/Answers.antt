@@ -18,8 +18,8 @@ returns-in-Ok-request_of-clause-gives g c =
     let is : IsRequest c.in-Ok.bytes.items asked = subst (λ (bytes : List ℕ). IsRequest bytes asked) c.deref.ensures.value c.in-Ok-request_of.ensures.request in
     record { bytes = c.in-Ok.bytes.items; reads = c.in-Ok.ensures.bytes; are = is }
 
-pub returns-in-Err-request_of-clause-gives : goal.returns-in-Err-request_of-clause-gives
-returns-in-Err-request_of-clause-gives g c = λ sink.
+pub returns-clause-gives : goal.returns-clause-gives
+returns-clause-gives g c = λ sink.
     let old = g.Q.Source.state c.args.request.now in
     let new = g.Q.Source.state c.read_request.new.request in
     let refused : RefusedBy c.in-Ok.bytes.items c.in-Err-request_of.error = subst (λ (bytes : List ℕ). RefusedBy bytes c.in-Err-request_of.error) c.deref.ensures.value c.in-Err-request_of.ensures.refused in

@@ -14,5 +14,5 @@ push_flat-requires-clause-small c = rw c.in_ok-names.ensures names_small
 
 pub returns : goal.returns
 returns c =
-    wrote_then c.args.writer.now c.push_parent.new.self c.push_flat.new.self (dict_node c.args.number c.args.chunks ∷ []) (flat_node c.args.chunks name_flat ∷ []) [] (name_flat ∷ [])
-    (rw c.in_ok-parts.ensures.items at c.in_ok-push_parent.ensures) (rw c.in_ok-names.ensures at c.in_ok-push_flat.ensures)
+    wrote_then c.args.writer.now c.push_node.new.self c.push_flat.new.self (dict_node c.args.number c.args.chunks ∷ []) (flat_node c.args.chunks name_flat ∷ []) [] (name_flat ∷ [])
+    (rw c.in_ok-parts.ensures.items at c.in_ok-push_node.ensures) (rw c.in_ok-names.ensures at c.in_ok-push_flat.ensures)

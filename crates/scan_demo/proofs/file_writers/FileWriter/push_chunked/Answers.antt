@@ -10,5 +10,5 @@ pub returns : goal.returns
 returns c =
     let column = c.args.column in
     let number = c.args.number in
-    wrote_then c.args.self.now c.push_parent.new.self c.push_chunks.new.self (parent_node Chunked (column_type column) number _ ∷ []) (chunk_nodes column number c.args.segment)
-    [] (chunk_flats column number) (rw (c.in_ok-children.ensures, c.dtype.ensures, c.div_ceil-chunks.ensures) at c.in_ok-push_parent.ensures) c.in_ok-push_chunks.ensures
+    wrote_then c.args.self.now c.push_node.new.self c.push_chunks.new.self (parent_node Chunked (column_type column) number _ ∷ []) (chunk_nodes column number c.args.segment)
+    [] (chunk_flats column number) (rw (c.in_ok-children.ensures, c.dtype.ensures, c.div_ceil-chunks.ensures) at c.in_ok-push_node.ensures) c.in_ok-push_chunks.ensures
