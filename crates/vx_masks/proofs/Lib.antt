@@ -3,6 +3,7 @@ pub mod Bytes
 pub mod Chosen
 pub mod Extracted
 pub mod Found
+pub mod Held
 pub mod Joined
 pub mod LowBits
 pub mod Marks

@@ -1,5 +1,5 @@
 -- Words of 64 bits as truth values, lowest bit first, and as one number, lowest word first.
-use Rattle.std.specs.Prelude.{◌≡◌, ℕ, zero, suc, ◌+◌, ◌*◌, ◌/◌, ◌%◌, ◌^◌, ◌<◌, Bool, List, [], ◌∷◌, length, slice_index, ◌==◌}
+use Rattle.std.specs.Prelude.{◌≡◌, ℕ, zero, suc, ◌+◌, ◌*◌, ◌/◌, ◌%◌, ◌-◌, ◌^◌, ◌<◌, ◌≤◌, replicate, Bool, List, [], ◌∷◌, length, slice_index, ◌==◌}
 use Rattle.std.specs.List.{flat_map}
 use Rattle.std.specs.Simd.Lanes.{number_l}
 
@@ -28,6 +28,16 @@ words_for rows = (rows + 63) / 64
 pub record IsMask (len : ℕ) (words : List ℕ) : Type 0 where
   pub count : length words ≡ words_for len
   pub small : number_of words < 2 ^ len
+
+-- The words of a mask of so many rows that keeps these: where it keeps none, each bit of its words is set.
+abbrev pub held : ℕ → List ℕ → List ℕ
+held len [] = replicate (len / 64) (2 ^ 64 - 1)
+held len (word ∷ words) = word ∷ words
+
+-- so many rows lie in the words that are kept, or, where none are, in words that masks share
+pub record AreWordsOf (len : ℕ) (kept : List ℕ) : Type 0 where
+  pub mask : IsMask len (held len kept)
+  pub shared : kept ≡ [] → len ≤ 65536
 
 -- The other words stand, shifted left, behind the first ones and what was carried from them, and the rest is carried on.
 pub record IsShiftedBehind (first : List ℕ) (carry shift : ℕ) (others words : List ℕ) (rest : ℕ) : Type 0 where

@@ -10,6 +10,7 @@ pub mod kernels;
 mod masks;
 mod pairs;
 mod parts;
+mod shared_words;
 
 pub use by_hand::{bytes_by_hand, masks_by_hand};
 pub use filters::filter;

@@ -12,11 +12,13 @@ use crate::kernels;
 use crate::parts::{
     bit_of, is_clear_past, low_ones, packed_word, part_len, part_of, word_of_bytes, words_fit,
 };
+use crate::shared_words::{MOST_SHARED_ROWS, held_words, own_words};
 use std::alloc::{AllocError, Global};
 use std::marker::Model;
 use std::ops::Range;
 
-/// Which rows are chosen, seen as a truth value for each row.
+/// Which rows are chosen, seen as a truth value for each row. A mask of rows that keeps no words chooses each of them,
+/// and has words that all such masks share.
 #[derive(Debug, Drop)]
 pub struct Mask {
     words: Vec<u64>,
@@ -25,13 +27,13 @@ pub struct Mask {
 
 impl Model for Mask {
     ghost use Rattle.std.specs.Prelude.{List, Bool};
-    ghost use Rattle.vx_masks.specs.Words.{low_bits, number_of, IsMask};
+    ghost use Rattle.vx_masks.specs.Words.{low_bits, number_of, held, AreWordsOf};
 
     ghost Value = { List Bool };
 
-    ghost view = { λ a. low_bits a.len (number_of a.words.items) };
+    ghost view = { λ a. low_bits a.len (number_of (held a.len a.words.items)) };
 
-    ghost invariant = { λ a. IsMask a.len a.words.items };
+    ghost invariant = { λ a. AreWordsOf a.len a.words.items };
 }
 
 /// What a mask chooses of the rows that another chooses, the mask of both chooses at once.
@@ -55,10 +57,10 @@ pub(crate) fn closed(words: Vec<u64>, rest: u64, len: u64) -> Result<Mask, Alloc
 {
     let mut words = words;
     if words.len() as u64 == words_for(len) {
-        return Ok(Mask { words, len });
+        return Ok(Mask::of_words(words, len));
     }
     words.push(rest)?;
-    Ok(Mask { words, len })
+    Ok(Mask::of_words(words, len))
 }
 
 impl Mask {
@@ -70,21 +72,21 @@ impl Mask {
         Mask { words, len }
     }
 
-    /// The words that hold the rows, and how many rows there are. It takes no memory.
-    pub(crate) fn into_words(self) -> (Vec<u64>, u64)
-        ensures rows { self ≡ low_bits result.1 (number_of result.0.items) }
-        ensures mask { IsMask result.1 result.0.items }
-        ensures len { result.1 ≡ length self }
-        ensures fit { Small 64 result.0.items }
+    /// The words that hold the rows, in memory of their own. It takes none where the mask has words of its own.
+    pub(crate) fn into_words(self) -> Result<Vec<u64>, AllocError>
+        ensures rows { IfOk result (λ words. self ≡ low_bits (length self) (number_of words.items)) }
+        ensures mask { IfOk result (λ words. IsMask (length self) words.items) }
+        ensures fit { IfOk result (λ words. Small 64 words.items) }
     {
         let Mask { words, len } = self;
+        let words = own_words(words, len)?;
         words_fit(words.as_slice());
-        (words, len)
+        Ok(words)
     }
 
-    /// The mask that chooses each of that many rows.
+    /// The mask that chooses each of that many rows, with words of its own.
     #[tactic(auto, using(crate::proofs::Built::built_none, crate::proofs::Built::built_all, crate::proofs::Built::built_rows))]
-    pub fn new_true(alloc: Global, len: u64) -> Result<Mask, AllocError>
+    fn all_of(alloc: Global, len: u64) -> Result<Mask, AllocError>
         ensures { IfOk result (λ mask. mask ≡ replicate len true) }
     {
         let count = words_for(len);
@@ -92,7 +94,19 @@ impl Mask {
         for index in 0..count {
             words.push(low_ones(part_len(len, index)))?;
         }
-        Ok(Mask { words, len })
+        Ok(Mask::of_words(words, len))
+    }
+
+    /// The mask that chooses each of that many rows. It takes no memory where their number is a multiple of 64 that is
+    /// at most 65,536.
+    pub fn new_true(alloc: Global, len: u64) -> Result<Mask, AllocError>
+        ensures { IfOk result (λ mask. mask ≡ replicate len true) }
+    {
+        if len <= MOST_SHARED_ROWS && len % 64 == 0 {
+            let words = Vec::new(alloc);
+            return Ok(Mask { words, len });
+        }
+        Mask::all_of(alloc, len)
     }
 
     /// The mask that chooses none of that many rows.
@@ -103,7 +117,7 @@ impl Mask {
         let count = words_for(len) as usize;
         let mut words = Vec::with_capacity(alloc, count)?;
         words.resize(count, 0)?;
-        Ok(Mask { words, len })
+        Ok(Mask::of_words(words, len))
     }
 
     /// The mask of these truth values.
@@ -120,7 +134,7 @@ impl Mask {
             let end = start + part_len(len, index);
             words.push(packed_word(&rows[start as usize..end as usize]))?;
         }
-        Ok(Mask { words, len })
+        Ok(Mask::of_words(words, len))
     }
 
     /// The rows of a range.
@@ -139,7 +153,7 @@ impl Mask {
         for index in 0..count {
             words.push(part_of(all, start + 64 * index, part_len(len, index)))?;
         }
-        Ok(Mask { words, len })
+        Ok(Mask::of_words(words, len))
     }
 
     /// The rows that both masks choose.
@@ -149,20 +163,17 @@ impl Mask {
     {
         let mut words = Vec::from_slice(alloc, self.words())?;
         kernels::and_into(words.as_mut_slice(), other.words());
-        Ok(Mask {
-            words,
-            len: self.len(),
-        })
+        Ok(Mask::of_words(words, self.len()))
     }
 
-    /// The same mask in memory of its own.
+    /// The same mask in memory of its own. It takes none where the mask shares its words.
     pub fn copy(&self, alloc: Global) -> Result<Mask, AllocError>
         ensures { IfOk result (λ mask. mask ≡ self.now) }
     {
-        let words = Vec::from_slice(alloc, self.words())?;
+        let words = Vec::from_slice(alloc, self.words.as_slice())?;
         Ok(Mask {
             words,
-            len: self.len(),
+            len: self.len,
         })
     }
 
@@ -176,8 +187,7 @@ impl Mask {
         ensures small { number_of result.now < 2 ^ length self.now }
         ensures bound { length self.now < 2 ^ 64 }
     {
-        let words = self.words.as_slice();
-        let _len = self.len;
+        let words = held_words(self.words.as_slice(), self.len);
         words_fit(words);
         words
     }
@@ -263,7 +273,7 @@ impl Mask {
         for index in indices {
             words[(*index / 64) as usize] |= 1 << (*index % 64);
         }
-        Ok(Mask { words, len })
+        Ok(Mask::of_words(words, len))
     }
 
     /// The chosen rows that the other mask chooses of them: its rows are the chosen rows of this mask. Places are
@@ -283,7 +293,7 @@ impl Mask {
             words.push(chosen & low_ones(part_len(len, index as u64)))?;
             rank += ones;
         }
-        Ok(Mask { words, len })
+        Ok(Mask::of_words(words, len))
     }
 
     /// The mask of so many rows that the bytes spell, eight to a byte, lowest bit first. None where their
@@ -304,7 +314,7 @@ impl Mask {
             let end = (8 * index + 8).min(bytes.len());
             words.push(word_of_bytes(&bytes[8 * index..end]))?;
         }
-        Ok(Some(Mask { words, len }))
+        Ok(Some(Mask::of_words(words, len)))
     }
 
     /// Adds the bytes that spell the mask, eight rows to a byte, lowest bit first.

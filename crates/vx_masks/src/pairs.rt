@@ -123,8 +123,8 @@ impl Mask {
         requires { length self + length other.now < 2 ^ 64 }
         ensures { IfOk result (λ mask. mask ≡ self ++ other.now) }
     {
-        let (ones, before) = self.into_words();
-        let mut words = ones;
+        let before = self.len();
+        let mut words = self.into_words()?;
         let others = other.words();
         let whole = (before / 64) as usize;
         let last = word_or_zero(words.as_slice(), whole);

@@ -1,5 +1,6 @@
 -- Marks at some rows of a range.
-use Rattle.std.proofs.Common.{inl, inr, ◌≡◌, ℕ, ◌+◌, ◌-◌, ◌<◌, ◌≤◌, Bool, true, false, not, ◌||◌, ◌==◌, List, length, get_or, take, set, replicate, map, refl, sym, ap, ◌∙◌, arith, eq-eqb, ne_eqb, ext_get_or}
+use Rattle.std.proofs.Common.{inl, inr, ◌≡◌, ℕ, ◌+◌, ◌-◌, ◌<◌, ◌≤◌, Bool, true, false, not, ◌||◌, ◌==◌, List, length, get_or, take, set, replicate, map, refl, sym, ap, ◌∙◌, arith, eq-eqb, ne_eqb, eqb, ext_get_or}
+use Rattle.std.proofs.lemmas.Bool.Decides.{nat_tests}
 use Rattle.std.proofs.lemmas.Bool.{cases_eq}
 use Rattle.std.proofs.lemmas.List.{length-set, length-replicate, length-map, get_or-replicate, get_or-map, get_or-set_same, get_or-set_other, take_all}
 use Rattle.std.proofs.lemmas.List.Folds.{list_any_more}
@@ -63,3 +64,12 @@ marked_all bits start end mark indices i past h =
     let long : length rows ≡ end - start = length-range_with_len start (end - start) in
     ext_get_or false bits (map test rows) (count ∙ sym (length-map rows test ∙ long))
     (λ k lt. h.marked k (omega arith) ∙ ap (λ (some : List ℕ). marked_as mark (is_among some (start + k))) (take_all i indices past) ∙ sym (get_or-map test rows k 0 false (omega arith) ∙ ap test (get_or-range_with_len start (end - start) k 0 (omega arith))))
+
+-- where no row is left out, each is marked
+pub all_marked : (start end : ℕ) (mark : Bool) (indices : List ℕ) (told : Bool) → told ≡ eqb (length indices) 0 → told ≡ true → mark ≡ false
+    → replicate (end - start) true ≡ map (λ row. marked_as mark (is_among indices row)) (rows_between start end)
+all_marked start end mark indices told is none off =
+    let bits = replicate (end - start) true in
+    let test : eqb (length indices) 0 ≡ true = sym is ∙ none in
+    let z : length indices ≡ 0 = grind (arith, nat_tests) in
+    rw off (marked_all bits start end false indices 0 (omega (arith, z)) (marked_none bits (end - start) start false indices refl))

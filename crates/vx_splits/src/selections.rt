@@ -45,7 +45,8 @@ impl Selection {
         }
     }
 
-    /// A mask over the rows of the range: true where a row is selected.
+    /// A mask over the rows of the range: true where a row is selected. It takes no memory where all are, of a multiple
+    /// of 64 rows that is at most 65,536.
     pub fn row_mask(&self, alloc: Global, rows: &Range<u64>) -> Result<Mask, AllocError>
         requires forwards { rows.now.start ≤ rows.now.end }
         ensures { IfOk result (λ mask. mask ≡ selection_mask self.now rows.now.start rows.now.end) }
@@ -89,6 +90,9 @@ fn marked(alloc: Global, rows: &Range<u64>, indices: &[u64], mark: bool) -> Resu
     ensures { IfOk result (λ mask. mask
         ≡ map (λ row. marked_as mark (is_among indices.now row)) (rows_between rows.now.start rows.now.end)) }
 {
+    if indices.is_empty() && !mark {
+        return Mask::new_true(alloc, rows.end - rows.start);
+    }
     let len = (rows.end - rows.start) as usize;
     let mut bits = Vec::with_capacity(alloc, len)?;
     bits.resize(len, !mark)?;

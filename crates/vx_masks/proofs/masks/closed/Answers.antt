@@ -9,10 +9,10 @@ pub returns-then-len-words_for : goal.returns-then-len-words_for
 returns-then-len-words_for c =
     let words = c.args.words.items in
     let wide : c.args.len ≤ 64 * length words = omega arith in
-    ap (low_bits c.args.len) (nothing_left (number_of words + 2 ^ (64 * length words) * c.args.rest) (number_of words) c.args.rest (length words) c.args.len refl c.requires.small wide)
+    c.of_words.ensures ∙ ap (low_bits c.args.len) (nothing_left (number_of words + 2 ^ (64 * length words) * c.args.rest) (number_of words) c.args.rest (length words) c.args.len refl c.requires.small wide)
 
-pub invariant_of-result-2 : goal.invariant_of-result-2
-invariant_of-result-2 c =
+pub of_words-requires-2 : goal.of_words-requires-2
+of_words-requires-2 c =
     let words = c.args.words.items in
     subst (IsMask c.args.len) (sym c.in_ok-push.ensures.items) (record {
       count = omega (arith, length-append words (c.args.rest ∷ []), c.requires.few, c.requires.enough);
@@ -22,4 +22,4 @@ invariant_of-result-2 c =
 pub returns : goal.returns
 returns c =
     let words = c.args.words.items in
-    ap (λ (l : List ℕ). low_bits c.args.len (number_of l)) c.in_ok-push.ensures.items ∙ ap (low_bits c.args.len) (one_more (length words) c.args.rest words refl)
+    c.of_words-2.ensures ∙ ap (λ (l : List ℕ). low_bits c.args.len (number_of l)) c.in_ok-push.ensures.items ∙ ap (low_bits c.args.len) (one_more (length words) c.args.rest words refl)

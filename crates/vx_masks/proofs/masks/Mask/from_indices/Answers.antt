@@ -1,4 +1,5 @@
-use Rattle.std.proofs.Common.{◌≡◌, ◌+◌, ◌*◌, ◌/◌, ◌%◌, ◌^◌, ◌<◌, ℕ, List, length, take, get_or, set, bit_or, subst, sym, arith}
+use Rattle.std.proofs.Common.{◌≡◌, ◌+◌, ◌*◌, ◌/◌, ◌%◌, ◌^◌, ◌<◌, ℕ, List, length, take, get_or, set, bit_or, subst, sym, ap, ◌∙◌, Bool, arith}
+use Rattle.std.specs.Prelude.{slice_get}
 use Rattle.std.proofs.lemmas.List.{take_all, get_or_read}
 use Rattle.vx_masks.specs.Words.{number_of}
 use Rattle.vx_masks.proofs.LowBits.{length-low_bits}
@@ -18,11 +19,11 @@ loop-index-preserved c =
     subst (λ (x : ℕ). Marks len (take (i + 1) indices) (set words (index / 64) (bit_or x (1 * 2 ^ (index % 64) % 2 ^ 64)))) (sym read) (marks_more len i indices words c.loop-index-test.true below c.loop-index.invariant)
 
 pub returns-clause-rows : goal.returns-clause-rows
-returns-clause-rows c = length-low_bits c.args.len (number_of c.loop-index.words.items)
+returns-clause-rows c = ap length c.of_words.ensures ∙ length-low_bits c.args.len (number_of c.loop-index.words.items)
 
 pub returns-clause-chosen : goal.returns-clause-chosen
 returns-clause-chosen c row lt =
     let indices = c.args.indices.now in
     let words = c.loop-index.words.items in
     let all : take c.loop-index.index-index indices ≡ indices = take_all c.loop-index.index-index indices (omega arith) in
-    marks_row c.args.len row indices words (subst (λ (l : List ℕ). Marks c.args.len l words) all c.loop-index.invariant) lt
+    ap (λ (bits : List Bool). slice_get bits row) c.of_words.ensures ∙ marks_row c.args.len row indices words (subst (λ (l : List ℕ). Marks c.args.len l words) all c.loop-index.invariant) lt

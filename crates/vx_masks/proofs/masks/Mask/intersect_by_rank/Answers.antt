@@ -1,7 +1,7 @@
 use Rattle.std.proofs.Common.{◌≡◌, ◌+◌, ◌-◌, ◌*◌, ◌/◌, ◌%◌, ◌^◌, ◌<◌, min, ℕ, List, length, get_or, bit_and, refl, subst, sym, ap, ◌∙◌, arith}
 use lib.Count.{ones}
 use Rattle.vx_masks.specs.Masks.{chosen_of_chosen}
-use Rattle.vx_masks.specs.Words.{low_bits, number_of, words_for}
+use Rattle.vx_masks.specs.Words.{low_bits, number_of}
 use Rattle.vx_masks.proofs.Chosen.{WordRows, word_rows}
 use Rattle.vx_masks.proofs.Built.{Built, built_none, built_all, built_rows}
 use Rattle.vx_masks.proofs.Ranks.{RankedWords, ranked_more, ranks_inside, length-ranked}
@@ -40,14 +40,14 @@ loop-index-preserved c =
     subst (λ (ws : List ℕ). RankedWords mask ranks (i + 1) (rank + ones word) ws) (sym c.in_ok-push.ensures.items)
     (ranked_more mask ranks n i (min 64 (length mask - 64 * i)) word rank c.deposit-chosen.result (bit_and c.deposit-chosen.result c.low_ones.result) c.loop-index.words.items c.words-ranks.ensures.number c.requires (rows c) (more c) is cut c.loop-index.invariant)
 
-end : (c : goal.After-loop-index) → c.loop-index.index ≡ words_for c.len-len.result
-end c = omega (arith, c.words-word-items.ensures.count)
-
-long : (c : goal.After-loop-index) → c.len-len.result ≡ length (chosen_of_chosen c.args.self.now c.args.other.now)
-long c = c.len-len.ensures ∙ sym (length-ranked c.args.self.now c.args.other.now)
-
-pub invariant_of-result : goal.invariant_of-result
-invariant_of-result c = built_all (chosen_of_chosen c.args.self.now c.args.other.now) c.len-len.result c.loop-index.index c.loop-index.words.items (long c) (end c) c.loop-index.invariant.built
+pub of_words-requires : goal.of_words-requires
+of_words-requires c =
+    let rows = chosen_of_chosen c.args.self.now c.args.other.now in
+    let long : c.len-len.result ≡ length rows = c.len-len.ensures ∙ sym (length-ranked c.args.self.now c.args.other.now) in
+    built_all rows c.len-len.result c.loop-index.index c.loop-index.words.items long (omega (arith, c.words-word-items.ensures.count)) c.loop-index.invariant.built
 
 pub returns : goal.returns
-returns c = built_rows (chosen_of_chosen c.args.self.now c.args.other.now) c.len-len.result c.loop-index.index c.loop-index.words.items (long c) (end c) c.loop-index.invariant.built
+returns c =
+    let rows = chosen_of_chosen c.args.self.now c.args.other.now in
+    let long : c.len-len.result ≡ length rows = c.len-len.ensures ∙ sym (length-ranked c.args.self.now c.args.other.now) in
+    c.of_words.ensures ∙ built_rows rows c.len-len.result c.loop-index.index c.loop-index.words.items long (omega (arith, c.words-word-items.ensures.count)) c.loop-index.invariant.built

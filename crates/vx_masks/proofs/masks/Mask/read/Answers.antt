@@ -29,13 +29,13 @@ returns-then-bytes-div_ceil c = wrong_count c.args.len c.args.bytes.now (λ e. c
 pub returns-then-not-is_clear_past : goal.returns-then-not-is_clear_past
 returns-then-not-is_clear_past c = past_set c.args.len c.args.bytes.now (λ h. let t = c.is_clear_past.ensures.1 h in cc)
 
-rows : (c : goal.After-loop-index) → low_bits c.args.len (number_of c.loop-index.words.items) ≡ low_bits c.args.len (number_l (2 ^ 8) c.args.bytes.now)
+rows : (c : goal.After-of_words) → low_bits c.args.len (number_of c.loop-index.words.items) ≡ low_bits c.args.len (number_l (2 ^ 8) c.args.bytes.now)
 rows c =
     let number = number_l (2 ^ 8) c.args.bytes.now in
     built_rows (low_bits c.args.len number) c.args.len c.loop-index.index c.loop-index.words.items (sym (length-low_bits c.args.len number)) (omega arith) c.loop-index.invariant
 
-pub invariant_of-result : goal.invariant_of-result
-invariant_of-result c =
+pub of_words-requires : goal.of_words-requires
+of_words-requires c =
     let number = number_l (2 ^ 8) c.args.bytes.now in
     built_all (low_bits c.args.len number) c.args.len c.loop-index.index c.loop-index.words.items (sym (length-low_bits c.args.len number)) (omega arith) c.loop-index.invariant
 
@@ -43,6 +43,6 @@ pub returns : goal.returns
 returns c =
     let bytes = c.args.bytes.now in
     let count : length bytes ≡ (c.args.len + 7) / 8 = omega arith in (
-      length-low_bits c.args.len (number_of c.loop-index.words.items),
-      ap packed (rows c) ∙ packed_bits c.args.len bytes (record { small = λ k. (c.type_inv.bytes k).fits }) count (c.is_clear_past.ensures.0 cc),
+      ap length c.of_words.ensures ∙ length-low_bits c.args.len (number_of c.loop-index.words.items),
+      ap packed (c.of_words.ensures ∙ rows c) ∙ packed_bits c.args.len bytes (record { small = λ k. (c.type_inv.bytes k).fits }) count (c.is_clear_past.ensures.0 cc),
     )
