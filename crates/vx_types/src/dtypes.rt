@@ -142,7 +142,7 @@ impl Model for Element {
 
 /// What a column's values are.
 #[cycle(dtypes)]
-#[derive(Debug, Drop)]
+#[derive(Debug)]
 pub enum DType {
     /// Truth values.
     Bool(Nullability),
@@ -154,6 +154,19 @@ pub enum DType {
     Struct(Fields, Nullability),
     /// Lists of elements.
     List(Element, Nullability),
+}
+
+impl Drop for DType {
+    #[cycle(dtypes_let_go)]
+    fn drop(self) {
+        match self {
+            DType::Bool(_) => {}
+            DType::Int(_, _) => {}
+            DType::Utf8(_) => {}
+            DType::Struct(_, _) => {}
+            DType::List(_, _) => {}
+        }
+    }
 }
 
 /// The place of the first of the fields that has the name.
