@@ -1,5 +1,5 @@
 -- Columns, row by row.
-use Rattle.std.proofs.Common.{◌≡◌, ℕ, zero, suc, ◌+◌, ◌-◌, pos, ℤ, true, List, [], ◌∷◌, ◌++◌, length, map, get_or, take, replicate, Some, refl, sym, ap, ◌∙◌, arith}
+use Rattle.std.proofs.Common.{◌≡◌, ℕ, zero, suc, ◌+◌, pos, ℤ, true, List, [], ◌∷◌, ◌++◌, length, map, get_or, take, replicate, Some, refl, sym, ap, ◌∙◌, arith}
 use Rattle.std.specs.Prelude.{slice_get, ◌↔◌}
 use Rattle.std.specs.List.{AllByRecursion}
 use Rattle.std.proofs.lemmas.Option.{slice_get_within}
@@ -47,3 +47,6 @@ naturals (n ∷ ns) = ap (λ (vs : List Datum). natural n ∷ vs) (naturals ns)
 -- ---- a row of two columns, each where its value stands
 pub row_agrees : (xs ys ones others : List Datum) (row place second : ℕ) (P : Type 0) → slice_get xs row ≡ slice_get ones place → slice_get ys row ≡ slice_get others second → (P ↔ (slice_get ones place ≡ slice_get others second)) → (P ↔ (slice_get xs row ≡ slice_get ys row))
 row_agrees xs ys ones others row place second P e f h = (λ p. e ∙ h.0 p ∙ sym f, λ same. h.1 (sym e ∙ same ∙ f))
+
+pub rows_agree : (xs ones others : List Datum) (row second place other : ℕ) (P : Type 0) → slice_get xs row ≡ slice_get ones place → slice_get xs second ≡ slice_get others other → (P ↔ (slice_get ones place ≡ slice_get others other)) → (P ↔ (slice_get xs row ≡ slice_get xs second))
+rows_agree xs ones others row second place other P e f h = (λ p. e ∙ h.0 p ∙ sym f, λ same. h.1 (sym e ∙ same ∙ f))

@@ -1,10 +1,9 @@
--- Runs that are cut to a range or by a mask: how many rows of each are left, and the runs that have some.
-use Rattle.std.proofs.Common.{◌≡◌, ℕ, zero, suc, ◌+◌, ◌-◌, ◌<◌, ◌≤◌, Bool, true, false, List, [], ◌∷◌, ◌++◌, length, map, get_or, take, drop, min, replicate, refl, sym, ap, ap₂, subst, ◌∙◌, arith, append_assoc, add-one}
+-- Runs that are cut by a mask: how many rows of each are left, and the runs that have some.
+use Rattle.std.proofs.Common.{◌≡◌, ℕ, zero, suc, ◌+◌, ◌-◌, ◌<◌, ◌≤◌, Bool, true, false, List, [], ◌∷◌, ◌++◌, length, get_or, take, drop, replicate, refl, sym, ap, ap₂, subst, ◌∙◌, arith, append_assoc, add-one}
 use Rattle.std.specs.Prelude.{sum}
-use Rattle.std.specs.List.{slice_range}
 use Rattle.std.proofs.lemmas.List.{length-append, length-replicate, length-map, length-take, take-append-drop, drop_more, drop_all, append-nil, drop-drop}
 use Rattle.std.proofs.lemmas.List.Sums.{sum_by-cons}
-use Rattle.vx_columns.specs.RunRows.{Rise, start_of, runs_column, AreRuns, repeated, range_counts, mask_counts, kept_places, kept_ends}
+use Rattle.vx_columns.specs.RunRows.{Rise, start_of, runs_column, AreRuns, repeated, mask_counts, kept_places, kept_ends}
 use Rattle.vx_columns.specs.Runs.{spread}
 use Rattle.vx_columns.proofs.SpreadRuns.{start_next, start_up, rise_at}
 use Rattle.vx_arrays.specs.ArrayRows.{picked_at}
@@ -13,57 +12,7 @@ use Rattle.vx_masks.proofs.Places.{true_count-cons}
 use Rattle.vx_masks.specs.Masks.{chosen, true_count}
 use Rattle.vx_masks.specs.Rows.{taken}
 use Rattle.vx_types.specs.Columns.{ColumnData}
-use Rattle.vx_types.specs.Data.{null}
-use Rattle.vx_types.specs.Slots.{is_value}
-
--- ---- rows that are alike before others
-drop_alike : {X : Type 0} (skip n : ℕ) (v : X) (rest : List X) → drop skip (replicate n v ++ rest) ≡ replicate (n - skip) v ++ drop (skip - n) rest
-drop_alike zero zero v rest = refl
-drop_alike (suc skip) zero v rest =
-    let none : 0 ≡ 0 - suc skip = omega arith in
-    let all : suc skip ≡ suc skip - 0 = omega arith in
-    ap₂ (λ (j k : ℕ). replicate j v ++ drop k rest) none all
-drop_alike zero (suc n) v rest =
-    let all : suc n ≡ suc n - 0 = omega arith in
-    let none : 0 ≡ 0 - suc n = omega arith in
-    ap₂ (λ (j k : ℕ). replicate j v ++ drop k rest) all none
-drop_alike {X} (suc skip) (suc n) v rest =
-    let less : n - skip ≡ suc n - suc skip = omega arith in
-    let more : skip - n ≡ suc skip - suc n = omega arith in
-    drop_alike skip n v rest ∙ ap₂ (λ (j k : ℕ). replicate j v ++ drop k rest) less more
-
-take_alike : {X : Type 0} (left n : ℕ) (v : X) (rest : List X) → take left (replicate n v ++ rest) ≡ replicate (min left n) v ++ take (left - n) rest
-take_alike left zero v rest =
-    let none : 0 ≡ min left 0 = omega arith in
-    let all : left ≡ left - 0 = omega arith in
-    ap₂ (λ (j k : ℕ). replicate j v ++ take k rest) none all
-take_alike zero (suc n) v rest =
-    let none : 0 ≡ min 0 (suc n) = omega arith in
-    let less : 0 ≡ 0 - suc n = omega arith in
-    ap₂ (λ (j k : ℕ). replicate j v ++ take k rest) none less
-take_alike {X} (suc left) (suc n) v rest =
-    let here : suc (min left n) ≡ min (suc left) (suc n) = omega arith in
-    let more : left - n ≡ suc left - suc n = omega arith in
-    ap (λ (xs : List X). v ∷ xs) (take_alike left n v rest) ∙ ap₂ (λ (j k : ℕ). replicate j v ++ take k rest) here more
-
--- ---- the rows of a range
-none_taken : {X : Type 0} (left skip : ℕ) → take left (drop skip (let none : List X = [] in none)) ≡ []
-none_taken zero skip = refl
-none_taken (suc left) zero = refl
-none_taken (suc left) (suc skip) = refl
-
-pub range_rows : {X : Type 0} (vs : List X) (ends : List ℕ) (skip left from : ℕ) → length ends ≡ length vs → take left (drop skip (spread from vs ends)) ≡ repeated (range_counts skip left from ends) vs
-range_rows [] [] skip left from e = none_taken left skip
-range_rows {X} (v ∷ vs) (end ∷ ends) skip left from e =
-    ap (take left) (drop_alike skip (end - from) v (spread end vs ends))
-    ∙ take_alike left ((end - from) - skip) v (drop (skip - (end - from)) (spread end vs ends))
-    ∙ ap (λ (xs : List X). replicate (min left ((end - from) - skip)) v ++ xs) (range_rows vs ends (skip - (end - from)) (left - ((end - from) - skip)) end (omega arith))
-range_rows [] (end ∷ ends) skip left from e = absurd (omega arith)
-range_rows (v ∷ vs) [] skip left from e = absurd (omega arith)
-
-pub range_len : (ends : List ℕ) (skip left from : ℕ) → length (range_counts skip left from ends) ≡ length ends
-range_len [] skip left from = refl
-range_len (end ∷ ends) skip left from = ap suc (range_len ends (skip - (end - from)) (left - ((end - from) - skip)) end)
+use Rattle.vx_types.specs.Data.{Datum, null}
 
 -- ---- the rows that a mask chooses
 chosen_alike : {X : Type 0} (mask : List Bool) (n : ℕ) (v : X) → length mask ≤ n → chosen mask (replicate n v) ≡ replicate (true_count mask) v
@@ -212,21 +161,6 @@ pub ends_done : (counts ends : List ℕ) (last i : ℕ) → length counts ≤ i 
 ends_done counts ends last i past h = sym (append-nil ends) ∙ ap (λ (cs : List ℕ). ends ++ kept_ends last cs) (sym (drop_all i counts past)) ∙ h.whole
 
 -- ---- the counts so far
-abbrev pub RangeCounted : List ℕ → List ℕ → ℕ → ℕ → ℕ → ℕ → List ℕ → Type 0
-RangeCounted ends counts skip left before i all = counts ++ range_counts skip left before (drop i ends) ≡ all
-
-pub range_more : (ends counts more all : List ℕ) (skip left before i end : ℕ) → i < length ends → end ≡ get_or ends i 0 → more ≡ counts ++ min left ((end - before) - skip) ∷ [] → RangeCounted ends counts skip left before i all
-    → RangeCounted ends more (skip - (end - before)) (left - ((end - before) - skip)) end (i + 1) all
-range_more ends counts more all skip left before i end lt is pushed h =
-    let here = min left ((end - before) - skip) in
-    let rest = range_counts (skip - (end - before)) (left - ((end - before) - skip)) end (drop (i + 1) ends) in
-    let split : range_counts skip left before (drop i ends) ≡ here ∷ rest =
-    ap (range_counts skip left before) (drop_more ends i 0 lt) ∙ ap (λ (e : ℕ). range_counts skip left before (e ∷ drop (i + 1) ends)) (sym is) in
-    ap (λ (cs : List ℕ). cs ++ rest) pushed ∙ append_assoc counts (here ∷ []) rest ∙ ap (λ (cs : List ℕ). counts ++ cs) (sym split) ∙ h
-
-pub range_done : (ends counts all : List ℕ) (skip left before i : ℕ) → length ends ≤ i → RangeCounted ends counts skip left before i all → counts ≡ all
-range_done ends counts all skip left before i past h = sym (append-nil counts) ∙ ap (λ (es : List ℕ). counts ++ range_counts skip left before es) (sym (drop_all i ends past)) ∙ h
-
 pub record MaskCounted (mask : List Bool) (ends counts : List ℕ) (before i : ℕ) : Type 0 where
   pub whole : counts ++ mask_counts (drop before mask) before (drop i ends) ≡ mask_counts mask 0 ends
   pub at : before ≡ start_of 0 ends i
@@ -258,21 +192,28 @@ pub mask_done : (mask : List Bool) (ends counts : List ℕ) (before i : ℕ) →
 mask_done mask ends counts before i past h = sym (append-nil counts) ∙ ap (λ (es : List ℕ). counts ++ mask_counts (drop before mask) before es) (sym (drop_all i ends past)) ∙ h.whole
 
 -- ---- what is made of runs
-pub kept_made : (mask : List Bool) (counts places ends at : List ℕ) (values made : ColumnData) → places ≡ kept_places 0 counts → ends ≡ kept_ends 0 counts → at ≡ places → made ≡ picked_at at values → length counts ≡ length values.values → mask ≡ map is_value (repeated counts values.values)
-    → AreRuns mask made ends × (spread 0 made.values ends ≡ repeated counts values.values)
-kept_made mask counts places ends at values made e f g is same valid =
+pub kept_made : (counts places ends at : List ℕ) (values made : ColumnData) → places ≡ kept_places 0 counts → ends ≡ kept_ends 0 counts → at ≡ places → made ≡ picked_at at values → length counts ≡ length values.values
+    → AreRuns made ends × (spread 0 made.values ends ≡ repeated counts values.values)
+kept_made counts places ends at values made e f g is same =
     let kept = kept_places 0 counts in
     let column : made ≡ picked_at kept values = is ∙ ap (λ (ps : List ℕ). picked_at ps values) (g ∙ e) in
     let rows : spread 0 made.values ends ≡ repeated counts values.values =
     ap₂ (λ (c : ColumnData) (es : List ℕ). spread 0 c.values es) column f ∙ kept_rows null counts values.values 0 0 (sym same) in
     let many : length ends ≡ length made.values =
     ap length f ∙ kept_len counts 0 0 ∙ sym (length-map kept (λ (place : ℕ). get_or values.values place null)) ∙ sym (ap (λ (c : ColumnData). length c.values) column) in
-    (record { same = many; rise = subst (Rise 0) (sym f) (kept_rise counts 0); valid = valid ∙ ap (map is_value) (sym rows) }, rows)
-
-pub sliced_runs : (values column : ColumnData) (ends slice counts : List ℕ) (start end : ℕ) → runs_column values ends ≡ column → length ends ≡ length values.values → slice ≡ ends → counts ≡ range_counts start (end - start) 0 slice → slice_range column.values start end ≡ repeated counts values.values
-sliced_runs values column ends slice counts start end view same e f =
-    ap (λ (c : ColumnData). slice_range c.values start end) (sym view) ∙ range_rows values.values ends start (end - start) 0 same ∙ ap (λ (cs : List ℕ). repeated cs values.values) (sym (f ∙ ap (range_counts start (end - start) 0) e))
+    (record { same = many; rise = subst (Rise 0) (sym f) (kept_rise counts 0) }, rows)
 
 pub filtered_runs : (values column : ColumnData) (ends slice counts : List ℕ) (mask : List Bool) → runs_column values ends ≡ column → length ends ≡ length values.values → slice ≡ ends → counts ≡ mask_counts mask 0 slice → chosen mask column.values ≡ repeated counts values.values
 filtered_runs values column ends slice counts mask view same e f =
     ap (λ (c : ColumnData). chosen mask c.values) (sym view) ∙ mask_rows values.values ends mask 0 same ∙ ap (λ (cs : List ℕ). repeated cs values.values) (sym (f ∙ ap (mask_counts mask 0) e))
+
+-- ---- how many rows are kept
+pub chosen_most : {X : Type 0} (mask : List Bool) (xs : List X) → length (chosen mask xs) ≤ length xs
+chosen_most [] xs = omega arith
+chosen_most (true ∷ mask) [] = omega arith
+chosen_most (false ∷ mask) [] = omega arith
+chosen_most (true ∷ mask) (x ∷ xs) = omega (arith, chosen_most mask xs)
+chosen_most (false ∷ mask) (x ∷ xs) = omega (arith, chosen_most mask xs)
+
+pub chosen_sum : (mask : List Bool) (rows values : List Datum) (counts : List ℕ) → length counts ≡ length values → chosen mask rows ≡ repeated counts values → sum counts ≤ length rows
+chosen_sum mask rows values counts same e = omega (arith, repeated_len counts values same, ap length e, chosen_most mask rows)

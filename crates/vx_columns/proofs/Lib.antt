@@ -1,4 +1,10 @@
+pub mod BuiltRuns
+mod ChosenRows
 pub mod ColumnRows
+mod CutRuns
+mod FoundRuns
 mod KeptRuns
-mod RunRows
-mod SpreadRuns
+pub mod LaidRuns
+mod RunEnds
+pub mod RunRows
+pub mod SpreadRuns

@@ -4,7 +4,7 @@ use Rattle.std.specs.List.{AllByRecursion}
 use Rattle.std.proofs.lemmas.List.{length-append, length-replicate, drop_more, drop_all, map-append, append-nil}
 use Rattle.vx_masks.specs.Rows.{taken}
 use Rattle.vx_columns.specs.Runs.{spread, IsGoodEnd, run_places}
-use Rattle.vx_columns.specs.RunRows.{runs_column}
+use Rattle.vx_columns.specs.RunRows.{Rise, runs_column}
 use Rattle.vx_arrays.specs.PackedColumns.{IsColumn}
 use Rattle.vx_arrays.specs.ArrayRows.{picked_at}
 use Rattle.vx_arrays.specs.Buffers.{bare}
@@ -85,13 +85,39 @@ all_alike : (P : Datum → Type 0) (n : ℕ) (v : Datum) → P v → AllByRecurs
 all_alike P zero v h = tt
 all_alike P (suc n) v h = (h, all_alike P n v h)
 
-spread_fits : (P : Datum → Type 0) (from : ℕ) (vs : List Datum) (ends : List ℕ) → AllByRecursion P vs → AllByRecursion P (spread from vs ends)
+pub spread_fits : (P : Datum → Type 0) (from : ℕ) (vs : List Datum) (ends : List ℕ) → AllByRecursion P vs → AllByRecursion P (spread from vs ends)
 spread_fits P from [] ends h = tt
 spread_fits P from (v ∷ vs) [] h = tt
 spread_fits P from (v ∷ vs) (end ∷ ends) h = all-append P (replicate (end - from) v) (spread end vs ends) (all_alike P (end - from) v h.0) (spread_fits P end vs ends h.1)
 
 pub column_of_runs : (t : DataType) (vs : List Datum) (ends : List ℕ) (rows : ColumnData) → AllByRecursion (Fits t) vs → rows.dtype ≡ bare t → rows.values ≡ spread 0 vs ends → IsColumn t rows
 column_of_runs t vs ends rows fit type is = record { shape = sym type; fit = subst (AllByRecursion (Fits t)) (sym is) (spread_fits (Fits t) 0 vs ends fit) }
+
+-- the first of the rows of a run fits, hence its value
+front_fits : (P : Datum → Type 0) (n : ℕ) (v : Datum) (rest : List Datum) → 0 < n → AllByRecursion P (replicate n v ++ rest) → P v
+front_fits P zero v rest lt h = absurd (omega arith)
+front_fits P (suc n) v rest lt h = h.0
+
+rest_fits : (P : Datum → Type 0) (n : ℕ) (v : Datum) (rest : List Datum) → AllByRecursion P (replicate n v ++ rest) → AllByRecursion P rest
+rest_fits P zero v rest h = h
+rest_fits P (suc n) v rest h = rest_fits P n v rest h.1
+
+-- each run has a row: where all rows fit, all values do
+pub values_fit : (P : Datum → Type 0) (from : ℕ) (vs : List Datum) (ends : List ℕ) → length ends ≡ length vs → Rise from ends → AllByRecursion P (spread from vs ends) → AllByRecursion P vs
+values_fit P from [] ends e rise h = tt
+values_fit P from (v ∷ vs) [] e rise h = absurd (omega arith)
+values_fit P from (v ∷ vs) (end ∷ ends) e rise h =
+    let rest = spread end vs ends in
+    let here : 0 < end - from = omega (arith, rise.0) in
+    (front_fits P (end - from) v rest here h, values_fit P end vs ends (omega arith) rise.1 (rest_fits P (end - from) v rest h))
+
+-- the values of the runs of a column
+pub run_column : (t : DataType) (rows values : ColumnData) (ends : List ℕ) → length ends ≡ length values.values → Rise 0 ends → runs_column values ends ≡ rows → IsColumn t rows → IsColumn t values
+run_column t rows values ends same rise is column =
+    record {
+      shape = column.shape ∙ sym (ap (λ (c : ColumnData). c.dtype) is);
+      fit = values_fit (Fits t) 0 values.values ends same rise (subst (λ (c : ColumnData). AllByRecursion (Fits t) c.values) (sym is) column.fit);
+    }
 
 -- ---- all rows of runs, each with a value of its own
 pub spread_all : (values rows column : ColumnData) (ends slice places at : List ℕ) → runs_column values ends ≡ column → length ends ≡ length values.values → slice ≡ ends → places ≡ run_places 0 0 slice → at ≡ places → rows ≡ picked_at at values → rows ≡ column

@@ -3,6 +3,7 @@ use Rattle.std.proofs.Common.{◌≡◌, ℕ, zero, suc, ◌+◌, ◌-◌, ◌*�
 use Rattle.std.specs.Prelude.{slice_get}
 use Rattle.std.proofs.lemmas.List.{length-append, length-replicate, drop_more, drop_all, append-nil, map-append}
 use Rattle.vx_types.specs.Columns.{ColumnData}
+use Rattle.vx_types.specs.Slots.{is_value}
 use Rattle.vx_columns.specs.RunRows.{Rise, start_of, HasRow, runs_column}
 use Rattle.vx_arrays.specs.Texts.{start_in}
 use Rattle.vx_columns.specs.Runs.{spread, AreGoodEnds}
@@ -18,6 +19,17 @@ rise_at from [] place h lt = absurd (omega arith)
 rise_at from (end ∷ ends) zero h lt = h.0
 rise_at from (end ∷ ends) (suc place) h lt = rise_at end ends place h.1 (omega arith)
 
+pub last_start : (ends : List ℕ) → 0 < length ends → start_of 0 ends (length ends) ≡ get_or ends (length ends - 1) 0
+last_start [] h = absurd (omega arith)
+last_start (end ∷ ends) h =
+    let last : start_of 0 (end ∷ ends) (suc (length ends)) ≡ get_or (end ∷ ends) (length ends) 0 = start_next 0 (end ∷ ends) (length ends) (omega arith) in
+    let place : length ends ≡ length (end ∷ ends) - 1 = omega arith in
+    last ∙ ap (λ (k : ℕ). get_or (end ∷ ends) k 0) place
+
+pub no_start : (ends : List ℕ) → length ends ≡ 0 → start_of 0 ends (length ends) ≡ 0
+no_start [] h = refl
+no_start (end ∷ ends) h = absurd (omega arith)
+
 pub start_up : (from : ℕ) (ends : List ℕ) (place : ℕ) → Rise from ends → place ≤ length ends → from ≤ start_of from ends place
 start_up from ends zero h le = omega arith
 start_up from [] (suc place) h le = omega arith
@@ -27,7 +39,7 @@ pub same_start : (ends : List ℕ) (place : ℕ) → place ≤ length ends → s
 same_start ends zero le = refl
 same_start ends (suc place) le = sym (start_next 0 ends place (omega arith))
 
-risen : (from : ℕ) (ends : List ℕ) → ((place : ℕ) → place < length ends → start_of from ends place < get_or ends place 0) → Rise from ends
+pub risen : (from : ℕ) (ends : List ℕ) → ((place : ℕ) → place < length ends → start_of from ends place < get_or ends place 0) → Rise from ends
 risen from [] h = tt
 risen from (end ∷ ends) h = (h 0 (omega arith), risen end ends (λ place lt. h (suc place) (omega arith)))
 
@@ -153,3 +165,7 @@ run_inside values column ends slice row view e same rise lt = omega (arith, lt, 
 pub run_row : (values column : ColumnData) (ends slice : List ℕ) (row place : ℕ) → runs_column values ends ≡ column → slice ≡ ends → length ends ≡ length values.values → Rise 0 ends → HasRow slice row place → slice_get column.values row ≡ slice_get values.values place
 run_row values column ends slice row place view e same rise has =
     ap (λ (c : ColumnData). slice_get c.values row) (sym view) ∙ row_of values.values ends row place same rise (subst (λ (es : List ℕ). HasRow es row place) e has)
+
+pub spread_validity : (bits : List Bool) (values column : ColumnData) (ends slice : List ℕ) → runs_column values ends ≡ column → slice ≡ ends → bits ≡ map is_value values.values → spread 0 bits slice ≡ map is_value column.values
+spread_validity bits values column ends slice view e is =
+    (λ i. spread 0 (is i) (e i)) ∙ sym (map_spread is_value 0 values.values ends) ∙ ap (λ (c : ColumnData). map is_value c.values) view

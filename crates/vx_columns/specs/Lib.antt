@@ -1,3 +1,4 @@
+pub mod LaidRuns
 pub mod RunRows
 pub mod Runs
 pub mod StoredRows

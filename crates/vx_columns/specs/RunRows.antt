@@ -1,8 +1,9 @@
 -- Rows that lie in runs, as data.
 use Rattle.std.specs.Prelude.{◌≡◌, ℕ, zero, suc, ◌+◌, ◌-◌, ◌<◌, ◌≤◌, Bool, List, [], ◌∷◌, ◌++◌, length, map, take, drop, min, replicate, slice_index}
 use Rattle.vx_masks.specs.Masks.{true_count}
+use Rattle.vx_masks.specs.Rows.{taken}
 use Rattle.vx_types.specs.Columns.{ColumnData}
-use Rattle.vx_types.specs.Slots.{is_value}
+use Rattle.vx_types.specs.Data.{Datum, null}
 use Rattle.vx_columns.specs.Runs.{spread}
 
 -- each end is above the one before it
@@ -22,15 +23,18 @@ pub record HasRow (ends : List ℕ) (row place : ℕ) : Type 0 where
   pub from : start_of 0 ends place ≤ row
   pub below : row < slice_index ends place
 
+-- At the places stand the values of the rows, and nothing where there is no such row, whatever values the runs have.
+abbrev pub AreRunsAt : List ℕ → List ℕ → List ℕ → Type 0
+AreRunsAt ends rows places = (values : List Datum) → length ends ≡ length values → taken null values places ≡ taken null (spread 0 values ends) rows
+
 -- values and the rows that they fill
 abbrev pub runs_column : ColumnData → List ℕ → ColumnData
 runs_column values ends = record { dtype = values.dtype; values = spread 0 values.values ends }
 
--- an end for each value, above the one before it, and which rows have a value
-pub record AreRuns (mask : List Bool) (values : ColumnData) (ends : List ℕ) : Type 0 where
+-- an end for each value, above the one before it
+pub record AreRuns (values : ColumnData) (ends : List ℕ) : Type 0 where
   pub same : length ends ≡ length values.values
   pub rise : Rise 0 ends
-  pub valid : mask ≡ map is_value (spread 0 values.values ends)
 
 -- the values, each repeated so often
 abbrev pub repeated : {X : Type 0} → List ℕ → List X → List X
@@ -38,10 +42,9 @@ repeated [] values = []
 repeated (count ∷ counts) [] = []
 repeated (count ∷ counts) (v ∷ values) = replicate count v ++ repeated counts values
 
--- how many of so many rows each run has, once some are skipped
-abbrev pub range_counts : ℕ → ℕ → ℕ → List ℕ → List ℕ
-range_counts skip left from [] = []
-range_counts skip left from (end ∷ ends) = min left ((end - from) - skip) ∷ range_counts (skip - (end - from)) (left - ((end - from) - skip)) end ends
+-- where runs end of which a range of rows has a part, counted from its first row
+abbrev pub cut_ends : ℕ → ℕ → List ℕ → List ℕ
+cut_ends start stop ends = map (λ end. min stop end - start) ends
 
 -- how many rows of each run the mask chooses
 abbrev pub mask_counts : List Bool → ℕ → List ℕ → List ℕ

@@ -144,7 +144,7 @@ impl Column {
     }
 
     /// The values at the codes: a code gives the value at it, and a null gives null. The dtype is that
-    /// of the values, which takes nulls also where the codes do.
+    /// of the values, which takes nulls also where the codes do. Values that lie in runs are not spread.
     pub fn look_up(alloc: Global, codes: &Column, values: &Column) -> Result<Column, AllocError>
         requires unsigned { IsUnsigned codes.now.dtype }
         requires below { AllByRecursion (IsCodeBelow (length values.now.values)) codes.now.values }

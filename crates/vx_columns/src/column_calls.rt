@@ -31,7 +31,8 @@ impl Column {
         Ok(Column::of_array(dtype, array))
     }
 
-    /// The rows of a range. All rows of a column that shares them are shared again, and none is copied.
+    /// The rows of a range. All rows of a column that shares them are shared again, and none is copied. Rows that lie
+    /// in runs stay in runs: those of the range alone are copied, after two binary searches.
     pub fn slice(&self, alloc: Global, rows: Range<u64>) -> Result<Column, AllocError>
         requires forwards { rows.start ≤ rows.end }
         requires inside { rows.end ≤ length self.now.values }
@@ -45,7 +46,8 @@ impl Column {
         Ok(Column::of_rows(dtype, made))
     }
 
-    /// The rows that the mask chooses.
+    /// The rows that the mask chooses. Rows that lie in runs stay in runs: the chosen rows of each are counted, and only
+    /// the runs that have some are copied.
     pub fn filter(&self, alloc: Global, mask: &Mask) -> Result<Column, AllocError>
         requires { length mask.now ≡ length self.now.values }
         ensures dtype { IfOk result (λ column. column.dtype ≡ self.now.dtype) }

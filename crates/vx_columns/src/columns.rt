@@ -8,10 +8,13 @@ ghost use Rattle.vx_types.specs.Leaf.{IsLeaf, slot_bytes};
 ghost use Rattle.vx_types.specs.Slots.{IsShort, is_value};
 ghost use Rattle.vx_types.specs.Views.{data_type};
 ghost use Rattle.vx_types.specs.ValueViews.{datum};
+ghost use Rattle.vx_columns.specs.RunRows.{Rise};
+ghost use Rattle.vx_columns.specs.Runs.{spread};
 ghost use Rattle.vx_columns.specs.StoredRows.{row_data};
 ghost use Rattle.vx_arrays.specs.Cells.{cell_datum};
 ghost use Rattle.vx_arrays.specs.PackedColumns.{IsColumn};
 
+use crate::run_rows::Runs;
 use crate::stored_rows::{Laid, Rows};
 use std::alloc::{AllocError, Global};
 use std::marker::Model;
@@ -101,8 +104,8 @@ impl Column {
         &self.rows
     }
 
-    /// What the rows hold, where they are packed one by one, shared or not; None where they lie in runs. It takes no
-    /// memory.
+    /// What the rows hold, where they are packed one by one, shared or not; None where they lie in runs, which
+    /// `run_parts` gives. It takes no memory.
     pub fn array(&self) -> Option<&Array>
         ensures values { IfSome result (λ array. array.now.values ≡ self.now.values) }
         ensures column { IfSome result (λ array. IsColumn self.now.dtype array.now) }
@@ -132,6 +135,20 @@ impl Column {
         drop(dtype);
         let array = rows.into_shared(alloc)?;
         Ok(array)
+    }
+
+    /// The column in which each row of this one fills the rows from the end before it to its own. It moves rows that
+    /// are packed and this column's alone, and takes no memory for them.
+    pub fn fill(self, alloc: Global, ends: Vec<u64>) -> Result<Column, AllocError>
+        requires same { length ends.items ≡ length self.values }
+        requires rise { Rise 0 ends.items }
+        ensures dtype { IfOk result (λ column. column.dtype ≡ self.dtype) }
+        ensures values { IfOk result (λ column. column.values ≡ spread 0 self.values ends.items) }
+    {
+        let Column { dtype, rows } = self;
+        let array = rows.into_array(alloc)?;
+        let runs = Runs::of(array, ends);
+        Ok(Column::of_rows(dtype, Rows::Runs(runs)))
     }
 
     /// The column of these values in this order, where the dtype takes each of them.
@@ -184,11 +201,13 @@ impl Column {
         &self.dtype
     }
 
-    /// Which rows have a value. It takes no memory.
-    pub fn validity(&self) -> &Mask
-        ensures { result.now ≡ map is_value self.now.values }
+    /// Which rows have a value, a bit for each.
+    pub fn validity(&self, alloc: Global) -> Result<Mask, AllocError>
+        ensures { IfOk result (λ mask. mask ≡ map is_value self.now.values) }
     {
-        self.rows.validity()
+        let rows = self.rows();
+        let mask = rows.validity(alloc)?;
+        Ok(mask)
     }
 
     /// The value of a row, counted from 0, borrowed from the column. It takes no memory.

@@ -8,6 +8,8 @@ mod built_columns;
 mod by_hand;
 mod column_calls;
 mod columns;
+mod laid_runs;
+mod run_counts;
 mod run_rows;
 mod runs;
 mod stored_rows;

@@ -1,16 +1,18 @@
 //! Columns of runs: values that each fill some rows, one behind the other.
 
-ghost use Rattle.std.specs.Prelude.{◌≡◌, ℕ, length, map, IfOk, OnOk, IsErrOf, MatchOption};
+ghost use Rattle.std.specs.Prelude.{◌≡◌, ℕ, length, map, IfOk, IfSome, OnOk, IsErrOf, MatchOption};
 ghost use Rattle.std.specs.List.{AllByRecursion};
 ghost use Rattle.vx_types.specs.Columns.{IsFirstUnfit};
 ghost use Rattle.vx_types.specs.Fits.{Fits};
 ghost use Rattle.vx_types.specs.ValueViews.{datum};
 ghost use Rattle.vx_types.specs.Views.{data_type};
+ghost use Rattle.vx_columns.specs.RunRows.{Rise};
 ghost use Rattle.vx_columns.specs.Runs.{spread, AreGoodEnds, IsFirstBadEnd};
+ghost use Rattle.vx_arrays.specs.PackedColumns.{IsColumn};
 
 use crate::columns::{Column, first_unfit};
 use crate::run_rows::Runs;
-use crate::stored_rows::Rows;
+use crate::stored_rows::{Laid, Rows};
 use std::alloc::{AllocError, Global};
 use thiserror::Error;
 use vx_arrays::Array;
@@ -51,7 +53,7 @@ fn first_bad_end(count: usize, ends: &[u64]) -> Option<usize>
 
 impl Column {
     /// The column in which each value fills the rows from the end before it to its own. It takes memory for the
-    /// runs, and a bit for each row.
+    /// runs alone.
     pub fn runs(
         alloc: Global,
         dtype: DType,
@@ -76,6 +78,34 @@ impl Column {
             Err(_) => Err(RunsError::Memory),
         }
     }
+
+    /// The column in which each value of an array, which the dtype takes, fills the rows from the end before it to its
+    /// own. It moves both, takes no memory, and costs the same for any number of rows.
+    pub fn of_runs(dtype: DType, values: Array, ends: Vec<u64>) -> Column
+        requires column { IsColumn (data_type dtype) values }
+        requires same { length ends.items ≡ length values.values }
+        requires rise { Rise 0 ends.items }
+        ensures dtype { result.dtype ≡ data_type dtype }
+        ensures values { result.values ≡ spread 0 values.values ends.items }
+    {
+        let runs = Runs::of(values, ends);
+        Column::of_rows(dtype, Rows::Runs(runs))
+    }
+
+    /// The values of the runs, and where each ends, where the rows lie in runs; None where they are packed one by one
+    /// (`array` gives those). The dtype takes each of the values; two neighbours can be the same. It takes no memory,
+    /// and costs the same for any number of rows.
+    pub fn run_parts(&self) -> Option<(&Array, &[u64])>
+        ensures values { IfSome result (λ parts. spread 0 parts.0.now.values parts.1.now ≡ self.now.values) }
+        ensures column { IfSome result (λ parts. IsColumn self.now.dtype parts.0.now) }
+        ensures same { IfSome result (λ parts. length parts.1.now ≡ length parts.0.now.values) }
+        ensures rise { IfSome result (λ parts. Rise 0 parts.1.now) }
+    {
+        match self.rows().laid() {
+            Laid::Packed(_) => None,
+            Laid::Runs(runs) => Some(runs.parts()),
+        }
+    }
 }
 
 /// The column in which each of the values, which fit, fills its rows.
@@ -91,6 +121,6 @@ fn column_of_runs(
     ensures values { IfOk result (λ column. column.values ≡ spread 0 (map datum values.now) ends.items) }
 {
     let values = Array::of_values(alloc, &dtype, values)?;
-    let runs = Runs::of(alloc, values, ends)?;
+    let runs = Runs::of(values, ends);
     Ok(Column::of_rows(dtype, Rows::Runs(runs)))
 }

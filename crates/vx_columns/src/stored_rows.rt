@@ -83,18 +83,18 @@ impl Rows {
         }
     }
 
-    /// Which rows have a value. It takes no memory.
-    pub(crate) fn validity(&self) -> &Mask
-        ensures { result.now ≡ map is_value (row_data self.now).values }
+    /// Which rows have a value, a bit for each.
+    pub(crate) fn validity(&self, alloc: Global) -> Result<Mask, AllocError>
+        ensures { IfOk result (λ mask. mask ≡ map is_value (row_data self.now).values) }
     {
         match self.laid() {
-            Laid::Packed(array) => array.validity(),
-            Laid::Runs(runs) => runs.validity(),
+            Laid::Packed(array) => array.validity().copy(alloc),
+            Laid::Runs(runs) => runs.validity(alloc),
         }
     }
 
     /// What holds the value of a row, and the place of the value in it. It takes no memory.
-    fn value_of(&self, row: usize) -> (&Array, usize)
+    pub(crate) fn value_of(&self, row: usize) -> (&Array, usize)
         requires { row < length (row_data self.now).values }
         ensures dtype { result.0.now.dtype ≡ (row_data self.now).dtype }
         ensures there { result.1 < length result.0.now.values }
@@ -182,7 +182,7 @@ impl Rows {
     {
         match self.laid() {
             Laid::Packed(array) => array.take(alloc, places),
-            Laid::Runs(runs) => runs.spread(alloc)?.take(alloc, places),
+            Laid::Runs(runs) => runs.take(alloc, places),
         }
     }
 
@@ -239,6 +239,17 @@ impl Rows {
                 let array = runs.spread(alloc)?;
                 SharedArray::new(alloc, array)
             }
+        }
+    }
+
+    /// All rows, packed and this column's alone. It moves what is packed already, unless other columns have it too.
+    pub(crate) fn into_array(self, alloc: Global) -> Result<Array, AllocError>
+        ensures { IfOk result (λ array. array ≡ row_data self) }
+    {
+        match self {
+            Rows::Plain(array) => Ok(array),
+            Rows::Shared(shared) => shared.into_array(alloc),
+            Rows::Runs(runs) => runs.spread(alloc),
         }
     }
 

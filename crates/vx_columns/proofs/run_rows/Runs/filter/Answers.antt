@@ -1,9 +1,6 @@
-use Rattle.std.proofs.Common.{◌≡◌, ◌∙◌, Bool, List, length, map, sym, ap}
-use Rattle.vx_masks.specs.Masks.{chosen}
+use Rattle.std.proofs.Common.{◌∙◌, arith, length, sym, ap}
 use Rattle.vx_types.specs.Columns.{ColumnData}
-use Rattle.vx_types.specs.Slots.{is_value}
-use Rattle.vx_arrays.proofs.MappedRows.{map_chosen}
-use Rattle.vx_columns.proofs.KeptRuns.{mask_len, filtered_runs}
+use Rattle.vx_columns.proofs.KeptRuns.{mask_len, filtered_runs, chosen_sum}
 use Rattle.vx_columns.proofs.SpreadRuns.{runs_len}
 use Rattle.vx_columns.proofs.run_rows.Runs.filter.Goals as goal
 
@@ -15,11 +12,12 @@ kept_runs-requires-clause-runs c =
     let counts = c.as_slice-2.ensures.value ∙ c.in_ok-counts.ensures in
     ap length counts ∙ mask_len c.as_slice.result.now c.args.mask.now 0 ∙ ap length c.as_slice.ensures.value ∙ c.self.invariant.same
 
-pub kept_runs-requires-clause-valid : goal.kept_runs-requires-clause-valid
-kept_runs-requires-clause-valid c =
-    let rows = filtered_runs c.self.inside.values c.args.self.now c.self.inside.ends.items c.as_slice.result.now c.as_slice-2.result.now c.args.mask.now c.self.view_is c.self.invariant.same c.as_slice.ensures.value (c.as_slice-2.ensures.value ∙ c.in_ok-counts.ensures) in
-    let valid : c.self.inside.validity ≡ map is_value c.args.self.now.values = c.self.invariant.valid ∙ ap (λ (a : ColumnData). map is_value a.values) c.self.view_is in
-    c.in_ok-validity.ensures ∙ ap (λ (bits : List Bool). chosen c.args.mask.now bits) valid ∙ sym (map_chosen is_value c.args.mask.now c.args.self.now.values) ∙ ap (map is_value) rows
+pub kept_runs-requires-clause-rows : goal.kept_runs-requires-clause-rows
+kept_runs-requires-clause-rows c =
+    let counts = c.as_slice-2.ensures.value ∙ c.in_ok-counts.ensures in
+    let runs = ap length counts ∙ mask_len c.as_slice.result.now c.args.mask.now 0 ∙ ap length c.as_slice.ensures.value ∙ c.self.invariant.same in
+    let rows = filtered_runs c.self.inside.values c.args.self.now c.self.inside.ends.items c.as_slice.result.now c.as_slice-2.result.now c.args.mask.now c.self.view_is c.self.invariant.same c.as_slice.ensures.value counts in
+    omega (arith, chosen_sum c.args.mask.now c.args.self.now.values c.self.inside.values.values c.as_slice-2.result.now runs rows, c.requires, c.len-rows.ensures)
 
 pub returns : goal.returns
 returns c =
