@@ -6,7 +6,11 @@ pub use Rattle.vx_types.proofs.FieldTexts
 pub use Rattle.vx_types.proofs.Items
 pub use Rattle.vx_types.proofs.Members
 pub use Rattle.vx_columns.proofs.ColumnRows
+pub use Rattle.vx_columns.proofs.RunRows
+pub use Rattle.vx_columns.proofs.SpreadRuns
 pub use Rattle.vx_segments.proofs.Bits
+pub use Rattle.vx_segments.proofs.CodedValues
+pub use Rattle.vx_segments.proofs.CodingsRead
 pub use Rattle.vx_segments.proofs.Decoded
 pub use Rattle.vx_segments.proofs.Leaves
 pub use Rattle.vx_segments.proofs.Spelled

@@ -18,10 +18,14 @@ pub use Rattle.vx_masks.specs.Bytes
 pub use Rattle.vx_masks.specs.Masks
 pub use Rattle.vx_masks.specs.Rows
 pub use Rattle.vx_masks.specs.Words
+pub use Rattle.vx_columns.specs.LaidRuns
 pub use Rattle.vx_columns.specs.RunRows
 pub use Rattle.vx_columns.specs.Runs
 pub use Rattle.vx_columns.specs.StoredRows
+pub use Rattle.vx_segments.specs.Codings
+pub use Rattle.vx_segments.specs.CodingsRead
 pub use Rattle.vx_segments.specs.Laws
+pub use Rattle.vx_segments.specs.Lengths
 pub use Rattle.vx_segments.specs.Parts
 pub use Rattle.vx_segments.specs.Reading
 pub use Rattle.vx_segments.specs.Segment

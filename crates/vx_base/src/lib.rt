@@ -5,8 +5,10 @@
 //!   [`Text`]; what is asked of one: [`is_leaf`], [`is_unsigned`], [`has_distinct_names`].
 //! - Values and columns: [`Value`], [`Values`], [`fits`], [`Column`], [`ColumnError`].
 //! - Which rows are chosen: [`Mask`], with its law, [`masks_choose_twice`], over [`kernels`].
-//! - Segments: [`encode`], [`decode`] with [`DecodeError`], and the laws of the codec, [`one_spelling`],
-//!   [`decoded_is_spelled`], [`decoding_undoes_encoding`] and [`segments_by_hand`].
+//! - Segments: how one spells its rows, [`Coding`]; [`encode`] and [`encode_as`] with [`EncodeError`], and how many
+//!   bytes that would write, [`spelled_len`]; [`decode`] and [`decode_as`] with [`DecodeError`], and the laws of the
+//!   codec, [`one_spelling`], [`decoded_is_spelled`], [`decoding_undoes_encoding`], [`one_spelling_as`],
+//!   [`decoded_as_is_spelled`], [`segments_by_hand`], [`constant_segments_by_hand`] and [`run_segments_by_hand`].
 //! - Where a segment lies: [`SegmentLocation`], and the range that it asks for, [`AskedRange`].
 //! - Sources of segments: the trait [`SegmentSource`] with [`SourceError`]; [`MemorySource`],
 //!   [`FileSource`]; [`ScriptSource`], which keeps to a [`Script`]; [`GateSource`], whose reads wait at a [`Gate`].
@@ -24,8 +26,9 @@ pub use vx_outside::{
     WriteSink, file_sources, locations, memory_sources, outside, reads_by_hand, scripts_by_hand,
 };
 pub use vx_segments::{
-    DecodeError, decode, decoded_is_spelled, decoding_undoes_encoding, encode, one_spelling,
-    segments_by_hand,
+    Coding, DecodeError, EncodeError, codings, constant_segments_by_hand, decode, decode_as,
+    decoded_as_is_spelled, decoded_is_spelled, decoding_undoes_encoding, encode, encode_as,
+    one_spelling, one_spelling_as, run_segments_by_hand, segments_by_hand, spelled_len,
 };
 pub use vx_types::{
     DType, Element, Field, Fields, IntKind, Nullability, Text, Value, Values, dtypes, fits,

@@ -99,7 +99,7 @@ fn is_short(value: &Value) -> bool
 }
 
 /// Whether each value's text has such a length.
-fn are_short(values: &[Value]) -> bool
+pub(crate) fn are_short(values: &[Value]) -> bool
     ensures { IsTrue result → AllByRecursion IsShort (map datum values.now) }
 {
     for (row, value) in values.iter().enumerate() {
@@ -145,7 +145,7 @@ fn write_coded(alloc: Global, column: &Column, out: &mut String) -> Result<(), A
 }
 
 /// Appends how many rows there are, the last one, and how they lie.
-fn write_lying(
+pub(crate) fn write_lying(
     alloc: Global,
     what: &str,
     column: &Column,
@@ -179,7 +179,8 @@ fn write_range(
 
 /// Appends it of the rows that aren't null.
 fn write_filled(alloc: Global, column: &Column, out: &mut String) -> Result<(), AllocError> {
-    let filled = column.filter(alloc, column.validity())?;
+    let valid = column.validity(alloc)?;
+    let filled = column.filter(alloc, &valid)?;
     let written = write_lying(alloc, "; without nulls ", &filled, out);
     drop(filled);
     written
@@ -195,7 +196,8 @@ fn write_filled_range(
     requires forwards { rows.start ≤ rows.end }
     requires inside { rows.end ≤ length column.now.values }
 {
-    let mask = column.validity().slice(alloc, rows.start..rows.end)?;
+    let valid = column.validity(alloc)?;
+    let mask = valid.slice(alloc, rows.start..rows.end)?;
     let filled = column.filter_range(alloc, rows, &mask)?;
     let written = write_lying(alloc, "; of the range without nulls ", &filled, out);
     drop(filled);

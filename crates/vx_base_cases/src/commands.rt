@@ -2,6 +2,7 @@
 
 use crate::big::write_big;
 use crate::case_states::{CaseState, new_case_state};
+use crate::codings::write_of_codings;
 use crate::column_calls::write_of_columns;
 use crate::dtype_calls::write_of_dtypes;
 use crate::errors::write_error;
@@ -26,6 +27,7 @@ fn write_answer(
     out.push_str(" => ")?;
     match command {
         "read" => write_segment(alloc, rest, out),
+        "read_as" | "spell" | "spell_runs" => write_of_codings(alloc, command, rest, out),
         "dtype" | "same_dtype" | "kind" | "find" | "field" | "field_count" => {
             write_of_dtypes(alloc, command, rest, out)
         }

@@ -1,7 +1,7 @@
 //! The texts of errors.
 
 use std::alloc::AllocError;
-use vx_base::{ColumnError, DecodeError, RunsError, SourceError, StreamError};
+use vx_base::{ColumnError, DecodeError, EncodeError, RunsError, SourceError, StreamError};
 
 /// The text of the error of that kind and name.
 pub(crate) fn write_error(rest: &str, out: &mut String) -> Result<(), AllocError> {
@@ -26,6 +26,13 @@ pub(crate) fn write_error(rest: &str, out: &mut String) -> Result<(), AllocError
             let error = match name {
                 "BadSegment" => DecodeError::BadSegment,
                 _ => DecodeError::Memory,
+            };
+            write!(out, "{error}")
+        }
+        "EncodeError" => {
+            let error = match name {
+                "NotConstant(7)" => EncodeError::NotConstant(7),
+                _ => EncodeError::Memory,
             };
             write!(out, "{error}")
         }

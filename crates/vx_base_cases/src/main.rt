@@ -6,6 +6,7 @@
 mod big;
 mod built;
 mod case_states;
+mod codings;
 mod column_calls;
 mod commands;
 mod dtype_calls;

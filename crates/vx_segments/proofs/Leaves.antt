@@ -98,7 +98,7 @@ texts_again (v ∷ vs) =
     λ i. here i ∷ later i
 
 -- ---- the tests
-true_from : (b : Bool) → T b → b ≡ true
+pub true_from : (b : Bool) → T b → b ≡ true
 true_from true h = refl
 true_from false h = absurd h
 
@@ -125,7 +125,7 @@ short_pass : (values : List Datum) → AllByRecursion IsShort values → list_al
 short_pass [] h = refl
 short_pass (v ∷ vs) h = and_from _ _ (lt-ltb (length (text_in v)) text_limit h.0) (short_pass vs h.1)
 
-abbrev some_data : List Datum → Option (List Datum)
+abbrev pub some_data : List Datum → Option (List Datum)
 some_data values = Some values
 
 tested : (t : DataType) (values : List Datum) (bytes : List ℕ) → IsLeaf t → spelling t values ≡ Some bytes → AllByRecursion (Fits t) values → AllByRecursion IsShort values → is_spelled t (length values) bytes values ≡ true

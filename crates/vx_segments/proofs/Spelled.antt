@@ -23,7 +23,7 @@ four_parts true true false d e = absurd cc
 four_parts true false c d e = absurd cc
 four_parts false b c d e = absurd cc
 
-picked : {A : Type 0} (b : Bool) (x y : A) → cond b (Some x) None ≡ Some y → (b ≡ true) × (x ≡ y)
+pub picked : {A : Type 0} (b : Bool) (x y : A) → cond b (Some x) None ≡ Some y → (b ≡ true) × (x ≡ y)
 picked true x y e = (refl, cc)
 picked false x y e = absurd cc
 

@@ -1,5 +1,5 @@
 -- The bits of a segment: what is behind the last row, and the front where they stand.
-use Rattle.std.proofs.Common.{◌≡◌, ℕ, ◌+◌, ◌≤◌, List, ◌++◌, length, sym, ap, subst, ◌∙◌, arith, map, take}
+use Rattle.std.proofs.Common.{◌≡◌, ℕ, ◌≤◌, List, ◌++◌, length, sym, ap, subst, ◌∙◌, arith, map, take}
 use Rattle.std.proofs.lemmas.List.{take_at, length-map, length-append}
 use Rattle.vx_masks.specs.Bytes.{packed}
 use Rattle.vx_types.specs.Data.{Datum}

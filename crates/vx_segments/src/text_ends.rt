@@ -8,7 +8,7 @@ ghost use Rattle.vx_segments.specs.Reading.{ends_read};
 use std::alloc::{AllocError, Global};
 
 /// The number of 32 bits that the first four bytes spell, and the bytes behind them.
-fn four_at(bytes: &[u8]) -> (u32, &[u8])
+pub(crate) fn four_at(bytes: &[u8]) -> (u32, &[u8])
     requires { 4 ≤ length bytes.now }
     ensures { bytes.now ≡ to_le_bytes w32 result.0 ++ result.1.now }
 {
