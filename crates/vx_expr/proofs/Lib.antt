@@ -1,4 +1,6 @@
+pub mod AnyRow
 pub mod AppliedRows
+pub mod AppliedRuns
 pub mod BuiltPairs
 pub mod ConjunctTruth
 pub mod Conjuncts

@@ -38,9 +38,9 @@ pub on_ok : {A E : Type 0} (r : Result A E) (P : Type 0) → P → OnOk r P
 on_ok (Ok x) P p = p
 on_ok (Err x) P p = tt
 
-pub on_ok_then : {A E : Type 0} (r : Result A E) (P Q : Type 0) → (P → Q) → OnOk r P → OnOk r Q
-on_ok_then (Ok x) P Q f p = f p
-on_ok_then (Err x) P Q f p = tt
+pub on_ok_more : {A E : Type 0} (r : Result A E) (P Q : Type 0) → (P → Q) → OnOk r P → OnOk r Q
+on_ok_more (Ok x) P Q f p = f p
+on_ok_more (Err x) P Q f p = tt
 
 -- ---- an expression, by its parts
 pub derived_found : (t : DataType) (e : Term) → IsDerived e → found_of t e ≡ found_of t (part_of e) ++ own_found t e

@@ -17,7 +17,7 @@ use Rattle.vx_expr.specs.Refusals.{capped, first_part, behind, unless, refusal, 
 use Rattle.vx_expr.specs.Terms.{Term, pack, Terms, no_terms, named}
 use Rattle.vx_expr.specs.TermViews.{term, terms_of}
 use Rattle.vx_expr.specs.Types.{on_both, type_of, types_in, one_more_member, names_in, pack_type}
-use Rattle.vx_expr.specs.Typing.{pair_type, GivesOr, GivesType, GivesPack, GivesJoined}
+use Rattle.vx_expr.specs.Typing.{pair_type, GivesType, GivesPack, GivesJoined}
 use Rattle.vx_expr.proofs.MemberTypes.{a_type}
 use Rattle.vx_expr.proofs.Pairs.{left_next}
 
@@ -33,15 +33,9 @@ first_passes : (x : Option DataType) (part rest : BindError) (s : DataType) → 
 first_passes x part rest s e = sym (ap (λ (o : Option DataType). unless o part rest) e)
 
 -- ---- the whole of two parts
-pub joined_given : (x : Option DataType) (e : Term) (s u : DataType) (n : ℕ) (result : Result Typed BindError) → x ≡ pair_type e s u → GivesOr x n result → GivesJoined e s u n result
-joined_given (Some d) e s u n (Ok typed) same h = sym same ∙ ap a_type (sym h)
-joined_given (Some d) e s u n (Err error) same h = absurd h
-joined_given None e s u n (Ok typed) same h = absurd h
-joined_given None e s u n (Err error) same h = subst (λ (x : BindError). IsRefusal x (pair_type e s u) (TypeMismatch n)) (sym h) (sym same, refl)
-
-or_mismatch : (n : ℕ) (t : DataType) (e : Term) (s u : DataType) (result : Result Typed BindError) → type_of t e ≡ pair_type e s u → refusal t e n ≡ TypeMismatch n → GivesJoined e s u n result → GivesType t e n result
-or_mismatch n t e s u (Ok typed) same why h = same ∙ h
-or_mismatch n t e s u (Err error) same why h = refused_too error (pair_type e s u) (type_of t e) (TypeMismatch n) (refusal t e n) (λ none. same ∙ none) (λ none. sym why) h
+joined_given : (t : DataType) (e : Term) (s u : DataType) (n : ℕ) (result : Result Typed BindError) → type_of t e ≡ pair_type e s u → refusal t e n ≡ TypeMismatch n → GivesJoined e s u n result → GivesType t e n result
+joined_given t e s u n (Ok typed) same why h = same ∙ h
+joined_given t e s u n (Err error) same why h = refused_too error (pair_type e s u) (type_of t e) (TypeMismatch n) (refusal t e n) (λ none. same ∙ none) (λ none. sym why) h
 
 both_there : (f : DataType → DataType → Option DataType) (x y : Option DataType) (s u : DataType) → x ≡ Some s → y ≡ Some u → on_both f x y ≡ f s u
 both_there f x y s u d e = ap (λ (o : Option DataType). on_both f o y) d ∙ ap (λ (o : Option DataType). on_both f (Some s) o) e
@@ -53,7 +47,7 @@ both_pass x y p q rest s u d e = sym (first_passes y q rest u e ∙ first_passes
 pair_given : (t : DataType) (e a b : Term) (s u : DataType) (n : ℕ) (result : Result Typed BindError) → (on_both (pair_type e) (type_of t a) (type_of t b) ≡ type_of t e) → (unless (type_of t a) (refusal t a (first_part n)) (unless (type_of t b) (refusal t b (behind (first_part n) a)) (TypeMismatch n)) ≡ refusal t e n)
     → type_of t a ≡ Some s → type_of t b ≡ Some u → GivesJoined e s u n result → GivesType t e n result
 pair_given t e a b s u n result types why d f h =
-    or_mismatch n t e s u result (sym types ∙ both_there (pair_type e) (type_of t a) (type_of t b) s u d f)
+    joined_given t e s u n result (sym types ∙ both_there (pair_type e) (type_of t a) (type_of t b) s u d f)
     (sym why ∙ both_pass (type_of t a) (type_of t b) (refusal t a (first_part n)) (refusal t b (behind (first_part n) a)) (TypeMismatch n) s u d f) h
 
 -- what an expression of these two parts is, by its parts
@@ -68,12 +62,13 @@ pair_laws t self a b n (inr (inr (inl is))) = subst (λ (e : Term). PairLaws t e
 pair_laws t self a b n (inr (inr (inr is))) = subst (λ (e : Term). PairLaws t e a b n) (sym (ap term is.1)) (record { types = refl; reason = refl })
 
 -- the answer at an expression of two parts
-pub pair_answer : (t : DataType) (self : Expr) (a b : Term) (l r : DataType) (n place : ℕ) (result : Result Typed BindError)
+pub pair_answer : (t : DataType) (self : Expr) (a b : Term) (l r s u : DataType) (n : ℕ) (result : Result Typed BindError)
     → (self ≡ variants.And a b) ⊎ ((self ≡ variants.Or a b) ⊎ (((op : CompareOp) × (self ≡ variants.Compare op a b)) ⊎ ((op : ArithOp) × (self ≡ variants.Arith op a b))))
-    → type_of t a ≡ Some l → type_of t b ≡ Some r → place ≡ n → GivesJoined (term self) l r place result → GivesType t (term self) n result
-pair_answer t self a b l r n place result is d f at h =
+    → type_of t a ≡ Some l → type_of t b ≡ Some r → s ≡ l → u ≡ r → GivesJoined (term self) s u n result → GivesType t (term self) n result
+pair_answer t self a b l r s u n result is d f left right h =
     let laws : PairLaws t (term self) a b n = pair_laws t self a b n is in
-    pair_given t (term self) a b l r n result laws.types laws.reason d f (subst (λ (k : ℕ). GivesJoined (term self) l r k result) at h)
+    pair_given t (term self) a b l r n result laws.types laws.reason d f
+    (subst (λ (v : DataType). GivesJoined (term self) v r n result) left (subst (λ (v : DataType). GivesJoined (term self) s v n result) right h))
 
 -- ---- packs
 -- expressions that all have dtypes refuse nothing

@@ -33,6 +33,10 @@ items_made t es v n = option_map data_in (meanings_in t no_bound es v n)
 abbrev pub worth : Bound → List Datum → List Datum → List (Option Datum)
 worth a values numbers = at_rows a.root a.term values (map number_of_row numbers)
 
+-- what a bound expression that doesn't use the row's number is worth at each value
+abbrev pub worth_of_each : Bound → List Datum → List (Option Datum)
+worth_of_each a values = map (λ v. meaning a.root no_bound a.term v 0) values
+
 -- the row is the first that is a fault
 pub record IsFirstFault {A : Type 0} (rows : List (Option A)) (row : ℕ) : Type 0 where
   pub here : slice_get rows row ≡ Some None

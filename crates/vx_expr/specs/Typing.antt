@@ -54,10 +54,10 @@ pair_type (comparison op a b) s t = comparison_type s t
 pair_type (arithmetic op a b) s t = arithmetic_type s t
 pair_type e s t = None
 
--- the same, or a mismatch at the place
+-- the dtype of an expression of two parts, by theirs, or a mismatch at the place
 abbrev pub GivesJoined : Term → DataType → DataType → ℕ → Result Typed BindError → Type 0
-GivesJoined e s t n (Ok typed) = pair_type e s t ≡ Some (typed_data typed)
-GivesJoined e s t n (Err error) = IsRefusal error (pair_type e s t) (TypeMismatch n)
+GivesJoined e s t place (Ok typed) = pair_type e s t ≡ Some (typed_data typed)
+GivesJoined e s t place (Err error) = IsRefusal error (pair_type e s t) (TypeMismatch place)
 
 -- the dtype of an expression of one part, by that part's, and why it has none
 abbrev pub derived_type : Term → DataType → Option DataType

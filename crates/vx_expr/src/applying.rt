@@ -12,6 +12,7 @@ ghost use Rattle.vx_expr.specs.Rows.{worth, IsFirstFault};
 ghost use Rattle.vx_expr.specs.Steps.{evaluated_rows};
 ghost use Rattle.vx_expr.specs.Types.{row_number_type};
 
+use crate::applying_runs::applied_to_runs;
 use crate::bound_expressions::BoundExpression;
 use crate::evaluated::Evaluated;
 use crate::evaluation::Rows;
@@ -101,7 +102,7 @@ fn spread(alloc: Global, column: &Column) -> Result<Array, AllocError>
 }
 
 /// What the expression is worth at each row of arrays.
-fn applied(
+pub(crate) fn applied(
     alloc: Global,
     expression: &BoundExpression,
     root: &Array,
@@ -132,11 +133,8 @@ fn applied(
     Ok(column)
 }
 
-/// What the expression is worth at each row, where `root` has the root's values and `numbers` the numbers
-/// of the same rows. The bound is `u64::MAX`, so that `at_most_bound` is true of each number. Where the expression is
-/// a fault at a row, the first such row is told; a fault in any part is one of the whole, also beside a part that would
-/// decide it.
-pub fn apply(
+/// The same of columns, whose rows are spread where they lie in runs.
+fn applied_to_rows(
     alloc: Global,
     expression: &BoundExpression,
     root: &Column,
@@ -156,5 +154,31 @@ pub fn apply(
             let numbers = spread(alloc, numbers)?;
             applied(alloc, expression, &root, &numbers)
         }
+    }
+}
+
+/// What the expression is worth at each row, where `root` has the root's values and `numbers` the numbers
+/// of the same rows. The bound is `u64::MAX`, so that `at_most_bound` is true of each number. Where the expression is
+/// a fault at a row, the first such row is told; a fault in any part is one of the whole, also beside a part that would
+/// decide it. Where the root lies in runs and the row's number isn't used, the runs are looked at alone, and the column
+/// lies in the same runs.
+pub fn apply(
+    alloc: Global,
+    expression: &BoundExpression,
+    root: &Column,
+    numbers: &Column,
+) -> Result<Column, ApplyError>
+    requires bound { IsBoundTo expression.now root.now.dtype }
+    requires numbered { numbers.now.dtype ≡ row_number_type }
+    requires same_rows { length numbers.now.values ≡ length root.now.values }
+    ensures dtype { IfOk result (λ column. column.dtype ≡ expression.now.dtype) }
+    ensures values { IfOk result (λ column. map Some column.values ≡ worth expression.now root.now.values numbers.now.values) }
+    ensures fault { (row : ℕ) → IsErrOf result (ApplyError.EvalFault row) → IsFirstFault (worth expression.now root.now.values numbers.now.values) row }
+{
+    match root.run_parts() {
+        Some(parts) if !expression.uses_row_idx() => {
+            applied_to_runs(alloc, expression, parts.0, parts.1)
+        }
+        _ => applied_to_rows(alloc, expression, root, numbers),
     }
 }

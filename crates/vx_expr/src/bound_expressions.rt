@@ -16,13 +16,13 @@ ghost use Rattle.vx_expr.specs.TermViews.{term};
 ghost use Rattle.vx_expr.specs.Types.{type_of};
 
 use crate::binding::BindError;
+use crate::dtype_rules::row_idx_dtype;
 use crate::expressions::Expr;
 use crate::finding::{found_over, typed_over};
 use crate::found::Found;
 use crate::mentions::Input;
 use crate::rewriting::Leaves;
 use crate::root_fields::fields_of_root;
-use crate::typing::row_idx_dtype;
 use std::alloc::{AllocError, Global};
 use std::marker::Model;
 use vx_base::{DType, Field, Fields, Nullability, Text};

@@ -1,6 +1,6 @@
 //! Rows that a dtype takes as an array of that dtype, wherever they are held. What is packed already is moved.
 
-ghost use Rattle.std.specs.Prelude.{◌≡◌, ◌≤◌, ◌∷◌, [], map, length, replicate, take, IfOk, IfSome, IsTrue};
+ghost use Rattle.std.specs.Prelude.{◌≡◌, ◌≤◌, ◌++◌, ◌∷◌, [], map, length, replicate, take, IfOk, IfSome, IsTrue, OnOk};
 ghost use Rattle.std.specs.List.{AllByRecursion};
 ghost use Rattle.vx_base.specs.Fits.{Fits};
 ghost use Rattle.vx_base.specs.ValueViews.{datum};
@@ -144,21 +144,22 @@ pub(crate) fn fitting_columnar(
     }
 }
 
-/// The same as an array that can be shared.
-fn fitting_shared(
+/// Adds the first rows of a columnar value as an array of the dtype, which can be shared.
+fn push_fitting(
     alloc: Global,
     dtype: &DType,
     columnar: ColumnarValue<'_>,
     rows: usize,
-) -> Result<SharedArray, AllocError>
+    parts: &mut Vec<SharedArray>,
+) -> Result<(), AllocError>
     requires inside { rows ≤ length (columnar_rows columnar) }
     requires fit { AllByRecursion (Fits (data_type dtype.now)) (take rows (columnar_rows columnar)) }
-    ensures dtype { IfOk result (λ shared. shared.dtype ≡ bare (data_type dtype.now)) }
-    ensures values { IfOk result (λ shared. shared.values ≡ take rows (columnar_rows columnar.entry)) }
+    ensures { OnOk result (parts.new.items ≡ parts.old.items ++ (record { dtype = bare (data_type dtype.now); values = take rows (columnar_rows columnar.entry) } ∷ [])) }
 {
     let array = fitting_columnar(alloc, dtype, columnar, rows)?;
     let shared = SharedArray::new(alloc, array)?;
-    Ok(shared)
+    parts.push(shared)?;
+    Ok(())
 }
 
 /// The first rows of each columnar value as an array of the dtype of its field.
@@ -177,8 +178,7 @@ fn fitting_columnar_values(
     for field in members {
         match rest.next() {
             Some(columnar) => {
-                let shared = fitting_shared(alloc, &field.dtype, columnar, rows)?;
-                parts.push(shared)?;
+                push_fitting(alloc, &field.dtype, columnar, rows, &mut parts)?;
             }
             None => return Ok(parts),
         }

@@ -11,15 +11,18 @@
 #![tactic(auto)]
 
 mod applying;
+mod applying_runs;
 mod binding;
 mod bound_expressions;
 mod by_hand;
 mod constructors;
 mod depths;
+mod dtype_rules;
 mod evaluated;
 mod evaluation;
 mod expression_texts;
 mod expressions;
+mod field_typing;
 mod filters;
 mod finding;
 mod fitting;

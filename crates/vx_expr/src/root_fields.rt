@@ -1,7 +1,8 @@
 //! Which fields of the root an expression gets.
 
 ghost use Rattle.std.specs.Prelude.{◌≡◌, ◌++◌, ◌∷◌, [], IfOk, OnOk, Some, option_map};
-ghost use Rattle.vx_expr.specs.Mentions.{root_fields, root_fields_in, first_ones};
+ghost use Rattle.vx_expr.specs.Mentions.{joined, root_fields, root_fields_in, first_ones};
+ghost use Rattle.vx_expr.specs.Types.{on_both};
 ghost use Rattle.vx_expr.specs.Collected.{Collects};
 ghost use Rattle.vx_expr.specs.TermViews.{term};
 
@@ -28,10 +29,7 @@ impl Expr {
             Expr::And(left, right)
             | Expr::Or(left, right)
             | Expr::Compare(_, left, right)
-            | Expr::Arith(_, left, right) => Ok(
-                left.expr().collect_fields(alloc, names)?
-                    && right.expr().collect_fields(alloc, names)?,
-            ),
+            | Expr::Arith(_, left, right) => left.collect_pair(alloc, right, names),
             Expr::Pack(items) => items.collect_fields(alloc, names),
         }
     }
@@ -57,6 +55,22 @@ impl Operand {
             }
             other => other.collect_fields(alloc, names),
         }
+    }
+
+    /// The same of this expression and then another one.
+    #[cycle(root_fields)]
+    fn collect_pair(
+        &self,
+        alloc: Global,
+        right: &Operand,
+        names: &mut Vec<Text>,
+    ) -> Result<bool, AllocError>
+        ensures { IfOk result (λ found. Collects (on_both joined (root_fields self.now) (root_fields right.now)) found names.old.items names.new.items) }
+    {
+        if !self.expr().collect_fields(alloc, names)? {
+            return Ok(false);
+        }
+        right.expr().collect_fields(alloc, names)
     }
 }
 

@@ -1,29 +1,30 @@
 //! Typing: the dtype of an expression over the dtype of its root, form by form.
 
-ghost use Rattle.std.specs.Prelude.{◌≡◌, ℕ, List, ◌+◌, ◌++◌, Some, IfOk, IfErr, OnOk, option_map};
-ghost use Rattle.std.specs.List.{position};
-ghost use Rattle.std.specs.Str.{bytes_eq};
-ghost use Rattle.vx_base.specs.ColumnCalls.{nullable_where};
+ghost use Rattle.std.specs.Prelude.{◌≡◌, ◌+◌, ◌++◌, Some, IfOk, OnOk, option_map};
 ghost use Rattle.vx_base.specs.Data.{DataType};
-ghost use Rattle.vx_base.specs.Views.{data_type, fields_in};
-ghost use Rattle.vx_base.specs.ValueViews.{datum};
+ghost use Rattle.vx_base.specs.Views.{data_type};
 ghost use Rattle.vx_base.specs.Names.{are_distinct};
 ghost use Rattle.vx_expr.specs.Counts.{node_count, nodes_in};
-ghost use Rattle.vx_expr.specs.Finds.{place_found, own_found, found_of, found_in};
-ghost use Rattle.vx_expr.specs.Refusals.{capped, first_part, behind, field_refusal, IsRefusal};
+ghost use Rattle.vx_expr.specs.Finds.{own_found, found_of, found_in};
+ghost use Rattle.vx_expr.specs.Refusals.{capped, first_part, behind};
 ghost use Rattle.vx_expr.specs.Steps.{left_of, part_of};
 ghost use Rattle.vx_expr.specs.Terms.{IsPair};
 ghost use Rattle.vx_expr.specs.TermViews.{term, terms_of};
-ghost use Rattle.vx_expr.specs.Typing.{typed_data, pair_type, GivesOr, GivesType, GivesPair, GivesMembers, GivesField, GivesPack, GivesJoined, GivesDerived};
-ghost use Rattle.vx_expr.specs.Types.{either_nullable, literal_type, type_in, field_type, negation_type, logic_type, comparison_type, arithmetic_type, bound_test_type, row_number_type, names_in, type_of};
+ghost use Rattle.vx_expr.specs.Typing.{typed_data, pair_type, GivesOr, GivesType, GivesPair, GivesMembers, GivesPack, GivesJoined, GivesDerived};
+ghost use Rattle.vx_expr.specs.Types.{names_in, type_of};
 
 use crate::binding::BindError;
+use crate::dtype_rules::{
+    arithmetic_typed, bound_test_typed, comparison_typed, literal_typed, logic_typed,
+    negation_typed, row_idx_dtype,
+};
 use crate::expressions::{Expr, NamedExprs, Operand};
+use crate::field_typing::{field_typed, place_named};
 use crate::found::Found;
 use crate::indexed_roots::IndexedRoot;
 use std::alloc::{AllocError, Global};
 use std::collections::BTreeSet;
-use vx_base::{DType, Field, Fields, IntKind, Nullability, Text, Value, fits};
+use vx_base::{DType, Field, Fields, Nullability, Text};
 
 /// The dtype of an expression, borrowed where it stands in the root's dtype or in a literal.
 pub(crate) enum Typed<'a> {
@@ -34,8 +35,8 @@ pub(crate) enum Typed<'a> {
 impl<'a> Drop for Typed<'a> {
     fn drop(self) {
         match self {
-            Typed::Borrowed(_dtype) => {}
-            Typed::Owned(_dtype) => {}
+            Typed::Borrowed(_) => {}
+            Typed::Owned(_) => {}
         }
     }
 }
@@ -61,220 +62,15 @@ impl<'a> Typed<'a> {
         }
     }
 
-    /// The dtype of the field of that name, nullable also where the struct is. `found` is the field's place,
-    /// and `place` is the number of the expression that gets it.
-    fn field(
-        self,
-        alloc: Global,
-        found: Option<usize>,
-        name: &Text,
-        place: u64,
-    ) -> Result<Typed<'a>, BindError>
-        requires { found ≡ place_found (Some (typed_data self)) name.now }
-        ensures { GivesField (typed_data self.entry) name.now place result }
+    /// The field of that name and this dtype, in memory of its own.
+    fn into_field(self, alloc: Global, name: &Text) -> Result<Field, AllocError>
+        ensures name { IfOk result (λ field. field.name ≡ name.now) }
+        ensures dtype { IfOk result (λ field. data_type field.dtype ≡ typed_data self.entry) }
     {
-        match self {
-            Typed::Borrowed(dtype) => match member_of(alloc, dtype, found, name, place) {
-                Ok((member, nullability)) => nullable_field(alloc, member, nullability),
-                Err(error) => Err(error),
-            },
-            Typed::Owned(dtype) => match member_of(alloc, &dtype, found, name, place) {
-                Ok((member, nullability)) => owned_field(alloc, member, nullability),
-                Err(error) => Err(error),
-            },
-        }
+        let name = name.copy(alloc)?;
+        let dtype = self.into_dtype(alloc)?;
+        Ok(Field { name, dtype })
     }
-}
-
-/// Nullable where one of the two is.
-fn either(left: Nullability, right: Nullability) -> Nullability
-    ensures { result ≡ either_nullable left right }
-{
-    match left {
-        Nullability::NonNullable => right,
-        Nullability::Nullable => Nullability::Nullable,
-    }
-}
-
-/// The dtype of a literal: a leaf dtype that the value fits.
-fn literal_typed<'a>(value: &Value, dtype: &'a DType) -> Option<Typed<'a>>
-    ensures { option_map typed_data result ≡ literal_type (datum value.now) (data_type dtype.now) }
-{
-    match dtype {
-        DType::Struct(_, _) | DType::List(_, _) => None,
-        leaf => {
-            if fits(leaf, value) {
-                Some(Typed::Borrowed(leaf))
-            } else {
-                None
-            }
-        }
-    }
-}
-
-/// The dtype of row numbers: non-nullable `u64`.
-pub(crate) fn row_idx_dtype() -> DType
-    ensures { data_type result ≡ row_number_type }
-{
-    DType::Int(IntKind::U64, Nullability::NonNullable)
-}
-
-/// The dtype of the opposite of a truth value.
-fn negation_typed(dtype: &DType) -> Option<DType>
-    ensures { option_map data_type result ≡ negation_type (data_type dtype.now) }
-{
-    match dtype {
-        DType::Bool(nullability) => Some(DType::Bool(*nullability)),
-        _ => None,
-    }
-}
-
-/// The dtype of two truth values joined.
-fn logic_typed(left: &DType, right: &DType) -> Option<DType>
-    ensures { option_map data_type result ≡ logic_type (data_type left.now) (data_type right.now) }
-{
-    match (left, right) {
-        (DType::Bool(left), DType::Bool(right)) => Some(DType::Bool(either(*left, *right))),
-        _ => None,
-    }
-}
-
-/// The dtype of a comparison: of two truth values, two numbers of one kind, or two texts.
-fn comparison_typed(left: &DType, right: &DType) -> Option<DType>
-    ensures { option_map data_type result ≡ comparison_type (data_type left.now) (data_type right.now) }
-{
-    match (left, right) {
-        (DType::Bool(left), DType::Bool(right)) | (DType::Utf8(left), DType::Utf8(right)) => {
-            Some(DType::Bool(either(*left, *right)))
-        }
-        (DType::Int(kind, left), DType::Int(other, right)) if kind == other => {
-            Some(DType::Bool(either(*left, *right)))
-        }
-        _ => None,
-    }
-}
-
-/// The dtype of two numbers of one kind joined.
-fn arithmetic_typed(left: &DType, right: &DType) -> Option<DType>
-    ensures { option_map data_type result ≡ arithmetic_type (data_type left.now) (data_type right.now) }
-{
-    match (left, right) {
-        (DType::Int(kind, left), DType::Int(other, right)) if kind == other => {
-            Some(DType::Int(*kind, either(*left, *right)))
-        }
-        _ => None,
-    }
-}
-
-/// The dtype of the test whether a number is at most the bound.
-fn bound_test_typed(dtype: &DType) -> Option<DType>
-    ensures { option_map data_type result ≡ bound_test_type (data_type dtype.now) }
-{
-    match dtype {
-        DType::Int(IntKind::U64, nullability) => Some(DType::Bool(*nullability)),
-        _ => None,
-    }
-}
-
-/// The dtype that the field of that name has in a struct, and whether the struct takes nulls.
-fn member_of<'b>(
-    alloc: Global,
-    dtype: &'b DType,
-    found: Option<usize>,
-    name: &Text,
-    place: u64,
-) -> Result<(&'b DType, Nullability), BindError>
-    requires { found ≡ place_found (Some (data_type dtype.now)) name.now }
-    ensures member { IfOk result (λ member. field_type name.now (data_type dtype.now) ≡ Some (nullable_where member.1 (data_type member.0.now))) }
-    ensures refused { IfErr result (λ error. IsRefusal error (field_type name.now (data_type dtype.now)) (field_refusal name.now place (Some (data_type dtype.now)))) }
-{
-    match dtype {
-        DType::Struct(fields, nullability) => match field_at(fields, found) {
-            Some(field) => Ok((field, *nullability)),
-            None => Err(BindError::NoField(name.copy(alloc)?)),
-        },
-        _ => Err(BindError::TypeMismatch(place)),
-    }
-}
-
-/// The dtype of the field at the place where a name was found.
-fn field_at(fields: &Fields, place: Option<usize>) -> Option<&DType>
-    ensures { (name : List ℕ) → place ≡ position (λ field. bytes_eq field.name name) (fields_in fields.now) → option_map (λ found. data_type found.now) result ≡ type_in fields.now name }
-{
-    match place {
-        Some(place) => match fields.get(place) {
-            Some(field) => Some(&field.dtype),
-            None => None,
-        },
-        None => None,
-    }
-}
-
-/// The place of the field of that name in the dtype of an operand. None where there is none. The fields of
-/// the root are not searched.
-fn place_named(
-    root: &IndexedRoot<'_>,
-    operand: &Operand,
-    dtype: &DType,
-    name: &Text,
-) -> Option<usize>
-    requires { type_of root.now operand.now ≡ Some (data_type dtype.now) }
-    ensures { result ≡ place_found (Some (data_type dtype.now)) name.now }
-{
-    match operand.expr() {
-        Expr::Root => root.find(name),
-        _ => match dtype {
-            DType::Struct(fields, _) => fields.find(name.as_str()),
-            _ => None,
-        },
-    }
-}
-
-/// The dtype of a field of a struct that stays where it is.
-fn nullable_field<'a>(
-    alloc: Global,
-    dtype: &'a DType,
-    nullability: Nullability,
-) -> Result<Typed<'a>, BindError>
-    ensures ok { IfOk result (λ typed. typed_data typed ≡ nullable_where nullability (data_type dtype.now)) }
-    ensures err { IfErr result (λ error. error ≡ BindError.Memory) }
-{
-    match nullability {
-        Nullability::NonNullable => Ok(Typed::Borrowed(dtype)),
-        Nullability::Nullable => match dtype.as_nullable(alloc) {
-            Ok(dtype) => Ok(Typed::Owned(dtype)),
-            Err(_) => Err(BindError::Memory),
-        },
-    }
-}
-
-/// The dtype of a field of a struct that was made.
-fn owned_field<'a>(
-    alloc: Global,
-    dtype: &DType,
-    nullability: Nullability,
-) -> Result<Typed<'a>, BindError>
-    ensures ok { IfOk result (λ typed. typed_data typed ≡ nullable_where nullability (data_type dtype.now)) }
-    ensures err { IfErr result (λ error. error ≡ BindError.Memory) }
-{
-    let copied = match nullability {
-        Nullability::NonNullable => dtype.copy(alloc),
-        Nullability::Nullable => dtype.as_nullable(alloc),
-    };
-    match copied {
-        Ok(dtype) => Ok(Typed::Owned(dtype)),
-        Err(_) => Err(BindError::Memory),
-    }
-}
-
-/// The field of that name and dtype.
-fn field_of<'a>(alloc: Global, name: &Text, typed: Typed<'a>) -> Result<Field, AllocError>
-    ensures name { IfOk result (λ field. field.name ≡ name.now) }
-    ensures dtype { IfOk result (λ field. data_type field.dtype ≡ typed_data typed.entry) }
-{
-    let dtype = typed.into_dtype(alloc)?;
-    let name = name.copy(alloc)?;
-    Ok(Field { name, dtype })
 }
 
 /// Whether no name stands twice.
@@ -348,7 +144,7 @@ impl NamedExprs {
                 Ok(typed) => typed,
                 Err(error) => return Err(error),
             };
-            let field = field_of(alloc, &item.0, typed)?;
+            let field = typed.into_field(alloc, &item.0)?;
             fields.push(field)?;
         }
         // Reading the number shows the proof that it is a `u64`.
@@ -427,24 +223,64 @@ impl Expr {
                 Ok(fields) => packed(alloc, fields, items.items(), place),
                 Err(error) => Err(error),
             },
+            Expr::GetField(_, operand)
+            | Expr::Not(operand)
+            | Expr::IsNull(operand)
+            | Expr::IsNotNull(operand)
+            | Expr::AtMostBound(operand) => match operand.typed(alloc, root, next, found) {
+                Ok(operand) => self.derived_typed(alloc, &operand, root, place, found),
+                Err(error) => Err(error),
+            },
+            _ => self.parts_typed(alloc, root, place, next, found),
+        }
+    }
+
+    /// The dtype of the expression of two parts over the root's dtype. `place` is its number, and `next` that of its
+    /// first part.
+    #[cycle(typing)]
+    fn parts_typed<'a>(
+        &'a self,
+        alloc: Global,
+        root: &'a IndexedRoot<'_>,
+        place: u64,
+        next: &mut u64,
+        found: &mut Vec<Found>,
+    ) -> Result<Typed<'a>, BindError>
+        requires pair { IsPair (term self.now) }
+        requires next { next.old ≡ first_part place }
+        ensures given { GivesType root.now (term self.now) place result }
+        ensures counted { OnOk result (next.new ≡ behind place (term self.now)) }
+        ensures found { OnOk result (found.new.items ≡ found.old.items ++ found_of root.now (term self.now)) }
+    {
+        match self {
             Expr::And(left, right)
             | Expr::Or(left, right)
             | Expr::Compare(_, left, right)
             | Expr::Arith(_, left, right) => match left.typed_pair(
                 alloc, right, root, next, found,
             ) {
-                Ok((left, right)) => self.pair_typed(left, right, place, found),
+                Ok((left, right)) => self.pair_typed(left.dtype(), right.dtype(), place, found),
                 Err(error) => Err(error),
             },
-            Expr::GetField(_, operand)
-            | Expr::Not(operand)
-            | Expr::IsNull(operand)
-            | Expr::IsNotNull(operand)
-            | Expr::AtMostBound(operand) => match operand.typed(alloc, root, next, found) {
-                Ok(operand) => self.derived_typed(alloc, operand, root, place, found),
-                Err(error) => Err(error),
-            },
+            _ => unreachable!(),
         }
+    }
+
+    /// The dtype of this expression of two parts, by theirs. The kind of the numbers that it joins goes behind what
+    /// was found before.
+    fn pair_typed<'a>(
+        &self,
+        left: &DType,
+        right: &DType,
+        place: u64,
+        found: &mut Vec<Found>,
+    ) -> Result<Typed<'a>, BindError>
+        requires { IsPair (term self.now) }
+        ensures given { GivesJoined (term self.now) (data_type left.now) (data_type right.now) place result }
+        ensures found { OnOk result ((t : DataType) → type_of t (left_of (term self.now)) ≡ Some (data_type left.now) → found.new.items ≡ found.old.items ++ own_found t (term self.now)) }
+    {
+        self.find_kind(left, found)?;
+        given(self.joined_typed(left, right), place)
     }
 
     /// The dtype of this expression of two parts, by theirs.
@@ -457,25 +293,6 @@ impl Expr {
             Expr::Arith(_, _, _) => arithmetic_typed(left, right),
             _ => None,
         }
-    }
-
-    /// The same of the dtypes of both parts, or a mismatch at the place. The kind of the numbers that it joins
-    /// goes behind what was found before.
-    fn pair_typed<'a>(
-        &self,
-        left: Typed<'a>,
-        right: Typed<'a>,
-        place: u64,
-        found: &mut Vec<Found>,
-    ) -> Result<Typed<'a>, BindError>
-        requires { IsPair (term self.now) }
-        ensures given { GivesJoined (term self.now) (typed_data left.entry) (typed_data right.entry) place result }
-        ensures found { OnOk result ((t : DataType) → type_of t (left_of (term self.now)) ≡ Some (typed_data left.entry) → found.new.items ≡ found.old.items ++ own_found t (term self.now)) }
-    {
-        let one = left.dtype();
-        let other = right.dtype();
-        self.find_kind(one, found)?;
-        given(self.joined_typed(one, other), place)
     }
 
     /// Adds the kind of the numbers that this expression joins, by the dtype of its left part.
@@ -498,20 +315,20 @@ impl Expr {
     fn derived_typed<'a>(
         &self,
         alloc: Global,
-        operand: Typed<'a>,
+        operand: &Typed<'a>,
         root: &IndexedRoot<'_>,
         place: u64,
         found: &mut Vec<Found>,
     ) -> Result<Typed<'a>, BindError>
-        requires { type_of root.now (part_of (term self.now)) ≡ Some (typed_data operand) }
-        ensures given { GivesDerived (term self.now) (typed_data operand.entry) place result }
+        requires { type_of root.now (part_of (term self.now)) ≡ Some (typed_data operand.now) }
+        ensures given { GivesDerived (term self.now) (typed_data operand.now) place result }
         ensures found { OnOk result (found.new.items ≡ found.old.items ++ own_found root.now (term self.now)) }
     {
         match self {
             Expr::GetField(name, part) => {
                 let at = place_named(root, part, operand.dtype(), name);
                 found.push(Found::Place(at))?;
-                operand.field(alloc, at, name, place)
+                field_typed(alloc, operand, at, name, place)
             }
             Expr::Not(_) => given(negation_typed(operand.dtype()), place),
             Expr::IsNull(_) | Expr::IsNotNull(_) => {

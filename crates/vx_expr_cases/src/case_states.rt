@@ -9,7 +9,7 @@ use std::alloc::{AllocError, Global};
 use std::mem::replace;
 use vx_base::{Column, DType, Nullability};
 use vx_expr::{BoundExpression, FilterExpr};
-use vx_notation::{column_of, dtype_of};
+use vx_notation::{column_of, dtype_of, numbers_of as ends_of, two, values_of};
 
 /// What the commands have set.
 #[derive(Drop)]
@@ -30,12 +30,21 @@ pub(crate) fn numbers_of(alloc: Global, first: u64, rows: u64) -> Result<Column,
     Column::from_numbers(alloc, numbers)
 }
 
-/// The rows that a command makes: none of a dtype, those of values, or so many numbers. None of words that write
-/// none.
+/// The rows of values that each fill those from the end before them to their own. None of words that write none.
+fn runs_of(alloc: Global, dtype: DType, words: &str) -> Option<Column> {
+    let (values, ends) = two(words).ok()?;
+    let values = values_of(alloc, values).ok()?;
+    let ends = ends_of(alloc, ends, ' ').ok()?;
+    Column::runs(alloc, dtype, values, ends).ok()
+}
+
+/// The rows that a command makes: none of a dtype, those of values, one by one or in runs, or so many numbers. None of
+/// words that write none.
 fn rows_of(alloc: Global, before: &DType, command: &str, words: &str) -> Option<Column> {
     match command {
         "root" => Column::empty(alloc, dtype_of(alloc, words).ok()?).ok(),
         "rows" => column_of(alloc, before.copy(alloc).ok()?, words).ok(),
+        "runs" => runs_of(alloc, before.copy(alloc).ok()?, words),
         _ => numbers_of(alloc, 0, words.parse::<u64>().unwrap_or(0)).ok(),
     }
 }

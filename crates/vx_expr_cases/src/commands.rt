@@ -102,7 +102,7 @@ fn write_line(
     let (command, rest) = line.split_once(' ').unwrap_or((line, ""));
     match command {
         "" | "#" => Ok(()),
-        "root" | "rows" | "count" => case_state.set_rows(alloc, command, rest),
+        "root" | "rows" | "runs" | "count" => case_state.set_rows(alloc, command, rest),
         "from" => {
             case_state.first_row = rest.parse::<u64>().unwrap_or(0);
             Ok(())

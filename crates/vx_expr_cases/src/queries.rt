@@ -135,6 +135,18 @@ fn applied(alloc: Global, case_state: &CaseState) -> Result<Column, ApplyError> 
     given
 }
 
+/// The column, whole, and whether it lies in runs.
+fn write_whole(alloc: Global, column: &Column, out: &mut String) -> Result<(), AllocError> {
+    let Ok(text) = column_text(alloc, column) else {
+        return Ok(());
+    };
+    out.push_str(text.as_str())?;
+    if column.run_parts().is_some() {
+        out.push_str(", in runs")?;
+    }
+    Ok(())
+}
+
 /// The column, whole or by its ends, or its first fault; want of memory is nothing.
 fn write_given(
     alloc: Global,
@@ -144,10 +156,7 @@ fn write_given(
 ) -> Result<(), AllocError> {
     match given {
         Ok(column) if !whole => write_ends(alloc, column, out),
-        Ok(column) => match column_text(alloc, column) {
-            Ok(text) => out.push_str(text.as_str()),
-            Err(_) => Ok(()),
-        },
+        Ok(column) => write_whole(alloc, column, out),
         Err(ApplyError::EvalFault(row)) => write!(out, "fault at row {row}"),
         Err(ApplyError::Memory) => Ok(()),
     }

@@ -14,5 +14,8 @@ decreases-NamedExprs::collect_fields l = 3 * nodes_in l.self.now + 1
 abbrev pub decreases-Operand::collect_field : goal.decreases-Operand::collect_field
 decreases-Operand::collect_field l = 3 * node_count l.self.now + 1
 
+abbrev pub decreases-Operand::collect_pair : goal.decreases-Operand::collect_pair
+decreases-Operand::collect_pair l = 3 * (node_count l.self.now + node_count l.right.now) + 1
+
 abbrev pub invariant-NamedExprs::collect_fields-loop-expr : goal.invariant-NamedExprs::collect_fields-loop-expr
 invariant-NamedExprs::collect_fields-loop-expr l = (found : Bool) (new : List (List ℕ)) → Collects (root_fields_in (terms_of (drop l.expr-index l.expr-items))) found l.names.items new → Collects (root_fields_in l.self) found l.fn.names.items new

@@ -8,7 +8,7 @@ use Rattle.vx_expr.specs.Types.{type_of}
 use Rattle.vx_expr.specs.Typing.{typed_data}
 use Rattle.vx_expr.proofs.MemberTypes.{a_type}
 use Rattle.vx_expr.proofs.Pairs.{nodes_at}
-use Rattle.vx_expr.proofs.PartFinds.{on_ok_then, is_pair, pair_put, found_next, found_none, put_next, put_all}
+use Rattle.vx_expr.proofs.PartFinds.{on_ok_more, pair_put, found_next, found_none, put_next, put_all}
 use Rattle.vx_expr.proofs.Refused.{some_members, pack_answer, pair_answer, so_far_start, so_far_next, so_far_refused, all_typed, all_counted}
 use Rattle.vx_expr.proofs.TermRows.{lefts_are}
 use Rattle.vx_expr.proofs.expressions.+typing.Goals as goal
@@ -16,18 +16,15 @@ use Rattle.vx_expr.proofs.expressions.+typing.Goals as goal
 pub Expr::typed-returns-in-Ok-clause-given : goal.Expr::typed-returns-in-Ok-clause-given
 Expr::typed-returns-in-Ok-clause-given t c = pack_answer c.args.root.now c.args.self.now c.in-Pack.items (terms_of c.items.result.now) c.in-Ok.fields c.args.next.now c.count-place.result c.packed.result c.in-Pack.is c.items.ensures c.count-place.ensures.place c.in-Ok.ensures.given c.packed.ensures
 
-pub Expr::typed-pair_typed-requires : goal.Expr::typed-pair_typed-requires
-Expr::typed-pair_typed-requires t c = is_pair c.args.self.now c.in-And.left c.in-And.right c.in-And.is
+pub Expr::parts_typed-returns-in-Ok-clause-given : goal.Expr::parts_typed-returns-in-Ok-clause-given
+Expr::parts_typed-returns-in-Ok-clause-given t c = pair_answer c.args.root.now c.args.self.now c.in-And.left c.in-And.right (typed_data c.in-Ok.left) (typed_data c.in-Ok.right) (data_type c.dtype.result.now) (data_type c.dtype-in-Ok.result.now) c.args.place c.pair_typed.result c.in-And.is c.in-Ok.ensures.given.0 c.in-Ok.ensures.given.1 c.dtype.ensures c.dtype-in-Ok.ensures c.pair_typed.ensures.given
 
-pub Expr::typed-returns-in-Ok-typed_pair-clause-given : goal.Expr::typed-returns-in-Ok-typed_pair-clause-given
-Expr::typed-returns-in-Ok-typed_pair-clause-given t c = pair_answer c.args.root.now c.args.self.now c.in-And.left c.in-And.right (typed_data c.in-Ok-typed_pair.left) (typed_data c.in-Ok-typed_pair.right) c.args.next.now c.count-place.result c.pair_typed.result c.in-And.is c.in-Ok-typed_pair.ensures.given.0 c.in-Ok-typed_pair.ensures.given.1 c.count-place.ensures.place c.pair_typed.ensures.given
-
-pub Expr::typed-returns-in-Ok-typed_pair-clause-found : goal.Expr::typed-returns-in-Ok-typed_pair-clause-found
-Expr::typed-returns-in-Ok-typed_pair-clause-found t c =
+pub Expr::parts_typed-returns-in-Ok-clause-found : goal.Expr::parts_typed-returns-in-Ok-clause-found
+Expr::parts_typed-returns-in-Ok-clause-found t c =
     let root = c.args.root.now in
-    let typed = ap (type_of root) (lefts_are c.args.self.now c.in-And.left c.in-And.right c.in-And.is) ∙ c.in-Ok-typed_pair.ensures.given.0 in
-    on_ok_then c.pair_typed.result _ _
-    (λ put. pair_put root c.args.self.now c.in-And.left c.in-And.right c.args.found.now.items c.typed_pair.new.found.items c.pair_typed.new.found.items c.in-And.is c.in-Ok-typed_pair.ensures.found (put root typed))
+    let typed = ap (type_of root) (lefts_are c.args.self.now c.in-And.left c.in-And.right c.in-And.is) ∙ c.in-Ok.ensures.given.0 ∙ ap a_type (sym c.dtype.ensures) in
+    on_ok_more c.pair_typed.result _ _
+    (λ put. pair_put root c.args.self.now c.in-And.left c.in-And.right c.args.found.now.items c.typed_pair.new.found.items c.pair_typed.new.found.items c.in-And.is c.in-Ok.ensures.found (put root typed))
     c.pair_typed.ensures.found
 
 pub NamedExprs::fields-loop-item-init : goal.NamedExprs::fields-loop-item-init
