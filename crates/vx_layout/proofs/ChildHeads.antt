@@ -68,7 +68,7 @@ ListFits nodes Nullable P rows (n ∷ m ∷ k ∷ []) = BothHeads nodes P n m ×
 ListFits nodes nullability P rows ns = ⊥
 
 abbrev pub FitsKind : List Node → Head → LayoutKind → List ℕ → Type 0
-FitsKind nodes head (kinds.Flat segment) ns = IsLeaf head.dtype
+FitsKind nodes head (kinds.Flat segment coding) ns = IsLeaf head.dtype
 FitsKind nodes head kinds.Chunked ns = ChunksFit nodes head.dtype ns × (rows_of_all nodes ns ≡ head.rows)
 FitsKind nodes head kinds.Struct ns = IsStruct head.dtype × StructFits nodes (nullability_of head.dtype) (struct_members head.dtype) head.rows ns
 FitsKind nodes head kinds.Dict ns = PairFits nodes (IsDictionary head) ns

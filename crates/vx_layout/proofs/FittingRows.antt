@@ -122,7 +122,7 @@ Fitting leaves t d = IfSome (derived leaves d) (Fits t)
 mutual
   pub fits_row : (leaves : Leaves) → GiveFitting leaves → (t : Tree) (row : ℕ) → IsSound t → IfSome (derived leaves (derivation t all row)) (Fits (head_of t).dtype)
   fits_row leaves fitting (missing head) row sound = tt
-  fits_row leaves fitting (leaf head segment) row sound = leaf_row_fits (Fits head.dtype) (leaves head.dtype head.rows segment) row (fitting head.dtype head.rows segment)
+  fits_row leaves fitting (leaf head segment coding) row sound = leaf_row_fits (Fits head.dtype) (leaves head.dtype coding head.rows segment) row (fitting head.dtype coding head.rows segment)
   fits_row leaves fitting (chunks head forest) row sound = fits_in leaves fitting head.dtype forest row sound.0
   fits_row leaves fitting (fields head forest validity) row sound =
       validity_fits leaves (nullability_of head.dtype) head.rows validity row (packed (field_derivations (struct_members head.dtype) forest all row)) (Fits head.dtype) sound.2

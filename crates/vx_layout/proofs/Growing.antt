@@ -98,7 +98,7 @@ zoned_sound nodes later head zones ns sound fit =
 -- ---- nodes
 
 kind_sound : (nodes : List Node) → HaveLaterChildren nodes → (number : ℕ) (node : Node) (kind : LayoutKind) → AreSound nodes node.children → FitsKind nodes (head_at number node) kind node.children → IsSound (grown_as (head_at number node) kind (map (subtree nodes) node.children))
-kind_sound nodes later number node (kinds.Flat segment) sound fit = fit
+kind_sound nodes later number node (kinds.Flat segment coding) sound fit = fit
 kind_sound nodes later number node kinds.Chunked sound fit = (chunks_sound nodes later node.dtype node.children sound fit.0, chunk_rows nodes later node.dtype node.children fit.0 ∙ fit.1)
 kind_sound nodes later number node kinds.Struct sound fit =
     let parts : AreFields (struct_members node.dtype) node.rows (forest_from (field_trees (nullability_of node.dtype) (map (subtree nodes) node.children))) × IsValidity (nullability_of node.dtype) node.rows (validity_in (nullability_of node.dtype) (map (subtree nodes) node.children) 0) = struct_sound nodes later (nullability_of node.dtype) (struct_members node.dtype) node.rows node.children sound fit.1 in

@@ -3,6 +3,7 @@ use Rattle.std.proofs.Common.{◌≡◌, ℕ, zero, suc, ◌+◌, ◌<◌, pos, 
 use Rattle.std.specs.Prelude.{option_and_then, option_map}
 use Rattle.std.specs.List.{slice_get, range_with_len, AllByRecursion}
 use Rattle.std.proofs.lemmas.List.{map-append}
+use Rattle.vx_base.specs.declared.codings.Coding.{Coding}
 use Rattle.vx_base.specs.Data.{Members, no_members, member, Datum, null, truth, number, text, structure}
 use Rattle.vx_base.specs.ColumnCalls.{value_at}
 use Rattle.vx_expr.specs.Types.{on_both}
@@ -107,8 +108,8 @@ list_rows (v ∷ values) all_values from (suc count) same e =
     let q : map (λ row. slice_get all_values row) (range_with_len (from + 1) count) ≡ map Some values = list_rows values all_values (from + 1) count (λ row at lt f. same (suc row) at (omega arith) (omega arith)) (omega arith) in
     cc
 
-pub leaf_values : (leaves : Leaves) (head : Head) (segment : ℕ) (kept : KeptFields) (values : List Datum) → leaves head.dtype head.rows segment ≡ Some values → length values ≡ head.rows → AreTreeValues leaves (leaf head segment) kept values
-leaf_values leaves head segment kept values has size =
+pub leaf_values : (leaves : Leaves) (head : Head) (segment : ℕ) (coding : Coding) (kept : KeptFields) (values : List Datum) → leaves head.dtype coding head.rows segment ≡ Some values → length values ≡ head.rows → AreTreeValues leaves (leaf head segment coding) kept values
+leaf_values leaves head segment coding kept values has size =
     let p : map (λ row. slice_get values row) (range_with_len 0 head.rows) ≡ map Some values = list_rows values values 0 head.rows (λ row at lt f. ap (slice_get values) (let e : at ≡ row = omega arith in e)) size in
     subst (λ (o : Option (List Datum)). map (λ row. option_and_then (λ found. slice_get found row) o) (range_with_len 0 head.rows) ≡ map Some values) (sym has) p
 

@@ -14,3 +14,14 @@ pub mod TreeRows
 pub mod SomeRows
 pub mod Joined
 pub mod FittingRows
+pub mod BareNodes
+pub mod Flats
+pub mod MovedTrees
+pub mod MovedNodes
+pub mod MovedBytes
+pub mod Moving
+pub mod MovedParts
+pub mod MovedSteps
+pub mod CountedFlats
+pub mod MovedWhole
+pub mod MovedLengths

@@ -190,7 +190,7 @@ list_ruled nodes number node (utf8_type n) e rules = absurd rules.counted
 list_ruled nodes number node (struct_type ms n) e rules = absurd rules.counted
 
 kind_ruled : (nodes : List Node) (number : ℕ) (node : Node) (kind : LayoutKind) → KeepsRules nodes node kind node.dtype → FitsKind nodes (head_at number node) kind node.children
-kind_ruled nodes number node (kinds.Flat segment) rules = rules.typed
+kind_ruled nodes number node (kinds.Flat segment coding) rules = rules.typed
 kind_ruled nodes number node kinds.Chunked rules = (chunks_fit nodes node.dtype node.children rules.typed, rows_sum nodes node.children ∙ rules.aligned)
 kind_ruled nodes number node kinds.Struct rules = struct_ruled nodes node (head_at number node) node.dtype refl rules
 kind_ruled nodes number node kinds.Dict rules = dictionary_fits nodes (head_at number node) node.children rules.counted rules.typed rules.coded rules.aligned

@@ -29,7 +29,7 @@ strict_chunk false d e p q = q
 mutual
   pub strict_row : (t : Tree) (kept : KeptFields) (row : ℕ) → IsStrict (derivation t kept row)
   strict_row (missing head) kept row = tt
-  strict_row (leaf head segment) kept row = tt
+  strict_row (leaf head segment coding) kept row = tt
   strict_row (chunks head forest) kept row = strict_in forest kept row
   strict_row (fields head forest validity) kept row = strict_valid validity row (packed (field_derivations (struct_members head.dtype) forest kept row)) (strict_fields (struct_members head.dtype) forest kept row)
   strict_row (dict head values codes) kept row = (strict_row codes all row, each_row_strict (derivation values all) (λ r. strict_row values all r) 0 (head_of values).rows)
@@ -62,7 +62,7 @@ whole_field false d whole = tt
 mutual
   pub whole_row : (t : Tree) (kept : KeptFields) (row : ℕ) → IsSound t → row < (head_of t).rows → IsWhole (derivation t kept row)
   whole_row (missing head) kept row sound lt = absurd sound
-  whole_row (leaf head segment) kept row sound lt = lt
+  whole_row (leaf head segment coding) kept row sound lt = lt
   whole_row (chunks head forest) kept row sound lt = whole_in head.dtype forest kept row sound.0 (omega (arith, sound.1))
   whole_row (fields head forest validity) kept row sound lt = whole_valid (nullability_of head.dtype) head.rows validity row (packed (field_derivations (struct_members head.dtype) forest kept row)) sound.2 lt (whole_fields (struct_members head.dtype) head.rows forest kept row sound.1 lt)
   whole_row (dict head values codes) kept row sound lt =

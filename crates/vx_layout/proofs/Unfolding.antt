@@ -83,7 +83,7 @@ unfolds [] later n = refl
 unfolds (node ∷ nodes) later n = grow_unfolds (node ∷ nodes) (length nodes) later (omega arith) n
 
 head_of_grown_as : (head : Head) (kind : LayoutKind) (ts : List Tree) → head_of (grown_as head kind ts) ≡ head
-head_of_grown_as head (kinds.Flat segment) ts = refl
+head_of_grown_as head (kinds.Flat segment coding) ts = refl
 head_of_grown_as head kinds.Chunked ts = refl
 head_of_grown_as head kinds.Struct ts = refl
 head_of_grown_as head kinds.Dict ts = refl

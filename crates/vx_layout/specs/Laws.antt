@@ -1,6 +1,7 @@
 -- What holds of layout trees, whatever the file.
 use Rattle.std.specs.Prelude.{◌≡◌, ℕ, ◌+◌, ◌<◌, List, ◌++◌, length, map, Option, Some, None, IfSome, IsSome}
 use Rattle.std.specs.List.{slice_get, range_with_len, AllByRecursion}
+use Rattle.vx_base.specs.declared.codings.Coding.{Coding}
 use Rattle.vx_base.specs.Data.{Datum}
 use Rattle.vx_base.specs.Fits.{Fits}
 use Rattle.vx_base.specs.ColumnCalls.{value_at}
@@ -57,9 +58,9 @@ ValuesAreOfRows = (leaves : Leaves) (t : Tree) (kept : KeptFields) (values : Lis
 
 -- a leaf has the values of its segment
 abbrev pub LeafHasValues : Type 0
-LeafHasValues = (leaves : Leaves) (head : Head) (segment : ℕ) (kept : KeptFields) (values : List Datum)
-    → leaves head.dtype head.rows segment ≡ Some values → length values ≡ head.rows
-    → AreTreeValues leaves (leaf head segment) kept values
+LeafHasValues = (leaves : Leaves) (head : Head) (segment : ℕ) (coding : Coding) (kept : KeptFields) (values : List Datum)
+    → leaves head.dtype coding head.rows segment ≡ Some values → length values ≡ head.rows
+    → AreTreeValues leaves (leaf head segment coding) kept values
 
 -- trees one after another have the values of the first, then those of the others
 abbrev pub ValuesJoin : Type 0

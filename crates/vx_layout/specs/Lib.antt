@@ -12,4 +12,6 @@ pub mod Parts
 pub mod Sound
 pub mod Columns
 pub mod Laws
+pub mod Migrations
+pub mod Moving
 pub mod WorkedRows

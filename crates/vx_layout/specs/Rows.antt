@@ -26,7 +26,7 @@ struct_members (list_type t n) = no_members
 abbrev mutual
   pub derivation : Tree → KeptFields → ℕ → Derivation
   derivation (missing head) kept row = nothing
-  derivation (leaf head segment) kept row = of_leaf (record { dtype = head.dtype; rows = head.rows; segment = segment; row = row })
+  derivation (leaf head segment coding) kept row = of_leaf (record { dtype = head.dtype; coding = coding; rows = head.rows; segment = segment; row = row })
   derivation (chunks head forest) kept row = derivation_in forest kept row
   derivation (fields head forest validity) kept row =
       where_valid_by validity row (packed (field_derivations (struct_members head.dtype) forest kept row))

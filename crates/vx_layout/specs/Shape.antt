@@ -4,6 +4,8 @@ use Rattle.std.specs.Prelude.{◌≡◌, ℕ, zero, suc, ◌+◌, ◌<◌, ◌�
 use Rattle.std.specs.Int.{div_ceil}
 use Rattle.std.specs.List.{slice_get}
 use Rattle.std.specs.Option.{option_map_or}
+use Rattle.vx_base.specs.declared.codings.Coding.{Coding}
+use Rattle.vx_base.specs.declared.codings.Coding.TheVariants.{Plain, Constant, Runs}
 use Rattle.vx_base.specs.declared.dtypes.Nullability.{Nullability}
 use Rattle.vx_base.specs.declared.dtypes.Nullability.TheVariants.{NonNullable, Nullable}
 use Rattle.vx_base.specs.Data.{DataType, bool_type, struct_type, list_type, Members}
@@ -30,6 +32,10 @@ node_limit = 1073741824
 -- a node has at most so many rows
 abbrev pub most_rows : ℕ
 most_rows = 68719476736
+
+-- and where it is flat and its segment isn't coded plainly, so many
+abbrev pub most_coded_rows : ℕ
+most_coded_rows = 16777216
 
 -- the levels of a tree, and of a dtype
 abbrev pub most_levels : ℕ
@@ -67,7 +73,7 @@ validity_count Nullable = 1
 -- So many children fit the kind and the dtype: a struct's are its fields and the validity, a list's the
 -- elements, the offsets and the validity. The dtype of a struct node is a struct, and of a list node a list.
 abbrev pub CountFits : LayoutKind → DataType → ℕ → Type 0
-CountFits (kinds.Flat segment) t count = count ≡ 0
+CountFits (kinds.Flat segment coding) t count = count ≡ 0
 CountFits kinds.Chunked t count = Unit {0}
 CountFits kinds.Struct (struct_type ms n) count = count ≡ length (fields_in ms) + validity_count n
 CountFits kinds.Struct t count = ⊥
@@ -101,7 +107,7 @@ IsLookedUp nodes node t =
 -- The dtypes of the children fit the kind and the dtype. Of a struct node whose dtype is no struct, and of
 -- a list node whose dtype is no list, the rule on the count of children speaks.
 abbrev pub TypesFit : List Node → Node → LayoutKind → DataType → Type 0
-TypesFit nodes node (kinds.Flat segment) t = IsLeaf t
+TypesFit nodes node (kinds.Flat segment coding) t = IsLeaf t
 TypesFit nodes node kinds.Chunked t = EachChild nodes node.children (λ child. child.dtype ≡ t)
 TypesFit nodes node kinds.Struct (struct_type ms n) = ValidityAt nodes node 0 n × FieldsFrom nodes node (validity_count n) ms
 TypesFit nodes node kinds.Struct t = Unit {0}
@@ -136,7 +142,7 @@ ValidityRowsAt nodes node place Nullable = RowsAt nodes node place node.rows
 -- Chunks add up to their parent's rows; fields, validities, codes and zoned data have them; list offsets
 -- have one more.
 abbrev pub RowsFit : List Node → Node → LayoutKind → Type 0
-RowsFit nodes node (kinds.Flat segment) = Unit {0}
+RowsFit nodes node (kinds.Flat segment coding) = Unit {0}
 RowsFit nodes node kinds.Chunked = sum_by (rows_of nodes) node.children ≡ node.rows
 RowsFit nodes node kinds.Struct = EachChild nodes node.children (λ child. child.rows ≡ node.rows)
 RowsFit nodes node kinds.Dict = RowsAt nodes node 1 node.rows
@@ -162,6 +168,19 @@ ZonesFit nodes node (kinds.Zoned zone_len stats) = AreZones nodes node zone_len 
 ZonesFit nodes node (kinds.LegacyStats zone_len stats) = AreZones nodes node zone_len stats
 ZonesFit nodes node kind = Unit {0}
 
+-- ---- codings
+
+-- Rows that aren't coded plainly are few: a few bytes may spell any number of rows.
+abbrev pub AreFewIn : Coding → ℕ → Type 0
+AreFewIn Plain rows = Unit {0}
+AreFewIn Constant rows = rows ≤ most_coded_rows
+AreFewIn Runs rows = rows ≤ most_coded_rows
+
+-- and so are those of a flat node
+abbrev pub HasFewCodedRows : LayoutKind → ℕ → Type 0
+HasFewCodedRows (kinds.Flat segment coding) rows = AreFewIn coding rows
+HasFewCodedRows kind rows = Unit {0}
+
 -- ---- the rules
 
 -- the number of a rule, in the order in which they are tried
@@ -177,6 +196,7 @@ number_of rules.FittingTypes = 8
 number_of rules.UnsignedCodes = 9
 number_of rules.RowCounts = 10
 number_of rules.FittingZones = 11
+number_of rules.FewCodedRows = 12
 
 -- what a rule asks of a node of that number
 abbrev pub Asks : ShapeRule → List Node → ℕ → Node → Type 0
@@ -191,6 +211,7 @@ Asks rules.FittingTypes nodes number node = TypesFit nodes node node.kind node.d
 Asks rules.UnsignedCodes nodes number node = CodesFit nodes node node.kind
 Asks rules.RowCounts nodes number node = RowsFit nodes node node.kind
 Asks rules.FittingZones nodes number node = ZonesFit nodes node node.kind
+Asks rules.FewCodedRows nodes number node = HasFewCodedRows node.kind node.rows
 
 -- There is a node of that number, and it has what the rule asks. (The first rule asks no more.)
 abbrev pub Keeps : ShapeRule → List Node → ℕ → Type 0

@@ -44,7 +44,7 @@ pub record AreZones (zones : Zones) (head table : Head) : Type 0 where
 abbrev mutual
   pub IsSound : Tree → Type 0
   IsSound (missing head) = ⊥
-  IsSound (leaf head segment) = IsLeaf head.dtype
+  IsSound (leaf head segment coding) = IsLeaf head.dtype
   IsSound (chunks head forest) = AreChunks head.dtype forest × (rows_in forest ≡ head.rows)
   IsSound (fields head forest validity) =
       IsStruct head.dtype × AreFields (struct_members head.dtype) head.rows forest

@@ -2,6 +2,7 @@
 -- over the tree.
 use Rattle.std.specs.Prelude.{ℕ, zero, suc, true, false, List, [], ◌∷◌, length, map, Option, Some, None}
 use Rattle.std.specs.List.{slice_get}
+use Rattle.vx_base.specs.declared.codings.Coding.{Coding}
 use Rattle.vx_base.specs.declared.dtypes.Nullability.{Nullability}
 use Rattle.vx_base.specs.declared.dtypes.Nullability.TheVariants.{NonNullable, Nullable}
 use Rattle.vx_base.specs.Data.{bool_type}
@@ -12,12 +13,12 @@ use Rattle.vx_layout.specs.Nodes.{Node}
 use Rattle.vx_rows.specs.Heads.{Head}
 use Rattle.vx_rows.specs.Zones.{Zones, zones_of}
 
--- A leaf names its segment. A dictionary has its values, then its codes; a list its elements, then its
+-- A leaf names its segment and how that is coded. A dictionary has its values, then its codes; a list its elements, then its
 -- offsets; zoned data the data, then the zones.
 mutual
   pub data Tree : Type 0 where
     missing : Head → Tree
-    leaf : Head → ℕ → Tree
+    leaf : Head → ℕ → Coding → Tree
     chunks : Head → Forest → Tree
     fields : Head → Forest → Validity → Tree
     dict : Head → Tree → Tree → Tree
@@ -35,7 +36,7 @@ mutual
 
 abbrev pub head_of : Tree → Head
 head_of (missing head) = head
-head_of (leaf head segment) = head
+head_of (leaf head segment coding) = head
 head_of (chunks head forest) = head
 head_of (fields head forest validity) = head
 head_of (dict head values codes) = head
@@ -73,7 +74,7 @@ field_trees Nullable (t ∷ ts) = ts
 
 -- a node of a kind over the trees of its children
 abbrev pub grown_as : Head → LayoutKind → List Tree → Tree
-grown_as head (kinds.Flat segment) ts = leaf head segment
+grown_as head (kinds.Flat segment coding) ts = leaf head segment coding
 grown_as head kinds.Chunked ts = chunks head (forest_from ts)
 grown_as head kinds.Struct ts =
     fields head (forest_from (field_trees (nullability_of head.dtype) ts)) (validity_in (nullability_of head.dtype) ts 0)

@@ -1,6 +1,7 @@
 -- Trees and files that were written by hand, on which the definitions of rows are checked.
 use Rattle.std.specs.Prelude.{codes, ℕ, pos, negsuc, true, false, List, [], ◌∷◌, map, Option, Some}
 use Rattle.vx_base.specs.declared.locations.SegmentLocation.{SegmentLocation}
+use Rattle.vx_base.specs.declared.codings.Coding.TheVariants.{Plain}
 use Rattle.vx_base.specs.declared.dtypes.IntKind.TheVariants.{U8, I8, I32}
 use Rattle.vx_base.specs.declared.dtypes.Nullability.TheVariants.{NonNullable, Nullable}
 use Rattle.vx_base.specs.Data.{DataType, bool_type, int_type, utf8_type, struct_type, list_type, no_members, member, Datum, null, truth, number, structure, no_items, item}
@@ -30,7 +31,7 @@ abbrev pub at : ℕ → ℕ → SegmentLocation
 at offset length = record { offset = offset; length = length; alignment = 1 }
 
 abbrev pub flat_node : DataType → ℕ → ℕ → Node
-flat_node t rows segment = record { kind = kinds.Flat segment; dtype = t; rows = rows; children = [] }
+flat_node t rows segment = record { kind = kinds.Flat segment Plain; dtype = t; rows = rows; children = [] }
 
 -- a chunked node of numbers of 64 bits
 abbrev pub chunked_node : ℕ → List ℕ → Node
@@ -52,10 +53,10 @@ abbrev pub two_chunks : List Node
 two_chunks = chunked_node 3 (1 ∷ 2 ∷ []) ∷ flat_node i64 1 0 ∷ flat_node i64 2 1 ∷ []
 
 abbrev pub two_leaves : Forest
-two_leaves = tree (leaf (head_at 1 (flat_node i64 1 0)) 0) (tree (leaf (head_at 2 (flat_node i64 2 1)) 1) no_trees)
+two_leaves = tree (leaf (head_at 1 (flat_node i64 1 0)) 0 Plain) (tree (leaf (head_at 2 (flat_node i64 2 1)) 1 Plain) no_trees)
 
 abbrev pub two_truths : Leaves
-two_truths dtype rows segment = Some (truth true ∷ truth false ∷ [])
+two_truths dtype coding rows segment = Some (truth true ∷ truth false ∷ [])
 
 -- ---- structs without fields, of which some are null
 abbrev pub null_structs : List Node

@@ -4,6 +4,8 @@
 //! - Checked trees: [`LayoutTree`] with [`LayoutError`], by the rules of [`ShapeRule`]; which fields of its root an
 //!   expression gets: [`Kept`], [`kept_flags`].
 //! - A file that can be scanned: [`ScanFile`], a checked tree and where its segments lie.
+//! - The segments of a tree, written anew in other codings: [`migrate`], which gives [`Migrated`] or a [`MigrateError`];
+//!   what it asks of its caller: [`flat_nodes`], [`has_counted_rows`].
 //! - The laws of the shape: [`faults_are_one`], [`good_trees_unfold`], [`limits_are_promised`].
 //! - The laws of values: [`values_are_those_of_the_rows`], [`nodes_have_their_childrens_values`], [`values_fit`].
 //! - The laws of reads: [`chunks_have_rows`], [`children_are_read`], [`children_are_reached`],
@@ -20,9 +22,13 @@ mod dtypes;
 mod errors;
 mod facts;
 mod files;
+mod flat_kinds;
 mod kept_fields;
 mod laws;
 mod limits;
+mod migrate_errors;
+mod migrations;
+mod moved_segments;
 mod nodes;
 mod number_rules;
 mod row_rules;
@@ -36,6 +42,7 @@ pub use by_hand::{
 };
 pub use errors::LayoutError;
 pub use files::ScanFile;
+pub use flat_kinds::{flat_nodes, has_counted_rows};
 pub use kept_fields::{Kept, kept_flags};
 pub use laws::{
     children_are_reached, children_are_read, chunks_have_rows, faults_are_one, good_trees_unfold,
@@ -43,6 +50,8 @@ pub use laws::{
     values_fit, ways_tell_the_dictionary,
 };
 pub use limits::limits_are_promised;
+pub use migrate_errors::MigrateError;
+pub use migrations::{Migrated, migrate};
 pub use nodes::{LayoutKind, LayoutNode};
 pub use rules::ShapeRule;
 pub use trees::LayoutTree;

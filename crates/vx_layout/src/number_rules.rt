@@ -3,15 +3,18 @@
 ghost use Rattle.std.specs.Prelude.{◌≡◌, ◌<◌, ◌≤◌, ◌↔◌, length, map, IsTrue};
 ghost use Rattle.vx_layout.specs.Facts.{AreFacts};
 ghost use Rattle.vx_layout.specs.Nodes.{node_data};
-ghost use Rattle.vx_layout.specs.Shape.{HasLaterChildren, IsChildOnce, IsShallow, HasFewRows, HasFittingCount, validity_count};
+ghost use Rattle.vx_layout.specs.Shape.{HasLaterChildren, IsChildOnce, IsShallow, AreFewIn, HasFewCodedRows, HasFewRows, HasFittingCount, validity_count};
 
 use crate::dtypes::is_within;
 use crate::facts::Facts;
 use crate::nodes::{LayoutKind, LayoutNode};
-use vx_base::{DType, Nullability};
+use vx_base::{Coding, DType, Nullability};
 
 /// A node has at most so many rows.
 pub(crate) const MOST_ROWS: u64 = 68719476736;
+
+/// A flat node whose segment is coded in another way than plainly has at most so many rows.
+pub(crate) const MOST_CODED_ROWS: u64 = 16777216;
 
 /// The levels of a tree, and of a dtype.
 pub(crate) const MOST_LEVELS: u32 = 64;
@@ -47,6 +50,26 @@ pub fn has_few_rows(node: &LayoutNode) -> bool
     ensures { IsTrue result ↔ HasFewRows (node_data node.now) }
 {
     node.row_count <= MOST_ROWS
+}
+
+/// Whether so many rows are few enough for the coding.
+pub fn are_few_in(coding: Coding, rows: u64) -> bool
+    ensures { IsTrue result ↔ AreFewIn coding rows }
+{
+    match coding {
+        Coding::Plain => true,
+        Coding::Constant | Coding::Runs => rows <= MOST_CODED_ROWS,
+    }
+}
+
+/// Whether the node has few enough rows for its coding, where it is flat.
+pub fn has_few_coded_rows(node: &LayoutNode) -> bool
+    ensures { IsTrue result ↔ HasFewCodedRows (node_data node.now).kind (node_data node.now).rows }
+{
+    match &node.kind {
+        LayoutKind::Flat { coding, .. } => are_few_in(*coding, node.row_count),
+        _ => true,
+    }
 }
 
 /// How many children a validity is.

@@ -10,7 +10,8 @@ use crate::errors::LayoutError;
 use crate::facts::{Facts, facts_of};
 use crate::nodes::LayoutNode;
 use crate::number_rules::{
-    has_few_rows, has_fitting_count, has_later_children, is_child_once, is_shallow,
+    has_few_coded_rows, has_few_rows, has_fitting_count, has_later_children, is_child_once,
+    is_shallow,
 };
 use crate::row_rules::{have_fitting_rows, have_fitting_zones};
 use crate::rules::ShapeRule;
@@ -19,7 +20,7 @@ use std::alloc::{AllocError, Global};
 use vx_base::has_distinct_names;
 
 /// One more than the number of the last rule.
-const PAST_LAST_RULE: u8 = 12;
+const PAST_LAST_RULE: u8 = 13;
 
 /// Whether the node of that number has what the rule asks.
 fn has_asked(
@@ -46,6 +47,7 @@ fn has_asked(
         ShapeRule::UnsignedCodes => has_unsigned_codes(nodes, node),
         ShapeRule::RowCounts => have_fitting_rows(nodes, node),
         ShapeRule::FittingZones => have_fitting_zones(alloc, nodes, node)?,
+        ShapeRule::FewCodedRows => has_few_coded_rows(node),
     })
 }
 
@@ -76,7 +78,7 @@ fn first_broken(
     requires place { number < length nodes.now }
     requires facts { AreFacts (map node_data nodes.now) facts.now }
     requires some { 1 ≤ limit }
-    requires few { limit ≤ 12 }
+    requires few { limit ≤ 13 }
     ensures { IfOk result (BreaksFirst (map node_data nodes.now) number limit) }
 {
     for at in 1..limit {

@@ -18,9 +18,15 @@ use vx_base::DType;
 use vx_expr::BoundExpression;
 
 /// A layout tree: nodes that keep the rules of the shape (docs/FORMATS.md). Node 0 is the root.
-#[derive(Debug, Drop)]
+#[derive(Debug)]
 pub struct LayoutTree {
     nodes: Vec<LayoutNode>,
+}
+
+impl Drop for LayoutTree {
+    fn drop(self) {
+        let LayoutTree { nodes: _ } = self;
+    }
 }
 
 impl Model for LayoutTree {

@@ -2,6 +2,7 @@
 //! the proof takes it apart there alone.
 
 use crate::large::large;
+use crate::migrating::{write_many, write_migration};
 use crate::nodes::write_node;
 use std::alloc::{AllocError, Global};
 use std::mem::replace;
@@ -116,6 +117,7 @@ fn write_asked(
     match command {
         "root" => write_root(alloc, tree, out),
         "kept" => write_kept(alloc, tree, words, out),
+        "migrate" => write_migration(alloc, tree, words, out),
         _ => write_numbered(alloc, tree, command, words, out),
     }
 }
@@ -139,6 +141,9 @@ fn write_answer(
     let (command, words) = line.split_once(' ').unwrap_or((line, ""));
     if command == "memory" {
         return write!(out, "{}", LayoutError::Memory);
+    }
+    if command == "many" {
+        return write_many(alloc, words, out);
     }
     if let Some(nodes) = listed(alloc, command, words) {
         return write_made(alloc, tree, nodes, out);

@@ -1,6 +1,7 @@
 //! Kinds of node as they are printed.
 
 use std::alloc::AllocError;
+use vx_base::Coding;
 use vx_expr::{Statistic, Statistics};
 use vx_layout::LayoutKind;
 
@@ -22,10 +23,20 @@ fn write_zones(
     Ok(())
 }
 
+/// Appends the segment of a flat node, and its coding where that isn't the plain one.
+fn write_flat(segment: u32, coding: Coding, out: &mut String) -> Result<(), AllocError> {
+    write!(out, "flat:{segment}")?;
+    match coding {
+        Coding::Plain => Ok(()),
+        Coding::Constant => out.push_str(":constant"),
+        Coding::Runs => out.push_str(":runs"),
+    }
+}
+
 /// Appends the kind.
 pub(crate) fn write_kind(kind: &LayoutKind, out: &mut String) -> Result<(), AllocError> {
     match kind {
-        LayoutKind::Flat { segment } => write!(out, "flat:{segment}"),
+        LayoutKind::Flat { segment, coding } => write_flat(*segment, *coding, out),
         LayoutKind::Chunked => out.push_str("chunked"),
         LayoutKind::Struct => out.push_str("struct"),
         LayoutKind::Dict => out.push_str("dict"),

@@ -1,7 +1,7 @@
 //! Lists of very many nodes.
 
 use std::alloc::Global;
-use vx_base::{DType, Field, Fields, Nullability, Text};
+use vx_base::{Coding, DType, Field, Fields, Nullability, Text};
 use vx_layout::{LayoutKind, LayoutNode};
 
 /// A node of truth values that are never null.
@@ -28,7 +28,10 @@ fn over_flats(alloc: Global, root: LayoutNode, count: u32) -> Vec<LayoutNode> {
     let mut nodes = Vec::new(alloc);
     let _pushed = nodes.push(root).ok();
     for segment in 0..count {
-        let kind = LayoutKind::Flat { segment };
+        let kind = LayoutKind::Flat {
+            segment,
+            coding: Coding::Plain,
+        };
         let _pushed = nodes.push(truths(kind, 1, Vec::new(alloc))).ok();
     }
     nodes
@@ -47,7 +50,10 @@ fn levels(alloc: Global, count: u32) -> Vec<LayoutNode> {
     for number in 0..count {
         let _pushed = nodes.push(level(alloc, number)).ok();
     }
-    let kind = LayoutKind::Flat { segment: 0 };
+    let kind = LayoutKind::Flat {
+        segment: 0,
+        coding: Coding::Plain,
+    };
     let _pushed = nodes.push(truths(kind, 1, Vec::new(alloc))).ok();
     nodes
 }

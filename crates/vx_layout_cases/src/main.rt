@@ -6,6 +6,7 @@
 mod commands;
 mod kinds;
 mod large;
+mod migrating;
 mod nodes;
 
 use commands::write_answers;

@@ -113,7 +113,7 @@ faulty_code leaves dictionary row code values fault =
 
 faulty_leaf_row : (leaves : Leaves) (at : LeafRow) → IsFaulty leaves (a_leaf_row at) → derived leaves (of_leaf at) ≡ None
 faulty_leaf_row leaves at fault =
-    ⊎_elim (λ (lacks : leaves at.dtype at.rows at.segment ≡ None). ap (option_and_then (λ (values : List Datum). slice_get values at.row)) lacks) (λ (rest : ⊥ ⊎ ⊥). ⊎_elim (λ (no : ⊥). absurd no) (λ (no : ⊥). absurd no) rest) fault
+    ⊎_elim (λ (lacks : leaves at.dtype at.coding at.rows at.segment ≡ None). ap (option_and_then (λ (values : List Datum). slice_get values at.row)) lacks) (λ (rest : ⊥ ⊎ ⊥). ⊎_elim (λ (no : ⊥). absurd no) (λ (no : ⊥). absurd no) rest) fault
 
 mutual
   pub faulty : (leaves : Leaves) (way : Way) (d : Derivation) → IsStrict d → Finds (IsFaulty leaves) (reads_of way d) → derived leaves d ≡ None
@@ -191,7 +191,7 @@ one_more_there (Some v) (Some vs) some also_some = refl
 mutual
   pub complete : (leaves : Leaves) → GiveEachRow leaves → (way : Way) (d : Derivation) → IsWhole d → FindsOnly (IsFine leaves) (reads_of way d) → IsSome (derived leaves d)
   complete leaves each_row way nothing whole fine = absurd whole
-  complete leaves each_row way (of_leaf at) whole fine = leaf_row_there (leaves at.dtype at.rows at.segment) at.rows at.row whole (each_row at.dtype at.rows at.segment) fine.0
+  complete leaves each_row way (of_leaf at) whole fine = leaf_row_there (leaves at.dtype at.coding at.rows at.segment) at.rows at.row whole (each_row at.dtype at.coding at.rows at.segment) fine.0
   complete leaves each_row way (list_row list row) whole fine = absurd fine.0
   complete leaves each_row way (given v) whole fine = refl
   complete leaves each_row way (packed ds) whole fine = packed_there (derived_each leaves ds) (complete_each leaves each_row way ds whole fine)

@@ -1,5 +1,6 @@
 -- Leaves, reads and values by hand, on which the definitions of derived rows are checked, and those of trees and of plans.
 use Rattle.std.specs.Prelude.{ℕ, ◌==◌, if◌then◌else◌, true, false, List, [], ◌∷◌, ◌++◌, map, Some, None, slice_get}
+use Rattle.vx_base.specs.declared.codings.Coding.TheVariants.{Plain}
 use Rattle.vx_base.specs.declared.dtypes.IntKind.TheVariants.{I64, U64}
 use Rattle.vx_base.specs.declared.dtypes.Nullability.TheVariants.{NonNullable, Nullable}
 use Rattle.vx_base.specs.ColumnCalls.{natural}
@@ -19,18 +20,18 @@ naturals numbers = map natural numbers
 
 -- a row of a leaf of three rows in a segment
 abbrev pub leaf_row_at : ℕ → ℕ → LeafRow
-leaf_row_at segment row = record { dtype = int_type I64 Nullable; rows = 3; segment = segment; row = row }
+leaf_row_at segment row = record { dtype = int_type I64 Nullable; coding = Plain; rows = 3; segment = segment; row = row }
 
 abbrev pub leaf_row : ℕ → ℕ → Derivation
 leaf_row segment row = of_leaf (leaf_row_at segment row)
 
 -- the values of each segment, in their order; behind them no segment has any
 abbrev pub leaves_in : List (List Datum) → Leaves
-leaves_in segments t rows segment = slice_get segments segment
+leaves_in segments t coding rows segment = slice_get segments segment
 
 -- each segment has these values
 abbrev pub all_have : List Datum → Leaves
-all_have values t rows segment = Some values
+all_have values t coding rows segment = Some values
 
 -- numbers in segment 0, of which one is null, and truth values in segment 1
 abbrev pub two_leaves : Leaves

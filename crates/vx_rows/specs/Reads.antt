@@ -122,7 +122,7 @@ IsBadCode leaves found = ⊥
 
 -- a leaf has no values: its segment has no bytes, or they spell none
 abbrev pub LacksValues : Leaves → Found → Type 0
-LacksValues leaves (a_leaf_row at) = leaves at.dtype at.rows at.segment ≡ None
+LacksValues leaves (a_leaf_row at) = leaves at.dtype at.coding at.rows at.segment ≡ None
 LacksValues leaves found = ⊥
 
 -- A read that makes the row a fault.
@@ -132,6 +132,6 @@ IsFaulty leaves found = LacksValues leaves found ⊎ (IsBadCode leaves found ⊎
 -- A read that is as it should be: the leaf has values, the code is null or the place of a value, and no row
 -- of a list is read. Of a code that is a fault the cell that it lacks is read besides.
 abbrev pub IsFine : Leaves → Found → Type 0
-IsFine leaves (a_leaf_row at) = IsSome (leaves at.dtype at.rows at.segment)
+IsFine leaves (a_leaf_row at) = IsSome (leaves at.dtype at.coding at.rows at.segment)
 IsFine leaves (a_code at) = IfSome (derived leaves at.code) (IsPlaceAmong at.count)
 IsFine leaves (a_list_row list row) = ⊥

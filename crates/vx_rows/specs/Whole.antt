@@ -1,6 +1,7 @@
 -- Derivations in which nothing is amiss, whatever the leaves.
 use Rattle.std.specs.Prelude.{◌≡◌, ℕ, ◌<◌, length, IfSome}
 use Rattle.std.specs.List.{AllByRecursion}
+use Rattle.vx_base.specs.declared.codings.Coding.{Coding}
 use Rattle.vx_base.specs.Data.{DataType}
 use Rattle.vx_base.specs.Fits.{Fits}
 use Rattle.vx_rows.specs.Derivations.{Derivation, nothing, of_leaf, list_row, given, packed, valid_where, looked_up, worked_out, read_whole, Derivations, no_more, also, Leaves}
@@ -42,14 +43,14 @@ abbrev mutual
 
 -- a leaf that has values has one for each row
 abbrev pub GiveEachRow : Leaves → Type 0
-GiveEachRow leaves = (t : DataType) (rows segment : ℕ) → IfSome (leaves t rows segment) (λ values. length values ≡ rows)
+GiveEachRow leaves = (t : DataType) (coding : Coding) (rows segment : ℕ) → IfSome (leaves t coding rows segment) (λ values. length values ≡ rows)
 
 -- two families of leaves have the same values for what was found
 abbrev pub AgreeOn : Leaves → Leaves → Found → Type 0
-AgreeOn ones others (a_leaf_row at) = ones at.dtype at.rows at.segment ≡ others at.dtype at.rows at.segment
+AgreeOn ones others (a_leaf_row at) = ones at.dtype at.coding at.rows at.segment ≡ others at.dtype at.coding at.rows at.segment
 AgreeOn ones others (a_code at) = Unit {0}
 AgreeOn ones others (a_list_row list row) = Unit {0}
 
 -- the values of each leaf fit its dtype
 abbrev pub GiveFitting : Leaves → Type 0
-GiveFitting leaves = (t : DataType) (rows segment : ℕ) → IfSome (leaves t rows segment) (AllByRecursion (Fits t))
+GiveFitting leaves = (t : DataType) (coding : Coding) (rows segment : ℕ) → IfSome (leaves t coding rows segment) (AllByRecursion (Fits t))

@@ -1,11 +1,12 @@
 use Rattle.std.proofs.Common.{inl, inr, refl}
 use Rattle.std.specs.Str.{is_utf8, chars}
+use Rattle.vx_base.specs.CodingsRead.{decoded_as}
 use Rattle.vx_base.specs.Reading.{decoded, numbers_read, lengths_read, texts_read}
 use Rattle.vx_layout.specs.Trees.{grow}
 use Rattle.vx_layout.proofs.by_hand.dictionaries_by_hand.Goals as goal
 
 pub returns-clause-null_codes : goal.returns-clause-null_codes
-unfolding grow decoded numbers_read lengths_read texts_read is_utf8 chars lib.Utf8.encode
+unfolding grow decoded_as decoded numbers_read lengths_read texts_read is_utf8 chars lib.Utf8.encode
 returns-clause-null_codes c = refl
 
 pub returns-clause-no_values_are_read : goal.returns-clause-no_values_are_read
@@ -13,11 +14,11 @@ unfolding grow
 returns-clause-no_values_are_read c = refl
 
 pub returns-clause-code_of_no_value : goal.returns-clause-code_of_no_value
-unfolding grow decoded numbers_read lengths_read texts_read is_utf8 chars lib.Utf8.encode
+unfolding grow decoded_as decoded numbers_read lengths_read texts_read is_utf8 chars lib.Utf8.encode
 returns-clause-code_of_no_value c = refl
 
 pub returns-clause-torn : goal.returns-clause-torn
-unfolding grow decoded numbers_read lengths_read texts_read is_utf8 chars lib.Utf8.encode
+unfolding grow decoded_as decoded numbers_read lengths_read texts_read is_utf8 chars lib.Utf8.encode
 returns-clause-torn c = refl
 
 pub returns-clause-each_value_is_read : goal.returns-clause-each_value_is_read
