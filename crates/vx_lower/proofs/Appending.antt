@@ -122,7 +122,7 @@ numbered_like first (take_plan head codes values) = record { dtype = refl; rows 
 numbered_like first (share_plan head child) = record { dtype = refl; rows = refl }
 numbered_like first (list_plan head elements offsets validity) = record { dtype = refl; rows = refl }
 numbered_like first (row_idx_plan head) = record { dtype = refl; rows = refl }
-numbered_like first (scan_plan head segment) = record { dtype = refl; rows = refl }
+numbered_like first (scan_plan head segment coding) = record { dtype = refl; rows = refl }
 numbered_like first (zoned_plan head zones content table) = record { dtype = refl; rows = refl }
 
 like_head : (nodes : List Node) → IsGoodTable nodes → (first n : ℕ) (p : Plan) → n < length nodes → plan_at nodes n ≡ numbered first p → IsLikeHead (node_at nodes n) (plan_head p)

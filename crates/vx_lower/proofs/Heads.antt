@@ -43,7 +43,7 @@ zones_head false kept head zones content table is = is
 
 pub lowered_head : (t : Tree) (kept : KeptFields) → IsSound t → IsHeadOf kept (head_of t) (lowered t kept)
 lowered_head (missing head) kept sound = absurd sound
-lowered_head (leaf head segment) kept sound = record { dtype = sym (leaf_kept kept head.dtype sound); rows = refl }
+lowered_head (leaf head segment coding) kept sound = record { dtype = sym (leaf_kept kept head.dtype sound); rows = refl }
 lowered_head (chunks head forest) kept sound = record { dtype = refl; rows = refl }
 lowered_head (fields head forest validity) kept sound = record { dtype = refl; rows = refl }
 lowered_head (dict head values codes) kept sound = packed_head kept head (lowered (dict head values codes) all) (record { dtype = refl; rows = refl })

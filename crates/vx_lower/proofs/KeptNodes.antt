@@ -1,6 +1,7 @@
 -- Nodes that are reached from the root have its dtype: they are structs, dictionaries, chunks or data in zones.
 use Rattle.std.proofs.Common.{◌≡◌, ℕ, List, [], ◌∷◌, Option, sym, subst}
 use Rattle.std.specs.List.{All}
+use Rattle.vx_base.specs.declared.codings.Coding.{Coding}
 use Rattle.vx_base.specs.Data.{DataType, bool_type, int_type, utf8_type, struct_type, list_type}
 use Rattle.vx_base.specs.Leaf.{IsLeaf}
 use Rattle.vx_layout.specs.Nodes.{Node}
@@ -38,9 +39,9 @@ list_or_struct (utf8_type n) element is struct = struct
 list_or_struct (struct_type ms n) element is struct = is
 list_or_struct (list_type t n) element is struct = struct
 
-pub no_leaf : (nodes : List Node) (n segment : ℕ) (keeping : Keeping) (table : List PlanNode) → CanLower nodes n (kept_of keeping) table → IsLeafNode nodes n segment → IsKeeping (tree_head nodes n).dtype keeping → ⊥
-no_leaf nodes n segment keeping table can over is =
-    leaf_or_struct (tree_head nodes n).dtype (sound_as nodes n (leaf (tree_head nodes n) segment) [] can.tree can.known over) (may_structs keeping.names.now (tree_head nodes n).dtype is.may)
+pub no_leaf : (nodes : List Node) (n segment : ℕ) (coding : Coding) (keeping : Keeping) (table : List PlanNode) → CanLower nodes n (kept_of keeping) table → IsLeafNode nodes n segment coding → IsKeeping (tree_head nodes n).dtype keeping → ⊥
+no_leaf nodes n segment coding keeping table can over is =
+    leaf_or_struct (tree_head nodes n).dtype (sound_as nodes n (leaf (tree_head nodes n) segment coding) [] can.tree can.known over) (may_structs keeping.names.now (tree_head nodes n).dtype is.may)
 
 pub no_list : (nodes : List Node) (n elements offsets : ℕ) (validity : Option ℕ) (keeping : Keeping) (table : List PlanNode) → CanLower nodes n (kept_of keeping) table → IsListNode nodes n elements offsets validity → IsKeeping (tree_head nodes n).dtype keeping → ⊥
 no_list nodes n elements offsets validity keeping table can over is =

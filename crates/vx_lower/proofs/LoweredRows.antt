@@ -37,7 +37,7 @@ zones_same false offset head zones content table row = refl
 mutual
   pub lowered_all : (offset : ℕ) (t : Tree) (row : ℕ) → IsSound t → plan_derivation offset (lowered t all) row ≡ derivation t all row
   lowered_all offset (missing head) row sound = refl
-  lowered_all offset (leaf head segment) row sound = refl
+  lowered_all offset (leaf head segment coding) row sound = refl
   lowered_all offset (chunks head forest) row sound = lowered_all_in offset head.dtype forest row sound.0
   lowered_all offset (fields head forest validity) row sound =
       let p : plan_derivations offset (lowered_fields (struct_members head.dtype) forest all) row ≡ field_derivations (struct_members head.dtype) forest all row = lowered_all_fields offset (struct_members head.dtype) head.rows forest row sound.1 in
@@ -92,7 +92,7 @@ reads_of_field false way offset p ps row d ds here more = more
 mutual
   pub lowered_reads : (offset : ℕ) (t : Tree) (kept : KeptFields) (way : Way) (row : ℕ) → IsSound t → reads_of way (plan_derivation offset (lowered t kept) row) ≡ reads_of way (derivation t kept row)
   lowered_reads offset (missing head) kept way row sound = refl
-  lowered_reads offset (leaf head segment) kept way row sound = refl
+  lowered_reads offset (leaf head segment coding) kept way row sound = refl
   lowered_reads offset (chunks head forest) kept way row sound = lowered_reads_in offset head.dtype forest kept way row sound.0
   lowered_reads offset (fields head forest validity) kept way row sound =
       lowered_reads_valid offset (nullability_of head.dtype) head.rows validity way row (packed (plan_derivations offset (lowered_fields (struct_members head.dtype) forest kept) row)) (packed (field_derivations (struct_members head.dtype) forest kept row))

@@ -29,7 +29,7 @@ field_size false p ps = omega arith
 mutual
   pub lowered_size : (t : Tree) (kept : KeptFields) → IsSound t → plan_size (lowered t kept) ≤ 2 * tree_size t
   lowered_size (missing head) kept sound = absurd sound
-  lowered_size (leaf head segment) kept sound = omega arith
+  lowered_size (leaf head segment coding) kept sound = omega arith
   lowered_size (chunks head forest) kept sound = omega (arith, forest_lowered head.dtype forest kept sound.0)
   lowered_size (fields head forest validity) kept sound = omega (arith, fields_lowered (struct_members head.dtype) head.rows forest kept sound.1, validity_lowered (nullability_of head.dtype) head.rows validity sound.2)
   lowered_size (dict head values codes) kept sound =

@@ -161,7 +161,7 @@ lowers_valid offset leaves names t Nullable rows (valid_by validity) row d e sou
 mutual
   pub lowered_kept : (offset : ℕ) (leaves : Leaves) → GiveFitting leaves → (names : List (List ℕ)) (ms : Members) → IsTrue (are_distinct (names_in ms)) → (t : Tree) (row : ℕ) → IsSound t → (head_of t).dtype ≡ struct_type ms NonNullable → LowersAs leaves names (struct_type ms NonNullable) (plan_derivation offset (lowered t (only names)) row) (derivation t (only names) row)
   lowered_kept offset leaves fitting names ms distinct (missing head) row sound is = absurd sound
-  lowered_kept offset leaves fitting names ms distinct (leaf head segment) row sound is = absurd (no_leaf head.dtype ms NonNullable sound is)
+  lowered_kept offset leaves fitting names ms distinct (leaf head segment coding) row sound is = absurd (no_leaf head.dtype ms NonNullable sound is)
   lowered_kept offset leaves fitting names ms distinct (chunks head forest) row sound is = lowered_kept_in offset leaves fitting names ms distinct head.dtype forest row sound.0 is
   lowered_kept offset leaves fitting names ms distinct (fields head forest validity) row sound is =
       let same : struct_members head.dtype ≡ ms = ap struct_members is in

@@ -2,6 +2,7 @@
 use Rattle.std.proofs.Common.{◌≡◌, ℕ, ◌+◌, Bool, true, false, List, [], ◌∷◌, ◌++◌, Option, length, refl, sym, ap, ◌∙◌, arith, append-nil}
 use Rattle.std.specs.List.{sum_by}
 use Rattle.std.proofs.lemmas.List.Sums.{sum_by-cons}
+use Rattle.vx_base.specs.declared.codings.Coding.{Coding}
 use Rattle.vx_base.specs.declared.dtypes.Nullability.{Nullability}
 use Rattle.vx_base.specs.ColumnCalls.{nullable_where}
 use Rattle.vx_base.specs.Data.{DataType, list_type}
@@ -31,22 +32,22 @@ size_from (p ∷ ps) = ap (λ (n : ℕ). plan_size p + n) (size_from ps)
 
 -- ---- leaves
 
-scan_adds : (old new : List Node) (t : DataType) (rows segment n : ℕ) (head : Head) → IsGoodTable old → IsAdded old new (scan_node t rows segment) n → head.dtype ≡ t → head.rows ≡ rows → AddsPlan old new (scan_plan head segment) n
-scan_adds old new t rows segment n head good added dtype count =
-    let node : Node = scan_node t rows segment in
+scan_adds : (old new : List Node) (t : DataType) (rows segment : ℕ) (coding : Coding) (n : ℕ) (head : Head) → IsGoodTable old → IsAdded old new (scan_node t rows segment coding) n → head.dtype ≡ t → head.rows ≡ rows → AddsPlan old new (scan_plan head segment coding) n
+scan_adds old new t rows segment coding n head good added dtype count =
+    let node : Node = scan_node t rows segment coding in
     let g : IsGrown old new node n [] = grown_over old old new [] node n (none_added old good) added (λ none. none) in
     let h : head_at n node ≡ head_with (length old) head = same_head n (length old) node head added.last (record { dtype = sym dtype; rows = sym count }) in
-    adds_by old new node n [] (scan_plan head segment) g refl (ap (λ (h : Head). scan_plan h segment) h)
+    adds_by old new node n [] (scan_plan head segment coding) g refl (ap (λ (h : Head). scan_plan h segment coding) h)
 
-pub leaf_adds : (old mid new : List Node) (t : DataType) (rows segment a n : ℕ) (head : Head) → IsGoodTable old → IsAdded old mid (scan_node t rows segment) a → IsAdded mid new (filter_node mid a) n → head.dtype ≡ t → head.rows ≡ rows → AddsPlan old new (filter_plan head (scan_plan head segment)) n
-leaf_adds old mid new t rows segment a n head good scanned added dtype count =
-    let scan : AddsPlan old mid (scan_plan head segment) a = scan_adds old mid t rows segment a head good scanned dtype count in
-    let one : AddsPlans old mid (scan_plan head segment ∷ []) (a ∷ []) = one_added old mid (scan_plan head segment) a scan in
-    let like : AreLike (nodes_at mid (a ∷ [])) (scan_plan head segment ∷ []) = added_like old mid (scan_plan head segment ∷ []) (a ∷ []) one in
+pub leaf_adds : (old mid new : List Node) (t : DataType) (rows segment : ℕ) (coding : Coding) (a n : ℕ) (head : Head) → IsGoodTable old → IsAdded old mid (scan_node t rows segment coding) a → IsAdded mid new (filter_node mid a) n → head.dtype ≡ t → head.rows ≡ rows → AddsPlan old new (filter_plan head (scan_plan head segment coding)) n
+leaf_adds old mid new t rows segment coding a n head good scanned added dtype count =
+    let scan : AddsPlan old mid (scan_plan head segment coding) a = scan_adds old mid t rows segment coding a head good scanned dtype count in
+    let one : AddsPlans old mid (scan_plan head segment coding ∷ []) (a ∷ []) = one_added old mid (scan_plan head segment coding) a scan in
+    let like : AreLike (nodes_at mid (a ∷ [])) (scan_plan head segment coding ∷ []) = added_like old mid (scan_plan head segment coding ∷ []) (a ∷ []) one in
     let node : Node = filter_node mid a in
-    let g : IsGrown old new node n (scan_plan head segment ∷ []) = grown_over old mid new (scan_plan head segment ∷ []) node n one added (λ none. none) in
+    let g : IsGrown old new node n (scan_plan head segment coding ∷ []) = grown_over old mid new (scan_plan head segment coding ∷ []) node n one added (λ none. none) in
     let h : head_at n node ≡ head_with (length old + 1) head = same_head n (length old + 1) node head (omega (arith, g.number)) (record { dtype = like.0.dtype; rows = like.0.rows }) in
-    adds_by old new node n (scan_plan head segment ∷ []) (filter_plan head (scan_plan head segment)) g refl (ap (λ (h : Head). filter_plan h (scan_plan (head_with (length old) head) segment)) h)
+    adds_by old new node n (scan_plan head segment coding ∷ []) (filter_plan head (scan_plan head segment coding)) g refl (ap (λ (h : Head). filter_plan h (scan_plan (head_with (length old) head) segment coding)) h)
 
 -- ---- chunks
 

@@ -29,7 +29,7 @@ mutual
   count_numbers (list_plan head elements offsets validity) =
       omega (arith, length-append (numbers_of elements) (numbers_of offsets ++ (validity_numbers_of validity ++ head.number ∷ [])), length-append (numbers_of offsets) (validity_numbers_of validity ++ head.number ∷ []), length-append (validity_numbers_of validity) (head.number ∷ []), count_numbers elements, count_numbers offsets, count_validity validity)
   count_numbers (row_idx_plan head) = refl
-  count_numbers (scan_plan head segment) = refl
+  count_numbers (scan_plan head segment coding) = refl
   count_numbers (zoned_plan head zones content table) =
       omega (arith, length-append (numbers_of content) (numbers_of table ++ head.number ∷ []), length-append (numbers_of table) (head.number ∷ []), count_numbers content, count_numbers table)
 
@@ -120,7 +120,7 @@ mutual
       let last : Gives f number (head.number ∷ []) = back f (first + plan_size elements + plan_size offsets) number (validity_numbers_of validity) (head.number ∷ []) (omega (arith, count_validity validity)) far in
       list_alike f itself offset (head_with number head) head (numbered first elements) elements (numbered (first + plan_size elements) offsets) offsets (validity_numbered (first + plan_size elements + plan_size offsets) validity) validity (same_head number head) last.0
   alike_by f offset first (row_idx_plan head) gives = record { head = same_head first head; derived = λ row. refl }
-  alike_by f offset first (scan_plan head segment) gives = record { head = same_head first head; derived = λ row. refl }
+  alike_by f offset first (scan_plan head segment coding) gives = record { head = same_head first head; derived = λ row. refl }
   alike_by f offset first (zoned_plan head zones content table) gives =
       let number : ℕ = first + (plan_size content + plan_size table) in
       zoned_alike f itself offset (head_with number head) head zones zones (numbered first content) content (numbered (first + plan_size content) table) table (same_head number head)

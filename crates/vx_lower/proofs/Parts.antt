@@ -3,6 +3,7 @@ use Rattle.std.proofs.Common.{◌≡◌, ℕ, zero, suc, ◌+◌, ◌<◌, Bool,
 use Rattle.std.specs.Prelude.{IsSomeAnd}
 use Rattle.std.specs.List.{slice_get}
 use Rattle.std.proofs.lemmas.List.Elements.{All-cons, All-head, All-nil, All-tail}
+use Rattle.vx_base.specs.declared.codings.Coding.{Coding}
 use Rattle.vx_base.specs.declared.dtypes.Nullability.{Nullability}
 use Rattle.vx_base.specs.declared.dtypes.Nullability.TheVariants.{NonNullable, Nullable}
 use Rattle.vx_base.specs.Data.{DataType, bool_type, int_type, utf8_type, struct_type, list_type}
@@ -50,8 +51,8 @@ count_is nodes n node kind is =
 
 -- ---- leaves and chunks
 
-pub leaf_parts : (nodes : List Node) (n : ℕ) (node : Node) (segment : ℕ) → IsNode nodes n node (kinds.Flat segment) → IsLeafNode nodes n segment
-leaf_parts nodes n node segment is = record { tree = tree_is nodes n node (kinds.Flat segment) is; later = All-nil (IsLater nodes n) }
+pub leaf_parts : (nodes : List Node) (n : ℕ) (node : Node) (segment : ℕ) (coding : Coding) → IsNode nodes n node (kinds.Flat segment coding) → IsLeafNode nodes n segment coding
+leaf_parts nodes n node segment coding is = record { tree = tree_is nodes n node (kinds.Flat segment coding) is; later = All-nil (IsLater nodes n) }
 
 pub chunk_parts : (nodes : List Node) (n : ℕ) (node : Node) (ns : List ℕ) → IsNode nodes n node kinds.Chunked → ns ≡ node.children → IsChunked nodes n ns
 chunk_parts nodes n node ns is these = subst (IsChunked nodes n) (sym these) (record { tree = tree_is nodes n node kinds.Chunked is; later = is.later })

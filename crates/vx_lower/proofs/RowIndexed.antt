@@ -5,41 +5,20 @@ use Rattle.std.specs.Prelude.{option_and_then, option_map}
 use Rattle.std.proofs.lemmas.List.{append-nil}
 use Rattle.vx_base.specs.Data.{DataType, struct_type, no_members, Datum, null, number, structure, no_items, item}
 use Rattle.vx_base.specs.declared.dtypes.Nullability.TheVariants.{NonNullable}
-use Rattle.vx_expr.specs.Terms.{Term, root, literal, get_field, pack, negation, conjunction, disjunction, comparison, null_test, value_test, arithmetic, row_number, bound_test, Terms, no_terms, named}
+use Rattle.vx_expr.specs.Terms.{Term}
 use Rattle.vx_expr.specs.Bound.{Bound}
 use Rattle.vx_expr.specs.Mentions.{uses_root, uses_row_number}
-use Rattle.vx_expr.specs.Meaning.{meaning, meanings_in}
+use Rattle.vx_expr.specs.Meaning.{meaning}
 use Rattle.vx_expr.specs.Rewritten.{with_row_number, over_row_number}
 use Rattle.vx_expr.specs.Types.{on_both}
 use Rattle.vx_expr.specs.Rows.{no_bound}
 use Rattle.vx_expr.specs.Packs.{struct_row}
-use Rattle.vx_expr.proofs.RewrittenTypes.{or_left, or_right}
+use Rattle.vx_expr.proofs.AnyRow.{worth_at_any_row}
 use Rattle.vx_expr.proofs.RewrittenMeaning.{worth_as_root, worth_over_row}
 use Rattle.vx_plan.specs.Plans.{Plan, plan_head}
 use Rattle.vx_plan.specs.PlanRows.{plan_value, plan_reads}
 use Rattle.vx_rows.specs.Derivations.{Leaves, one_more}
 use Rattle.vx_lower.specs.RowIndex.{row_index_plan_by, row_index_plan, meaning_over}
-
--- an expression that doesn't use the row's number is worth the same at each row
-mutual
-  worth_at_any_row : (t : DataType) (e : Term) (bound : ℕ) (v : Datum) (row other : ℕ) → uses_row_number e ≡ false → meaning t bound e v row ≡ meaning t bound e v other
-  worth_at_any_row t root bound v row other h = refl
-  worth_at_any_row t (literal w s) bound v row other h = refl
-  worth_at_any_row t (get_field name e) bound v row other h = rw (worth_at_any_row t e bound v row other h) refl
-  worth_at_any_row t (pack es) bound v row other h = rw (worth_in_any_row t es bound v row other h) refl
-  worth_at_any_row t (negation e) bound v row other h = rw (worth_at_any_row t e bound v row other h) refl
-  worth_at_any_row t (conjunction a b) bound v row other h = rw (worth_at_any_row t a bound v row other (or_left _ _ h), worth_at_any_row t b bound v row other (or_right (uses_row_number a) _ h)) refl
-  worth_at_any_row t (disjunction a b) bound v row other h = rw (worth_at_any_row t a bound v row other (or_left _ _ h), worth_at_any_row t b bound v row other (or_right (uses_row_number a) _ h)) refl
-  worth_at_any_row t (comparison op a b) bound v row other h = rw (worth_at_any_row t a bound v row other (or_left _ _ h), worth_at_any_row t b bound v row other (or_right (uses_row_number a) _ h)) refl
-  worth_at_any_row t (null_test e) bound v row other h = rw (worth_at_any_row t e bound v row other h) refl
-  worth_at_any_row t (value_test e) bound v row other h = rw (worth_at_any_row t e bound v row other h) refl
-  worth_at_any_row t (arithmetic op a b) bound v row other h = rw (worth_at_any_row t a bound v row other (or_left _ _ h), worth_at_any_row t b bound v row other (or_right (uses_row_number a) _ h)) refl
-  worth_at_any_row t row_number bound v row other h = absurd cc
-  worth_at_any_row t (bound_test e) bound v row other h = rw (worth_at_any_row t e bound v row other h) refl
-
-  worth_in_any_row : (t : DataType) (es : Terms) (bound : ℕ) (v : Datum) (row other : ℕ) → uses_row_number (pack es) ≡ false → meanings_in t bound es v row ≡ meanings_in t bound es v other
-  worth_in_any_row t no_terms bound v row other h = refl
-  worth_in_any_row t (named name e es) bound v row other h = rw (worth_at_any_row t e bound v row other (or_left _ _ h), worth_in_any_row t es bound v row other (or_right (uses_row_number e) _ h)) refl
 
 -- one that doesn't use the root is worth the same at each root value
 pub worth_at_any_root : (s t : DataType) (e : Term) (bound : ℕ) (v w : Datum) (row : ℕ) → uses_root e ≡ false → meaning s bound e v row ≡ meaning t bound e w row

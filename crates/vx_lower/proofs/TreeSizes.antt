@@ -64,7 +64,7 @@ no_sizes f [] none = refl
 no_sizes f (n ∷ ns) none = absurd (omega (arith, none))
 
 kind_size : (f : ℕ → Tree) (head : Head) (kind : LayoutKind) (ns : List ℕ) → CountFits kind head.dtype (length ns) → tree_size (grown_as head kind (map f ns)) ≡ 1 + sizes f ns
-kind_size f head (kinds.Flat segment) ns fits = omega (arith, no_sizes f ns fits)
+kind_size f head (kinds.Flat segment coding) ns fits = omega (arith, no_sizes f ns fits)
 kind_size f head kinds.Chunked ns fits = omega (arith, all_sizes f ns)
 kind_size f head kinds.Struct ns fits = omega (arith, struct_sizes f (nullability_of head.dtype) ns (has_validity head.dtype (length ns) fits))
 kind_size f head kinds.Dict ns fits = omega (arith, two_sizes f ns fits)

@@ -37,7 +37,7 @@ with_zones false head zones content table = content
 abbrev mutual
   pub lowered : Tree → KeptFields → Plan
   lowered (missing head) kept = no_plan head
-  lowered (leaf head segment) kept = filter_plan head (scan_plan head segment)
+  lowered (leaf head segment coding) kept = filter_plan head (scan_plan head segment coding)
   lowered (chunks head forest) kept = concat_plan (kept_head kept head) (lowered_in forest kept)
   lowered (fields head forest validity) kept =
       pack_plan (kept_head kept head) (lowered_fields (struct_members head.dtype) forest kept) (lowered_validity validity)

@@ -1,5 +1,6 @@
 -- What a node of a layout is over, as the plan over it is: the numbers of its children, and its tree by theirs.
 use Rattle.std.specs.Prelude.{◌≡◌, ℕ, ◌+◌, ◌<◌, ◌≤◌, Bool, true, false, List, [], ◌∷◌, ◌++◌, length, map, All, Option, None, Some, IfSome}
+use Rattle.vx_base.specs.declared.codings.Coding.{Coding}
 use Rattle.vx_base.specs.Data.{DataType}
 use Rattle.vx_base.specs.Fits.{nullability_of}
 use Rattle.vx_expr.specs.declared.statistics.Statistic.{Statistic}
@@ -45,8 +46,8 @@ pub record IsOver (nodes : List Node) (n : ℕ) (t : Tree) (ns : List ℕ) : Typ
   pub tree : subtree nodes n ≡ t
   pub later : AreLater nodes n ns
 
-abbrev pub IsLeafNode : List Node → ℕ → ℕ → Type 0
-IsLeafNode nodes n segment = IsOver nodes n (leaf (tree_head nodes n) segment) []
+abbrev pub IsLeafNode : List Node → ℕ → ℕ → Coding → Type 0
+IsLeafNode nodes n segment coding = IsOver nodes n (leaf (tree_head nodes n) segment coding) []
 
 abbrev pub IsChunked : List Node → ℕ → List ℕ → Type 0
 IsChunked nodes n ns = IsOver nodes n (chunks (tree_head nodes n) (trees_of nodes ns)) ns
@@ -78,7 +79,7 @@ abbrev pub zones_at : ZonedParts → Zones
 zones_at told = zones_of told.is_legacy told.zone_len told.stats.now
 
 abbrev pub PartsOf : List Node → ℕ → NodeParts → Type 0
-PartsOf nodes n (parts.Leaf segment) = IsLeafNode nodes n segment
+PartsOf nodes n (parts.Leaf segment coding) = IsLeafNode nodes n segment coding
 PartsOf nodes n (parts.Chunks ns) = IsChunked nodes n ns.now
 PartsOf nodes n (parts.Fields ns validity) = IsStructNode nodes n ns.now validity
 PartsOf nodes n (parts.LookUp codes values) = IsLookUp nodes n codes values

@@ -31,7 +31,7 @@ abbrev mutual
       (numbered first elements) (numbered (first + plan_size elements) offsets)
       (validity_numbered (first + plan_size elements + plan_size offsets) validity)
   numbered first (row_idx_plan head) = row_idx_plan (head_with first head)
-  numbered first (scan_plan head segment) = scan_plan (head_with first head) segment
+  numbered first (scan_plan head segment coding) = scan_plan (head_with first head) segment coding
   numbered first (zoned_plan head zones content table) =
       zoned_plan (head_with (first + (plan_size content + plan_size table)) head) zones
       (numbered first content) (numbered (first + plan_size content) table)

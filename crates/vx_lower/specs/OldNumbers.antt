@@ -15,7 +15,7 @@ abbrev mutual
   numbers_of (list_plan head elements offsets validity) =
       numbers_of elements ++ (numbers_of offsets ++ (validity_numbers_of validity ++ head.number ∷ []))
   numbers_of (row_idx_plan head) = head.number ∷ []
-  numbers_of (scan_plan head segment) = head.number ∷ []
+  numbers_of (scan_plan head segment coding) = head.number ∷ []
   numbers_of (zoned_plan head zones content table) = numbers_of content ++ (numbers_of table ++ head.number ∷ [])
 
   pub each_numbers_of : Plans → List ℕ

@@ -6,7 +6,7 @@ use Rattle.vx_plan.specs.Plans.{Plan, no_plan, concat_plan, eval_plan, filter_pl
 abbrev mutual
   pub tree_size : Tree → ℕ
   tree_size (missing head) = 1
-  tree_size (leaf head segment) = 1
+  tree_size (leaf head segment coding) = 1
   tree_size (chunks head forest) = 1 + forest_size forest
   tree_size (fields head forest validity) = 1 + (forest_size forest + validity_size validity)
   tree_size (dict head values codes) = 1 + (tree_size values + tree_size codes)
@@ -32,7 +32,7 @@ abbrev mutual
   plan_size (share_plan head child) = 1 + plan_size child
   plan_size (list_plan head elements offsets validity) = 1 + (plan_size elements + (plan_size offsets + plan_validity_size validity))
   plan_size (row_idx_plan head) = 1
-  plan_size (scan_plan head segment) = 1
+  plan_size (scan_plan head segment coding) = 1
   plan_size (zoned_plan head zones content table) = 1 + (plan_size content + plan_size table)
 
   pub plans_size : Plans → ℕ

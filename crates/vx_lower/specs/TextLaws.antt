@@ -1,5 +1,6 @@
 -- What holds of the texts of plans, and a plan that was written by hand to check them on.
 use Rattle.std.specs.Prelude.{codes, ◌≡◌, ℕ, ◌+◌, ◌<◌, List, [], ◌∷◌, ◌++◌, length}
+use Rattle.vx_base.specs.declared.codings.Coding.TheVariants.{Plain}
 use Rattle.vx_base.specs.declared.dtypes.IntKind.TheVariants.{I64}
 use Rattle.vx_base.specs.declared.dtypes.Nullability.TheVariants.{NonNullable, Nullable}
 use Rattle.vx_base.specs.Data.{bool_type, int_type}
@@ -25,7 +26,7 @@ LinesUnfold = (header : Header) (nodes : List Node) → IsGoodTable nodes → (n
 
 -- a segment of three numbers that may be null
 abbrev pub one_scan : List Node
-one_scan = scan_node (int_type I64 Nullable) 3 0 ∷ []
+one_scan = scan_node (int_type I64 Nullable) 3 0 Plain ∷ []
 
 -- whether the root is null
 abbrev pub is_null_root : Bound
@@ -33,7 +34,7 @@ is_null_root = record { term = null_test root; root = int_type I64 Nullable; dty
 
 -- the test of each of them
 abbrev pub tested : List Node
-tested = scan_node (int_type I64 Nullable) 3 0 ∷ filter_node one_scan 0 ∷ eval_node (one_scan ++ filter_node one_scan 0 ∷ []) is_null_root 1 ∷ []
+tested = scan_node (int_type I64 Nullable) 3 0 Plain ∷ filter_node one_scan 0 ∷ eval_node (one_scan ++ filter_node one_scan 0 ∷ []) is_null_root 1 ∷ []
 
 -- a boxed extractor's bytes
 abbrev pub says_x : Header

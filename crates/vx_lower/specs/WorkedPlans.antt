@@ -1,6 +1,7 @@
 -- Trees that were written by hand and the plans that they are lowered to, on which the definitions of lowering and
 -- of the row index are checked.
 use Rattle.std.specs.Prelude.{codes, ℕ, pos, false, ◌+◌, List, [], ◌∷◌, ◌++◌, map, Option}
+use Rattle.vx_base.specs.declared.codings.Coding.TheVariants.{Plain}
 use Rattle.vx_base.specs.declared.dtypes.IntKind.TheVariants.{U8, I64}
 use Rattle.vx_base.specs.declared.dtypes.Nullability.TheVariants.{NonNullable, Nullable}
 use Rattle.vx_base.specs.Data.{DataType, bool_type, int_type, struct_type, list_type, no_members, member, Datum, number}
@@ -29,10 +30,10 @@ head n t rows = record { number = n; dtype = t; rows = rows }
 -- ---- leaves and chunks
 
 abbrev pub flat : ℕ → DataType → ℕ → ℕ → Tree
-flat n t rows segment = leaf (head n t rows) segment
+flat n t rows segment = leaf (head n t rows) segment Plain
 
 abbrev pub scanned : ℕ → DataType → ℕ → ℕ → Plan
-scanned n t rows segment = filter_plan (head n t rows) (scan_plan (head n t rows) segment)
+scanned n t rows segment = filter_plan (head n t rows) (scan_plan (head n t rows) segment Plain)
 
 abbrev pub two_chunks : Tree
 two_chunks = chunks (head 0 i64 3) (tree (flat 1 i64 1 0) (tree (flat 2 i64 2 1) no_trees))

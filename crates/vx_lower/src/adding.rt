@@ -18,7 +18,7 @@ ghost use Rattle.vx_lower.specs.Numbered.{AddsPlan};
 use crate::node_parts::ZonedParts;
 use std::alloc::{AllocError, Global};
 use std::sync::Arc;
-use vx_base::{DType, Nullability};
+use vx_base::{Coding, DType, Nullability};
 use vx_expr::{BoundExpression, Statistics};
 use vx_plan::{
     ConcatPlan, EvalPlan, FilterPlan, LegacyStatsPlan, ListPackPlan, PackPlan, PlanChildren,
@@ -41,13 +41,14 @@ fn add_scan(
     dtype: Arc<DType, Global>,
     row_count: u64,
     segment: u32,
+    coding: Coding,
     table: &mut PlanTable,
 ) -> Result<PlanRef, AllocError>
     requires room { length table.old < most_plans }
     requires leaf { IsLeaf (data_type (arc_value dtype)) }
-    ensures { IfOk result (λ plan. IsAdded table.old table.new (scan_node (data_type (arc_value dtype)) row_count segment) (number_of plan)) }
+    ensures { IfOk result (λ plan. IsAdded table.old table.new (scan_node (data_type (arc_value dtype)) row_count segment coding) (number_of plan)) }
 {
-    match SegmentScanPlan::sharing(alloc, table, dtype, row_count, segment) {
+    match SegmentScanPlan::sharing(alloc, table, dtype, row_count, segment, coding) {
         Ok(plan) => Ok(plan.into_plan()),
         Err(error) => Err(memory_only(error)),
     }
@@ -59,14 +60,15 @@ pub(crate) fn add_leaf(
     dtype: Arc<DType, Global>,
     row_count: u64,
     segment: u32,
+    coding: Coding,
     table: &mut PlanTable,
 ) -> Result<PlanRef, AllocError>
     requires room { length table.old + 1 < most_plans }
     requires leaf { IsLeaf (data_type (arc_value dtype)) }
     requires good { IsGoodTable table.old }
-    ensures { IfOk result (λ plan. (head : Head) → head.dtype ≡ data_type (arc_value dtype) → head.rows ≡ row_count → AddsPlan table.old table.new (filter_plan head (scan_plan head segment)) (number_of plan)) }
+    ensures { IfOk result (λ plan. (head : Head) → head.dtype ≡ data_type (arc_value dtype) → head.rows ≡ row_count → AddsPlan table.old table.new (filter_plan head (scan_plan head segment coding)) (number_of plan)) }
 {
-    let scan = add_scan(alloc, dtype, row_count, segment, table)?;
+    let scan = add_scan(alloc, dtype, row_count, segment, coding, table)?;
     match FilterPlan::new(alloc, table, scan) {
         Ok(plan) => Ok(plan.into_plan()),
         Err(error) => Err(memory_only(error)),

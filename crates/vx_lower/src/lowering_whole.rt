@@ -16,7 +16,7 @@ use crate::adding::{add_concat, add_leaf, add_list, add_pack, add_take, add_zone
 use crate::node_parts::{NodeParts, ZonedParts};
 use std::alloc::{AllocError, Global};
 use std::sync::Arc;
-use vx_base::{DType, Nullability};
+use vx_base::{Coding, DType, Nullability};
 use vx_layout::LayoutTree;
 use vx_plan::{PlanChildren, PlanRef, PlanTable};
 
@@ -89,16 +89,17 @@ fn lower_leaf(
     tree: &LayoutTree,
     node: u32,
     segment: u32,
+    coding: Coding,
     given: Option<&Arc<DType, Global>>,
     table: &mut PlanTable,
 ) -> Result<PlanRef, AllocError>
     requires can { CanLower tree.now node all table.old }
-    requires parts { IsLeafNode tree.now node segment }
+    requires parts { IsLeafNode tree.now node segment coding }
     requires given { IsTypeAt tree.now node (option_map (λ dtype. data_type (arc_value dtype.now)) given) }
     ensures { IfOk result (λ plan. AddsPlan table.old table.new (lowered (subtree tree.now node) all) (number_of plan)) }
 {
     let dtype = type_at(alloc, tree, node, given)?;
-    add_leaf(alloc, dtype, rows_at(tree, node), segment, table)
+    add_leaf(alloc, dtype, rows_at(tree, node), segment, coding, table)
 }
 
 /// Lowers later nodes, one after another. A dtype that is given is that of all of them.
@@ -292,7 +293,9 @@ pub(crate) fn lower_whole(
     ensures { IfOk result (λ plan. AddsPlan table.old table.new (lowered (subtree tree.now node) all) (number_of plan)) }
 {
     match NodeParts::of(tree, node) {
-        NodeParts::Leaf { segment } => lower_leaf(alloc, tree, node, segment, given, table),
+        NodeParts::Leaf { segment, coding } => {
+            lower_leaf(alloc, tree, node, segment, coding, given, table)
+        }
         NodeParts::Chunks { chunks } => lower_chunks(alloc, tree, node, chunks, given, table),
         NodeParts::Fields { fields, validity } => {
             lower_fields(alloc, tree, node, fields, validity, given, table)

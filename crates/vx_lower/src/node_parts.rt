@@ -7,6 +7,7 @@ ghost use Rattle.vx_layout.specs.Trees.{subtree, zoned};
 ghost use Rattle.vx_lower.specs.Lowered.{tell};
 ghost use Rattle.vx_lower.specs.NodeParts.{tree_head, IsOver, PartsOf};
 
+use vx_base::Coding;
 use vx_expr::Statistics;
 use vx_layout::{LayoutKind, LayoutTree};
 
@@ -23,9 +24,10 @@ pub(crate) struct ZonedParts<'a> {
 /// What a node is over, by the numbers of its children.
 #[derive(Drop)]
 pub(crate) enum NodeParts<'a> {
-    /// A segment.
+    /// A segment that is coded in that way.
     Leaf {
         segment: u32,
+        coding: Coding,
     },
     /// One child after another.
     Chunks {
@@ -101,7 +103,10 @@ impl<'a> NodeParts<'a> {
         let layout = tree.node(node);
         let children = layout.children.as_slice();
         match &layout.kind {
-            LayoutKind::Flat { segment } => NodeParts::Leaf { segment: *segment },
+            LayoutKind::Flat { segment, coding } => NodeParts::Leaf {
+                segment: *segment,
+                coding: *coding,
+            },
             LayoutKind::Chunked => NodeParts::Chunks { chunks: children },
             LayoutKind::Struct => {
                 if layout.dtype.is_nullable() {

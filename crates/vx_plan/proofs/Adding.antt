@@ -7,7 +7,8 @@ use Rattle.vx_plan.specs.declared.nodes.PlanKind.{PlanKind}
 use Rattle.vx_plan.specs.declared.nodes.PlanKind.TheVariants as kinds
 use Rattle.vx_plan.specs.Nodes.{Node, absent}
 use Rattle.vx_rows.specs.Heads.{Head}
-use Rattle.vx_plan.specs.Plans.{Plan, plan_head, head_at, plan_at, plan_grown_as}
+use Rattle.vx_plan.specs.Kinds.{coding_of}
+use Rattle.vx_plan.specs.Plans.{Plan, plan_coding, plan_head, head_at, plan_at, plan_grown_as}
 use Rattle.vx_plan.specs.Rules.{node_at}
 use Rattle.vx_plan.specs.Tables.{AreIn, IsAdded, IsGoodTable}
 use Rattle.vx_plan.proofs.Growing.{get_in_front, get_at_seam}
@@ -54,7 +55,7 @@ head_grown head kinds.Take ps = refl
 head_grown head kinds.Share ps = refl
 head_grown head (kinds.ListPack has_validity) ps = refl
 head_grown head kinds.RowIdx ps = refl
-head_grown head (kinds.SegmentScan segment) ps = refl
+head_grown head (kinds.SegmentScan segment coding) ps = refl
 head_grown head (kinds.Zoned zone_len stats) ps = refl
 head_grown head (kinds.LegacyStats zone_len stats) ps = refl
 
@@ -62,3 +63,23 @@ pub head_in_table : (nodes : List Node) → IsGoodTable nodes → (n : ℕ) → 
 head_in_table nodes good n lt =
     let k : Known nodes n (node_at nodes n) (node_at nodes n).kind = known nodes good n (node_at nodes n) (node_at nodes n).kind (slice_get-get_or nodes n absent lt) refl in
     ap plan_head k.law ∙ head_grown (head_at n (node_at nodes n)) (node_at nodes n).kind (map (plan_at nodes) (node_at nodes n).children)
+
+-- ---- codings
+
+pub coding_grown : (head : Head) (kind : PlanKind) (ps : List Plan) → plan_coding (plan_grown_as head kind ps) ≡ coding_of kind
+coding_grown head kinds.Concat ps = refl
+coding_grown head (kinds.Eval a) ps = refl
+coding_grown head kinds.Filter ps = refl
+coding_grown head (kinds.Pack has_validity) ps = refl
+coding_grown head kinds.Take ps = refl
+coding_grown head kinds.Share ps = refl
+coding_grown head (kinds.ListPack has_validity) ps = refl
+coding_grown head kinds.RowIdx ps = refl
+coding_grown head (kinds.SegmentScan segment coding) ps = refl
+coding_grown head (kinds.Zoned zone_len stats) ps = refl
+coding_grown head (kinds.LegacyStats zone_len stats) ps = refl
+
+pub coding_in_table : (nodes : List Node) → IsGoodTable nodes → (n : ℕ) → n < length nodes → plan_coding (plan_at nodes n) ≡ coding_of (node_at nodes n).kind
+coding_in_table nodes good n lt =
+    let k : Known nodes n (node_at nodes n) (node_at nodes n).kind = known nodes good n (node_at nodes n) (node_at nodes n).kind (slice_get-get_or nodes n absent lt) refl in
+    ap plan_coding k.law ∙ coding_grown (head_at n (node_at nodes n)) (node_at nodes n).kind (map (plan_at nodes) (node_at nodes n).children)

@@ -1,5 +1,6 @@
 -- Plans whose children are alike are alike, and alike plans have one value and the same reads.
 use Rattle.std.proofs.Common.{◌≡◌, ℕ, zero, suc, ◌+◌, ◌-◌, ltb, Bool, true, false, cond, map, refl, sym, ap, ◌∙◌}
+use Rattle.vx_base.specs.declared.codings.Coding.{Coding}
 use Rattle.vx_expr.specs.Terms.{Term}
 use Rattle.vx_rows.specs.Derivations.{Derivation, packed, list_row, each_row, Leaves, derived}
 use Rattle.vx_rows.specs.Reads.{directly, reads_of}
@@ -87,8 +88,8 @@ eval_alike f g offset head other e p q same are = record {
       cc;
 }
 
-pub scan_alike : (f g : ℕ → ℕ) (offset : ℕ) (head other inner other_inner : Head) (segment : ℕ) → SameHead head other → SameHead inner other_inner → IsAlike f g offset (filter_plan head (scan_plan inner segment)) (filter_plan other (scan_plan other_inner segment))
-scan_alike f g offset head other inner other_inner segment same inside = record {
+pub scan_alike : (f g : ℕ → ℕ) (offset : ℕ) (head other inner other_inner : Head) (segment : ℕ) (coding : Coding) → SameHead head other → SameHead inner other_inner → IsAlike f g offset (filter_plan head (scan_plan inner segment coding)) (filter_plan other (scan_plan other_inner segment coding))
+scan_alike f g offset head other inner other_inner segment coding same inside = record {
   head = same;
   derived = λ row.
       let t : inner.dtype ≡ other_inner.dtype = inside.dtype in

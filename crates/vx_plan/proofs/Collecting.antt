@@ -131,7 +131,7 @@ pack_rows kinds.Take rows below is fit = absurd is
 pack_rows kinds.Share rows below is fit = absurd is
 pack_rows (kinds.ListPack has_validity) rows below is fit = absurd is
 pack_rows kinds.RowIdx rows below is fit = absurd is
-pack_rows (kinds.SegmentScan segment) rows below is fit = absurd is
+pack_rows (kinds.SegmentScan segment coding) rows below is fit = absurd is
 pack_rows (kinds.Zoned zone_len stats) rows below is fit = absurd is
 pack_rows (kinds.LegacyStats zone_len stats) rows below is fit = absurd is
 
@@ -278,7 +278,7 @@ concat_offsets kinds.Take node below is made = absurd is
 concat_offsets kinds.Share node below is made = absurd is
 concat_offsets (kinds.ListPack has_validity) node below is made = absurd is
 concat_offsets kinds.RowIdx node below is made = absurd is
-concat_offsets (kinds.SegmentScan segment) node below is made = absurd is
+concat_offsets (kinds.SegmentScan segment coding) node below is made = absurd is
 concat_offsets (kinds.Zoned zone_len stats) node below is made = absurd is
 concat_offsets (kinds.LegacyStats zone_len stats) node below is made = absurd is
 

@@ -38,6 +38,8 @@ use Rattle.vx_base.below.vx_types.proofs.dtypes.Element.TheLaws.TheKnot.{crosses
 use Rattle.vx_base.below.vx_types.proofs.values.Values.TheLaws.TheKnot.{crosses as values_cross}
 use Rattle.vx_base.below.vx_types.specs.contracts.dtypes.DType as dtypes
 use Rattle.vx_base.below.vx_types.specs.contracts.values.Value as values
+use Rattle.vx_base.below.vx_segments.proofs.codings.Coding.TheSendSync as coding
+use Rattle.vx_base.below.vx_segments.specs.contracts.codings.Coding as codings
 use Rattle.vx_base.below.vx_columns.specs.contracts.run_rows.Runs as runs
 use Rattle.vx_base.below.vx_columns.specs.contracts.run_rows.Runs.TheInside as inside_runs
 use Rattle.vx_base.below.vx_columns.specs.contracts.stored_rows.Rows as stored
@@ -60,13 +62,10 @@ send_shared = search (parts_cross, crosses, masks.the_send, numbers.the_send, pa
 
 send_runs : IsSend runs.the_row
 send_runs = view_send inside_runs.the_row _ _ _ _ (declared_send inside_runs.the_type (
-  masks.the_send,
+  as_row_send (row_field _) send_part,
   (
-    as_row_send (row_field _) send_part,
-    (
-      vec.the_send _ alloc.the_row impl.ghosts (plain_send _ _ _ _ _) global.the_send heap.the_frees,
-      tt,
-    ),
+    vec.the_send _ alloc.the_row impl.ghosts (plain_send _ _ _ _ _) global.the_send heap.the_frees,
+    tt,
   ),
 ))
 
@@ -122,7 +121,7 @@ sync_kind = variants_sync plan_kinds.enum (
               (
                 tt,
                 (
-                  (as_row_sync u32-field (plain_sync _ _ _ _ _), tt),
+                  (as_row_sync u32-field (plain_sync _ _ _ _ _), (as_row_sync codings.the_field coding.the_field_sync, tt)),
                   (
                     (as_row_sync u64-field (plain_sync _ _ _ _ _), (statistics.the_sync, tt)),
                     (

@@ -4,6 +4,7 @@ use Rattle.std.specs.Prelude.{if◌then◌else◌}
 use Rattle.std.specs.List.{slice_get}
 use Rattle.std.proofs.lemmas.Bool.{lt-ltb, le-ltb, cases_lt}
 use Rattle.std.proofs.lemmas.Option.{slice_get_within}
+use Rattle.vx_base.specs.declared.codings.Coding.{Coding}
 use Rattle.vx_base.specs.Data.{DataType}
 use Rattle.vx_rows.specs.Derivations.{Derivation, nothing, of_leaf, packed, looked_up, read_whole, Derivations, each_row}
 use Rattle.vx_rows.specs.Reads.{Way, directly, inside, Read, reads_of, reads_of_each, AnyOf, IsIn}
@@ -198,8 +199,8 @@ share_whole segment offset number child way start bits any some = record {
   holds = behind (InSegment segment) (reads_of way (plan_derivation offset child (start + any.row))) (reads_of_each way (each_row (plan_derivation offset child) 0 (plan_head child).rows)) (each_row_reads (InSegment segment) way (plan_derivation offset child) 0 (plan_head child).rows some.row (within_all (plan_head child).rows some.row some.chosen) some.holds);
 }
 
-scan_read : (segment other : ℕ) (way : Way) (dtype : DataType) (rows start : ℕ) (bits : List Bool) (entry : SegmentReach) → entry.segment ≡ other → IsReached segment (if any_row bits then entry ∷ [] else []) → SomeRow (λ row. Reads segment way (of_leaf (record { dtype = dtype; rows = rows; segment = other; row = row }))) start bits
-scan_read segment other way dtype rows start bits entry is any =
+scan_read : (segment other : ℕ) (way : Way) (dtype : DataType) (coding : Coding) (rows start : ℕ) (bits : List Bool) (entry : SegmentReach) → entry.segment ≡ other → IsReached segment (if any_row bits then entry ∷ [] else []) → SomeRow (λ row. Reads segment way (of_leaf (record { dtype = dtype; coding = coding; rows = rows; segment = other; row = row }))) start bits
+scan_read segment other way dtype coding rows start bits entry is any =
     let enter : IsEntered segment (any_row bits) (entry ∷ []) = entered_if segment (any_row bits) (entry ∷ []) any in
     let some : HasRow bits = has_row bits enter.test in
     record { row = some.row; chosen = some.chosen; holds = ⊎_elim (λ (same : entry.segment ≡ segment). inl (sym is ∙ same)) (λ (none : ⊥). absurd none) enter.reached }
@@ -242,7 +243,7 @@ mutual
       share_whole segment offset head.number child way start bits (has_row bits enter.test) (reached_read segment offset child way (fixed at start (start + length bits)) 0 (all_rows (plan_head child).rows) enter.reached)
   reached_read segment offset (list_plan head elements offsets validity) way at start bits any = absurd any
   reached_read segment offset (row_idx_plan head) way at start bits any = absurd any
-  reached_read segment offset (scan_plan head other) way at start bits any = scan_read segment other way head.dtype head.rows start bits (reached_at at start (length bits) other) refl any
+  reached_read segment offset (scan_plan head other coding) way at start bits any = scan_read segment other way head.dtype coding head.rows start bits (reached_at at start (length bits) other) refl any
   reached_read segment offset (zoned_plan head zones content table) way at start bits any = reached_read segment offset content way at start bits any
 
   chunk_read : (segment offset : ℕ) (ps : Plans) (way : Way) (before : ℕ) (at : Reach) (start : ℕ) (bits : List Bool) → IsReached segment (selected_chunks before ps at start bits) → SomeRow (λ row. Reads segment way (plan_derivation_in offset ps row)) start bits
@@ -345,7 +346,7 @@ mutual
       (either (InSegment segment) (reads_of way (plan_derivation offset child (start + row))) (reads_of_each way (each_row (plan_derivation offset child) 0 (plan_head child).rows)) any))
   read_reached segment offset (list_plan head elements offsets validity) way at start bits row fit within chosen any = ⊎_elim (λ (none : ⊥). absurd none) (λ (none : ⊥). absurd none) any
   read_reached segment offset (row_idx_plan head) way at start bits row fit within chosen any = absurd any
-  read_reached segment offset (scan_plan head other) way at start bits row fit within chosen any =
+  read_reached segment offset (scan_plan head other coding) way at start bits row fit within chosen any =
       if_entered segment (any_row bits) (reached_at at start (length bits) other ∷ []) (row_any bits row chosen) any
   read_reached segment offset (zoned_plan head zones content table) way at start bits row fit within chosen any = read_reached segment offset content way at start bits row fit.1 (inside_same head.rows (plan_head content).rows start bits fit.0 within) chosen any
 

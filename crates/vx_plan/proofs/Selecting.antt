@@ -41,7 +41,7 @@ mutual
   nothing_selected (share_plan head child) at start bits none = if_none (any_row bits) _ none
   nothing_selected (list_plan head elements offsets validity) at start bits none = refl
   nothing_selected (row_idx_plan head) at start bits none = refl
-  nothing_selected (scan_plan head segment) at start bits none = if_none (any_row bits) _ none
+  nothing_selected (scan_plan head segment coding) at start bits none = if_none (any_row bits) _ none
   nothing_selected (zoned_plan head zones content table) at start bits none = nothing_selected content at start bits none
 
   pub nothing_in_chunks : (ps : Plans) (before : ℕ) (at : Reach) (start : ℕ) (bits : List Bool) → any_row bits ≡ false → selected_chunks before ps at start bits ≡ []

@@ -2,6 +2,7 @@
 use Rattle.std.proofs.Common.{◌≡◌, ℕ, Bool, true, false, List, [], ◌∷◌, Option, Some, map, refl, sym, ap, ◌∙◌, subst}
 use Rattle.std.specs.Prelude.{IsSomeAnd}
 use Rattle.std.specs.List.{slice_get}
+use Rattle.vx_base.specs.declared.codings.Coding.{Coding}
 use Rattle.vx_base.specs.Data.{DataType}
 use Rattle.vx_expr.specs.declared.statistics.Statistic.{Statistic}
 use Rattle.vx_expr.specs.Bound.{Bound}
@@ -9,7 +10,8 @@ use Rattle.vx_plan.specs.declared.nodes.PlanKind.{PlanKind}
 use Rattle.vx_plan.specs.declared.nodes.PlanKind.TheVariants as kinds
 use Rattle.vx_plan.specs.declared.shapes.Shape.TheVariants as shapes
 use Rattle.vx_plan.specs.Nodes.{Node}
-use Rattle.vx_plan.specs.Plans.{head_at, plan_at, plan_grown_as}
+use Rattle.vx_plan.specs.Kinds.{coding_of}
+use Rattle.vx_plan.specs.Plans.{head_at, plan_at, plan_grown_as, scan_plan}
 use Rattle.vx_plan.specs.Rules.{nodes_at, HasZones, IsLike, IsLookUp, IsMadeAs, IsWorkedOut}
 use Rattle.vx_plan.specs.Shapes.{HasShape, IsOver, ShapeOf}
 use Rattle.vx_plan.specs.Tables.{IsGoodTable}
@@ -60,10 +62,12 @@ two_zoned nodes node (a ∷ []) n m made at also = absurd made
 two_zoned nodes node (a ∷ b ∷ []) n m made at also = cc
 two_zoned nodes node (a ∷ b ∷ c ∷ ns) n m made at also = absurd made
 
-pub leaf_shape : (nodes : List Node) → IsGoodTable nodes → (n : ℕ) (node : Node) (segment : ℕ) → slice_get nodes n ≡ Some node → node.kind ≡ kinds.SegmentScan segment → HasShape nodes n (shapes.Leaf segment)
-leaf_shape nodes good n node segment at is =
+pub leaf_shape : (nodes : List Node) → IsGoodTable nodes → (n : ℕ) (node : Node) (segment : ℕ) (coding : Coding) → slice_get nodes n ≡ Some node → node.kind ≡ kinds.SegmentScan segment coding → HasShape nodes n (shapes.Leaf segment)
+leaf_shape nodes good n node segment coding at is =
+    let here : IsOver nodes n node (scan_plan (head_at n node) segment coding) (kinds.SegmentScan segment coding) [] = over nodes good n node (kinds.SegmentScan segment coding) [] at is (no_children nodes node.children (made_as nodes good n node (kinds.SegmentScan segment coding) at is)) in
+    let same : coding_of node.kind ≡ coding = ap coding_of is in
     there (λ node. ShapeOf nodes n node (shapes.Leaf segment)) (slice_get nodes n) node at
-    (over nodes good n node (kinds.SegmentScan segment) [] at is (no_children nodes node.children (made_as nodes good n node (kinds.SegmentScan segment) at is)))
+    (subst (λ (c : Coding). IsOver nodes n node (scan_plan (head_at n node) segment c) (kinds.SegmentScan segment c) []) (sym same) here)
 
 pub filter_shape : (nodes : List Node) → IsGoodTable nodes → (n : ℕ) (node : Node) (child : ℕ) → slice_get nodes n ≡ Some node → node.kind ≡ kinds.Filter → slice_get node.children 0 ≡ Some child → HasShape nodes n (shapes.Same child)
 filter_shape nodes good n node child at is first =

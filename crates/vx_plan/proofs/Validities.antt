@@ -34,7 +34,7 @@ some_children kinds.Filter t below fit has = absurd cc
 some_children kinds.Take t below fit has = absurd cc
 some_children kinds.Share t below fit has = absurd cc
 some_children kinds.RowIdx t below fit has = absurd cc
-some_children (kinds.SegmentScan segment) t below fit has = absurd cc
+some_children (kinds.SegmentScan segment coding) t below fit has = absurd cc
 some_children (kinds.Zoned zone_len stats) t below fit has = absurd cc
 some_children (kinds.LegacyStats zone_len stats) t below fit has = absurd cc
 

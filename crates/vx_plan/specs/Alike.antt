@@ -1,6 +1,7 @@
 -- Plans that are alike but for the numbers of their dictionaries and lists: what a lowering into a table keeps
 -- of the plan that it is to make, node by node.
 use Rattle.std.specs.Prelude.{◌≡◌, ℕ, map}
+use Rattle.vx_base.specs.declared.codings.Coding.{Coding}
 use Rattle.vx_expr.specs.Terms.{Term}
 use Rattle.vx_rows.specs.Derivations.{Leaves}
 use Rattle.vx_plan.specs.Plans.{Plan, concat_plan, eval_plan, filter_plan, pack_plan, take_plan, list_plan, scan_plan, zoned_plan, Plans, no_plans, plan, PlanValidity, all_valid, valid_as, plan_head}
@@ -46,7 +47,7 @@ abbrev pub EvalsAreAlike : Type 0
 EvalsAreAlike = (f g : ℕ → ℕ) (offset : ℕ) (head other : Head) (e : Term) (p q : Plan) → SameHead head other → IsAlike f g offset p q → IsAlike f g offset (eval_plan head e p) (eval_plan other e q)
 
 abbrev pub ScansAreAlike : Type 0
-ScansAreAlike = (f g : ℕ → ℕ) (offset : ℕ) (head other inner other_inner : Head) (segment : ℕ) → SameHead head other → SameHead inner other_inner → IsAlike f g offset (filter_plan head (scan_plan inner segment)) (filter_plan other (scan_plan other_inner segment))
+ScansAreAlike = (f g : ℕ → ℕ) (offset : ℕ) (head other inner other_inner : Head) (segment : ℕ) (coding : Coding) → SameHead head other → SameHead inner other_inner → IsAlike f g offset (filter_plan head (scan_plan inner segment coding)) (filter_plan other (scan_plan other_inner segment coding))
 
 abbrev pub ZonedPlansAreAlike : Type 0
 ZonedPlansAreAlike = (f g : ℕ → ℕ) (offset : ℕ) (head other : Head) (zones other_zones : Zones) (p q table other_table : Plan) → SameHead head other → IsAlike f g offset p q → IsAlike f g offset (zoned_plan head zones p table) (zoned_plan other other_zones q other_table)

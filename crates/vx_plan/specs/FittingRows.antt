@@ -13,7 +13,7 @@ abbrev mutual
   HasFittingRows (share_plan head child) = ((plan_head child).rows ≡ head.rows) × HasFittingRows child
   HasFittingRows (list_plan head elements offsets validity) = Unit {0}
   HasFittingRows (row_idx_plan head) = Unit {0}
-  HasFittingRows (scan_plan head segment) = Unit {0}
+  HasFittingRows (scan_plan head segment coding) = Unit {0}
   HasFittingRows (zoned_plan head zones content table) = ((plan_head content).rows ≡ head.rows) × HasFittingRows content
 
   pub HaveFittingRows : Plans → Type 0

@@ -1,6 +1,8 @@
 -- Plans of one kind.
 use Rattle.std.specs.Prelude.{ℕ, ◌-◌, codes, Bool, false, true, List, [], length, Option, None, IsSomeAnd}
 use Rattle.std.specs.List.{slice_get}
+use Rattle.vx_base.specs.declared.codings.Coding.{Coding}
+use Rattle.vx_base.specs.declared.codings.Coding.TheVariants.{Plain}
 use Rattle.vx_expr.specs.declared.statistics.Statistic.{Statistic}
 use Rattle.vx_plan.specs.declared.kinds.PlanId.{PlanId}
 use Rattle.vx_plan.specs.declared.kinds.PlanId.TheVariants as ids
@@ -17,7 +19,7 @@ id_of kinds.Take = ids.Take
 id_of kinds.Share = ids.Share
 id_of (kinds.ListPack has_validity) = ids.ListPack
 id_of kinds.RowIdx = ids.RowIdx
-id_of (kinds.SegmentScan segment) = ids.SegmentScan
+id_of (kinds.SegmentScan segment coding) = ids.SegmentScan
 id_of (kinds.Zoned zone_len stats) = ids.Zoned
 id_of (kinds.LegacyStats zone_len stats) = ids.LegacyStats
 
@@ -68,7 +70,7 @@ IsRowIdx kinds.RowIdx = Unit {0}
 IsRowIdx kind = ⊥
 
 abbrev pub IsSegmentScan : PlanKind → Type 0
-IsSegmentScan (kinds.SegmentScan segment) = Unit {0}
+IsSegmentScan (kinds.SegmentScan segment coding) = Unit {0}
 IsSegmentScan kind = ⊥
 
 abbrev pub IsZoned : PlanKind → Type 0
@@ -78,6 +80,11 @@ IsZoned kind = ⊥
 abbrev pub IsLegacyStats : PlanKind → Type 0
 IsLegacyStats (kinds.LegacyStats zone_len stats) = Unit {0}
 IsLegacyStats kind = ⊥
+
+-- how the segment of a scan is coded; another kind has none, and is as a plain one
+abbrev pub coding_of : PlanKind → Coding
+coding_of (kinds.SegmentScan segment coding) = coding
+coding_of kind = Plain
 
 -- how many rows a zone has, and what is told of each
 abbrev pub zone_len_of : PlanKind → ℕ

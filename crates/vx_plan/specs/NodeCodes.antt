@@ -1,6 +1,7 @@
 -- Nodes as trees of numbers, one to one: what the table's model asks of its value.
 use Rattle.std.specs.Prelude.{◌≡◌, ℕ, zero, suc, Bool, false, List, [], refl}
 use Rattle.std.specs.Coded.{Coded, code_by, coded_ℕ, coded_bool, coded_list, coded×}
+use Rattle.vx_base.specs.declared.codings.Coding.TheVariants.{Plain, Constant, Runs}
 use Rattle.vx_base.specs.declared.dtypes.Nullability.TheVariants.{NonNullable}
 use Rattle.vx_base.specs.Data.{DataType, bool_type}
 use Rattle.vx_base.specs.Codes.{coded_type}
@@ -13,7 +14,7 @@ use Rattle.vx_plan.specs.declared.nodes.PlanKind.TheVariants as kinds
 use Rattle.vx_plan.specs.Nodes.{Node}
 
 -- a kind as its number among the kinds, the number and the truth value that it names, its statistics, and its
--- expression
+-- expression; a scan of a segment has one number for each coding
 pub record KindParts : Type 0 where
   pub which : ℕ
   pub number : ℕ
@@ -42,7 +43,9 @@ kind_parts kinds.Take = numbered 4 0
 kind_parts kinds.Share = numbered 5 0
 kind_parts (kinds.ListPack has_validity) = flagged 6 has_validity
 kind_parts kinds.RowIdx = numbered 7 0
-kind_parts (kinds.SegmentScan segment) = numbered 8 segment
+kind_parts (kinds.SegmentScan segment Plain) = numbered 8 segment
+kind_parts (kinds.SegmentScan segment Constant) = numbered 11 segment
+kind_parts (kinds.SegmentScan segment Runs) = numbered 12 segment
 kind_parts (kinds.Zoned zone_len stats) = with_stats 9 zone_len stats
 kind_parts (kinds.LegacyStats zone_len stats) = with_stats 10 zone_len stats
 
@@ -55,9 +58,11 @@ kind_of (suc (suc (suc (suc zero)))) n flag stats a = kinds.Take
 kind_of (suc (suc (suc (suc (suc zero))))) n flag stats a = kinds.Share
 kind_of (suc (suc (suc (suc (suc (suc zero)))))) n flag stats a = kinds.ListPack flag
 kind_of (suc (suc (suc (suc (suc (suc (suc zero))))))) n flag stats a = kinds.RowIdx
-kind_of (suc (suc (suc (suc (suc (suc (suc (suc zero)))))))) n flag stats a = kinds.SegmentScan n
+kind_of (suc (suc (suc (suc (suc (suc (suc (suc zero)))))))) n flag stats a = kinds.SegmentScan n Plain
 kind_of (suc (suc (suc (suc (suc (suc (suc (suc (suc zero))))))))) n flag stats a = kinds.Zoned n stats
-kind_of (suc (suc (suc (suc (suc (suc (suc (suc (suc (suc k)))))))))) n flag stats a = kinds.LegacyStats n stats
+kind_of (suc (suc (suc (suc (suc (suc (suc (suc (suc (suc zero)))))))))) n flag stats a = kinds.LegacyStats n stats
+kind_of (suc (suc (suc (suc (suc (suc (suc (suc (suc (suc (suc zero))))))))))) n flag stats a = kinds.SegmentScan n Constant
+kind_of (suc (suc (suc (suc (suc (suc (suc (suc (suc (suc (suc (suc k)))))))))))) n flag stats a = kinds.SegmentScan n Runs
 
 abbrev pub kind_with : KindParts → PlanKind
 kind_with parts = kind_of parts.which parts.number parts.flag parts.stats parts.expression
@@ -71,7 +76,9 @@ kind_back kinds.Take = refl
 kind_back kinds.Share = refl
 kind_back (kinds.ListPack has_validity) = refl
 kind_back kinds.RowIdx = refl
-kind_back (kinds.SegmentScan segment) = refl
+kind_back (kinds.SegmentScan segment Plain) = refl
+kind_back (kinds.SegmentScan segment Constant) = refl
+kind_back (kinds.SegmentScan segment Runs) = refl
 kind_back (kinds.Zoned zone_len stats) = refl
 kind_back (kinds.LegacyStats zone_len stats) = refl
 

@@ -21,7 +21,7 @@ abbrev mutual
   plan_derivation offset (share_plan head child) row = read_whole head.number row (plan_derivation offset child row) (each_row (plan_derivation offset child) 0 (plan_head child).rows)
   plan_derivation offset (list_plan head elements offsets validity) row = list_row head.number row
   plan_derivation offset (row_idx_plan head) row = given (number (pos (row + offset)))
-  plan_derivation offset (scan_plan head segment) row = of_leaf (record { dtype = head.dtype; rows = head.rows; segment = segment; row = row })
+  plan_derivation offset (scan_plan head segment coding) row = of_leaf (record { dtype = head.dtype; coding = coding; rows = head.rows; segment = segment; row = row })
   plan_derivation offset (zoned_plan head zones content table) row = plan_derivation offset content row
 
   -- the row of plans one after another

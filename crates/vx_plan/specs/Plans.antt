@@ -2,6 +2,8 @@
 -- recursion over the tree.
 use Rattle.std.specs.Prelude.{ℕ, zero, suc, Bool, true, false, List, [], ◌∷◌, map, Option, Some, None}
 use Rattle.std.specs.List.{slice_get}
+use Rattle.vx_base.specs.declared.codings.Coding.{Coding}
+use Rattle.vx_base.specs.declared.codings.Coding.TheVariants.{Plain}
 use Rattle.vx_expr.specs.Terms.{Term}
 use Rattle.vx_plan.specs.declared.nodes.PlanKind.{PlanKind}
 use Rattle.vx_plan.specs.declared.nodes.PlanKind.TheVariants as kinds
@@ -9,7 +11,7 @@ use Rattle.vx_plan.specs.Nodes.{Node, absent}
 use Rattle.vx_rows.specs.Heads.{Head}
 use Rattle.vx_rows.specs.Zones.{Zones, zones_of}
 
--- A scan names its segment; a take has its codes, then its values; a list its elements, then its offsets; zoned
+-- A scan names its segment and how that is coded; a take has its codes, then its values; a list its elements, then its offsets; zoned
 -- data the data, then the zones.
 mutual
   pub data Plan : Type 0 where
@@ -22,7 +24,7 @@ mutual
     share_plan : Head → Plan → Plan
     list_plan : Head → Plan → Plan → PlanValidity → Plan
     row_idx_plan : Head → Plan
-    scan_plan : Head → ℕ → Plan
+    scan_plan : Head → ℕ → Coding → Plan
     zoned_plan : Head → Zones → Plan → Plan → Plan
 
   pub data Plans : Type 0 where
@@ -44,8 +46,13 @@ plan_head (take_plan head codes values) = head
 plan_head (share_plan head child) = head
 plan_head (list_plan head elements offsets validity) = head
 plan_head (row_idx_plan head) = head
-plan_head (scan_plan head segment) = head
+plan_head (scan_plan head segment coding) = head
 plan_head (zoned_plan head zones content table) = head
+
+-- how the segment of a scan is coded; another plan has none, and is as a plain one
+abbrev pub plan_coding : Plan → Coding
+plan_coding (scan_plan head segment coding) = coding
+plan_coding p = Plain
 
 -- ---- growing
 
@@ -94,7 +101,7 @@ plan_grown_as head kinds.Take ps = take_plan head (plan_in ps 0) (plan_in ps 1)
 plan_grown_as head kinds.Share ps = share_plan head (plan_in ps 0)
 plan_grown_as head (kinds.ListPack has_validity) ps = list_plan head (plan_in ps 0) (plan_in ps 1) (last_validity has_validity ps)
 plan_grown_as head kinds.RowIdx ps = row_idx_plan head
-plan_grown_as head (kinds.SegmentScan segment) ps = scan_plan head segment
+plan_grown_as head (kinds.SegmentScan segment coding) ps = scan_plan head segment coding
 plan_grown_as head (kinds.Zoned zone_len stats) ps = zoned_plan head (zones_of false zone_len stats) (plan_in ps 0) (plan_in ps 1)
 plan_grown_as head (kinds.LegacyStats zone_len stats) ps = zoned_plan head (zones_of true zone_len stats) (plan_in ps 0) (plan_in ps 1)
 

@@ -62,7 +62,7 @@ abbrev mutual
       if any_row bits then selected_of child (fixed at start (start + length bits)) 0 (all_rows (plan_head child).rows) else []
   selected_of (list_plan head elements offsets validity) at start bits = []
   selected_of (row_idx_plan head) at start bits = []
-  selected_of (scan_plan head segment) at start bits = if any_row bits then reached_at at start (length bits) segment ∷ [] else []
+  selected_of (scan_plan head segment coding) at start bits = if any_row bits then reached_at at start (length bits) segment ∷ [] else []
   selected_of (zoned_plan head zones content table) at start bits = selected_of content at start bits
 
   -- Of chunks of which the first stands behind so many rows of the concat; the rows are counted from that one on.

@@ -3,6 +3,7 @@
 use Rattle.std.specs.Prelude.{◌≡◌, ℕ, ◌+◌, ◌-◌, ◌<◌, ◌^◌, Bool, true, false, List, [], ◌∷◌, ◌++◌, length, map, All, Option, Some, None, IsSomeAnd}
 use Rattle.std.specs.Int.{div_ceil}
 use Rattle.std.specs.List.{slice_get, slice_index_or, sum_by}
+use Rattle.vx_base.specs.declared.codings.Coding.{Coding}
 use Rattle.vx_base.specs.declared.dtypes.Nullability.{Nullability}
 use Rattle.vx_base.specs.declared.dtypes.Nullability.TheVariants.{NonNullable}
 use Rattle.vx_base.specs.Data.{DataType, bool_type, struct_type, list_type, Members, no_members}
@@ -136,7 +137,7 @@ HasUnsignedCodes kinds.Take below = IsSomeAnd (slice_get below 0) (λ codes. IsU
 HasUnsignedCodes kind below = Unit {0}
 
 abbrev pub HasLeafType : PlanKind → DataType → Type 0
-HasLeafType (kinds.SegmentScan segment) t = IsLeaf t
+HasLeafType (kinds.SegmentScan segment coding) t = IsLeaf t
 HasLeafType kind t = Unit {0}
 
 -- A table of zones over rows of a dtype: the zones have rows, each statistic stands over the dtype and has its
@@ -224,7 +225,7 @@ IsMadeAs kinds.Take node below = IsLookUp node below
 IsMadeAs kinds.Share node below = IsLike node below
 IsMadeAs (kinds.ListPack has_validity) node below = IsList has_validity node below
 IsMadeAs kinds.RowIdx node below = IsRowNumbers node below
-IsMadeAs (kinds.SegmentScan segment) node below = below ≡ []
+IsMadeAs (kinds.SegmentScan segment coding) node below = below ≡ []
 IsMadeAs (kinds.Zoned zone_len stats) node below = HasZones node below
 IsMadeAs (kinds.LegacyStats zone_len stats) node below = HasZones node below
 
@@ -269,8 +270,8 @@ list_node nodes n rows elements offsets validity = record { kind = kinds.ListPac
 abbrev pub row_idx_node : ℕ → Node
 row_idx_node rows = record { kind = kinds.RowIdx; dtype = row_number_type; rows = rows; children = []; offsets = [] }
 
-abbrev pub scan_node : DataType → ℕ → ℕ → Node
-scan_node t rows segment = record { kind = kinds.SegmentScan segment; dtype = t; rows = rows; children = []; offsets = [] }
+abbrev pub scan_node : DataType → ℕ → ℕ → Coding → Node
+scan_node t rows segment coding = record { kind = kinds.SegmentScan segment coding; dtype = t; rows = rows; children = []; offsets = [] }
 
 abbrev pub zoned_node : List Node → ℕ → ℕ → ℕ → List Statistic → Node
 zoned_node nodes column zones zone_len stats = record { kind = kinds.Zoned zone_len stats; dtype = (node_at nodes column).dtype; rows = (node_at nodes column).rows; children = column ∷ zones ∷ []; offsets = [] }

@@ -7,6 +7,7 @@ use Rattle.vx_plan.specs.declared.nodes.PlanKind.{PlanKind}
 use Rattle.vx_plan.specs.declared.nodes.PlanKind.TheVariants as kinds
 use Rattle.vx_plan.specs.declared.shapes.Shape.{Shape}
 use Rattle.vx_plan.specs.declared.shapes.Shape.TheVariants as shapes
+use Rattle.vx_plan.specs.Kinds.{coding_of}
 use Rattle.vx_plan.specs.Nodes.{Node}
 use Rattle.vx_rows.specs.Zones.{zones_of}
 use Rattle.vx_plan.specs.Plans.{Plan, head_at, plan_at, plan_grown_as, plans_from, field_plans, last_validity, concat_plan, eval_plan, filter_plan, pack_plan, take_plan, share_plan, row_idx_plan, scan_plan, zoned_plan}
@@ -44,7 +45,7 @@ abbrev pub fields_plan : List Node → ℕ → Node → Bool → Plan
 fields_plan nodes n node has_validity = pack_plan (head_at n node) (plans_from (field_plans has_validity (map (plan_at nodes) node.children))) (last_validity has_validity (map (plan_at nodes) node.children))
 
 abbrev pub ShapeOf : List Node → ℕ → Node → Shape → Type 0
-ShapeOf nodes n node (shapes.Leaf segment) = IsOver nodes n node (scan_plan (head_at n node) segment) (kinds.SegmentScan segment) []
+ShapeOf nodes n node (shapes.Leaf segment) = IsOver nodes n node (scan_plan (head_at n node) segment (coding_of node.kind)) (kinds.SegmentScan segment (coding_of node.kind)) []
 ShapeOf nodes n node (shapes.Same child) = IsOver nodes n node (filter_plan (head_at n node) (plan_at nodes child)) kinds.Filter (child ∷ [])
 ShapeOf nodes n node shapes.Chunks = IsOver nodes n node (concat_plan (head_at n node) (plans_from (map (plan_at nodes) node.children))) kinds.Concat node.children
 ShapeOf nodes n node (shapes.Fields has_validity) = IsOver nodes n node (fields_plan nodes n node has_validity) (kinds.Pack has_validity) node.children

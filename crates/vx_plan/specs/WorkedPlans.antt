@@ -1,6 +1,7 @@
 -- Plans that were written by hand, on which the definitions of rows, of reads and of what is reached are checked.
 use Rattle.std.specs.Prelude.{codes, ℕ, pos, List, map, Option}
 use Rattle.std.specs.declared.ops.Range.{Range}
+use Rattle.vx_base.specs.declared.codings.Coding.TheVariants.{Plain}
 use Rattle.vx_base.specs.declared.dtypes.IntKind.TheVariants.{U8}
 use Rattle.vx_base.specs.declared.dtypes.Nullability.TheVariants.{NonNullable, Nullable}
 use Rattle.vx_base.specs.Data.{DataType, bool_type, int_type, struct_type, list_type, no_members, member, Datum, number}
@@ -19,7 +20,7 @@ head t rows = record { number = 0; dtype = t; rows = rows }
 -- ---- plans
 
 abbrev pub flat : DataType → ℕ → ℕ → Plan
-flat t rows segment = filter_plan (head t rows) (scan_plan (head t rows) segment)
+flat t rows segment = filter_plan (head t rows) (scan_plan (head t rows) segment Plain)
 
 abbrev pub three_flats : Plan
 three_flats = concat_plan (head i64 9) (plan (flat i64 3 0) (plan (flat i64 3 1) (plan (flat i64 3 2) no_plans)))

@@ -8,7 +8,7 @@ use crate::children::PlanChildren;
 use std::alloc::{AllocError, Global};
 use std::marker::Model;
 use std::sync::Arc;
-use vx_base::DType;
+use vx_base::{Coding, DType};
 use vx_expr::{BoundExpression, Statistics};
 
 /// An expression in memory of its own, seen as that expression: few plans have one, and no other plan has to have room
@@ -70,8 +70,8 @@ pub enum PlanKind {
     ListPack { has_validity: bool },
     /// The numbers of the rows.
     RowIdx,
-    /// The rows of a segment.
-    SegmentScan { segment: u32 },
+    /// The rows of a segment, which is coded in that way.
+    SegmentScan { segment: u32, coding: Coding },
     /// The rows of the data, its first child; its second has a row for each zone of so many rows.
     Zoned { zone_len: u64, stats: Statistics },
     /// As `Zoned`, in an older form.

@@ -3,7 +3,7 @@
 ghost use Rattle.std.specs.Prelude.{◌≡◌, ◌<◌, [], ◌∷◌, length, IfErr, IfOk, OnErr};
 ghost use Rattle.std.specs.Arc.{arc_value};
 ghost use Rattle.vx_base.specs.Views.{data_type};
-ghost use Rattle.vx_plan.specs.Kinds.{HasKind, IsEval, IsFilter, IsSegmentScan, IsShare};
+ghost use Rattle.vx_plan.specs.Kinds.{coding_of, HasKind, IsEval, IsFilter, IsSegmentScan, IsShare};
 ghost use Rattle.vx_plan.specs.Limits.{most_plans};
 ghost use Rattle.vx_plan.specs.Nodes.{node_data};
 ghost use Rattle.vx_plan.specs.declared.errors.PlanError.TheVariants.{Memory};
@@ -19,7 +19,7 @@ use crate::plan_types::{EvalPlan, FilterPlan, RowIdxPlan, SegmentScanPlan, Share
 use crate::tables::PlanTable;
 use std::alloc::{AllocError, Global};
 use std::sync::Arc;
-use vx_base::{DType, IntKind, Nullability};
+use vx_base::{Coding, DType, IntKind, Nullability};
 use vx_expr::BoundExpression;
 
 impl SegmentScanPlan {
@@ -30,14 +30,15 @@ impl SegmentScanPlan {
         dtype: DType,
         row_count: u64,
         segment: u32,
+        coding: Coding,
     ) -> Result<SegmentScanPlan, PlanError>
         requires room { length table.old < most_plans }
-        ensures added { IfOk result (λ plan. IsAdded table.old table.new (scan_node (data_type dtype) row_count segment) (number_of plan.plan)) }
+        ensures added { IfOk result (λ plan. IsAdded table.old table.new (scan_node (data_type dtype) row_count segment coding) (number_of plan.plan)) }
         ensures unchanged { OnErr result (table.new ≡ table.old) }
-        ensures refused { IfErr result (RefusedBy (scan_node (data_type dtype) row_count segment) []) }
+        ensures refused { IfErr result (RefusedBy (scan_node (data_type dtype) row_count segment coding) []) }
     {
         let dtype = Arc::new(alloc, dtype)?;
-        SegmentScanPlan::sharing(alloc, table, dtype, row_count, segment)
+        SegmentScanPlan::sharing(alloc, table, dtype, row_count, segment, coding)
     }
 
     /// The same, whose dtype is shared with whoever else holds it.
@@ -47,14 +48,15 @@ impl SegmentScanPlan {
         dtype: Arc<DType, Global>,
         row_count: u64,
         segment: u32,
+        coding: Coding,
     ) -> Result<SegmentScanPlan, PlanError>
         requires room { length table.old < most_plans }
-        ensures added { IfOk result (λ plan. IsAdded table.old table.new (scan_node (data_type (arc_value dtype)) row_count segment) (number_of plan.plan)) }
+        ensures added { IfOk result (λ plan. IsAdded table.old table.new (scan_node (data_type (arc_value dtype)) row_count segment coding) (number_of plan.plan)) }
         ensures unchanged { OnErr result (table.new ≡ table.old) }
-        ensures refused { IfErr result (RefusedBy (scan_node (data_type (arc_value dtype)) row_count segment) []) }
+        ensures refused { IfErr result (RefusedBy (scan_node (data_type (arc_value dtype)) row_count segment coding) []) }
     {
         let node = PlanNode {
-            kind: PlanKind::SegmentScan { segment },
+            kind: PlanKind::SegmentScan { segment, coding },
             dtype,
             row_count,
             children: PlanChildren::from(Vec::new(alloc)),
@@ -67,12 +69,20 @@ impl SegmentScanPlan {
     /// The segment.
     pub fn segment_id(self, table: &PlanTable) -> u32
         requires { HasKind IsSegmentScan table.now (number_of self.plan) }
-        ensures { (node_at table.now (number_of self.plan)).kind ≡ SegmentScan result }
+        ensures { (node_at table.now (number_of self.plan)).kind ≡ SegmentScan result (coding_of (node_at table.now (number_of self.plan)).kind) }
     {
         match table.node(self.plan.0).kind {
-            PlanKind::SegmentScan { segment } => segment,
+            PlanKind::SegmentScan { segment, .. } => segment,
             _ => unreachable!(),
         }
+    }
+
+    /// How the segment is coded.
+    pub fn coding(self, table: &PlanTable) -> Coding
+        requires { HasKind IsSegmentScan table.now (number_of self.plan) }
+        ensures { result ≡ coding_of (node_at table.now (number_of self.plan)).kind }
+    {
+        table.coding(self.plan)
     }
 }
 

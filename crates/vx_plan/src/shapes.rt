@@ -51,7 +51,7 @@ impl PlanTable {
             PlanKind::Share => Shape::Shared(node.children.at(0)),
             PlanKind::ListPack { .. } => Shape::Lists,
             PlanKind::RowIdx => Shape::RowNumbers,
-            PlanKind::SegmentScan { segment } => Shape::Leaf(*segment),
+            PlanKind::SegmentScan { segment, .. } => Shape::Leaf(*segment),
             PlanKind::Zoned { .. } => Shape::Zoned(node.children.at(0), node.children.at(1)),
             PlanKind::LegacyStats { .. } => Shape::Zoned(node.children.at(0), node.children.at(1)),
         }

@@ -3,7 +3,7 @@
 ghost use Rattle.std.specs.Prelude.{◌≡◌, ◌^◌, ◌<◌, ◌↔◌, [], length, map, IfErr, IfOk, IsSome, IsTrue, OnErr, Some, option_map, slice_get, take};
 ghost use Rattle.std.specs.Arc.{arc_value};
 ghost use Rattle.vx_base.specs.Views.{data_type};
-ghost use Rattle.vx_plan.specs.Kinds.{has_validity_of, id_of, validity_of};
+ghost use Rattle.vx_plan.specs.Kinds.{coding_of, has_validity_of, id_of, validity_of};
 ghost use Rattle.vx_plan.specs.Limits.{most_plans};
 ghost use Rattle.vx_plan.specs.Nodes.{node_data};
 ghost use Rattle.vx_plan.specs.Refs.{number_of};
@@ -18,7 +18,7 @@ use crate::nodes::{PlanKind, PlanNode};
 use std::alloc::{AllocError, Global};
 use std::marker::Model;
 use std::sync::Arc;
-use vx_base::DType;
+use vx_base::{Coding, DType};
 
 /// A table of plans: nodes that keep the rules of their kinds, with children below their parents.
 pub struct PlanTable {
@@ -128,6 +128,17 @@ impl PlanTable {
         ensures { data_type result.now ≡ (node_at self.now (number_of plan)).dtype }
     {
         self.node(plan.0).dtype()
+    }
+
+    /// How the segment of a scan is coded; plain where the plan is of another kind.
+    pub fn coding(&self, plan: PlanRef) -> Coding
+        requires { number_of plan < length self.now }
+        ensures { result ≡ coding_of (node_at self.now (number_of plan)).kind }
+    {
+        match self.node(plan.0).kind {
+            PlanKind::SegmentScan { coding, .. } => coding,
+            _ => Coding::Plain,
+        }
     }
 
     /// The dtype of the rows, to be shared with a plan over this one.

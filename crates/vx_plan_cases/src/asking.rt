@@ -4,7 +4,7 @@ ghost use Rattle.std.specs.Prelude.{◌<◌, length};
 ghost use Rattle.vx_plan.specs.Refs.{number_of};
 
 use std::alloc::{AllocError, Global};
-use vx_base::Fields;
+use vx_base::{Coding, Fields};
 use vx_expr::{BoundExpression, Statistic, Statistics};
 use vx_notation::dtype_text;
 use vx_plan::{PlanRef, PlanTable};
@@ -110,6 +110,15 @@ fn write_fields(count: usize, fields: &Fields, out: &mut String) -> Result<(), A
     Ok(())
 }
 
+/// Appends the coding of a segment where that isn't the plain one.
+fn write_coding(coding: Coding, out: &mut String) -> Result<(), AllocError> {
+    match coding {
+        Coding::Plain => Ok(()),
+        Coding::Constant => out.push_str(" constant"),
+        Coding::Runs => out.push_str(" runs"),
+    }
+}
+
 /// What is got from a plan of structs, of a look-up, of lists, or of a leaf; else nothing.
 fn write_many(table: &PlanTable, plan: PlanRef, out: &mut String) -> Result<(), AllocError>
     requires { number_of plan < length table.now }
@@ -131,7 +140,8 @@ fn write_many(table: &PlanTable, plan: PlanRef, out: &mut String) -> Result<(), 
         return out.push_str("row_idx");
     }
     if let Some(scan) = table.as_segment_scan(plan) {
-        return write!(out, "segment_scan {}", scan.segment_id(table));
+        write!(out, "segment_scan {}", scan.segment_id(table))?;
+        return write_coding(scan.coding(table), out);
     }
     Ok(())
 }

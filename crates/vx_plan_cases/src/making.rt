@@ -6,7 +6,7 @@ ghost use Rattle.vx_plan.specs.Refs.{number_of};
 
 use crate::words::{UNREAD, number_at, plan_at, plans_from, times};
 use std::alloc::Global;
-use vx_base::{DType, Fields, Nullability};
+use vx_base::{Coding, DType, Fields, Nullability};
 use vx_expr::{BoundExpression, bind};
 use vx_expr_notation::{spelled, statistics_of};
 use vx_notation::dtype_of;
@@ -23,7 +23,8 @@ fn dtype_in(alloc: Global, text: &str) -> Result<DType, PlanError> {
     }
 }
 
-/// A plan of a segment's rows.
+/// A plan of a segment's rows: of so many rows, over that segment, which is coded plainly where no third number or 0
+/// is there, as a constant at 1 and in runs at 2.
 fn scan(
     alloc: Global,
     table: &mut PlanTable,
@@ -34,8 +35,13 @@ fn scan(
 {
     let rows = number_at(numbers, 0);
     let segment = u32::try_from(number_at(numbers, 1)).unwrap_or(0);
+    let coding = match number_at(numbers, 2) {
+        0 => Coding::Plain,
+        1 => Coding::Constant,
+        _ => Coding::Runs,
+    };
     let dtype = dtype_in(alloc, rest)?;
-    Ok(SegmentScanPlan::new(alloc, table, dtype, rows, segment)?.into_plan())
+    Ok(SegmentScanPlan::new(alloc, table, dtype, rows, segment, coding)?.into_plan())
 }
 
 /// The expression that is spelled so, bound to a dtype.
@@ -148,13 +154,16 @@ fn repeated(
 
 /// The fields and the nulls of the dtype of structs that is written so.
 fn struct_in(alloc: Global, text: &str) -> Result<(Fields, Nullability), PlanError> {
-    match dtype_in(alloc, text)? {
-        DType::Struct(fields, nulls) => Ok((fields, nulls)),
-        other => {
-            drop(other);
-            Err(UNREAD)
-        }
-    }
+    let dtype = dtype_in(alloc, text)?;
+    let found = match &dtype {
+        DType::Struct(fields, nulls) => match fields.copy(alloc) {
+            Ok(fields) => Ok((fields, *nulls)),
+            Err(_) => Err(PlanError::Memory),
+        },
+        _ => Err(UNREAD),
+    };
+    drop(dtype);
+    found
 }
 
 /// Structs of the rows that stand first, and of the fields behind them; with `?` a validity stands between.

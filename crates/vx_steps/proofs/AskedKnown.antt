@@ -44,7 +44,7 @@ asked_kind kinds.Take nodes good (Some given) head node (n ∷ m ∷ ns) number 
 asked_kind kinds.Share nodes good (Some given) head node ns number row there made these v = subst (λ (k : ℕ). k < length nodes) v there
 asked_kind (kinds.ListPack has_validity) nodes good (Some given) head node ns number row there made these v = absurd v
 asked_kind kinds.RowIdx nodes good (Some given) head node ns number row there made these v = absurd v
-asked_kind (kinds.SegmentScan segment) nodes good (Some given) head node ns number row there made these v = absurd v
+asked_kind (kinds.SegmentScan segment coding) nodes good (Some given) head node ns number row there made these v = absurd v
 asked_kind (kinds.Zoned zone_len stats) nodes good (Some given) head node ns number row there made these v = absurd v
 asked_kind (kinds.LegacyStats zone_len stats) nodes good (Some given) head node ns number row there made these v = absurd v
 

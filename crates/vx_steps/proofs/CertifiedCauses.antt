@@ -59,7 +59,7 @@ mutual
   stays leaves f offset P free none own (share_plan head child) row are (inr (closed, inside)) = inr (none head.number, inside)
   stays leaves f offset P free none own (list_plan head elements offsets validity) row are v = own (list_plan head elements offsets validity) row are v
   stays leaves f offset P free none own (row_idx_plan head) row are v = own (row_idx_plan head) row are v
-  stays leaves f offset P free none own (scan_plan head segment) row are v = own (scan_plan head segment) row are v
+  stays leaves f offset P free none own (scan_plan head segment coding) row are v = own (scan_plan head segment coding) row are v
   stays leaves f offset P free none own (zoned_plan head zones content table) row are (inl v) = inl (own (zoned_plan head zones content table) row are v)
   stays leaves f offset P free none own (zoned_plan head zones content table) row are (inr v) = inr (stays leaves f offset P free none own content row are v)
 
@@ -94,7 +94,7 @@ code_stays leaves f offset n at free none (take_plan head codes values) row are 
 code_stays leaves f offset n at free none (share_plan head child) row are v = absurd v
 code_stays leaves f offset n at free none (list_plan head elements offsets validity) row are v = absurd v
 code_stays leaves f offset n at free none (row_idx_plan head) row are v = absurd v
-code_stays leaves f offset n at free none (scan_plan head segment) row are v = absurd v
+code_stays leaves f offset n at free none (scan_plan head segment coding) row are v = absurd v
 code_stays leaves f offset n at free none (zoned_plan head zones content table) row are v = absurd v
 
 fault_stays : (leaves : Leaves) (f : GivenValues) (offset at : ℕ) (free : Handed) → HandsNone free → Stays leaves f offset (HasEvalFault leaves offset at) free
@@ -107,7 +107,7 @@ fault_stays leaves f offset at free none (take_plan head codes values) row are v
 fault_stays leaves f offset at free none (share_plan head child) row are v = absurd v
 fault_stays leaves f offset at free none (list_plan head elements offsets validity) row are v = absurd v
 fault_stays leaves f offset at free none (row_idx_plan head) row are v = absurd v
-fault_stays leaves f offset at free none (scan_plan head segment) row are v = absurd v
+fault_stays leaves f offset at free none (scan_plan head segment coding) row are v = absurd v
 fault_stays leaves f offset at free none (zoned_plan head zones content table) row are v = absurd v
 
 -- ---- causes

@@ -75,7 +75,7 @@ mutual
       if_some (f head.number) (λ vs. whole_value leaves offset (share_plan head child) ≡ Some vs) (λ vs. derived leaves (plan_derivation offset child row) ≡ slice_get vs row) (λ vs whole. share_values leaves offset head child row vs less whole) (each (share_plan head child) (inl refl))
   certify leaves f offset (list_plan head elements offsets validity) row fit less each = tt
   certify leaves f offset (row_idx_plan head) row fit less each = tt
-  certify leaves f offset (scan_plan head segment) row fit less each = tt
+  certify leaves f offset (scan_plan head segment coding) row fit less each = tt
   certify leaves f offset (zoned_plan head zones content table) row fit less each = certify leaves f offset content row fit.1 (below_rows row head.rows (plan_head content).rows fit.0 less) (λ q s. each q (inr (inl s)))
 
   certify_in : (leaves : Leaves) (f : GivenValues) (offset : ℕ) (ps : Plans) (row : ℕ) → HaveFittingRows ps → ((q : Plan) → StandsAmong (λ r. r ≡ q) ps → Certifies leaves f offset q) → AreCertified leaves f (plan_derivation_in offset ps row)
@@ -121,7 +121,7 @@ grown_certifies kinds.Share nodes used leaves f offset head ns is law made =
     subst F (sym is) (subst G law (kept_whole nodes used leaves offset head.number made (kept_at used head.number) refl))
 grown_certifies (kinds.ListPack has_validity) nodes used leaves f offset head ns is law made = tt
 grown_certifies kinds.RowIdx nodes used leaves f offset head ns is law made = tt
-grown_certifies (kinds.SegmentScan segment) nodes used leaves f offset head ns is law made = tt
+grown_certifies (kinds.SegmentScan segment coding) nodes used leaves f offset head ns is law made = tt
 grown_certifies (kinds.Zoned zone_len stats) nodes used leaves f offset head ns is law made = tt
 grown_certifies (kinds.LegacyStats zone_len stats) nodes used leaves f offset head ns is law made = tt
 

@@ -42,7 +42,7 @@ mutual
   turned P Q f handed (share_plan head child) row fits (inr (none, (other, less, v))) = inr (none, (other, less, turned P Q f None child other (none_fits child) v))
   turned P Q f handed (list_plan head elements offsets validity) row fits v = f handed (list_plan head elements offsets validity) row fits v
   turned P Q f handed (row_idx_plan head) row fits v = f handed (row_idx_plan head) row fits v
-  turned P Q f handed (scan_plan head segment) row fits v = f handed (scan_plan head segment) row fits v
+  turned P Q f handed (scan_plan head segment coding) row fits v = f handed (scan_plan head segment coding) row fits v
   turned P Q f handed (zoned_plan head zones content table) row fits (inl v) = inl (f handed (zoned_plan head zones content table) row fits v)
   turned P Q f handed (zoned_plan head zones content table) row fits (inr v) = inr (turned P Q f handed content row fits v)
 
@@ -101,7 +101,7 @@ into leaves offset n at handed (take_plan head codes values) row fits v =
 into leaves offset n at handed (share_plan head child) row fits v = absurd v
 into leaves offset n at handed (list_plan head elements offsets validity) row fits v = absurd v
 into leaves offset n at handed (row_idx_plan head) row fits v = absurd v
-into leaves offset n at handed (scan_plan head segment) row fits v = absurd v
+into leaves offset n at handed (scan_plan head segment coding) row fits v = absurd v
 into leaves offset n at handed (zoned_plan head zones content table) row fits v = absurd v
 
 back : (leaves : Leaves) (offset n at : ℕ) → Turns (ReadsBadCode leaves offset n at) (HasBadCode leaves offset n at)
@@ -115,7 +115,7 @@ back leaves offset n at handed (take_plan head codes values) row fits v =
 back leaves offset n at handed (share_plan head child) row fits v = absurd v
 back leaves offset n at handed (list_plan head elements offsets validity) row fits v = absurd v
 back leaves offset n at handed (row_idx_plan head) row fits v = absurd v
-back leaves offset n at handed (scan_plan head segment) row fits v = absurd v
+back leaves offset n at handed (scan_plan head segment coding) row fits v = absurd v
 back leaves offset n at handed (zoned_plan head zones content table) row fits v = absurd v
 
 code_own : (leaves : Leaves) (offset n at : ℕ) → FindsOwn (ReadsBadCode leaves offset n at) (IsBadCodeAt leaves n at) offset
@@ -128,7 +128,7 @@ code_own leaves offset n at handed way (take_plan head codes values) row v = inl
 code_own leaves offset n at handed way (share_plan head child) row v = absurd v
 code_own leaves offset n at handed way (list_plan head elements offsets validity) row v = absurd v
 code_own leaves offset n at handed way (row_idx_plan head) row v = absurd v
-code_own leaves offset n at handed way (scan_plan head segment) row v = absurd v
+code_own leaves offset n at handed way (scan_plan head segment coding) row v = absurd v
 code_own leaves offset n at handed way (zoned_plan head zones content table) row v = absurd v
 
 pub code_found : (leaves : Leaves) (handed : Handed) (offset : ℕ) (p : Plan) (way : Way) (row n at : ℕ) → GivenFits handed p → Visits (HasBadCode leaves offset n at) handed p row → RowReads (IsBadCodeAt leaves n at) way handed (plan_derivation offset p row)
@@ -146,7 +146,7 @@ code_visit leaves handed offset p way row n at fits fit less any =
 
     own : IsOwn P (IsBadCodeAt leaves n at) offset
     own = record {
-      of_cell = λ other head s here none. absurd none;
+      of_cell = λ other head s coding here none. absurd none;
       of_list = λ other head elements offsets validity here none. absurd none;
       of_code = λ other head codes values here is. (tt, is);
     }

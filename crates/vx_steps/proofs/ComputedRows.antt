@@ -4,6 +4,7 @@ use Rattle.std.specs.Prelude.{slice_range, IsSomeAnd, IfOk, IfErr, IfSome, Match
 use Rattle.std.specs.List.{slice_get, range_with_len}
 use Rattle.std.proofs.lemmas.Int.{ints}
 use Rattle.std.proofs.lemmas.List.{length-replicate}
+use Rattle.vx_plan.specs.Kinds.{coding_of}
 use Rattle.vx_base.specs.ColumnCalls.{natural}
 use Rattle.vx_base.specs.Columns.{ColumnData}
 use Rattle.vx_base.specs.Data.{DataType, Datum, null, truth, number, text, structure}
@@ -76,15 +77,15 @@ empty_computed h n start bits (Err error) none empty memory = subst (λ (e : Ste
 
 -- ---- a segment
 
-leaf_row : (leaves : Leaves) (handed : Handed) (offset : ℕ) (nodes : List Node) (n segment : ℕ) (values : List Datum) → leaves (node_at nodes n).dtype (node_at nodes n).rows segment ≡ Some values → (row : ℕ) → row_value leaves handed offset (scan_plan (head_of nodes n) segment) row ≡ slice_get values row
+leaf_row : (leaves : Leaves) (handed : Handed) (offset : ℕ) (nodes : List Node) (n segment : ℕ) (values : List Datum) → leaves (node_at nodes n).dtype (coding_of (node_at nodes n).kind) (node_at nodes n).rows segment ≡ Some values → (row : ℕ) → row_value leaves handed offset (scan_plan (head_of nodes n) segment (coding_of (node_at nodes n).kind)) row ≡ slice_get values row
 leaf_row leaves handed offset nodes n segment values there row = ap (option_and_then (λ (vs : List Datum). slice_get vs row)) there
 
 pub leaf_computed : (h : Held) (n segment start : ℕ) (bits : List Bool) (column out : ColumnData) → IsLeafPlan h.nodes n segment → HasShape h.nodes n (shapes.Leaf segment) → kept_at h.leaves n ≡ Some column → start + length bits ≤ length column.values →
     out.values ≡ chosen bits (slice_range column.values start (start + length bits)) → Computes h n start bits (Ok out)
 leaf_computed h n segment start bits column out over shape at inside picked leaves are =
-    let there : leaves (node_at h.nodes n).dtype (node_at h.nodes n).rows segment ≡ Some column.values = are.leaves_are n segment column shape at in
+    let there : leaves (node_at h.nodes n).dtype (coding_of (node_at h.nodes n).kind) (node_at h.nodes n).rows segment ≡ Some column.values = are.leaves_are n segment column shape at in
     subst (OutcomeOf h leaves start bits (Ok out)) (sym over.law)
-    (map_same (row_value leaves (handed_in h) h.offset (scan_plan (head_of h.nodes n) segment)) (slice_get column.values) (leaf_row leaves (handed_in h) h.offset h.nodes n segment column.values there) (rows_of start bits)
+    (map_same (row_value leaves (handed_in h) h.offset (scan_plan (head_of h.nodes n) segment (coding_of (node_at h.nodes n).kind))) (slice_get column.values) (leaf_row leaves (handed_in h) h.offset h.nodes n segment column.values there) (rows_of start bits)
     ∙ picked_rows column.values start bits inside ∙ ap (map Some) (sym picked))
 
 -- ---- the rows of one child

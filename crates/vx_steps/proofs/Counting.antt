@@ -7,11 +7,13 @@ use Rattle.std.specs.BTreeMap.{BTreeMap, get}
 use Rattle.std.specs.Ordering.{nat_cmp}
 use Rattle.std.proofs.lemmas.Bool.{cases_eq}
 use Rattle.std.proofs.lemmas.Option.{slice_get_within}
+use Rattle.vx_base.specs.declared.codings.Coding.{Coding}
 use Rattle.vx_base.specs.Columns.{ColumnData}
 use Rattle.vx_expr.specs.declared.statistics.Statistic.{Statistic}
 use Rattle.vx_plan.specs.declared.nodes.PlanKind.TheVariants as kinds
 use Rattle.vx_plan.specs.declared.shapes.Shape.{Shape}
 use Rattle.vx_plan.specs.declared.shapes.Shape.TheVariants as shapes
+use Rattle.vx_plan.specs.Kinds.{coding_of}
 use Rattle.vx_plan.specs.Nodes.{Node}
 use Rattle.vx_plan.specs.Rules.{node_at}
 use Rattle.vx_plan.specs.Shapes.{HasShape, ShapeOf, zoned_kind}
@@ -28,12 +30,12 @@ use Rattle.vx_steps.proofs.Releasing.{none_before, not_kept}
 
 -- ---- what is no leaf
 
-kind_of_leaf : (nodes : List Node) (n segment : ℕ) → n < length nodes → IsLeafOver nodes segment n → (node_at nodes n).kind ≡ kinds.SegmentScan segment
+kind_of_leaf : (nodes : List Node) (n segment : ℕ) → n < length nodes → IsLeafOver nodes segment n → (node_at nodes n).kind ≡ kinds.SegmentScan segment (coding_of (node_at nodes n).kind)
 kind_of_leaf nodes n segment known leaf = (shape_there nodes n (shapes.Leaf segment) known leaf).kind_is
 
-zoned_apart : (is_legacy : Bool) (nodes : List Node) (n segment zone_len : ℕ) (stats : List Statistic) → (node_at nodes n).kind ≡ zoned_kind is_legacy zone_len stats → (node_at nodes n).kind ≡ kinds.SegmentScan segment → ⊥
-zoned_apart true nodes n segment zone_len stats is leaf = cc
-zoned_apart false nodes n segment zone_len stats is leaf = cc
+zoned_apart : (is_legacy : Bool) (nodes : List Node) (n segment zone_len : ℕ) (coding : Coding) (stats : List Statistic) → (node_at nodes n).kind ≡ zoned_kind is_legacy zone_len stats → (node_at nodes n).kind ≡ kinds.SegmentScan segment coding → ⊥
+zoned_apart true nodes n segment zone_len coding stats is leaf = cc
+zoned_apart false nodes n segment zone_len coding stats is leaf = cc
 
 pub shape_of_leaf : (nodes : List Node) (n segment : ℕ) (shape : Shape) → n < length nodes → HasShape nodes n shape → IsLeafOver nodes segment n → (s : ℕ) × (shape ≡ shapes.Leaf s)
 shape_of_leaf nodes n segment (shapes.Leaf s) known has leaf = (s, refl)
@@ -71,7 +73,7 @@ shape_of_leaf nodes n segment shapes.RowNumbers known has leaf =
     absurd cc
 shape_of_leaf nodes n segment (shapes.Zoned content table) known has leaf =
     let z = shape_there nodes n (shapes.Zoned content table) known has in
-    absurd (zoned_apart z.is_legacy nodes n segment z.zone_len z.stats z.over.kind_is (kind_of_leaf nodes n segment known leaf))
+    absurd (zoned_apart z.is_legacy nodes n segment z.zone_len (coding_of (node_at nodes n).kind) z.stats z.over.kind_is (kind_of_leaf nodes n segment known leaf))
 
 -- a leaf stands in the table
 pub leaf_known : (nodes : List Node) (n segment : ℕ) → IsLeafOver nodes segment n → n < length nodes

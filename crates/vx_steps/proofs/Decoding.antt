@@ -2,13 +2,15 @@
 use Rattle.std.proofs.Common.{◌≡◌, Bor, ℕ, ◌+◌, ◌<◌, ◌==◌, ◌⊎◌, inl, inr, ⊎_elim, Bool, true, false, List, [], ◌∷◌, ◌++◌, Option, Some, None, length, take, get_or, refl, sym, ap, ◌∙◌, subst, arith}
 use Rattle.std.specs.Prelude.{if◌then◌else◌, option_and_then}
 use Rattle.std.proofs.lemmas.List.{take_more}
+use Rattle.vx_base.specs.declared.codings.Coding.{Coding}
 use Rattle.vx_base.specs.Columns.{ColumnData}
-use Rattle.vx_base.specs.Reading.{decoded}
+use Rattle.vx_base.specs.CodingsRead.{decoded_as}
 use Rattle.vx_steps.specs.declared.errors.StepError.{StepError}
 use Rattle.vx_steps.specs.declared.errors.StepError.TheVariants.{BadSegment, Unsupported, BadCode, EvalFault, Memory}
 use Rattle.vx_steps.specs.declared.leaf_reads.LeafRead.{LeafRead}
 use Rattle.vx_plan.specs.declared.nodes.PlanKind.TheVariants as kinds
 use Rattle.vx_plan.specs.declared.shapes.Shape.TheVariants as shapes
+use Rattle.vx_plan.specs.Kinds.{coding_of}
 use Rattle.vx_plan.specs.Nodes.{Node}
 use Rattle.vx_plan.specs.Rules.{node_at}
 use Rattle.vx_plan.specs.Shapes.{HasShape}
@@ -51,14 +53,14 @@ kept_cases old node column none n found at = by_old (kept_at old n) refl
     by_old (Some x) e = inl (e ∙ sym (kept_old old (record { node = node; column = column } ∷ []) n x e) ∙ at)
 
 -- a leaf of the table names one segment
-same_segment : (a b : ℕ) → kinds.SegmentScan a ≡ kinds.SegmentScan b → a ≡ b
-same_segment a b e = cc
+same_segment : (a b : ℕ) (c d : Coding) → kinds.SegmentScan a c ≡ kinds.SegmentScan b d → a ≡ b
+same_segment a b c d e = cc
 
 pub one_segment : (nodes : List Node) (n a b : ℕ) → n < length nodes → HasShape nodes n (shapes.Leaf a) → HasShape nodes n (shapes.Leaf b) → a ≡ b
-one_segment nodes n a b known one other = same_segment a b (sym (shape_there nodes n (shapes.Leaf a) known one).kind_is ∙ (shape_there nodes n (shapes.Leaf b) known other).kind_is)
+one_segment nodes n a b known one other = same_segment a b (coding_of (node_at nodes n).kind) (coding_of (node_at nodes n).kind) (sym (shape_there nodes n (shapes.Leaf a) known one).kind_is ∙ (shape_there nodes n (shapes.Leaf b) known other).kind_is)
 
 pub decoded_keeps : (nodes : List Node) (wanted : List Wanted) (old : List Kept) (need : LeafRead) (bytes : List ℕ) (column : ColumnData) → need.leaf < length nodes → HasShape nodes need.leaf (shapes.Leaf need.segment) → kept_at old need.leaf ≡ None → bytes_of wanted need.segment ≡ Some bytes →
-    column.dtype ≡ (node_at nodes need.leaf).dtype → length column.values ≡ (node_at nodes need.leaf).rows → decoded (node_at nodes need.leaf).dtype (node_at nodes need.leaf).rows bytes ≡ Some column.values →
+    column.dtype ≡ (node_at nodes need.leaf).dtype → length column.values ≡ (node_at nodes need.leaf).rows → decoded_as (coding_of (node_at nodes need.leaf).kind) (node_at nodes need.leaf).dtype (node_at nodes need.leaf).rows bytes ≡ Some column.values →
     KeepsLeaves nodes wanted old (old ++ record { node = need.leaf; column = column } ∷ [])
 decoded_keeps nodes wanted old need bytes column known leaf none came dtype count read = record {
   grows = λ n found at. kept_old old (more ∷ []) n found at;
@@ -75,17 +77,18 @@ decoded_keeps nodes wanted old need bytes column known leaf none came dtype coun
         let Q : ColumnData → Type 0 = λ x. (x.dtype ≡ (node_at nodes need.leaf).dtype) × (length x.values ≡ (node_at nodes need.leaf).rows) in
         subst P same (subst Q is (dtype, count))
 
-    new_right : (outside : Bytes) → Agrees wanted outside → (n segment : ℕ) (found : ColumnData) → HasShape nodes n (shapes.Leaf segment) → need.leaf ≡ n → column ≡ found → leaves_of outside (node_at nodes n).dtype (node_at nodes n).rows segment ≡ Some found.values
+    new_right : (outside : Bytes) → Agrees wanted outside → (n segment : ℕ) (found : ColumnData) → HasShape nodes n (shapes.Leaf segment) → need.leaf ≡ n → column ≡ found → leaves_of outside (node_at nodes n).dtype (coding_of (node_at nodes n).kind) (node_at nodes n).rows segment ≡ Some found.values
     new_right outside agrees n segment found over same is =
         let P : ℕ → Type 0 = λ k. HasShape nodes k (shapes.Leaf segment) in
         let over2 : HasShape nodes need.leaf (shapes.Leaf segment) = subst P (sym same) over in
         let named : need.segment ≡ segment = one_segment nodes need.leaf need.segment segment known leaf over2 in
         let there : outside need.segment ≡ Some bytes = bytes_found wanted outside need.segment bytes agrees came in
         let t = (node_at nodes need.leaf).dtype in
+        let c = coding_of (node_at nodes need.leaf).kind in
         let r = (node_at nodes need.leaf).rows in
-        let here : leaves_of outside t r need.segment ≡ Some column.values = ap (option_and_then (decoded t r)) there ∙ read in
-        let F : ℕ → Type 0 = λ s. leaves_of outside t r s ≡ Some column.values in
-        let G : ℕ → Type 0 = λ k. leaves_of outside (node_at nodes k).dtype (node_at nodes k).rows segment ≡ Some column.values in
+        let here : leaves_of outside t c r need.segment ≡ Some column.values = ap (option_and_then (decoded_as c t r)) there ∙ read in
+        let F : ℕ → Type 0 = λ s. leaves_of outside t c r s ≡ Some column.values in
+        let G : ℕ → Type 0 = λ k. leaves_of outside (node_at nodes k).dtype (coding_of (node_at nodes k).kind) (node_at nodes k).rows segment ≡ Some column.values in
         subst G same (subst F named here) ∙ ap (λ (x : ColumnData). Some x.values) is
 
 pub none_kept : (found : Option (Bor ColumnData)) (kept : Option ColumnData) → option_copied found ≡ kept → is_some found ≡ false → kept ≡ None

@@ -50,7 +50,7 @@ mutual
   freed P Q handed free none own deep (share_plan head child) row (inr (closed, (other, less, v))) = inr (none head.number, (other, less, freed P Q None None hands_none deep deep child other v))
   freed P Q handed free none own deep (list_plan head elements offsets validity) row v = own (list_plan head elements offsets validity) row v
   freed P Q handed free none own deep (row_idx_plan head) row v = own (row_idx_plan head) row v
-  freed P Q handed free none own deep (scan_plan head segment) row v = own (scan_plan head segment) row v
+  freed P Q handed free none own deep (scan_plan head segment coding) row v = own (scan_plan head segment coding) row v
   freed P Q handed free none own deep (zoned_plan head zones content table) row (inl v) = own (zoned_plan head zones content table) row v
   freed P Q handed free none own deep (zoned_plan head zones content table) row (inr v) = inr (freed P Q handed free none own deep content row v)
 
@@ -81,7 +81,7 @@ leaf_becomes read handed free (take_plan head codes values) row v = absurd v
 leaf_becomes read handed free (share_plan head child) row v = absurd v
 leaf_becomes read handed free (list_plan head elements offsets validity) row v = absurd v
 leaf_becomes read handed free (row_idx_plan head) row v = absurd v
-leaf_becomes read handed free (scan_plan head segment) row v = v
+leaf_becomes read handed free (scan_plan head segment coding) row v = v
 leaf_becomes read handed free (zoned_plan head zones content table) row v = absurd v
 
 pub list_becomes : (n : ℕ) (handed free : Handed) → Becomes (IsListRead n) (IsListRead n) handed free
@@ -94,7 +94,7 @@ list_becomes n handed free (take_plan head codes values) row v = absurd v
 list_becomes n handed free (share_plan head child) row v = absurd v
 list_becomes n handed free (list_plan head elements offsets validity) row v = v
 list_becomes n handed free (row_idx_plan head) row v = absurd v
-list_becomes n handed free (scan_plan head segment) row v = absurd v
+list_becomes n handed free (scan_plan head segment coding) row v = absurd v
 list_becomes n handed free (zoned_plan head zones content table) row v = absurd v
 
 pub leaf_free : (handed free : Handed) → HandsNone free → (p : Plan) (row : ℕ) (read : LeafRead) → Visits (IsLeafRead read) handed p row → Visits (IsLeafRead read) free p row
@@ -139,7 +139,7 @@ code_becomes leaves offset n at handed free same (take_plan head codes values) r
 code_becomes leaves offset n at handed free same (share_plan head child) row v = absurd v
 code_becomes leaves offset n at handed free same (list_plan head elements offsets validity) row v = absurd v
 code_becomes leaves offset n at handed free same (row_idx_plan head) row v = absurd v
-code_becomes leaves offset n at handed free same (scan_plan head segment) row v = absurd v
+code_becomes leaves offset n at handed free same (scan_plan head segment coding) row v = absurd v
 code_becomes leaves offset n at handed free same (zoned_plan head zones content table) row v = absurd v
 
 pub fault_becomes : (leaves : Leaves) (offset at : ℕ) (handed free : Handed) → SameValues leaves offset handed free → Becomes (HasEvalFault leaves offset at) (HasEvalFault leaves offset at) handed free
@@ -152,7 +152,7 @@ fault_becomes leaves offset at handed free same (take_plan head codes values) ro
 fault_becomes leaves offset at handed free same (share_plan head child) row v = absurd v
 fault_becomes leaves offset at handed free same (list_plan head elements offsets validity) row v = absurd v
 fault_becomes leaves offset at handed free same (row_idx_plan head) row v = absurd v
-fault_becomes leaves offset at handed free same (scan_plan head segment) row v = absurd v
+fault_becomes leaves offset at handed free same (scan_plan head segment coding) row v = absurd v
 fault_becomes leaves offset at handed free same (zoned_plan head zones content table) row v = absurd v
 
 pub none_same : (leaves : Leaves) (offset : ℕ) → SameValues leaves offset None None

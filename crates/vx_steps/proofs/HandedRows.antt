@@ -35,7 +35,7 @@ mutual
   none_fits (share_plan head child) = tt
   none_fits (list_plan head elements offsets validity) = tt
   none_fits (row_idx_plan head) = tt
-  none_fits (scan_plan head segment) = tt
+  none_fits (scan_plan head segment coding) = tt
   none_fits (zoned_plan head zones content table) = none_fits content
 
   none_fits_each : (ps : Plans) → GivenFitsEach None ps
@@ -88,7 +88,7 @@ grown_fits kinds.Take nodes handed head ns own each = (own refl, one_fits nodes 
 grown_fits kinds.Share nodes handed head ns own each = tt
 grown_fits (kinds.ListPack has_validity) nodes handed head ns own each = tt
 grown_fits kinds.RowIdx nodes handed head ns own each = tt
-grown_fits (kinds.SegmentScan segment) nodes handed head ns own each = tt
+grown_fits (kinds.SegmentScan segment coding) nodes handed head ns own each = tt
 grown_fits (kinds.Zoned zone_len stats) nodes handed head ns own each = one_fits nodes handed ns 0 each
 grown_fits (kinds.LegacyStats zone_len stats) nodes handed head ns own each = one_fits nodes handed ns 0 each
 

@@ -3,6 +3,7 @@ use Rattle.std.proofs.Common.{◌≡◌, ℕ, suc, ◌+◌, ◌-◌, ◌<◌, �
 use Rattle.std.specs.List.{slice_get}
 use Rattle.std.proofs.lemmas.Bool.{cases_lt}
 use Rattle.std.proofs.lemmas.Option.{slice_get_within}
+use Rattle.vx_plan.specs.Kinds.{coding_of}
 use Rattle.vx_plan.specs.Nodes.{Node}
 use Rattle.vx_plan.specs.Plans.{Plan, plan_head, plan_at, plans_from, field_plans, last_validity, filter_plan, pack_plan, row_idx_plan, scan_plan, share_plan, take_plan}
 use Rattle.vx_plan.specs.Rules.{node_at}
@@ -42,7 +43,7 @@ no_rows places nodes n start x (place, less, v) = omega (arith, less)
 pub placed_leaf : (places : ℕ) (nodes : List Node) (n segment start count : ℕ) → IsLeafPlan nodes n segment → segment < places → IsOne (AreHindered places nodes n start count) None
 placed_leaf places nodes n segment start count over inside x r = absurd (not x (subst (Hindered places x start count) over.law r))
   where
-    not : (y : Hindrance) → Hindered places y start count (scan_plan (head_of nodes n) segment) → ⊥
+    not : (y : Hindrance) → Hindered places y start count (scan_plan (head_of nodes n) segment (coding_of (node_at nodes n).kind)) → ⊥
     not (hindrances.List list) (place, less, v) = v
     not (hindrances.Segment other) (place, less, v) = let past = v.1 in omega (arith, past, inside)
 

@@ -2,6 +2,7 @@
 use Rattle.std.proofs.Common.{◌≡◌, ℕ, ◌<◌, inl, inr, List, Some, None, length, map, refl, sym, ap, ◌∙◌, subst}
 use Rattle.std.specs.List.{slice_get}
 use Rattle.std.proofs.lemmas.Option.{slice_get-get_or}
+use Rattle.vx_base.specs.declared.codings.Coding.{Coding}
 use Rattle.vx_rows.specs.Heads.{Head}
 use Rattle.vx_plan.specs.declared.nodes.PlanKind.{PlanKind}
 use Rattle.vx_plan.specs.declared.nodes.PlanKind.TheVariants as kinds
@@ -30,12 +31,12 @@ use Rattle.vx_base.specs.Columns.{ColumnData}
 
 -- the plan scans the segment under that number
 abbrev IsScanOf : LeafRead → Plan → Type 0
-IsScanOf read (scan_plan head segment) = (head.number ≡ read.leaf) × (segment ≡ read.segment)
+IsScanOf read (scan_plan head segment coding) = (head.number ≡ read.leaf) × (segment ≡ read.segment)
 IsScanOf read p = ⊥
 
 -- the plan scans some segment under that number
 abbrev IsScan : ℕ → Plan → Type 0
-IsScan leaf (scan_plan head segment) = head.number ≡ leaf
+IsScan leaf (scan_plan head segment coding) = head.number ≡ leaf
 IsScan leaf p = ⊥
 
 tells_read : (read : LeafRead) → Tells (IsLeafRead read) (IsScanOf read)
@@ -48,7 +49,7 @@ tells_read read handed (take_plan head codes values) row v = v
 tells_read read handed (share_plan head child) row v = v
 tells_read read handed (list_plan head elements offsets validity) row v = v
 tells_read read handed (row_idx_plan head) row v = v
-tells_read read handed (scan_plan head segment) row v = v
+tells_read read handed (scan_plan head segment coding) row v = v
 tells_read read handed (zoned_plan head zones content table) row v = v
 
 tells_leaf : (leaf : ℕ) → Tells (IsLeafOf leaf) (IsScan leaf)
@@ -61,7 +62,7 @@ tells_leaf leaf handed (take_plan head codes values) row v = v
 tells_leaf leaf handed (share_plan head child) row v = v
 tells_leaf leaf handed (list_plan head elements offsets validity) row v = v
 tells_leaf leaf handed (row_idx_plan head) row v = v
-tells_leaf leaf handed (scan_plan head segment) row v = v
+tells_leaf leaf handed (scan_plan head segment coding) row v = v
 tells_leaf leaf handed (zoned_plan head zones content table) row v = v
 
 scan_of : (read : LeafRead) (p : Plan) → IsScanOf read p → IsScan read.leaf p
@@ -74,7 +75,7 @@ scan_of read (take_plan head codes values) is = is
 scan_of read (share_plan head child) is = is
 scan_of read (list_plan head elements offsets validity) is = is
 scan_of read (row_idx_plan head) is = is
-scan_of read (scan_plan head segment) is = is.0
+scan_of read (scan_plan head segment coding) is = is.0
 scan_of read (zoned_plan head zones content table) is = is
 
 scan_number : (leaf : ℕ) (p : Plan) → IsScan leaf p → (plan_head p).number ≡ leaf
@@ -87,7 +88,7 @@ scan_number leaf (take_plan head codes values) is = absurd is
 scan_number leaf (share_plan head child) is = absurd is
 scan_number leaf (list_plan head elements offsets validity) is = absurd is
 scan_number leaf (row_idx_plan head) is = absurd is
-scan_number leaf (scan_plan head segment) is = is
+scan_number leaf (scan_plan head segment coding) is = is
 scan_number leaf (zoned_plan head zones content table) is = absurd is
 
 -- a plan of a table that is so and has that number is the plan of the number
@@ -119,7 +120,7 @@ one_scan one other (take_plan head codes values) is also = absurd is
 one_scan one other (share_plan head child) is also = absurd is
 one_scan one other (list_plan head elements offsets validity) is also = absurd is
 one_scan one other (row_idx_plan head) is also = absurd is
-one_scan one other (scan_plan head segment) is also = sym is.1 ∙ also.1
+one_scan one other (scan_plan head segment coding) is also = sym is.1 ∙ also.1
 one_scan one other (zoned_plan head zones content table) is also = absurd is
 
 pub one_segment : (nodes : List Node) → IsGoodTable nodes → (n : ℕ) → n < length nodes → (one other : LeafRead) (row at : ℕ) → Visits (IsLeafRead one) None (plan_at nodes n) row → Visits (IsLeafRead other) None (plan_at nodes n) at → one.leaf ≡ other.leaf → one.segment ≡ other.segment
@@ -130,7 +131,7 @@ one_segment nodes good n there one other row at v w same =
 
 -- ---- a column that is handed in for a leaf counts
 
-scan_kind : (leaf : ℕ) (kind : PlanKind) (head : Head) (ps : List Plan) → IsScan leaf (plan_grown_as head kind ps) → (segment : ℕ) × (kind ≡ kinds.SegmentScan segment)
+scan_kind : (leaf : ℕ) (kind : PlanKind) (head : Head) (ps : List Plan) → IsScan leaf (plan_grown_as head kind ps) → (segment : ℕ) × (coding : Coding) × (kind ≡ kinds.SegmentScan segment coding)
 scan_kind leaf kinds.Concat head ps is = absurd is
 scan_kind leaf (kinds.Eval a) head ps is = absurd is
 scan_kind leaf kinds.Filter head ps is = absurd is
@@ -139,7 +140,7 @@ scan_kind leaf kinds.Take head ps is = absurd is
 scan_kind leaf kinds.Share head ps is = absurd is
 scan_kind leaf (kinds.ListPack has_validity) head ps is = absurd is
 scan_kind leaf kinds.RowIdx head ps is = absurd is
-scan_kind leaf (kinds.SegmentScan segment) head ps is = (segment, refl)
+scan_kind leaf (kinds.SegmentScan segment coding) head ps is = (segment, coding, refl)
 scan_kind leaf (kinds.Zoned zone_len stats) head ps is = absurd is
 scan_kind leaf (kinds.LegacyStats zone_len stats) head ps is = absurd is
 
@@ -149,7 +150,7 @@ scan_shape nodes good leaf below is =
     let at : slice_get nodes leaf ≡ Some node = slice_get-get_or nodes leaf absent below in
     let k : Known nodes leaf node node.kind = known nodes good leaf node node.kind at refl in
     let kind = scan_kind leaf node.kind (head_at leaf node) (map (plan_at nodes) node.children) (subst (IsScan leaf) k.law is) in
-    (kind.0, leaf_shape nodes good leaf node kind.0 at kind.1)
+    (kind.0, leaf_shape nodes good leaf node kind.0 kind.1 at kind.2)
 
 -- of columns with the dtypes and rows of their plans, that of a leaf which a row reads is one of those for leaves
 pub leaf_counts : (nodes : List Node) → IsGoodTable nodes → (n : ℕ) → n < length nodes → (leaf row : ℕ) → Visits (IsLeafOf leaf) None (plan_at nodes n) row → (all kept : List Kept) (column : ColumnData) → AreTyped nodes all → Keeps (IsForLeaf nodes) all kept → kept_at all leaf ≡ Some column →

@@ -3,6 +3,7 @@ use Rattle.std.proofs.Common.{◌≡◌, ℕ, suc, ◌+◌, ◌-◌, ◌<◌, �
 use Rattle.std.specs.Prelude.{◌↔◌, IsTrue}
 use Rattle.std.specs.List.{slice_get}
 use Rattle.std.proofs.lemmas.Bool.{cases_lt}
+use Rattle.vx_plan.specs.Kinds.{coding_of}
 use Rattle.vx_plan.specs.Nodes.{Node}
 use Rattle.vx_plan.specs.Plans.{Plan, plan_head, plan_at, plans_from, field_plans, last_validity, filter_plan, pack_plan, scan_plan, share_plan, take_plan}
 use Rattle.vx_plan.specs.Rules.{node_at}
@@ -52,7 +53,7 @@ leaf_rows nodes n segment start count old new over some meets =
   where
     is : (leaf : ℕ) → RowsRead nodes n start count leaf → n ≡ leaf
     is leaf r =
-        let r2 : RowsVisit leaf start count (scan_plan (head_of nodes n) segment) = subst (RowsVisit leaf start count) over.law r in
+        let r2 : RowsVisit leaf start count (scan_plan (head_of nodes n) segment (coding_of (node_at nodes n).kind)) = subst (RowsVisit leaf start count) over.law r in
         r2.2
 
 -- ---- the rows of one child

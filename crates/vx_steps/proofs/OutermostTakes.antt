@@ -108,8 +108,8 @@ mutual
   asked take offset given (list_plan head elements offsets validity) row (inl here) = absurd here.1
   asked take offset given (list_plan head elements offsets validity) row (inr none) = absurd none
   asked take offset given (row_idx_plan head) row any = absurd any
-  asked take offset given (scan_plan head segment) row (inl here) = absurd here.1
-  asked take offset given (scan_plan head segment) row (inr none) = absurd none
+  asked take offset given (scan_plan head segment coding) row (inl here) = absurd here.1
+  asked take offset given (scan_plan head segment coding) row (inr none) = absurd none
   asked take offset given (zoned_plan head zones content table) row any =
       let v = asked take offset given content row any in
       (v.0, inr v.1)
@@ -159,7 +159,7 @@ take_kind kinds.Take nodes good (Some given) head node ns take values row made t
 take_kind kinds.Share nodes good (Some given) head node ns take values row made these v = absurd v
 take_kind (kinds.ListPack has_validity) nodes good (Some given) head node ns take values row made these v = absurd v
 take_kind kinds.RowIdx nodes good (Some given) head node ns take values row made these v = absurd v
-take_kind (kinds.SegmentScan segment) nodes good (Some given) head node ns take values row made these v = absurd v
+take_kind (kinds.SegmentScan segment coding) nodes good (Some given) head node ns take values row made these v = absurd v
 take_kind (kinds.Zoned zone_len stats) nodes good (Some given) head node ns take values row made these v = absurd v
 take_kind (kinds.LegacyStats zone_len stats) nodes good (Some given) head node ns take values row made these v = absurd v
 
@@ -193,7 +193,7 @@ take_whole take values (Some given) (take_plan head codes of) row v = v.1
 take_whole take values (Some given) (share_plan head child) row v = absurd v
 take_whole take values (Some given) (list_plan head elements offsets validity) row v = absurd v
 take_whole take values (Some given) (row_idx_plan head) row v = absurd v
-take_whole take values (Some given) (scan_plan head segment) row v = absurd v
+take_whole take values (Some given) (scan_plan head segment coding) row v = absurd v
 take_whole take values (Some given) (zoned_plan head zones content table) row v = absurd v
 
 abbrev AskedValues : List Node → ℕ → GivenValues → Plan → ℕ → Type 0

@@ -92,7 +92,7 @@ placed_kind kinds.Share P gap nodes head ns is each handed row (inl v) = inl (v,
 placed_kind kinds.Share P gap nodes head ns is each handed row (inr (none, (other, less, v))) = inr (none, (other, less, placed_in P gap nodes ns 0 each None other v))
 placed_kind (kinds.ListPack has_validity) P gap nodes head ns is each handed row v = (v, is)
 placed_kind kinds.RowIdx P gap nodes head ns is each handed row v = (v, is)
-placed_kind (kinds.SegmentScan segment) P gap nodes head ns is each handed row v = (v, is)
+placed_kind (kinds.SegmentScan segment coding) P gap nodes head ns is each handed row v = (v, is)
 placed_kind (kinds.Zoned zone_len stats) P gap nodes head ns is each handed row (inl v) = inl (v, is)
 placed_kind (kinds.Zoned zone_len stats) P gap nodes head ns is each handed row (inr v) = inr (placed_in P gap nodes ns 0 each handed row v)
 placed_kind (kinds.LegacyStats zone_len stats) P gap nodes head ns is each handed row (inl v) = inl (v, is)
@@ -139,7 +139,7 @@ mutual
   visit_mapped P Q f handed (share_plan head child) row (inr (none, (other, less, v))) = inr (none, (other, less, visit_mapped P Q f None child other v))
   visit_mapped P Q f handed (list_plan head elements offsets validity) row v = f handed (list_plan head elements offsets validity) row v
   visit_mapped P Q f handed (row_idx_plan head) row v = f handed (row_idx_plan head) row v
-  visit_mapped P Q f handed (scan_plan head segment) row v = f handed (scan_plan head segment) row v
+  visit_mapped P Q f handed (scan_plan head segment coding) row v = f handed (scan_plan head segment coding) row v
   visit_mapped P Q f handed (zoned_plan head zones content table) row (inl v) = inl (f handed (zoned_plan head zones content table) row v)
   visit_mapped P Q f handed (zoned_plan head zones content table) row (inr v) = inr (visit_mapped P Q f handed content row v)
 
@@ -190,7 +190,7 @@ mutual
   visit_seen P handed (share_plan head child) row (inr (none, (other, less, v))) = visit_seen P None child other v
   visit_seen P handed (list_plan head elements offsets validity) row v = record { handed = handed; at = list_plan head elements offsets validity; row = row; is = v }
   visit_seen P handed (row_idx_plan head) row v = record { handed = handed; at = row_idx_plan head; row = row; is = v }
-  visit_seen P handed (scan_plan head segment) row v = record { handed = handed; at = scan_plan head segment; row = row; is = v }
+  visit_seen P handed (scan_plan head segment coding) row v = record { handed = handed; at = scan_plan head segment coding; row = row; is = v }
   visit_seen P handed (zoned_plan head zones content table) row (inl v) = record { handed = handed; at = zoned_plan head zones content table; row = row; is = v }
   visit_seen P handed (zoned_plan head zones content table) row (inr v) = visit_seen P handed content row v
 

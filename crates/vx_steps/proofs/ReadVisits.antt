@@ -5,6 +5,7 @@ use Rattle.std.specs.Bool.{MatchBool}
 use Rattle.std.specs.List.{slice_get}
 use Rattle.std.proofs.lemmas.Bool.{ltb-true}
 use Rattle.std.proofs.lemmas.Option.{slice_get_within}
+use Rattle.vx_base.specs.declared.codings.Coding.{Coding}
 use Rattle.vx_base.specs.Data.{Datum}
 use Rattle.vx_rows.specs.Derivations.{LeafRow, Derivation, packed, read_whole, Derivations, each_row}
 use Rattle.vx_rows.specs.Reads.{Way, directly, inside, Found, a_leaf_row, a_code, a_list_row, code_row, Read, reads_of, reads_of_each, Finds, ReadsLeafRow, IsIn}
@@ -122,7 +123,7 @@ whole_of Q way f count any = shown (row_of Q way f 0 count any)
 
 -- what a row itself has read is a visit of it, by some test of several
 pub record IsOwn {X : Type 0} (P : X → Test) (Q : Found → Type 0) (offset : ℕ) : Type 0 where
-  pub of_cell : (handed : Handed) (head : Head) (segment row : ℕ) → Q (a_leaf_row (record { dtype = head.dtype; rows = head.rows; segment = segment; row = row })) → (x : X) × P x handed (scan_plan head segment) row
+  pub of_cell : (handed : Handed) (head : Head) (segment : ℕ) (coding : Coding) (row : ℕ) → Q (a_leaf_row (record { dtype = head.dtype; coding = coding; rows = head.rows; segment = segment; row = row })) → (x : X) × P x handed (scan_plan head segment coding) row
   pub of_list : (handed : Handed) (head : Head) (elements offsets : Plan) (validity : PlanValidity) (row : ℕ) → Q (a_list_row head.number row) → (x : X) × P x handed (list_plan head elements offsets validity) row
   pub of_code : (handed : Handed) (head : Head) (codes values : Plan) (row : ℕ) → Q (a_code (code_row head.number row (with_given (values_for handed) (plan_derivation offset codes row)) (values_with (values_for handed head.number) (each_row (plan_derivation offset values) 0 (plan_head values).rows)))) →
       (x : X) × P x handed (take_plan head codes values) row
@@ -192,8 +193,8 @@ mutual
   found_visit P Q offset own handed (list_plan head elements offsets validity) way row fit less (inl here) = own.of_list handed head elements offsets validity row here
   found_visit P Q offset own handed (list_plan head elements offsets validity) way row fit less (inr none) = absurd none
   found_visit P Q offset own handed (row_idx_plan head) way row fit less any = absurd any
-  found_visit P Q offset own handed (scan_plan head segment) way row fit less (inl here) = own.of_cell handed head segment row here
-  found_visit P Q offset own handed (scan_plan head segment) way row fit less (inr none) = absurd none
+  found_visit P Q offset own handed (scan_plan head segment coding) way row fit less (inl here) = own.of_cell handed head segment coding row here
+  found_visit P Q offset own handed (scan_plan head segment coding) way row fit less (inr none) = absurd none
   found_visit P Q offset own handed (zoned_plan head zones content table) way row fit less any =
       let v = found_visit P Q offset own handed content way row fit.1 (subst (λ (rows : ℕ). row < rows) (sym fit.0) less) any in
       (v.0, inr v.1)
@@ -232,7 +233,7 @@ leaf_visit handed offset p way row segment fit less any = found_visit P (IsIn se
 
     own : IsOwn P (IsIn segment) offset
     own = record {
-      of_cell = λ other head s at is. (head.number, (refl, is));
+      of_cell = λ other head s coding at is. (head.number, (refl, is));
       of_list = λ other head elements offsets validity at none. absurd none;
       of_code = λ other head codes values at none. absurd none;
     }
@@ -247,7 +248,7 @@ list_visit handed offset p way row n fit less any =
 
     own : IsOwn P (IsRowOf n) offset
     own = record {
-      of_cell = λ other head s at none. absurd none;
+      of_cell = λ other head s coding at none. absurd none;
       of_list = λ other head elements offsets validity at is. (tt, is);
       of_code = λ other head codes values at none. absurd none;
     }
@@ -272,7 +273,7 @@ none_as n kinds.Take children = none_whole (slice_get children 1)
 none_as n kinds.Share children = refl
 none_as n (kinds.ListPack has_validity) children = refl
 none_as n kinds.RowIdx children = refl
-none_as n (kinds.SegmentScan segment) children = refl
+none_as n (kinds.SegmentScan segment coding) children = refl
 none_as n (kinds.Zoned zone_len stats) children = refl
 none_as n (kinds.LegacyStats zone_len stats) children = refl
 

@@ -2,6 +2,7 @@
 use Rattle.std.proofs.Common.{◌≡◌, ℕ, zero, suc, ◌+◌, ◌-◌, ◌<◌, ◌≤◌, ◌⊎◌, inl, inr, ⊎_elim, Bool, true, false, List, [], ◌∷◌, ◌++◌, Option, Some, None, length, map, take, drop, replicate, refl, sym, ap, ◌∙◌, subst, arith}
 use Rattle.std.specs.Prelude.{slice_range}
 use Rattle.std.specs.List.{slice_get}
+use Rattle.vx_plan.specs.Kinds.{coding_of}
 use Rattle.vx_base.specs.Columns.{ColumnData}
 use Rattle.vx_plan.specs.Nodes.{Node}
 use Rattle.vx_plan.specs.Plans.{Plan, plan_head, plan_at, plans_from, field_plans, last_validity, front_plans, last_plan, filter_plan, pack_plan, take_plan, share_plan, scan_plan}
@@ -88,7 +89,7 @@ leaf_reads nodes handed n segment start bits over some old =
     let segment_is : segment ≡ read.segment = ap (λ (r : LeafRead). r.segment) e in
     subst (RowReads handed start bits read) (sym over.law) (some.0, some.1, (leaf, segment_is)))
     (λ read r.
-    let r2 : RowReads handed start bits read (scan_plan (head_of nodes n) segment) = subst (RowReads handed start bits read) over.law r in
+    let r2 : RowReads handed start bits read (scan_plan (head_of nodes n) segment (coding_of (node_at nodes n).kind)) = subst (RowReads handed start bits read) over.law r in
     leaf_is read n segment r2.2)
     (adds_one (record { leaf = n; segment = segment }) old)
 

@@ -34,7 +34,7 @@ stands_self F (take_plan head codes values) is = inl is
 stands_self F (share_plan head child) is = inl is
 stands_self F (list_plan head elements offsets validity) is = inl is
 stands_self F (row_idx_plan head) is = is
-stands_self F (scan_plan head segment) is = is
+stands_self F (scan_plan head segment coding) is = is
 stands_self F (zoned_plan head zones content table) is = inl is
 
 -- ---- one plan for another
@@ -61,7 +61,7 @@ mutual
   stands_mapped F G to (list_plan head elements offsets validity) (inr (inr (inl s))) = inr (inr (inl (stands_mapped F G to offsets s)))
   stands_mapped F G to (list_plan head elements offsets validity) (inr (inr (inr s))) = inr (inr (inr (validity_mapped F G to validity s)))
   stands_mapped F G to (row_idx_plan head) s = to (row_idx_plan head) s
-  stands_mapped F G to (scan_plan head segment) s = to (scan_plan head segment) s
+  stands_mapped F G to (scan_plan head segment coding) s = to (scan_plan head segment coding) s
   stands_mapped F G to (zoned_plan head zones content table) (inl s) = inl (to (zoned_plan head zones content table) s)
   stands_mapped F G to (zoned_plan head zones content table) (inr (inl s)) = inr (inl (stands_mapped F G to content s))
   stands_mapped F G to (zoned_plan head zones content table) (inr (inr s)) = inr (inr (stands_mapped F G to table s))
@@ -137,7 +137,7 @@ found_kind (kinds.ListPack has_validity) F nodes head ns own each (inr (inl s)) 
 found_kind (kinds.ListPack has_validity) F nodes head ns own each (inr (inr (inl s))) = found_in F nodes ns 1 each s
 found_kind (kinds.ListPack has_validity) F nodes head ns own each (inr (inr (inr s))) = found_validity has_validity F nodes ns each s
 found_kind kinds.RowIdx F nodes head ns own each s = own s
-found_kind (kinds.SegmentScan segment) F nodes head ns own each s = own s
+found_kind (kinds.SegmentScan segment coding) F nodes head ns own each s = own s
 found_kind (kinds.Zoned zone_len stats) F nodes head ns own each (inl s) = own s
 found_kind (kinds.Zoned zone_len stats) F nodes head ns own each (inr (inl s)) = found_in F nodes ns 0 each s
 found_kind (kinds.Zoned zone_len stats) F nodes head ns own each (inr (inr s)) = found_in F nodes ns 1 each s
@@ -190,7 +190,7 @@ mutual
   visit_stands P F tells handed (share_plan head child) row (inr (none, (other, less, v))) = inr (visit_stands P F tells None child other v)
   visit_stands P F tells handed (list_plan head elements offsets validity) row v = inl (tells handed (list_plan head elements offsets validity) row v)
   visit_stands P F tells handed (row_idx_plan head) row v = tells handed (row_idx_plan head) row v
-  visit_stands P F tells handed (scan_plan head segment) row v = tells handed (scan_plan head segment) row v
+  visit_stands P F tells handed (scan_plan head segment coding) row v = tells handed (scan_plan head segment coding) row v
   visit_stands P F tells handed (zoned_plan head zones content table) row (inl v) = inl (tells handed (zoned_plan head zones content table) row v)
   visit_stands P F tells handed (zoned_plan head zones content table) row (inr v) = inr (inl (visit_stands P F tells handed content row v))
 
@@ -221,7 +221,7 @@ share_kind kinds.Take head ps s = absurd s
 share_kind kinds.Share head ps s = tt
 share_kind (kinds.ListPack has_validity) head ps s = absurd s
 share_kind kinds.RowIdx head ps s = absurd s
-share_kind (kinds.SegmentScan segment) head ps s = absurd s
+share_kind (kinds.SegmentScan segment coding) head ps s = absurd s
 share_kind (kinds.Zoned zone_len stats) head ps s = absurd s
 share_kind (kinds.LegacyStats zone_len stats) head ps s = absurd s
 
@@ -256,7 +256,7 @@ of_eval leaves offset at None (take_plan head codes values) row v = absurd v
 of_eval leaves offset at None (share_plan head child) row v = absurd v
 of_eval leaves offset at None (list_plan head elements offsets validity) row v = absurd v
 of_eval leaves offset at None (row_idx_plan head) row v = absurd v
-of_eval leaves offset at None (scan_plan head segment) row v = absurd v
+of_eval leaves offset at None (scan_plan head segment coding) row v = absurd v
 of_eval leaves offset at None (zoned_plan head zones content table) row v = absurd v
 
 pub match_none : (b : Bool) (A B : Type 0) → (A → ⊥) → (B → ⊥) → MatchBool b A B → ⊥
@@ -281,7 +281,7 @@ mutual
   none_inside leaves offset at given (share_plan head child) row shares evals v = shares (inl tt)
   none_inside leaves offset at given (list_plan head elements offsets validity) row shares evals v = v
   none_inside leaves offset at given (row_idx_plan head) row shares evals v = v
-  none_inside leaves offset at given (scan_plan head segment) row shares evals v = v
+  none_inside leaves offset at given (scan_plan head segment coding) row shares evals v = v
   none_inside leaves offset at given (zoned_plan head zones content table) row shares evals (inl v) = v
   none_inside leaves offset at given (zoned_plan head zones content table) row shares evals (inr v) = none_inside leaves offset at given content row (λ s. shares (inr (inl s))) (λ s. evals (inr (inl s))) v
 

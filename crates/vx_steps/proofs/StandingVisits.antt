@@ -38,7 +38,7 @@ mutual
   visit_within P top whole handed (share_plan head child) row from up (inr (none, (other, less, v))) = inr (none, (other, less, visit_within P top whole None child other (inr refl) (λ q s. up q (inr s)) v))
   visit_within P top whole handed (list_plan head elements offsets validity) row from up v = own P top whole handed (list_plan head elements offsets validity) row from up v
   visit_within P top whole handed (row_idx_plan head) row from up v = own P top whole handed (row_idx_plan head) row from up v
-  visit_within P top whole handed (scan_plan head segment) row from up v = own P top whole handed (scan_plan head segment) row from up v
+  visit_within P top whole handed (scan_plan head segment coding) row from up v = own P top whole handed (scan_plan head segment coding) row from up v
   visit_within P top whole handed (zoned_plan head zones content table) row from up (inl v) = inl (own P top whole handed (zoned_plan head zones content table) row from up v)
   visit_within P top whole handed (zoned_plan head zones content table) row from up (inr v) = inr (visit_within P top whole handed content row from (λ q s. up q (inr (inl s))) v)
 

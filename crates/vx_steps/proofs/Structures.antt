@@ -73,7 +73,7 @@ pack_of kinds.Take t below count is types counts = absurd is
 pack_of kinds.Share t below count is types counts = absurd is
 pack_of (kinds.ListPack b) t below count is types counts = absurd is
 pack_of kinds.RowIdx t below count is types counts = absurd is
-pack_of (kinds.SegmentScan segment) t below count is types counts = absurd is
+pack_of (kinds.SegmentScan segment coding) t below count is types counts = absurd is
 pack_of (kinds.Zoned zone_len stats) t below count is types counts = absurd is
 pack_of (kinds.LegacyStats zone_len stats) t below count is types counts = absurd is
 

@@ -70,7 +70,7 @@ mutual
       ap (λ (o : Option (List Datum)). share_with o row whole) (agree head.number None (inl refl))
   same_with f g offset (list_plan head elements offsets validity) row agree = refl
   same_with f g offset (row_idx_plan head) row agree = refl
-  same_with f g offset (scan_plan head segment) row agree = refl
+  same_with f g offset (scan_plan head segment coding) row agree = refl
   same_with f g offset (zoned_plan head zones content table) row agree = same_with f g offset content row (λ n x v. agree n x (inr v))
 
   same_in : (f g : GivenValues) (offset : ℕ) (ps : Plans) (row : ℕ) → SameFor f g (λ n x. VisitsIn (Looks n x) (Some f) ps row) → with_given f (plan_derivation_in offset ps row) ≡ with_given g (plan_derivation_in offset ps row)
@@ -110,7 +110,7 @@ share_whole n (Some given) (take_plan head codes values) row v = absurd v
 share_whole n (Some given) (share_plan head child) row v = v
 share_whole n (Some given) (list_plan head elements offsets validity) row v = absurd v
 share_whole n (Some given) (row_idx_plan head) row v = absurd v
-share_whole n (Some given) (scan_plan head segment) row v = absurd v
+share_whole n (Some given) (scan_plan head segment coding) row v = absurd v
 share_whole n (Some given) (zoned_plan head zones content table) row v = absurd v
 
 pub of_share : (kind : PlanKind) (handed : Handed) (head : Head) (ps : List Plan) (n row : ℕ) → IsShareOf n handed (plan_grown_as head kind ps) row → (head.number ≡ n) × (kind ≡ kinds.Share)
@@ -123,7 +123,7 @@ of_share kinds.Take (Some given) head ps n row v = absurd v
 of_share kinds.Share (Some given) head ps n row v = (v, refl)
 of_share (kinds.ListPack has_validity) (Some given) head ps n row v = absurd v
 of_share kinds.RowIdx (Some given) head ps n row v = absurd v
-of_share (kinds.SegmentScan segment) (Some given) head ps n row v = absurd v
+of_share (kinds.SegmentScan segment coding) (Some given) head ps n row v = absurd v
 of_share (kinds.Zoned zone_len stats) (Some given) head ps n row v = absurd v
 of_share (kinds.LegacyStats zone_len stats) (Some given) head ps n row v = absurd v
 

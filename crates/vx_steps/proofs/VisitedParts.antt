@@ -81,7 +81,7 @@ mutual
       subst G (sym none) (inr (inr (part_alone F (plan_derivation offset child) (plan_head child).rows other less (visit_part P F offset own None child other v))))
   visit_part P F offset own handed (list_plan head elements offsets validity) row v = part_of F (row_with handed offset (list_plan head elements offsets validity) row) (own handed (list_plan head elements offsets validity) row v)
   visit_part P F offset own handed (row_idx_plan head) row v = part_of F (row_with handed offset (row_idx_plan head) row) (own handed (row_idx_plan head) row v)
-  visit_part P F offset own handed (scan_plan head segment) row v = part_of F (row_with handed offset (scan_plan head segment) row) (own handed (scan_plan head segment) row v)
+  visit_part P F offset own handed (scan_plan head segment coding) row v = part_of F (row_with handed offset (scan_plan head segment coding) row) (own handed (scan_plan head segment coding) row v)
   visit_part P F offset own handed (zoned_plan head zones content table) row (inl v) = part_of F (row_with handed offset (zoned_plan head zones content table) row) (own handed (zoned_plan head zones content table) row v)
   visit_part P F offset own handed (zoned_plan head zones content table) row (inr v) = visit_part P F offset own handed content row v
 
@@ -121,7 +121,7 @@ term_own leaves top offset whole at handed (take_plan head codes values) row v =
 term_own leaves top offset whole at handed (share_plan head child) row v = absurd v.0
 term_own leaves top offset whole at handed (list_plan head elements offsets validity) row v = absurd v.0
 term_own leaves top offset whole at handed (row_idx_plan head) row v = absurd v.0
-term_own leaves top offset whole at handed (scan_plan head segment) row v = absurd v.0
+term_own leaves top offset whole at handed (scan_plan head segment coding) row v = absurd v.0
 term_own leaves top offset whole at handed (zoned_plan head zones content table) row v = absurd v.0
 
 pub term_worked : (leaves : Leaves) (handed : Handed) (offset : ℕ) (p : Plan) (row at : ℕ) → Visits (HasEvalFault leaves offset at) handed p row → HasPart (IsFaultyRow leaves handed offset p at) (row_with handed offset p row)

@@ -109,7 +109,7 @@ mutual
       subst F (sym none) (any_right (Meets Q) (reads_of way (plan_derivation offset child row)) (reads_of_each way all) found)
   visit_found P Q offset own handed (list_plan head elements offsets validity) way row v = own handed way (list_plan head elements offsets validity) row v
   visit_found P Q offset own handed (row_idx_plan head) way row v = own handed way (row_idx_plan head) row v
-  visit_found P Q offset own handed (scan_plan head segment) way row v = own handed way (scan_plan head segment) row v
+  visit_found P Q offset own handed (scan_plan head segment coding) way row v = own handed way (scan_plan head segment coding) row v
   visit_found P Q offset own handed (zoned_plan head zones content table) way row (inl here) = own handed way (zoned_plan head zones content table) row here
   visit_found P Q offset own handed (zoned_plan head zones content table) way row (inr below) = visit_found P Q offset own handed content way row below
 
@@ -144,7 +144,7 @@ leaf_own offset read handed way (take_plan head codes values) row v = absurd v
 leaf_own offset read handed way (share_plan head child) row v = absurd v
 leaf_own offset read handed way (list_plan head elements offsets validity) row v = absurd v
 leaf_own offset read handed way (row_idx_plan head) row v = absurd v
-leaf_own offset read handed way (scan_plan head segment) row v = inl v.1
+leaf_own offset read handed way (scan_plan head segment coding) row v = inl v.1
 leaf_own offset read handed way (zoned_plan head zones content table) row v = absurd v
 
 pub leaf_found : (handed : Handed) (offset : ℕ) (p : Plan) (way : Way) (row : ℕ) (read : LeafRead) → Visits (IsLeafRead read) handed p row → RowReads (IsIn read.segment) way handed (plan_derivation offset p row)
@@ -160,7 +160,7 @@ list_own offset n handed way (take_plan head codes values) row v = absurd v
 list_own offset n handed way (share_plan head child) row v = absurd v
 list_own offset n handed way (list_plan head elements offsets validity) row v = inl v
 list_own offset n handed way (row_idx_plan head) row v = absurd v
-list_own offset n handed way (scan_plan head segment) row v = absurd v
+list_own offset n handed way (scan_plan head segment coding) row v = absurd v
 list_own offset n handed way (zoned_plan head zones content table) row v = absurd v
 
 pub list_found : (handed : Handed) (offset : ℕ) (p : Plan) (way : Way) (row n : ℕ) → Visits (IsListRead n) handed p row → RowReads (IsRowOf n) way handed (plan_derivation offset p row)

@@ -31,7 +31,7 @@ mutual
   weaker_visit P Q weak handed (share_plan head child) row (inr (none, (other, less, v))) = inr (refl, (other, less, weaker_visit P Q weak None child other v))
   weaker_visit P Q weak handed (list_plan head elements offsets validity) row v = weak handed (list_plan head elements offsets validity) row v
   weaker_visit P Q weak handed (row_idx_plan head) row v = weak handed (row_idx_plan head) row v
-  weaker_visit P Q weak handed (scan_plan head segment) row v = weak handed (scan_plan head segment) row v
+  weaker_visit P Q weak handed (scan_plan head segment coding) row v = weak handed (scan_plan head segment coding) row v
   weaker_visit P Q weak handed (zoned_plan head zones content table) row (inl v) = inl (weak handed (zoned_plan head zones content table) row v)
   weaker_visit P Q weak handed (zoned_plan head zones content table) row (inr v) = inr (weaker_visit P Q weak handed content row v)
 
@@ -60,7 +60,7 @@ same_read read handed (take_plan head codes values) row v = v
 same_read read handed (share_plan head child) row v = v
 same_read read handed (list_plan head elements offsets validity) row v = v
 same_read read handed (row_idx_plan head) row v = v
-same_read read handed (scan_plan head segment) row v = v
+same_read read handed (scan_plan head segment coding) row v = v
 same_read read handed (zoned_plan head zones content table) row v = v
 
 pub leaf_read : (read : LeafRead) → Weakens (IsLeafRead read) (IsLeafOf read.leaf)
@@ -73,5 +73,5 @@ leaf_read read handed (take_plan head codes values) row v = v
 leaf_read read handed (share_plan head child) row v = v
 leaf_read read handed (list_plan head elements offsets validity) row v = v
 leaf_read read handed (row_idx_plan head) row v = v
-leaf_read read handed (scan_plan head segment) row v = v.0
+leaf_read read handed (scan_plan head segment coding) row v = v.0
 leaf_read read handed (zoned_plan head zones content table) row v = v

@@ -95,7 +95,7 @@ mutual
   none_inside m (share_plan head child) row (inr (none, (other, less, v))) = none_inside m child other v
   none_inside m (list_plan head elements offsets validity) row v = v
   none_inside m (row_idx_plan head) row v = v
-  none_inside m (scan_plan head segment) row v = v
+  none_inside m (scan_plan head segment coding) row v = v
   none_inside m (zoned_plan head zones content table) row (inl v) = v
   none_inside m (zoned_plan head zones content table) row (inr v) = none_inside m content row v
 

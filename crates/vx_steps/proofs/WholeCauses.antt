@@ -54,7 +54,7 @@ second_plan kinds.Take nodes node other (n ∷ m ∷ ns) head codes values made 
 second_plan kinds.Share nodes node other ns head codes values made these is = absurd cc
 second_plan (kinds.ListPack has_validity) nodes node other ns head codes values made these is = absurd cc
 second_plan kinds.RowIdx nodes node other ns head codes values made these is = absurd cc
-second_plan (kinds.SegmentScan segment) nodes node other ns head codes values made these is = absurd cc
+second_plan (kinds.SegmentScan segment coding) nodes node other ns head codes values made these is = absurd cc
 second_plan (kinds.Zoned zone_len stats) nodes node other ns head codes values made these is = absurd cc
 second_plan (kinds.LegacyStats zone_len stats) nodes node other ns head codes values made these is = absurd cc
 
@@ -124,7 +124,7 @@ asked_becomes nodes good P passes number w f none (share_plan head child) row v 
     share_visit P passes f none head child row w.0 (subst F (sym same) w.2)
 asked_becomes nodes good P passes number w f none (list_plan head elements offsets validity) row v = absurd v.0
 asked_becomes nodes good P passes number w f none (row_idx_plan head) row v = absurd v.0
-asked_becomes nodes good P passes number w f none (scan_plan head segment) row v = absurd v.0
+asked_becomes nodes good P passes number w f none (scan_plan head segment coding) row v = absurd v.0
 asked_becomes nodes good P passes number w f none (zoned_plan head zones content table) row v = absurd v.0
 
 -- ---- selected rows

@@ -46,7 +46,7 @@ mutual
   inside P (share_plan head child) row (inr (none, (other, less, v))) = inr (none, (other, less, inside P child other v))
   inside P (list_plan head elements offsets validity) row v = v
   inside P (row_idx_plan head) row v = v
-  inside P (scan_plan head segment) row v = v
+  inside P (scan_plan head segment coding) row v = v
   inside P (zoned_plan head zones content table) row (inl v) = inl v
   inside P (zoned_plan head zones content table) row (inr v) = inr (inside P content row v)
 

@@ -14,7 +14,7 @@ abbrev mutual
   StandsIn P (share_plan head child) = P (share_plan head child) ⊎ StandsIn P child
   StandsIn P (list_plan head elements offsets validity) = P (list_plan head elements offsets validity) ⊎ (StandsIn P elements ⊎ (StandsIn P offsets ⊎ StandsInValidity P validity))
   StandsIn P (row_idx_plan head) = P (row_idx_plan head)
-  StandsIn P (scan_plan head segment) = P (scan_plan head segment)
+  StandsIn P (scan_plan head segment coding) = P (scan_plan head segment coding)
   StandsIn P (zoned_plan head zones content table) = P (zoned_plan head zones content table) ⊎ (StandsIn P content ⊎ StandsIn P table)
 
   pub StandsAmong : (Plan → Type 0) → Plans → Type 0

@@ -1,7 +1,8 @@
 -- What was delivered, and what follows for everything outside that agrees with it.
 use Rattle.std.specs.Prelude.{◌≡◌, ℕ, List, Some, None}
 use Rattle.vx_base.specs.Columns.{ColumnData}
-use Rattle.vx_base.specs.Reading.{decoded}
+use Rattle.vx_base.specs.CodingsRead.{decoded_as}
+use Rattle.vx_plan.specs.Kinds.{coding_of}
 use Rattle.vx_plan.specs.Nodes.{Node}
 use Rattle.vx_plan.specs.Rules.{node_at}
 use Rattle.vx_rows.specs.SegmentLeaves.{Bytes, leaves_of}
@@ -35,7 +36,7 @@ LacksNeed wanted leaves needs = (need : LeafRead) × Among need needs × (kept_a
 
 -- the delivered bytes of a needed leaf's segment spell no rows of it
 abbrev pub IsTornNeed : List Node → List Wanted → LeafRead → Type 0
-IsTornNeed nodes wanted need = (bytes : List ℕ) × (bytes_of wanted need.segment ≡ Some bytes) × (decoded (node_at nodes need.leaf).dtype (node_at nodes need.leaf).rows bytes ≡ None)
+IsTornNeed nodes wanted need = (bytes : List ℕ) × (bytes_of wanted need.segment ≡ Some bytes) × (decoded_as (coding_of (node_at nodes need.leaf).kind) (node_at nodes need.leaf).dtype (node_at nodes need.leaf).rows bytes ≡ None)
 
 -- a refusal of decoding has its cause in the need
 abbrev pub HasTornCause : List Node → List Wanted → LeafRead → StepError → Type 0

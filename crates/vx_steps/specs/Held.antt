@@ -3,7 +3,7 @@ use Rattle.std.specs.Prelude.{◌≡◌, ℕ, ◌+◌, ◌<◌, ◌^◌, List, l
 use Rattle.vx_base.specs.Columns.{ColumnData}
 use Rattle.vx_rows.specs.Derivations.{Leaves}
 use Rattle.vx_plan.specs.declared.shapes.Shape.TheVariants as shapes
-use Rattle.vx_plan.specs.Kinds.{HasKind, IsRowIdx}
+use Rattle.vx_plan.specs.Kinds.{coding_of, HasKind, IsRowIdx}
 use Rattle.vx_plan.specs.Nodes.{Node}
 use Rattle.vx_plan.specs.Plans.{plan_at}
 use Rattle.vx_plan.specs.Rules.{node_at}
@@ -57,7 +57,7 @@ IsLeafColumn h n column = IsLeaf h.nodes n × (kept_at h.leaves n ≡ Some colum
 
 -- the kept columns of leaves have the leaves' values
 abbrev pub HaveLeaves : List Node → List Kept → Leaves → Type 0
-HaveLeaves nodes kept leaves = (n segment : ℕ) (column : ColumnData) → HasShape nodes n (shapes.Leaf segment) → kept_at kept n ≡ Some column → leaves (node_at nodes n).dtype (node_at nodes n).rows segment ≡ Some column.values
+HaveLeaves nodes kept leaves = (n segment : ℕ) (column : ColumnData) → HasShape nodes n (shapes.Leaf segment) → kept_at kept n ≡ Some column → leaves (node_at nodes n).dtype (coding_of (node_at nodes n).kind) (node_at nodes n).rows segment ≡ Some column.values
 
 -- the kept columns are the whole values of their plans
 abbrev pub AreMade : List Node → ℕ → List Kept → Leaves → Type 0

@@ -19,7 +19,7 @@ IsUnplaced places (hindrances.Segment segment) n = (n ≡ segment) × (places �
 -- a row of the list, or a leaf over the segment
 abbrev pub IsHindrance : ℕ → Hindrance → Test
 IsHindrance places x handed (list_plan head elements offsets validity) row = IsListIn x head.number
-IsHindrance places x handed (scan_plan head segment) row = IsUnplaced places x segment
+IsHindrance places x handed (scan_plan head segment coding) row = IsUnplaced places x segment
 IsHindrance places x handed p row = ⊥
 
 -- it hinders one of so many rows of the plan, counted from the start on

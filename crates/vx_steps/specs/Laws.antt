@@ -101,7 +101,7 @@ abbrev mutual
   GivenFits handed (share_plan head child) = Unit {0}
   GivenFits handed (list_plan head elements offsets validity) = Unit {0}
   GivenFits handed (row_idx_plan head) = Unit {0}
-  GivenFits handed (scan_plan head segment) = Unit {0}
+  GivenFits handed (scan_plan head segment coding) = Unit {0}
   GivenFits handed (zoned_plan head zones content table) = GivenFits handed content
 
   pub GivenFitsEach : Handed → Plans → Type 0

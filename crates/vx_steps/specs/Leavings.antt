@@ -20,7 +20,7 @@ behind_all (split ∷ splits) = max (behind_split split) (behind_all splits)
 
 -- the leaf of that number
 abbrev pub IsLeafOf : ℕ → Test
-IsLeafOf leaf handed (scan_plan head segment) row = head.number ≡ leaf
+IsLeafOf leaf handed (scan_plan head segment coding) row = head.number ≡ leaf
 IsLeafOf leaf handed p row = ⊥
 
 -- the row reads the leaf, and no whole values are handed in for it

@@ -33,7 +33,7 @@ abbrev mutual
       P handed (share_plan head child) row ⊎ ((values_for handed head.number ≡ None) × ((other : ℕ) × (other < (plan_head child).rows) × Visits P None child other))
   Visits P handed (list_plan head elements offsets validity) row = P handed (list_plan head elements offsets validity) row
   Visits P handed (row_idx_plan head) row = P handed (row_idx_plan head) row
-  Visits P handed (scan_plan head segment) row = P handed (scan_plan head segment) row
+  Visits P handed (scan_plan head segment coding) row = P handed (scan_plan head segment coding) row
   Visits P handed (zoned_plan head zones content table) row = P handed (zoned_plan head zones content table) row ⊎ Visits P handed content row
 
   -- of plans one after another
@@ -53,7 +53,7 @@ abbrev mutual
 
 -- the leaf of that number, which names the segment
 abbrev pub IsLeafRead : LeafRead → Test
-IsLeafRead read handed (scan_plan head segment) row = (head.number ≡ read.leaf) × (segment ≡ read.segment)
+IsLeafRead read handed (scan_plan head segment coding) row = (head.number ≡ read.leaf) × (segment ≡ read.segment)
 IsLeafRead read handed p row = ⊥
 
 -- The whole values of that number are asked for, and not inside others: they are the values of a take, or a share.

@@ -22,7 +22,7 @@ use crate::open_segments::OpenSegments;
 use crate::reads::ReadTable;
 use std::alloc::Global;
 use std::marker::Model;
-use vx_base::{DecodeError, decode};
+use vx_base::{DecodeError, decode_as};
 use vx_plan::{PlanRef, PlanTable};
 
 /// Decodes a needed leaf, unless its column is kept already, and says whether its column is there.
@@ -50,7 +50,14 @@ fn decode_need(
     };
     table.keeps_rules();
     let plan = PlanRef(need.leaf);
-    let column = match decode(alloc, table.dtype(plan), table.row_count(plan), bytes) {
+    let coding = table.coding(plan);
+    let column = match decode_as(
+        alloc,
+        table.dtype(plan),
+        coding,
+        table.row_count(plan),
+        bytes,
+    ) {
         Ok(column) => column,
         Err(DecodeError::BadSegment) => return Err(StepError::BadSegment(need.segment)),
         Err(DecodeError::Memory) => return Err(StepError::Memory),

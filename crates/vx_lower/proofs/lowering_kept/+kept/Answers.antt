@@ -107,6 +107,6 @@ pub lower_kept-unreachable-requires : goal.lower_kept-unreachable-requires
 lower_kept-unreachable-requires g c =
     let nodes = c.args.tree.now in
     ⊎_elim
-    (λ leaf. no_leaf nodes c.args.node leaf.0 c.args.keeping.now c.args.table.now c.requires.can (subst (PartsOf nodes c.args.node) leaf.1 c.of.ensures) c.requires.keeping)
+    (λ leaf. no_leaf nodes c.args.node leaf.0 leaf.1 c.args.keeping.now c.args.table.now c.requires.can (subst (PartsOf nodes c.args.node) leaf.2 c.of.ensures) c.requires.keeping)
     (λ list. no_list nodes c.args.node list.0 list.1 list.2 c.args.keeping.now c.args.table.now c.requires.can (subst (PartsOf nodes c.args.node) list.3 c.of.ensures) c.requires.keeping)
     c.in-Leaf.is

@@ -5,7 +5,7 @@ use denote.Bor.{Bor}
 use Rattle.vx_plan.specs.declared.reaching.Reach.{Reach}
 use Rattle.vx_plan.specs.declared.reaching.SegmentReach.{SegmentReach}
 use Rattle.vx_plan.specs.Plans.{Plan, plan_at}
-use Rattle.vx_plan.specs.Reaches.{all_rows, chosen_rows, fits, shifted, selected_of}
+use Rattle.vx_plan.specs.Reaches.{chosen_rows, fits, shifted, selected_of}
 use Rattle.vx_plan.specs.Refs.{number_of}
 use Rattle.vx_plan.specs.Kinds.{IsConcat}
 use Rattle.vx_plan.specs.Rules.{node_at, nodes_at, rows_of}

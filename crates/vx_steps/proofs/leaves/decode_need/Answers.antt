@@ -1,4 +1,6 @@
 use Rattle.std.proofs.Common.{◌≡◌, ⊎_elim, None, sym, ◌∙◌}
+use Rattle.vx_base.specs.Views.{data_type}
+use Rattle.vx_base.proofs.CodedValues.{spelled_count}
 use Rattle.vx_steps.specs.Kept.{kept_at}
 use Rattle.vx_steps.proofs.Shaping.{leaf_plan}
 use Rattle.vx_steps.proofs.Decoding.{keeps_none, decoded_keeps, none_kept, kept_here}
@@ -16,16 +18,17 @@ returns-clause-keeps c =
     let need = c.args.need in
     let column = c.in-Ok.column in
     let none = none_kept c.find.result (kept_at c.args.leaves.now need.leaf) c.find.ensures (sym c.if-is_some.ensures) in
-    let read = rw (c.dtype.ensures, c.row_count.ensures) at c.in-Ok.ensures.read in
-    rw c.in_ok-keep_shared.ensures.kept (decoded_keeps nodes c.args.reads.now.wanted c.args.leaves.now need c.in-Some.bytes.now column c.requires.known c.requires.leaf none c.in-Some.ensures (c.in-Ok.ensures.dtype ∙ c.dtype.ensures) (c.in-Ok.ensures.spelled.count ∙ c.row_count.ensures) read)
+    let read = rw (c.dtype.ensures, c.coding-coding.ensures, c.row_count.ensures) at c.in-Ok.ensures.read in
+    let count = spelled_count c.coding-coding.result (data_type c.dtype.result.now) c.row_count.result c.in-Some.bytes.now column.values c.in-Ok.ensures.spelled in
+    rw c.in_ok-keep_shared.ensures.kept (decoded_keeps nodes c.args.reads.now.wanted c.args.leaves.now need c.in-Some.bytes.now column c.requires.known c.requires.leaf none c.in-Some.ensures (c.in-Ok.ensures.dtype ∙ c.dtype.ensures) (count ∙ c.row_count.ensures) read)
 
 pub returns-clause-there : goal.returns-clause-there
 returns-clause-there c =
     let none = none_kept c.find.result (kept_at c.args.leaves.now c.args.need.leaf) c.find.ensures (sym c.if-is_some.ensures) in
     rw c.in_ok-keep_shared.ensures.kept (kept_here c.args.leaves.now c.args.need.leaf c.in-Ok.column none)
 
-pub decode-requires : goal.decode-requires
-decode-requires c = record { leaf = rw c.dtype.ensures (leaf_plan c.args.table.now c.args.need.leaf c.args.need.segment c.requires.known c.requires.leaf).leaf }
+pub decode_as-requires : goal.decode_as-requires
+decode_as-requires c = record { leaf = rw c.dtype.ensures (leaf_plan c.args.table.now c.args.need.leaf c.args.need.segment c.requires.known c.requires.leaf).leaf }
 
 pub returns-in_err-keep_shared-clause-only : goal.returns-in_err-keep_shared-clause-only
 returns-in_err-keep_shared-clause-only c = none_more (λ n. c.args.need.leaf ≡ n) c.args.leaves.now c.keep_shared.new.self c.in_err-keep_shared.ensures.as_before

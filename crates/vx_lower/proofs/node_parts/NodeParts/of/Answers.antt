@@ -13,8 +13,8 @@ returns-in-Flat c =
     let node : Node = node_data c.node-layout.result.now in
     let ns : List ℕ = c.as_slice-children.result.now in
     let these : ns ≡ node.children = c.as_slice-children.ensures.value in
-    let is : IsNode nodes n node (kinds.Flat c.in-Flat.segment) = record { good = c.node-layout.ensures.good; at = c.node-layout.ensures.at; later = c.node-layout.ensures.later; kind_is = c.in-Flat.is; known = c.requires } in
-    leaf_parts nodes n node c.in-Flat.segment is
+    let is : IsNode nodes n node (kinds.Flat c.in-Flat.segment c.in-Flat.coding) = record { good = c.node-layout.ensures.good; at = c.node-layout.ensures.at; later = c.node-layout.ensures.later; kind_is = c.in-Flat.is; known = c.requires } in
+    leaf_parts nodes n node c.in-Flat.segment c.in-Flat.coding is
 
 pub returns-in-Chunked : goal.returns-in-Chunked
 returns-in-Chunked c =

@@ -27,7 +27,7 @@ pub returns-in-RowIdx-clause-shape : goal.returns-in-RowIdx-clause-shape
 returns-in-RowIdx-clause-shape c = row_idx_shape c.args.self.now c.node-node.ensures.good c.args.plan.0 (node_data c.node-node.result.now) c.node-node.ensures.at c.in-RowIdx.is
 
 pub returns-in-SegmentScan-clause-shape : goal.returns-in-SegmentScan-clause-shape
-returns-in-SegmentScan-clause-shape c = leaf_shape c.args.self.now c.node-node.ensures.good c.args.plan.0 (node_data c.node-node.result.now) c.in-SegmentScan.segment c.node-node.ensures.at c.in-SegmentScan.is
+returns-in-SegmentScan-clause-shape c = leaf_shape c.args.self.now c.node-node.ensures.good c.args.plan.0 (node_data c.node-node.result.now) c.in-SegmentScan.segment _ c.node-node.ensures.at c.in-SegmentScan.is
 
 pub returns-in-Zoned-clause-shape : goal.returns-in-Zoned-clause-shape
 returns-in-Zoned-clause-shape c = zoned_shape c.args.self.now c.node-node.ensures.good c.args.plan.0 (node_data c.node-node.result.now) _ _ c.at-in-Zoned.result c.at-in-Zoned-2.result c.node-node.ensures.at c.in-Zoned.is c.at-in-Zoned.ensures c.at-in-Zoned-2.ensures
