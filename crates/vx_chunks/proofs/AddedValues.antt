@@ -122,7 +122,7 @@ mutual
 -- what is no code stays, whatever the further values are
 pub no_code_added : (P : Found → Type 0) → NoCode P → (f h g : GivenValues) → AllStand f h g → (d : Derivation) (way : Way) → Finds P (reads_of way (with_given g d)) → Finds P (reads_of way (with_given f d))
 no_code_added P out f h g stand d way any =
-    found_added P ⊥ (λ dtype rows segment. None) f h g stand (λ dictionary row code values are is. absurd (out (code_row dictionary row (with_given g code) (values_with (g dictionary) values)) is)) d way (λ none. absurd none) any
+    found_added P ⊥ (λ dtype coding rows segment. None) f h g stand (λ dictionary row code values are is. absurd (out (code_row dictionary row (with_given g code) (values_with (g dictionary) values)) is)) d way (λ none. absurd none) any
 
 -- a bad code is one with the given values alone
 pub bad_code_added : (leaves : Leaves) (n at : ℕ) (f h g : GivenValues) → AllStand f h g → (d : Derivation) (way : Way) → AreCertified leaves h d → Finds (IsBadCodeAt leaves n at) (reads_of way (with_given g d)) → Finds (IsBadCodeAt leaves n at) (reads_of way (with_given f d))

@@ -120,7 +120,7 @@ kind_stands given more all n kinds.Take children behind = at_stands given more a
 kind_stands given more all n kinds.Share children behind = whole_stands given more all n behind
 kind_stands given more all n (kinds.ListPack has_validity) children behind = inl refl
 kind_stands given more all n kinds.RowIdx children behind = inl refl
-kind_stands given more all n (kinds.SegmentScan segment) children behind = inl refl
+kind_stands given more all n (kinds.SegmentScan segment coding) children behind = inl refl
 kind_stands given more all n (kinds.Zoned zone_len stats) children behind = inl refl
 kind_stands given more all n (kinds.LegacyStats zone_len stats) children behind = inl refl
 
@@ -166,7 +166,7 @@ module _ (leaves : Leaves) (f h g : GivenValues) (offset : ℕ) (P : Test) (lack
     stays (share_plan head child) row are (inr (closed, within)) = inr (lacks head.number closed, within)
     stays (list_plan head elements offsets validity) row are v = own (list_plan head elements offsets validity) row are v
     stays (row_idx_plan head) row are v = own (row_idx_plan head) row are v
-    stays (scan_plan head segment) row are v = own (scan_plan head segment) row are v
+    stays (scan_plan head segment coding) row are v = own (scan_plan head segment coding) row are v
     stays (zoned_plan head zones content table) row are (inl v) = inl (own (zoned_plan head zones content table) row are v)
     stays (zoned_plan head zones content table) row are (inr v) = inr (stays content row are v)
 
@@ -196,7 +196,7 @@ fault_stays leaves f h g offset at stand (take_plan head codes values) row are v
 fault_stays leaves f h g offset at stand (share_plan head child) row are v = absurd v
 fault_stays leaves f h g offset at stand (list_plan head elements offsets validity) row are v = absurd v
 fault_stays leaves f h g offset at stand (row_idx_plan head) row are v = absurd v
-fault_stays leaves f h g offset at stand (scan_plan head segment) row are v = absurd v
+fault_stays leaves f h g offset at stand (scan_plan head segment coding) row are v = absurd v
 fault_stays leaves f h g offset at stand (zoned_plan head zones content table) row are v = absurd v
 
 -- ---- of a chunk

@@ -54,7 +54,7 @@ mutual
   outside read f (share_plan head child) row lacks (inr (none, whole)) = absurd (lacks (inl none))
   outside read f (list_plan head elements offsets validity) row lacks v = absurd v
   outside read f (row_idx_plan head) row lacks v = absurd v
-  outside read f (scan_plan head segment) row lacks v = v
+  outside read f (scan_plan head segment coding) row lacks v = v
   outside read f (zoned_plan head zones content table) row lacks (inl v) = absurd v
   outside read f (zoned_plan head zones content table) row lacks (inr v) = inr (outside read f content row (λ l. lacks (inr l)) v)
 
@@ -101,7 +101,7 @@ lack_of f (Some given) (take_plan head codes values) row v = (record { number = 
 lack_of f (Some given) (share_plan head child) row v = (record { number = head.number; values = None; none = v }, refl)
 lack_of f (Some given) (list_plan head elements offsets validity) row v = absurd v
 lack_of f (Some given) (row_idx_plan head) row v = absurd v
-lack_of f (Some given) (scan_plan head segment) row v = absurd v
+lack_of f (Some given) (scan_plan head segment coding) row v = absurd v
 lack_of f (Some given) (zoned_plan head zones content table) row v = absurd v
 
 -- for a take, what is kept for its values
@@ -122,7 +122,7 @@ share_asks n given free (take_plan head codes values) row v = absurd v
 share_asks n given free (share_plan head child) row v = inl v
 share_asks n given free (list_plan head elements offsets validity) row v = absurd v
 share_asks n given free (row_idx_plan head) row v = absurd v
-share_asks n given free (scan_plan head segment) row v = absurd v
+share_asks n given free (scan_plan head segment coding) row v = absurd v
 share_asks n given free (zoned_plan head zones content table) row v = absurd v
 
 pub take_asks : (n values : ℕ) (given free : GivenValues) → Becomes (IsTakeOver n values) (IsWholeRead values) (Some given) (Some free)
@@ -135,7 +135,7 @@ take_asks n values given free (take_plan head codes of) row v = inl v.1
 take_asks n values given free (share_plan head child) row v = absurd v
 take_asks n values given free (list_plan head elements offsets validity) row v = absurd v
 take_asks n values given free (row_idx_plan head) row v = absurd v
-take_asks n values given free (scan_plan head segment) row v = absurd v
+take_asks n values given free (scan_plan head segment coding) row v = absurd v
 take_asks n values given free (zoned_plan head zones content table) row v = absurd v
 
 -- whole values are kept for all that the row asks for

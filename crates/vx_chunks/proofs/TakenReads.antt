@@ -32,7 +32,7 @@ over_seen take read (Some given) (take_plan head codes values) row v = v
 over_seen take read (Some given) (share_plan head child) row v = v
 over_seen take read (Some given) (list_plan head elements offsets validity) row v = absurd v
 over_seen take read (Some given) (row_idx_plan head) row v = absurd v
-over_seen take read (Some given) (scan_plan head segment) row v = absurd v
+over_seen take read (Some given) (scan_plan head segment coding) row v = absurd v
 over_seen take read (Some given) (zoned_plan head zones content table) row v = absurd v
 
 seen_over : (take : ℕ) (one other : LeafRead) (handed : Handed) (p : Plan) (row : ℕ) → IsReadThrough take one handed p row → IsOverAs take other p → IsReadThrough take other handed p row
@@ -46,7 +46,7 @@ seen_over take one other (Some given) (take_plan head codes values) row v is = i
 seen_over take one other (Some given) (share_plan head child) row v is = is
 seen_over take one other (Some given) (list_plan head elements offsets validity) row v is = v
 seen_over take one other (Some given) (row_idx_plan head) row v is = v
-seen_over take one other (Some given) (scan_plan head segment) row v is = v
+seen_over take one other (Some given) (scan_plan head segment coding) row v is = v
 seen_over take one other (Some given) (zoned_plan head zones content table) row v is = v
 
 no_gap : (take : ℕ) (read : LeafRead) (handed : Handed) (row : ℕ) → IsReadThrough take read handed (plan_gap 0) row → ⊥

@@ -43,7 +43,7 @@ whole_becomes n given free (take_plan head codes values) row v = inl v
 whole_becomes n given free (share_plan head child) row v = inl v
 whole_becomes n given free (list_plan head elements offsets validity) row v = absurd v
 whole_becomes n given free (row_idx_plan head) row v = absurd v
-whole_becomes n given free (scan_plan head segment) row v = absurd v
+whole_becomes n given free (scan_plan head segment coding) row v = absurd v
 whole_becomes n given free (zoned_plan head zones content table) row v = absurd v
 
 pub asks_same : (plans : ScanPlans) (given other : List Kept) (chosen : SelectedRows) (n : ℕ) → ChunkAsks plans given chosen n → ChunkAsks plans other chosen n
@@ -91,7 +91,7 @@ through_looks take read (Some given) (take_plan head codes values) row v = (Some
 through_looks take read (Some given) (share_plan head child) row v = (None, v.0)
 through_looks take read (Some given) (list_plan head elements offsets validity) row v = absurd v
 through_looks take read (Some given) (row_idx_plan head) row v = absurd v
-through_looks take read (Some given) (scan_plan head segment) row v = absurd v
+through_looks take read (Some given) (scan_plan head segment coding) row v = absurd v
 through_looks take read (Some given) (zoned_plan head zones content table) row v = absurd v
 
 pub record AsksThrough (nodes : List Node) (take : ℕ) (p : Plan) (row : ℕ) : Type 0 where

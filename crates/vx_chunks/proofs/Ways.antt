@@ -66,7 +66,7 @@ mutual
   way_of read given (share_plan head child) row (inr (none, whole)) = (through head.number, none, inl (refl, whole))
   way_of read given (list_plan head elements offsets validity) row v = absurd v
   way_of read given (row_idx_plan head) row v = absurd v
-  way_of read given (scan_plan head segment) row v = (directly, tt, v)
+  way_of read given (scan_plan head segment coding) row v = (directly, tt, v)
 
   way_in : (read : LeafRead) (given : GivenValues) (ps : Plans) (row : ℕ) → VisitsIn (IsLeafRead read) (Some given) ps row → (way : Way) × IsFree given way × VisitsIn (IsReadBy way read) (Some no_given) ps row
   way_in read given no_plans row v = absurd v
@@ -114,7 +114,7 @@ mutual
   none_inside P out (share_plan head child) row (inr (none, (other, less, v))) = none_inside P out child other v
   none_inside P out (list_plan head elements offsets validity) row v = out (list_plan head elements offsets validity) row v
   none_inside P out (row_idx_plan head) row v = out (row_idx_plan head) row v
-  none_inside P out (scan_plan head segment) row v = out (scan_plan head segment) row v
+  none_inside P out (scan_plan head segment coding) row v = out (scan_plan head segment coding) row v
 
   none_among : (P : Test) → SeesOutside P → (ps : Plans) (row : ℕ) → VisitsIn P None ps row → ⊥
   none_among P out no_plans row v = v
@@ -161,7 +161,7 @@ mutual
   opened P Q given own out (share_plan head child) row (inr (none, (other, less, v))) = absurd (none_inside P out child other v)
   opened P Q given own out (list_plan head elements offsets validity) row v = own (list_plan head elements offsets validity) row v
   opened P Q given own out (row_idx_plan head) row v = own (row_idx_plan head) row v
-  opened P Q given own out (scan_plan head segment) row v = own (scan_plan head segment) row v
+  opened P Q given own out (scan_plan head segment coding) row v = own (scan_plan head segment coding) row v
 
   opened_in : (P Q : Test) (given : GivenValues) → Opens P Q given → SeesOutside P → (ps : Plans) (row : ℕ) → VisitsIn P (Some no_given) ps row → VisitsIn Q (Some given) ps row
   opened_in P Q given own out no_plans row v = v
@@ -188,7 +188,7 @@ own_leaf directly read given free (take_plan head codes values) row v = absurd v
 own_leaf directly read given free (share_plan head child) row v = absurd v
 own_leaf directly read given free (list_plan head elements offsets validity) row v = absurd v
 own_leaf directly read given free (row_idx_plan head) row v = absurd v
-own_leaf directly read given free (scan_plan head segment) row v = v
+own_leaf directly read given free (scan_plan head segment coding) row v = v
 own_leaf directly read given free (zoned_plan head zones content table) row v = absurd v
 own_leaf (through n) read given free (no_plan head) row v = absurd v
 own_leaf (through n) read given free (concat_plan head children) row v = absurd v
@@ -199,7 +199,7 @@ own_leaf (through n) read given free (take_plan head codes values) row v = inr (
 own_leaf (through n) read given free (share_plan head child) row v = inr (ap given v.0 ∙ free, v.1)
 own_leaf (through n) read given free (list_plan head elements offsets validity) row v = absurd v
 own_leaf (through n) read given free (row_idx_plan head) row v = absurd v
-own_leaf (through n) read given free (scan_plan head segment) row v = absurd v
+own_leaf (through n) read given free (scan_plan head segment coding) row v = absurd v
 own_leaf (through n) read given free (zoned_plan head zones content table) row v = absurd v
 
 -- where nothing that is given stands in its place, what is read by a way is visited
@@ -251,7 +251,7 @@ own_found directly read offset (take_plan head codes values) row shares v = absu
 own_found directly read offset (share_plan head child) row shares v = absurd v
 own_found directly read offset (list_plan head elements offsets validity) row shares v = absurd v
 own_found directly read offset (row_idx_plan head) row shares v = absurd v
-own_found directly read offset (scan_plan head segment) row shares v = inl (refl, v.1)
+own_found directly read offset (scan_plan head segment coding) row shares v = inl (refl, v.1)
 own_found directly read offset (zoned_plan head zones content table) row shares v = absurd v
 own_found (through n) read offset (no_plan head) row shares v = absurd v
 own_found (through n) read offset (concat_plan head children) row shares v = absurd v
@@ -263,7 +263,7 @@ own_found (through n) read offset (take_plan head codes values) row shares v =
 own_found (through n) read offset (share_plan head child) row shares v = absurd (shares (inl tt))
 own_found (through n) read offset (list_plan head elements offsets validity) row shares v = absurd v
 own_found (through n) read offset (row_idx_plan head) row shares v = absurd v
-own_found (through n) read offset (scan_plan head segment) row shares v = absurd v
+own_found (through n) read offset (scan_plan head segment coding) row shares v = absurd v
 own_found (through n) read offset (zoned_plan head zones content table) row shares v = absurd v
 
 front_by : (way : Way) (segment offset : ℕ) (validity : PlanValidity) (row : ℕ) (d : Derivation) → FoundBy way segment d → FoundBy way segment (plan_where_valid offset validity row d)
@@ -293,7 +293,7 @@ mutual
   found_by way read offset (share_plan head child) row shares v = absurd (shares (inl tt))
   found_by way read offset (list_plan head elements offsets validity) row shares v = own_found way read offset (list_plan head elements offsets validity) row shares v
   found_by way read offset (row_idx_plan head) row shares v = own_found way read offset (row_idx_plan head) row shares v
-  found_by way read offset (scan_plan head segment) row shares v = own_found way read offset (scan_plan head segment) row shares v
+  found_by way read offset (scan_plan head segment coding) row shares v = own_found way read offset (scan_plan head segment coding) row shares v
 
   found_in : (way : Way) (read : LeafRead) (offset : ℕ) (ps : Plans) (row : ℕ) → (StandsAmong IsSharePlan ps → ⊥) → VisitsIn (IsReadBy way read) (Some no_given) ps row → FoundBy way read.segment (plan_derivation_in offset ps row)
   found_in way read offset no_plans row shares v = absurd v

@@ -105,7 +105,7 @@ mutual
       (one.0, inr (none, (other, less, one.1)))
   visit_chosen P Q f handed (list_plan head elements offsets validity) row v = f handed (list_plan head elements offsets validity) row v
   visit_chosen P Q f handed (row_idx_plan head) row v = f handed (row_idx_plan head) row v
-  visit_chosen P Q f handed (scan_plan head segment) row v = f handed (scan_plan head segment) row v
+  visit_chosen P Q f handed (scan_plan head segment coding) row v = f handed (scan_plan head segment coding) row v
   visit_chosen P Q f handed (zoned_plan head zones content table) row (inl v) =
       let one = f handed (zoned_plan head zones content table) row v in
       (one.0, inl one.1)
@@ -143,7 +143,7 @@ asked_by n (Some given) (take_plan head codes values) row v = (head.number, (ref
 asked_by n (Some given) (share_plan head child) row v = (head.number, (refl, v))
 asked_by n (Some given) (list_plan head elements offsets validity) row v = absurd v
 asked_by n (Some given) (row_idx_plan head) row v = absurd v
-asked_by n (Some given) (scan_plan head segment) row v = absurd v
+asked_by n (Some given) (scan_plan head segment coding) row v = absurd v
 asked_by n (Some given) (zoned_plan head zones content table) row v = absurd v
 
 pub asked_take : (n : ℕ) (handed : Handed) (p : Plan) (row : ℕ) → Visits (IsWholeRead n) handed p row → (take : ℕ) × Visits (IsWholeBy take n) handed p row
@@ -164,7 +164,7 @@ numbered_by take n (Some given) (take_plan head codes values) row v = v
 numbered_by take n (Some given) (share_plan head child) row v = v
 numbered_by take n (Some given) (list_plan head elements offsets validity) row v = absurd v
 numbered_by take n (Some given) (row_idx_plan head) row v = absurd v
-numbered_by take n (Some given) (scan_plan head segment) row v = absurd v
+numbered_by take n (Some given) (scan_plan head segment coding) row v = absurd v
 numbered_by take n (Some given) (zoned_plan head zones content table) row v = absurd v
 
 -- the plan of the take tells the number of its whole values
@@ -200,7 +200,7 @@ read_own nodes good take n read reads given (share_plan head child) row v =
     inl (v.0.0, share_read read head child reads.0 (subst (λ (q : Plan). Visits (IsLeafRead read) None q reads.0) (sym same) reads.2))
 read_own nodes good take n read reads given (list_plan head elements offsets validity) row v = absurd v.0
 read_own nodes good take n read reads given (row_idx_plan head) row v = absurd v.0
-read_own nodes good take n read reads given (scan_plan head segment) row v = absurd v.0
+read_own nodes good take n read reads given (scan_plan head segment coding) row v = absurd v.0
 read_own nodes good take n read reads given (zoned_plan head zones content table) row v = absurd v.0
 
 read_deep : (nodes : List Node) (take n : ℕ) (read : LeafRead) → Becomes (InTable nodes (IsWholeBy take n)) (IsReadThrough take read) None None
@@ -267,7 +267,7 @@ find_own nodes good n Q offset finds (Some given) way (share_plan head child) ro
     share_finds Q offset way (Some given) v.1 head child row found.0 (let rows = fit.0 in let less = found.1 in omega (arith, rows, less)) found.2
 find_own nodes good n Q offset finds (Some given) way (list_plan head elements offsets validity) row v = absurd v.0.0
 find_own nodes good n Q offset finds (Some given) way (row_idx_plan head) row v = absurd v.0.0
-find_own nodes good n Q offset finds (Some given) way (scan_plan head segment) row v = absurd v.0.0
+find_own nodes good n Q offset finds (Some given) way (scan_plan head segment coding) row v = absurd v.0.0
 find_own nodes good n Q offset finds (Some given) way (zoned_plan head zones content table) row v = absurd v.0.0
 
 -- with nothing handed in, a plan that asks sees that
@@ -281,7 +281,7 @@ free_own nodes n given none (take_plan head codes values) row v = inl (v, none)
 free_own nodes n given none (share_plan head child) row v = inl (v, none)
 free_own nodes n given none (list_plan head elements offsets validity) row v = absurd v.0
 free_own nodes n given none (row_idx_plan head) row v = absurd v.0
-free_own nodes n given none (scan_plan head segment) row v = absurd v.0
+free_own nodes n given none (scan_plan head segment coding) row v = absurd v.0
 free_own nodes n given none (zoned_plan head zones content table) row v = absurd v.0
 
 free_deep : (nodes : List Node) (n : ℕ) → Becomes (InTable nodes (IsWholeRead n)) (AsksFree nodes n) None None

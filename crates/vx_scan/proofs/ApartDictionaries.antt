@@ -33,7 +33,7 @@ use Rattle.vx_scan.proofs.ApartTakes.{one_at, takes_at, takes_among, takes_valid
 abbrev mutual
   dicts_at : ℕ → Tree → ℕ
   dicts_at k (missing head) = 0
-  dicts_at k (leaf head segment) = 0
+  dicts_at k (leaf head segment coding) = 0
   dicts_at k (chunks head forest) = dicts_among k forest
   dicts_at k (fields head forest validity) = dicts_among k forest + dicts_valid k validity
   dicts_at k (dict head values codes) = one_at k head.number + (dicts_at k values + dicts_at k codes)
@@ -65,7 +65,7 @@ kept_takes k most false ones others one two = two
 mutual
   lowered_takes : (k : ℕ) (t : Tree) (kept : KeptFields) → takes_at k (lowered t kept) ≤ dicts_at k t
   lowered_takes k (missing head) kept = omega arith
-  lowered_takes k (leaf head segment) kept = omega arith
+  lowered_takes k (leaf head segment coding) kept = omega arith
   lowered_takes k (chunks head forest) kept = chunks_takes k forest kept
   lowered_takes k (fields head forest validity) kept =
       let one = fields_takes k (struct_members head.dtype) forest kept in let two = validity_takes k validity in omega (arith, one, two)
@@ -130,7 +130,7 @@ in_list k f Nullable (n ∷ m ∷ []) = omega (arith, more k f n (m ∷ []), mor
 in_list k f Nullable (n ∷ m ∷ j ∷ ns) = omega (arith, more k f n (m ∷ j ∷ ns), more k f m (j ∷ ns), more k f j ns)
 
 in_kind : (k : ℕ) (f : ℕ → Tree) (head : Head) (kind : LayoutKind) (ns : List ℕ) → dicts_at k (grown_as head kind (map f ns)) ≤ one_at k head.number + in_children k f ns
-in_kind k f head (kinds.Flat segment) ns = omega arith
+in_kind k f head (kinds.Flat segment coding) ns = omega arith
 in_kind k f head kinds.Chunked ns = omega (arith, in_forest k f ns)
 in_kind k f head kinds.Struct ns = omega (arith, in_struct k f (nullability_of head.dtype) ns)
 in_kind k f head kinds.Dict ns = omega (arith, in_two k f ns)

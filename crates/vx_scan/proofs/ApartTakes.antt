@@ -25,7 +25,7 @@ abbrev mutual
   takes_at k (share_plan head child) = one_at k head.number + takes_at k child
   takes_at k (list_plan head elements offsets validity) = takes_at k elements + (takes_at k offsets + takes_valid k validity)
   takes_at k (row_idx_plan head) = 0
-  takes_at k (scan_plan head segment) = 0
+  takes_at k (scan_plan head segment coding) = 0
   takes_at k (zoned_plan head zones content table) = takes_at k content + takes_at k table
 
   pub takes_among : ℕ → Plans → ℕ
@@ -52,7 +52,7 @@ abbrev mutual
   TellsTakes f first (share_plan head child) = (f (first + plan_size child) ≡ head.number) × TellsTakes f first child
   TellsTakes f first (list_plan head elements offsets validity) = TellsTakes f first elements × TellsTakes f (first + plan_size elements) offsets × TellsValid f (first + plan_size elements + plan_size offsets) validity
   TellsTakes f first (row_idx_plan head) = Unit {0}
-  TellsTakes f first (scan_plan head segment) = Unit {0}
+  TellsTakes f first (scan_plan head segment coding) = Unit {0}
   TellsTakes f first (zoned_plan head zones content table) = TellsTakes f first content × TellsTakes f (first + plan_size content) table
 
   TellsAmong : (ℕ → ℕ) → ℕ → Plans → Type 0
@@ -94,7 +94,7 @@ mutual
         told_valid f (first + plan_size elements + plan_size offsets) validity (front f (first + plan_size elements + plan_size offsets) (validity_numbers_of validity) (head.number ∷ []) far),
       )
   told f first (row_idx_plan head) gives = tt
-  told f first (scan_plan head segment) gives = tt
+  told f first (scan_plan head segment coding) gives = tt
   told f first (zoned_plan head zones content table) gives =
       let behind : Gives f (first + plan_size content) (numbers_of table ++ head.number ∷ []) = back f first (first + plan_size content) (numbers_of content) (numbers_of table ++ head.number ∷ []) (ap (λ (n : ℕ). first + n) (count_numbers content)) gives in (
         told f first content (front f first (numbers_of content) (numbers_of table ++ head.number ∷ []) gives),
@@ -145,7 +145,7 @@ mutual
   some_take f k n first (list_plan head elements offsets validity) tells is (inr (inr (inl s))) = let one = some_take f k n (first + plan_size elements) offsets tells.1 is s in omega (arith, one)
   some_take f k n first (list_plan head elements offsets validity) tells is (inr (inr (inr s))) = let one = some_valid f k n (first + plan_size elements + plan_size offsets) validity tells.2 is s in omega (arith, one)
   some_take f k n first (row_idx_plan head) tells is s = absurd s
-  some_take f k n first (scan_plan head segment) tells is s = absurd s
+  some_take f k n first (scan_plan head segment coding) tells is s = absurd s
   some_take f k n first (zoned_plan head zones content table) tells is (inl s) = absurd s
   some_take f k n first (zoned_plan head zones content table) tells is (inr (inl s)) = let one = some_take f k n first content tells.0 is s in omega (arith, one)
   some_take f k n first (zoned_plan head zones content table) tells is (inr (inr s)) = let one = some_take f k n (first + plan_size content) table tells.1 is s in omega (arith, one)
@@ -225,7 +225,7 @@ mutual
       absurd (let a = some_take f k n (first + plan_size elements) offsets tells.1 also t in let b = some_valid f k m (first + plan_size elements + plan_size offsets) validity tells.2 is s in omega (arith, a, b, most))
   one_take f k m n first (list_plan head elements offsets validity) tells is also most (inr (inr (inr s))) (inr (inr (inr t))) = one_valid f k m n (first + plan_size elements + plan_size offsets) validity tells.2 is also (omega (arith, most)) s t
   one_take f k m n first (row_idx_plan head) tells is also most s t = absurd s
-  one_take f k m n first (scan_plan head segment) tells is also most s t = absurd s
+  one_take f k m n first (scan_plan head segment coding) tells is also most s t = absurd s
   one_take f k m n first (zoned_plan head zones content table) tells is also most (inl s) t = absurd s
   one_take f k m n first (zoned_plan head zones content table) tells is also most (inr s) (inl t) = absurd t
   one_take f k m n first (zoned_plan head zones content table) tells is also most (inr (inl s)) (inr (inl t)) = one_take f k m n first content tells.0 is also (omega (arith, most)) s t

@@ -75,7 +75,7 @@ mutual
   asked_reads n offset given (share_plan head child) row none v = absurd (none (inl tt))
   asked_reads n offset given (list_plan head elements offsets validity) row none v = absurd v
   asked_reads n offset given (row_idx_plan head) row none v = absurd v
-  asked_reads n offset given (scan_plan head segment) row none v = absurd v
+  asked_reads n offset given (scan_plan head segment coding) row none v = absurd v
   asked_reads n offset given (zoned_plan head zones content table) row none (inl v) = absurd v
   asked_reads n offset given (zoned_plan head zones content table) row none (inr v) = asked_reads n offset given content row (λ s. none (inr (inl s))) v
 

@@ -77,7 +77,7 @@ module _ (offset : ℕ) (f g : GivenValues) (P Q : Test) (A : Type 0) (lacks : (
     carried (share_plan head child) row alike (inr (closed, (other, less, v))) = inr (lacks head.number closed, (other, less, freed P Q None None hands_none deep deep child other v))
     carried (list_plan head elements offsets validity) row alike v = own (list_plan head elements offsets validity) row alike v
     carried (row_idx_plan head) row alike v = own (row_idx_plan head) row alike v
-    carried (scan_plan head segment) row alike v = own (scan_plan head segment) row alike v
+    carried (scan_plan head segment coding) row alike v = own (scan_plan head segment coding) row alike v
     carried (zoned_plan head zones content table) row alike (inl v) = inl (own (zoned_plan head zones content table) row alike v)
     carried (zoned_plan head zones content table) row alike (inr v) = inr (carried content row alike v)
 
@@ -114,5 +114,5 @@ fault_alike leaves offset at f g (take_plan head codes values) row alike v = v
 fault_alike leaves offset at f g (share_plan head child) row alike v = v
 fault_alike leaves offset at f g (list_plan head elements offsets validity) row alike v = v
 fault_alike leaves offset at f g (row_idx_plan head) row alike v = v
-fault_alike leaves offset at f g (scan_plan head segment) row alike v = v
+fault_alike leaves offset at f g (scan_plan head segment coding) row alike v = v
 fault_alike leaves offset at f g (zoned_plan head zones content table) row alike v = v

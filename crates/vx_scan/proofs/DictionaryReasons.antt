@@ -32,7 +32,7 @@ take_seen n read (Some given) (take_plan head codes values) row v = v.0
 take_seen n read (Some given) (share_plan head child) row v = v.0
 take_seen n read (Some given) (list_plan head elements offsets validity) row v = absurd v
 take_seen n read (Some given) (row_idx_plan head) row v = absurd v
-take_seen n read (Some given) (scan_plan head segment) row v = absurd v
+take_seen n read (Some given) (scan_plan head segment coding) row v = absurd v
 take_seen n read (Some given) (zoned_plan head zones content table) row v = absurd v
 
 any_stands : (way : Way) (read : LeafRead) (p : Plan) (take : ℕ) → way ≡ through take → (rows : List ℕ) → AnyOf (ReadsBy way read p) rows → StandsIn (IsTakeAs take) p

@@ -64,7 +64,7 @@ mutual
   number_from leaf first (share_plan head child) row (inr (none, (other, less, v))) = wider first (plan_size child) first (1 + plan_size child) leaf (omega arith) (omega arith) (number_from leaf first child other v)
   number_from leaf first (list_plan head elements offsets validity) row v = absurd v
   number_from leaf first (row_idx_plan head) row v = absurd v
-  number_from leaf first (scan_plan head segment) row v = let is : first ≡ leaf = v in record { low = omega (arith, is); high = omega (arith, is) }
+  number_from leaf first (scan_plan head segment coding) row v = let is : first ≡ leaf = v in record { low = omega (arith, is); high = omega (arith, is) }
   number_from leaf first (zoned_plan head zones content table) row (inl v) = absurd v
   number_from leaf first (zoned_plan head zones content table) row (inr v) =
       wider first (plan_size content) first (1 + (plan_size content + plan_size table)) leaf (omega arith) (omega arith) (number_from leaf first content row v)
@@ -144,7 +144,7 @@ mutual
   row_between leaf first (share_plan head child) one row two low high (inr v) w = inr v
   row_between leaf first (list_plan head elements offsets validity) one row two low high v w = v
   row_between leaf first (row_idx_plan head) one row two low high v w = v
-  row_between leaf first (scan_plan head segment) one row two low high v w = v
+  row_between leaf first (scan_plan head segment coding) one row two low high v w = v
   row_between leaf first (zoned_plan head zones content table) one row two low high (inl v) w = absurd v
   row_between leaf first (zoned_plan head zones content table) one row two low high (inr v) (inl w) = absurd w
   row_between leaf first (zoned_plan head zones content table) one row two low high (inr v) (inr w) = inr (row_between leaf first content one row two low high v w)

@@ -83,8 +83,8 @@ mutual
   found_stands P F shows offset way (list_plan head elements offsets validity) row (inl here) = inl (shows.lists head elements offsets validity row here)
   found_stands P F shows offset way (list_plan head elements offsets validity) row (inr none) = absurd none
   found_stands P F shows offset way (row_idx_plan head) row any = absurd any
-  found_stands P F shows offset way (scan_plan head segment) row (inl here) = absurd (shows.leaf_rows (record { dtype = head.dtype; rows = head.rows; segment = segment; row = row }) here)
-  found_stands P F shows offset way (scan_plan head segment) row (inr none) = absurd none
+  found_stands P F shows offset way (scan_plan head segment coding) row (inl here) = absurd (shows.leaf_rows (record { dtype = head.dtype; coding = coding; rows = head.rows; segment = segment; row = row }) here)
+  found_stands P F shows offset way (scan_plan head segment coding) row (inr none) = absurd none
   found_stands P F shows offset way (zoned_plan head zones content table) row any = inr (inl (found_stands P F shows offset way content row any))
 
   found_in : (P : Found → Type 0) (F : Plan → Type 0) → Shows P F → (offset : ℕ) (way : Way) (ps : Plans) (row : ℕ) → Has P way (plan_derivation_in offset ps row) → StandsAmong F ps

@@ -42,7 +42,7 @@ node_of (take_plan head codes values) = under kinds.Take head
 node_of (share_plan head child) = under kinds.Share head
 node_of (list_plan head elements offsets validity) = under (kinds.ListPack false) head
 node_of (row_idx_plan head) = under kinds.RowIdx head
-node_of (scan_plan head segment) = under (kinds.SegmentScan segment) head
+node_of (scan_plan head segment coding) = under (kinds.SegmentScan segment coding) head
 node_of (zoned_plan head zones content table) = under (zoned_kind zones.is_legacy zones.zone_len zones.statistics) head
 
 abbrev plan_list : Plans → List Plan
@@ -59,7 +59,7 @@ children_of (take_plan head codes values) = codes ∷ values ∷ []
 children_of (share_plan head child) = child ∷ []
 children_of (list_plan head elements offsets validity) = elements ∷ offsets ∷ validity_list validity
 children_of (row_idx_plan head) = []
-children_of (scan_plan head segment) = []
+children_of (scan_plan head segment coding) = []
 children_of (zoned_plan head zones content table) = content ∷ table ∷ []
 
 abbrev line_of : ℕ → List ℕ → List ℕ → List ℕ
@@ -87,7 +87,7 @@ same_line kinds.Take t rows children offsets number ps = refl
 same_line kinds.Share t rows children offsets number ps = refl
 same_line (kinds.ListPack has_validity) t rows children offsets number ps = refl
 same_line kinds.RowIdx t rows children offsets number ps = refl
-same_line (kinds.SegmentScan segment) t rows children offsets number ps = refl
+same_line (kinds.SegmentScan segment coding) t rows children offsets number ps = refl
 same_line (kinds.Zoned zone_len stats) t rows children offsets number ps = refl
 same_line (kinds.LegacyStats zone_len stats) t rows children offsets number ps = refl
 
@@ -100,7 +100,7 @@ same_name kinds.Take t rows children offsets number ps place = refl
 same_name kinds.Share t rows children offsets number ps place = refl
 same_name (kinds.ListPack has_validity) t rows children offsets number ps place = refl
 same_name kinds.RowIdx t rows children offsets number ps place = refl
-same_name (kinds.SegmentScan segment) t rows children offsets number ps place = refl
+same_name (kinds.SegmentScan segment coding) t rows children offsets number ps place = refl
 same_name (kinds.Zoned zone_len stats) t rows children offsets number ps place = refl
 same_name (kinds.LegacyStats zone_len stats) t rows children offsets number ps place = refl
 
@@ -178,7 +178,7 @@ same_children kinds.Take nodes head node made fits = looked_list nodes node node
 same_children kinds.Share nodes head node made fits = one_list nodes node node.children made
 same_children (kinds.ListPack has_validity) nodes head node made fits = listed has_validity nodes node node.children made
 same_children kinds.RowIdx nodes head node made fits = none_left nodes node.children made.1
-same_children (kinds.SegmentScan segment) nodes head node made fits = none_left nodes node.children made
+same_children (kinds.SegmentScan segment coding) nodes head node made fits = none_left nodes node.children made
 same_children (kinds.Zoned zone_len stats) nodes head node made fits = zoned_list nodes node node.children made
 same_children (kinds.LegacyStats zone_len stats) nodes head node made fits = zoned_list nodes node node.children made
 

@@ -30,7 +30,7 @@ abbrev mutual
   IsPlain (share_plan head child) = ⊥
   IsPlain (list_plan head elements offsets validity) = IsPlain elements × IsPlain offsets × ValidityIsPlain validity
   IsPlain (row_idx_plan head) = ⊥
-  IsPlain (scan_plan head segment) = Unit {0}
+  IsPlain (scan_plan head segment coding) = Unit {0}
   IsPlain (zoned_plan head zones content table) = IsPlain content × IsPlain table
 
   pub ArePlain : Plans → Type 0
@@ -50,7 +50,7 @@ zones_plain false head zones content table one two = one
 mutual
   pub lowered_plain : (t : Tree) → IsSound t → IsPlain (lowered t all)
   lowered_plain (missing head) sound = absurd sound
-  lowered_plain (leaf head segment) sound = tt
+  lowered_plain (leaf head segment coding) sound = tt
   lowered_plain (chunks head forest) sound = chunks_plain head.dtype forest sound.0
   lowered_plain (fields head forest validity) sound = (fields_plain (struct_members head.dtype) forest head.rows sound.1, validity_plain validity head.rows (nullability_of head.dtype) sound.2)
   lowered_plain (dict head values codes) sound = (lowered_plain codes sound.1, lowered_plain values sound.0)
@@ -86,7 +86,7 @@ mutual
   numbered_plain first (share_plan head child) is = absurd is
   numbered_plain first (list_plan head elements offsets validity) is = (numbered_plain first elements is.0, numbered_plain (first + plan_size elements) offsets is.1, validity_numbered_plain (first + plan_size elements + plan_size offsets) validity is.2)
   numbered_plain first (row_idx_plan head) is = absurd is
-  numbered_plain first (scan_plan head segment) is = tt
+  numbered_plain first (scan_plan head segment coding) is = tt
   numbered_plain first (zoned_plan head zones content table) is = (numbered_plain first content is.0, numbered_plain (first + plan_size content) table is.1)
 
   each_plain : (first : ℕ) (ps : Plans) → ArePlain ps → ArePlain (each_numbered first ps)
@@ -126,7 +126,7 @@ mutual
   plain_sound leaves offset (share_plan head child) is row any = is
   plain_sound leaves offset (list_plan head elements offsets validity) is row any = any
   plain_sound leaves offset (row_idx_plan head) is row any = is
-  plain_sound leaves offset (scan_plan head segment) is row any = any
+  plain_sound leaves offset (scan_plan head segment coding) is row any = any
   plain_sound leaves offset (zoned_plan head zones content table) is row any = plain_sound leaves offset content is.0 row any
 
   in_sound : (leaves : Leaves) (offset : ℕ) (ps : Plans) → ArePlain ps → (row : ℕ) → HasPart (IsFaultyTerm leaves) (plan_derivation_in offset ps row) → ⊥

@@ -3,7 +3,7 @@ use Rattle.std.proofs.Common.{◌≡◌, ℕ, zero, suc, ◌+◌, ◌<◌, ◌�
 use Rattle.std.specs.Prelude.{IfSome, IsSome, IsSomeAnd, option_and_then}
 use Rattle.std.specs.List.{slice_get, flat_map, AllByRecursion}
 use Rattle.vx_base.specs.Data.{Datum}
-use Rattle.vx_base.specs.Reading.{decoded}
+use Rattle.vx_base.specs.CodingsRead.{decoded_as}
 use Rattle.vx_base.specs.Sources.{SourceState, bytes_at}
 use Rattle.vx_base.specs.declared.locations.SegmentLocation.{SegmentLocation}
 use Rattle.vx_expr.specs.Meaning.{meaning}
@@ -54,9 +54,9 @@ row_amiss leaves number (a_leaf_row at) is fine = is
 row_amiss leaves number (a_code at) is fine = is
 row_amiss leaves number (a_list_row list row) is fine = fine
 
-torn_leaf : (bytes : Bytes) (at : LeafRow) (found : Option (List ℕ)) → bytes at.segment ≡ found → IsSomeAnd found (λ them. decoded at.dtype at.rows them ≡ None) → IsSome (option_and_then (decoded at.dtype at.rows) found) → ⊥
+torn_leaf : (bytes : Bytes) (at : LeafRow) (found : Option (List ℕ)) → bytes at.segment ≡ found → IsSomeAnd found (λ them. decoded_as at.coding at.dtype at.rows them ≡ None) → IsSome (option_and_then (decoded_as at.coding at.dtype at.rows) found) → ⊥
 torn_leaf bytes at None is torn fine = torn
-torn_leaf bytes at (Some them) is torn fine = let p : decoded at.dtype at.rows them ≡ None = torn in let q : IsSome {T = List Datum} None = subst IsSome p fine in cc
+torn_leaf bytes at (Some them) is torn fine = let p : decoded_as at.coding at.dtype at.rows them ≡ None = torn in let q : IsSome {T = List Datum} None = subst IsSome p fine in cc
 
 torn_amiss : (bytes : Bytes) (segment : ℕ) → IsAmiss (leaves_of bytes) (IsTornIn bytes segment)
 torn_amiss bytes segment (a_leaf_row at) is fine = torn_leaf bytes at (bytes at.segment) refl is.1 fine
@@ -83,7 +83,7 @@ no_bytes file locations segment past = ap (option_and_then (bytes_at file)) (no_
 unplaced_amiss : (file : List ℕ) (locations : List SegmentLocation) (segment : ℕ) → ¬ (segment < length locations) → IsAmiss (file_leaves file locations) (IsIn segment)
 unplaced_amiss file locations segment past (a_leaf_row at) is fine =
     let none : segment_bytes file locations at.segment ≡ None = ap (segment_bytes file locations) is ∙ no_bytes file locations segment past in
-    let gone : file_leaves file locations at.dtype at.rows at.segment ≡ None = ap (option_and_then (decoded at.dtype at.rows)) none in
+    let gone : file_leaves file locations at.dtype at.coding at.rows at.segment ≡ None = ap (option_and_then (decoded_as at.coding at.dtype at.rows)) none in
     let some : IsSome {T = List Datum} None = subst IsSome gone fine in
     cc
 unplaced_amiss file locations segment past (a_code at) is fine = is

@@ -142,7 +142,7 @@ no_leaf (list_type t m) ms is e = is
 mutual
   pub kept_sound : (offset : ℕ) (leaves : Leaves) → GiveFitting leaves → (names : List (List ℕ)) (ms : Members) → IsTrue (are_distinct (names_in ms)) → (t : Tree) (row : ℕ) → IsSound t → (head_of t).dtype ≡ struct_type ms NonNullable → HasFault leaves (plan_derivation offset (lowered t (only names)) row) → ⊥
   kept_sound offset leaves fitting names ms distinct (missing head) row sound is any = absurd sound
-  kept_sound offset leaves fitting names ms distinct (leaf head segment) row sound is any = absurd (no_leaf head.dtype ms sound is)
+  kept_sound offset leaves fitting names ms distinct (leaf head segment coding) row sound is any = absurd (no_leaf head.dtype ms sound is)
   kept_sound offset leaves fitting names ms distinct (chunks head forest) row sound is any = kept_sound_in offset leaves fitting names ms distinct head.dtype forest row sound.0 is any
   kept_sound offset leaves fitting names ms distinct (fields head forest validity) row sound is any =
       plain_sound leaves offset (lowered (fields head forest validity) (only names))

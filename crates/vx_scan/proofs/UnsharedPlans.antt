@@ -49,7 +49,7 @@ module _ (P : Plan → Type 0) (own : (first : ℕ) (p : Plan) → P (numbered f
     unnumbered first (list_plan head elements offsets validity) (inr (inr (inl s))) = inr (inr (inl (unnumbered (first + plan_size elements) offsets s)))
     unnumbered first (list_plan head elements offsets validity) (inr (inr (inr s))) = inr (inr (inr (validity_unnumbered (first + plan_size elements + plan_size offsets) validity s)))
     unnumbered first (row_idx_plan head) s = own first (row_idx_plan head) s
-    unnumbered first (scan_plan head segment) s = own first (scan_plan head segment) s
+    unnumbered first (scan_plan head segment coding) s = own first (scan_plan head segment coding) s
     unnumbered first (zoned_plan head zones content table) (inl s) = inl (own first (zoned_plan head zones content table) s)
     unnumbered first (zoned_plan head zones content table) (inr (inl s)) = inr (inl (unnumbered first content s))
     unnumbered first (zoned_plan head zones content table) (inr (inr s)) = inr (inr (unnumbered (first + plan_size content) table s))
@@ -73,7 +73,7 @@ own_share first (take_plan head codes values) s = s
 own_share first (share_plan head child) s = s
 own_share first (list_plan head elements offsets validity) s = s
 own_share first (row_idx_plan head) s = s
-own_share first (scan_plan head segment) s = s
+own_share first (scan_plan head segment coding) s = s
 own_share first (zoned_plan head zones content table) s = s
 
 own_eval : (first : ℕ) (p : Plan) → IsEvalPlan (numbered first p) → IsEvalPlan p
@@ -86,7 +86,7 @@ own_eval first (take_plan head codes values) s = s
 own_eval first (share_plan head child) s = s
 own_eval first (list_plan head elements offsets validity) s = s
 own_eval first (row_idx_plan head) s = s
-own_eval first (scan_plan head segment) s = s
+own_eval first (scan_plan head segment coding) s = s
 own_eval first (zoned_plan head zones content table) s = s
 
 own_below : (first : ℕ) (p : Plan) → IsTakeOverEval (numbered first p) → IsTakeOverEval p
@@ -100,7 +100,7 @@ own_below first (take_plan head codes values) (inr s) = inr (unnumbered IsEvalPl
 own_below first (share_plan head child) s = s
 own_below first (list_plan head elements offsets validity) s = s
 own_below first (row_idx_plan head) s = s
-own_below first (scan_plan head segment) s = s
+own_below first (scan_plan head segment coding) s = s
 own_below first (zoned_plan head zones content table) s = s
 
 -- ---- lowered trees
@@ -144,8 +144,8 @@ module _ (P : Plan → Type 0) (Allows : KeptFields → Type 0) (whole : Allows 
   mutual
     lowered_none : (t : Tree) (kept : KeptFields) → Allows kept → StandsIn P (lowered t kept) → ⊥
     lowered_none (missing head) kept allowed s = bare (no_plan head) tt s
-    lowered_none (leaf head segment) kept allowed (inl s) = bare (filter_plan head (scan_plan head segment)) tt s
-    lowered_none (leaf head segment) kept allowed (inr s) = bare (scan_plan head segment) tt s
+    lowered_none (leaf head segment coding) kept allowed (inl s) = bare (filter_plan head (scan_plan head segment coding)) tt s
+    lowered_none (leaf head segment coding) kept allowed (inr s) = bare (scan_plan head segment coding) tt s
     lowered_none (chunks head forest) kept allowed (inl s) = bare (concat_plan (kept_head kept head) (lowered_in forest kept)) tt s
     lowered_none (chunks head forest) kept allowed (inr s) = chunks_none forest kept allowed s
     lowered_none (fields head forest validity) kept allowed (inl s) = bare (pack_plan (kept_head kept head) (lowered_fields (struct_members head.dtype) forest kept) (lowered_validity validity)) tt s
@@ -189,7 +189,7 @@ bare_share (take_plan head codes values) is s = s
 bare_share (share_plan head child) is s = is
 bare_share (list_plan head elements offsets validity) is s = s
 bare_share (row_idx_plan head) is s = s
-bare_share (scan_plan head segment) is s = s
+bare_share (scan_plan head segment coding) is s = s
 bare_share (zoned_plan head zones content table) is s = s
 
 bare_eval : (p : Plan) → IsBare p → IsEvalPlan p → ⊥
@@ -202,7 +202,7 @@ bare_eval (take_plan head codes values) is s = s
 bare_eval (share_plan head child) is s = s
 bare_eval (list_plan head elements offsets validity) is s = s
 bare_eval (row_idx_plan head) is s = s
-bare_eval (scan_plan head segment) is s = s
+bare_eval (scan_plan head segment coding) is s = s
 bare_eval (zoned_plan head zones content table) is s = s
 
 bare_below : (p : Plan) → IsBare p → IsTakeOverEval p → ⊥
@@ -215,7 +215,7 @@ bare_below (take_plan head codes values) is s = is
 bare_below (share_plan head child) is s = s
 bare_below (list_plan head elements offsets validity) is s = s
 bare_below (row_idx_plan head) is s = s
-bare_below (scan_plan head segment) is s = s
+bare_below (scan_plan head segment coding) is s = s
 bare_below (zoned_plan head zones content table) is s = s
 
 -- any fields may be kept

@@ -41,7 +41,7 @@ list_hinders places list handed (take_plan head codes values) row v = v
 list_hinders places list handed (share_plan head child) row v = v
 list_hinders places list handed (list_plan head elements offsets validity) row v = v
 list_hinders places list handed (row_idx_plan head) row v = v
-list_hinders places list handed (scan_plan head segment) row v = absurd v
+list_hinders places list handed (scan_plan head segment coding) row v = absurd v
 list_hinders places list handed (zoned_plan head zones content table) row v = v
 
 hinders_list : (places list : ℕ) → Implies (IsHindrance places (hindrances.List list)) (IsListRead list)
@@ -54,7 +54,7 @@ hinders_list places list handed (take_plan head codes values) row v = v
 hinders_list places list handed (share_plan head child) row v = v
 hinders_list places list handed (list_plan head elements offsets validity) row v = v
 hinders_list places list handed (row_idx_plan head) row v = v
-hinders_list places list handed (scan_plan head segment) row v = absurd v
+hinders_list places list handed (scan_plan head segment coding) row v = absurd v
 hinders_list places list handed (zoned_plan head zones content table) row v = v
 
 leaf_hinders : (places leaf segment : ℕ) → places ≤ segment → Implies (IsLeafRead (record { leaf = leaf; segment = segment })) (IsHindrance places (hindrances.Segment segment))
@@ -67,7 +67,7 @@ leaf_hinders places leaf segment past handed (take_plan head codes values) row v
 leaf_hinders places leaf segment past handed (share_plan head child) row v = v
 leaf_hinders places leaf segment past handed (list_plan head elements offsets validity) row v = absurd v
 leaf_hinders places leaf segment past handed (row_idx_plan head) row v = v
-leaf_hinders places leaf segment past handed (scan_plan head at) row v = (v.1, subst (λ (n : ℕ). places ≤ n) (sym v.1) past)
+leaf_hinders places leaf segment past handed (scan_plan head at coding) row v = (v.1, subst (λ (n : ℕ). places ≤ n) (sym v.1) past)
 leaf_hinders places leaf segment past handed (zoned_plan head zones content table) row v = v
 
 -- a leaf over the segment, which has no place
@@ -88,7 +88,7 @@ hinders_leaf places segment handed (take_plan head codes values) row v = absurd 
 hinders_leaf places segment handed (share_plan head child) row v = absurd v
 hinders_leaf places segment handed (list_plan head elements offsets validity) row v = absurd v
 hinders_leaf places segment handed (row_idx_plan head) row v = absurd v
-hinders_leaf places segment handed (scan_plan head at) row v = (record { leaf = head.number; past = subst (λ (n : ℕ). places ≤ n) v.0 v.1 }, (refl, v.0))
+hinders_leaf places segment handed (scan_plan head at coding) row v = (record { leaf = head.number; past = subst (λ (n : ℕ). places ≤ n) v.0 v.1 }, (refl, v.0))
 hinders_leaf places segment handed (zoned_plan head zones content table) row v = absurd v
 
 -- ---- what the plan's own definition reads

@@ -1,15 +1,16 @@
 use Rattle.std.proofs.Common.{inl, inr, refl, arith}
 use Rattle.std.specs.Str.{is_utf8, chars}
+use Rattle.vx_base.specs.CodingsRead.{decoded_as}
 use Rattle.vx_base.specs.Reading.{decoded, numbers_read, lengths_read, texts_read}
 use Rattle.vx_layout.specs.Trees.{grow}
 use Rattle.vx_scan.proofs.by_hand.answers_by_hand.Goals as goal
 
 pub returns-clause-leaf : goal.returns-clause-leaf
-unfolding grow decoded numbers_read lengths_read texts_read is_utf8 chars lib.Utf8.encode
+unfolding grow decoded_as decoded numbers_read lengths_read texts_read is_utf8 chars lib.Utf8.encode
 returns-clause-leaf c = refl
 
 pub returns-clause-chunks : goal.returns-clause-chunks
-unfolding grow decoded numbers_read lengths_read texts_read is_utf8 chars lib.Utf8.encode
+unfolding grow decoded_as decoded numbers_read lengths_read texts_read is_utf8 chars lib.Utf8.encode
 returns-clause-chunks c = refl
 
 pub returns-clause-reached : goal.returns-clause-reached
@@ -25,7 +26,7 @@ returns-clause-not_reached c (inr (inl (inr none))) = none
 returns-clause-not_reached c (inr (inr none)) = none
 
 pub returns-clause-dictionary : goal.returns-clause-dictionary
-unfolding grow decoded numbers_read lengths_read texts_read is_utf8 chars lib.Utf8.encode
+unfolding grow decoded_as decoded numbers_read lengths_read texts_read is_utf8 chars lib.Utf8.encode
 returns-clause-dictionary c = refl
 
 pub returns-clause-divided : goal.returns-clause-divided
