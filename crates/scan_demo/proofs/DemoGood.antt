@@ -76,6 +76,7 @@ flat_asks number n segment flat lt leaf few rules.FittingTypes = leaf
 flat_asks number n segment flat lt leaf few rules.UnsignedCodes = tt
 flat_asks number n segment flat lt leaf few rules.RowCounts = tt
 flat_asks number n segment flat lt leaf few rules.FittingZones = tt
+flat_asks number n segment flat lt leaf few rules.FewCodedRows = tt
 
 column_leaf : (column : StoredColumn) → IsLeaf (column_type column)
 column_leaf Ids = tt
@@ -145,6 +146,7 @@ column_asks column number few rules.FittingTypes =
 column_asks column number few rules.UnsignedCodes = tt
 column_asks column number few rules.RowCounts = column_rows column number
 column_asks column number few rules.FittingZones = tt
+column_asks column number few rules.FewCodedRows = tt
 
 -- ---- the dictionary
 
@@ -166,6 +168,7 @@ dict_asks number few rules.FittingTypes = rw (names_there number, column_there C
 dict_asks number few rules.UnsignedCodes = rw (column_there Codes number) tt
 dict_asks number few rules.RowCounts = rw (column_there Codes number) refl
 dict_asks number few rules.FittingZones = tt
+dict_asks number few rules.FewCodedRows = tt
 
 -- ---- the root
 
@@ -197,6 +200,7 @@ root_asks number few rules.RowCounts =
     (All-cons (HasRows number) (chunks_of number + 2) ((2 * chunks_of number + 5) ∷ []) (rw (dict_there number) refl)
     (All-cons (HasRows number) (2 * chunks_of number + 5) [] (rw (column_there Flags number) refl) (All-nil (HasRows number))))
 root_asks number few rules.FittingZones = tt
+root_asks number few rules.FewCodedRows = tt
 
 -- ---- all nodes
 

@@ -2,6 +2,7 @@
 use Rattle.std.proofs.Common.{◌≡◌, ℕ, zero, suc, ◌+◌, ◌<◌, ◌≤◌, List, Some, length, map, refl, sym, ap, ◌∙◌, subst, arith}
 use Rattle.std.specs.List.{flat_map, range_with_len, slice_get}
 use Rattle.std.proofs.lemmas.Option.{slice_get_within}
+use Rattle.vx_base.specs.declared.codings.Coding.TheVariants.{Plain}
 use Rattle.vx_base.specs.Columns.{ColumnData}
 use Rattle.vx_base.specs.Data.{Datum}
 use Rattle.vx_layout.specs.declared.nodes.LayoutKind.TheVariants as kinds
@@ -31,11 +32,11 @@ sound_at nodes good number node at = subst IsSound (tree_of nodes good number no
 
 -- a flat's rows are its values
 pub flat_rows : (nodes : List Node) → IsGoodTree nodes → (leaves : Leaves) (number segment : ℕ) (flat : ColumnData)
-    → slice_get nodes number ≡ Some (flat_node segment flat) → leaves flat.dtype (length flat.values) segment ≡ Some flat.values
+    → slice_get nodes number ≡ Some (flat_node segment flat) → leaves flat.dtype Plain (length flat.values) segment ≡ Some flat.values
     → AreTreeValues leaves (subtree nodes number) all flat.values
 flat_rows nodes good leaves number segment flat at has =
     subst (λ (t : Tree). AreTreeValues leaves t all flat.values) (sym (tree_of nodes good number (flat_node segment flat) at))
-    (leaf_values leaves (head_at number (flat_node segment flat)) segment all flat.values has refl)
+    (leaf_values leaves (head_at number (flat_node segment flat)) segment Plain all flat.values has refl)
 
 -- ---- chunks
 
@@ -47,7 +48,7 @@ AreChunkNodes nodes column number first segment =
 -- and the leaves have their values
 abbrev pub HaveChunks : Leaves → StoredColumn → ℕ → ℕ → Type 0
 HaveChunks leaves column number segment = (place : ℕ) → place < chunk_count number
-    → leaves (column_type column) (length (chunk_flat column number place).values) (segment + place) ≡ Some (chunk_flat column number place).values
+    → leaves (column_type column) Plain (length (chunk_flat column number place).values) (segment + place) ≡ Some (chunk_flat column number place).values
 
 abbrev chunk_values : StoredColumn → ℕ → ℕ → List Datum
 chunk_values column number place = map (stored_value column number) (chunk_rows number place)

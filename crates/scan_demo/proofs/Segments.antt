@@ -4,13 +4,14 @@ use Rattle.std.specs.Prelude.{option_and_then, option_map, unwrap_or}
 use Rattle.std.specs.List.{AllByRecursion, slice_get}
 use Rattle.std.proofs.lemmas.Bool.{le-leb}
 use Rattle.std.proofs.lemmas.List.{drop_at, take_at}
+use Rattle.vx_base.specs.declared.codings.Coding.TheVariants.{Plain}
 use Rattle.vx_base.specs.Columns.{ColumnData}
 use Rattle.vx_base.specs.Data.{DataType, bool_type, int_type, utf8_type, struct_type, list_type, Datum}
 use Rattle.vx_base.specs.Fits.{Fits}
 use Rattle.vx_base.specs.Leaf.{IsLeaf}
 use Rattle.vx_base.specs.Slots.{IsShort}
 use Rattle.vx_base.specs.Segment.{spelling}
-use Rattle.vx_base.specs.Reading.{decoded}
+use Rattle.vx_base.specs.CodingsRead.{decoded_as}
 use Rattle.vx_base.specs.Sources.{bytes_at}
 use Rattle.vx_layout.specs.Rows.{file_leaves, segment_bytes}
 use Rattle.vx_base.proofs.Leaves.{encoding_is_undone}
@@ -51,8 +52,9 @@ leaf_spelled (struct_type ms n) values leaf = absurd leaf
 leaf_spelled (list_type t n) values leaf = absurd leaf
 
 pub flat_stored : (flats : List ColumnData) (segment : ℕ) (flat : ColumnData) → slice_get flats segment ≡ Some flat → IsStorable flat
-    → file_leaves (bytes_of flats) (locations_from 0 flats) flat.dtype (length flat.values) segment ≡ Some flat.values
+    → file_leaves (bytes_of flats) (locations_from 0 flats) flat.dtype Plain (length flat.values) segment ≡ Some flat.values
+unfolding decoded_as
 flat_stored flats segment flat at good =
     let found : segment_bytes (bytes_of flats) (locations_from 0 flats) segment ≡ Some (segment_of flat) = segments_found [] flats segment 0 refl ∙ ap (option_map segment_of) at in
-    ap (option_and_then (decoded flat.dtype (length flat.values))) found
+    ap (option_and_then (decoded_as Plain flat.dtype (length flat.values))) found
     ∙ encoding_is_undone flat.dtype good.leaf flat.values (segment_of flat) good.fit good.short (leaf_spelled flat.dtype flat.values good.leaf)

@@ -2,6 +2,7 @@
 -- are numbered in preorder, and segments in the order of the flats.
 use Rattle.std.specs.Prelude.{ℕ, ◌+◌, ◌*◌, codes, List, [], ◌∷◌, ◌++◌, length, map}
 use Rattle.std.specs.List.{range_with_len}
+use Rattle.vx_base.specs.declared.codings.Coding.TheVariants.{Plain}
 use Rattle.vx_base.specs.Columns.{ColumnData}
 use Rattle.vx_base.specs.Data.{DataType, bool_type, int_type, utf8_type, struct_type, Members, no_members, member}
 use Rattle.vx_base.specs.declared.dtypes.IntKind.TheVariants.{I64}
@@ -22,7 +23,7 @@ row_type = struct_type row_members NonNullable
 
 -- a flat over the segment of that number
 abbrev pub flat_node : ℕ → ColumnData → Node
-flat_node segment flat = record { kind = kinds.Flat segment; dtype = flat.dtype; rows = length flat.values; children = [] }
+flat_node segment flat = record { kind = kinds.Flat segment Plain; dtype = flat.dtype; rows = length flat.values; children = [] }
 
 -- the chunks of a column, the first of which has the segment of that number
 abbrev pub chunk_nodes : StoredColumn → ℕ → ℕ → List Node

@@ -1,5 +1,6 @@
 -- The layout of the demo file of ten rows, as it was written out by hand. Each column has one chunk.
 use Rattle.std.specs.Prelude.{ℕ, List, [], ◌∷◌}
+use Rattle.vx_base.specs.declared.codings.Coding.TheVariants.{Plain}
 use Rattle.vx_base.specs.Data.{DataType, bool_type, int_type, utf8_type}
 use Rattle.vx_base.specs.declared.dtypes.IntKind.TheVariants.{U8, I64}
 use Rattle.vx_base.specs.declared.dtypes.Nullability.TheVariants.{NonNullable, Nullable}
@@ -9,7 +10,7 @@ use Rattle.scan_demo.specs.DemoNodes.{row_type}
 
 -- so many values over the segment of that number
 abbrev pub values_node : ℕ → DataType → ℕ → Node
-values_node segment t rows = record { kind = kinds.Flat segment; dtype = t; rows = rows; children = [] }
+values_node segment t rows = record { kind = kinds.Flat segment Plain; dtype = t; rows = rows; children = [] }
 
 -- the root, the ids (1), the names as a dictionary (3) of sixteen values (4) and codes (5), and the flags (7)
 abbrev pub nodes_of_ten : List Node

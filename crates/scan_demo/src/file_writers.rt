@@ -14,7 +14,7 @@ ghost use Rattle.scan_demo.specs.Writing.{Wrote};
 
 use crate::stored_columns::{CHUNK_ROWS, StoredColumn};
 use std::alloc::{AllocError, Global};
-use vx_base::{Column, DType, SegmentLocation, encode};
+use vx_base::{Coding, Column, DType, SegmentLocation, encode};
 use vx_layout::{LayoutKind, LayoutNode};
 
 /// A file as it is written.
@@ -101,7 +101,10 @@ impl FileWriter {
     {
         self.push_segment(alloc, column)?;
         let dtype = column.dtype().copy(alloc)?;
-        let kind = LayoutKind::Flat { segment };
+        let kind = LayoutKind::Flat {
+            segment,
+            coding: Coding::Plain,
+        };
         self.push_node(kind, dtype, column.len(), Vec::new(alloc))?;
         Ok(())
     }

@@ -35,13 +35,10 @@ sync_shared = search (parts_cross, crosses, masks.the_send, numbers.the_send, pa
 
 sync_runs : IsSync runs.the_row
 sync_runs = view_sync inside_runs.the_row _ _ _ _ (declared_sync inside_runs.the_type (
-  masks.the_sync,
+  as_row_sync (row_field _) sync_part,
   (
-    as_row_sync (row_field _) sync_part,
-    (
-      vec.the_sync _ alloc.the_row impl.ghosts (plain_sync _ _ _ _ _) global.the_sync,
-      tt,
-    ),
+    vec.the_sync _ alloc.the_row impl.ghosts (plain_sync _ _ _ _ _) global.the_sync,
+    tt,
   ),
 ))
 

@@ -56,7 +56,7 @@ all_done t values from row to out start past inside so_far =
     let end : row ≡ to = omega arith in so_far ∙ ap (λ (k : ℕ). start ++ lines t (slice_range values from k)) end
 
 -- a row of the column has a slot
-length-valid : (mask : List Bool) (slots : List Datum) → length mask ≡ length slots → length (where_valid mask slots) ≡ length slots
+pub length-valid : (mask : List Bool) (slots : List Datum) → length mask ≡ length slots → length (where_valid mask slots) ≡ length slots
 length-valid [] [] same = refl
 length-valid [] (v ∷ slots) same = absurd (omega arith)
 length-valid (bit ∷ mask) [] same = absurd (omega arith)

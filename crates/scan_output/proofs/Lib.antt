@@ -5,6 +5,7 @@ mod ColumnLines
 mod Leads
 mod Ranges
 mod RowTexts
+mod RunLines
 mod SideBySides
 mod Strings
 mod Writes

@@ -1,5 +1,6 @@
 pub mod FieldLeads
 pub mod RowText
 pub mod RowWriting
+pub mod RunLines
 pub mod SideBySide
 pub mod Writing

@@ -1,15 +1,17 @@
-//! The lines of a column's rows: leaves that lie packed in one loop each, all other rows cell by cell.
+//! The lines of a column's rows: of runs the line of each value once, leaves that lie packed in one loop each, all other
+//! rows cell by cell.
 
-ghost use Rattle.std.specs.Prelude.{◌≡◌, ◌≤◌, ◌++◌, if◌then◌else◌, length, map, slice_range, OnOk};
+ghost use Rattle.std.specs.Prelude.{◌≡◌, ◌≤◌, ◌++◌, length, map, slice_range, OnOk};
 ghost use Rattle.vx_arrays.specs.Numbers.{numbers_in};
-ghost use Rattle.scan_output.specs.RowText.{line, lines};
-ghost use Rattle.vx_base.specs.Data.{DataType, null, number, text, truth};
+ghost use Rattle.scan_output.specs.RowText.{lines};
+ghost use Rattle.vx_base.specs.Data.{DataType, number, text, truth};
 ghost use Rattle.vx_base.specs.Slots.{where_valid};
 
 use crate::cell_texts::append_cell;
 use crate::field_leads::leads_of;
-use crate::json_strings::append_string;
 use crate::printed_numbers::Printed;
+use crate::run_lines::append_run_lines;
+use crate::value_lines::{append_number_line, append_text_line, append_truth_line};
 use itoa::Buffer;
 use std::alloc::{AllocError, Global};
 use std::ops::Range;
@@ -18,49 +20,6 @@ use vx_base::{Column, Mask};
 
 /// How many bytes the line of a truth value or a null has at most.
 const TRUTH_LINE: usize = 6;
-
-/// Appends the line of a truth value, or of a null where it isn't valid.
-fn append_truth_line(valid: bool, bit: bool, out: &mut Vec<u8>) -> Result<(), AllocError>
-    ensures { OnOk result ((t : DataType) → out.new.items ≡ out.old.items ++ line t (if valid then truth bit else null)) }
-{
-    if !valid {
-        return out.extend_from_slice(b"null\n");
-    }
-    if bit {
-        out.extend_from_slice(b"true\n")
-    } else {
-        out.extend_from_slice(b"false\n")
-    }
-}
-
-/// Appends the line of a number, or of a null where it isn't valid.
-fn append_number_line<T: Printed>(
-    digits: &mut Buffer,
-    valid: bool,
-    value: T,
-    out: &mut Vec<u8>,
-) -> Result<(), AllocError>
-    ensures { OnOk result ((t : DataType) → out.new.items ≡ out.old.items ++ line t (if valid then number (T.number value) else null)) }
-{
-    if !valid {
-        return out.extend_from_slice(b"null\n");
-    }
-    out.extend_from_slice(value.printed(digits).as_bytes())?;
-    out.push(b'\n')?;
-    Ok(())
-}
-
-/// Appends the line of a text, or of a null where it isn't valid.
-fn append_text_line(valid: bool, value: &str, out: &mut Vec<u8>) -> Result<(), AllocError>
-    ensures { OnOk result ((t : DataType) → out.new.items ≡ out.old.items ++ line t (if valid then text value.now else null)) }
-{
-    if !valid {
-        return out.extend_from_slice(b"null\n");
-    }
-    append_string(out, value.as_bytes())?;
-    out.push(b'\n')?;
-    Ok(())
-}
 
 /// Appends the lines of a range of truth values.
 fn append_truths(
@@ -169,8 +128,8 @@ fn append_cells(
     Ok(())
 }
 
-/// Appends a line for each row of a range: the text of the row's value, and a newline.
-pub fn append_row_lines(
+/// Appends the lines of a range of rows that don't lie in runs.
+fn append_packed_lines(
     alloc: Global,
     column: &Column,
     rows: Range<u64>,
@@ -189,6 +148,23 @@ pub fn append_row_lines(
         ArrayView::Numbers(valid, numbers) => append_numbers(valid, numbers, places, out),
         ArrayView::Texts(valid, texts) => append_texts(valid, texts, places, out),
         ArrayView::Structs(_, _) | ArrayView::Lists(_, _) => append_cells(alloc, column, rows, out),
+    }
+}
+
+/// Appends a line for each row of a range: the text of the row's value, and a newline.
+pub fn append_row_lines(
+    alloc: Global,
+    column: &Column,
+    rows: Range<u64>,
+    out: &mut Vec<u8>,
+) -> Result<(), AllocError>
+    requires forwards { rows.start ≤ rows.end }
+    requires inside { rows.end ≤ length column.now.values }
+    ensures { OnOk result (out.new.items ≡ out.old.items ++ lines column.now.dtype (slice_range column.now.values rows.start rows.end)) }
+{
+    match column.run_parts() {
+        Some((values, ends)) => append_run_lines(alloc, column.dtype(), values, ends, rows, out),
+        None => append_packed_lines(alloc, column, rows, out),
     }
 }
 

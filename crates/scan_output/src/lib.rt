@@ -15,8 +15,10 @@ mod json_strings;
 mod printed_numbers;
 mod row_texts;
 mod row_writing;
+mod run_lines;
 mod side_by_side;
 mod texts_by_hand;
+mod value_lines;
 mod writing;
 
 pub use column_lines::{append_column_lines, append_row_lines};

@@ -13,6 +13,7 @@ ghost use Rattle.scan_request.specs.ExpressionForms.{expression_form};
 ghost use Rattle.scan_request.specs.NodeForms.{node_form};
 ghost use Rattle.scan_request.specs.RequestForms.{request_form};
 ghost use Rattle.scan_request.specs.RowForms.{range_form, selection_form};
+ghost use Rattle.vx_base.specs.declared.codings.Coding.TheVariants.{Plain, Runs};
 ghost use Rattle.vx_base.specs.declared.dtypes.IntKind.TheVariants.{U16, I64};
 ghost use Rattle.vx_base.specs.declared.dtypes.Nullability.TheVariants.{NonNullable, Nullable};
 ghost use Rattle.vx_base.specs.Data.{int_type, utf8_type, list_type, struct_type};
@@ -37,17 +38,24 @@ pub fn dtype_forms_by_hand()
         (array no_items) no_members))) ≡ None }
 {}
 
-/// A flat node has four members and no children, a zoned one six; one member too many makes it none.
+/// A flat node has four members, or five with its coding, and no children, a zoned one six; one member too many makes it
+/// none, and so does a coding that is null.
 #[tactic(auto, unfolding(crate::specs::NodeForms::node_form, crate::specs::NodeForms::node_of_kind))]
 pub fn node_forms_by_hand()
     ensures flat { node_form (object (member (codes "dtype") (string (codes "i64")) (member (codes "kind")
         (string (codes "flat")) (member (codes "rows") (number (unsigned 3)) (member (codes "segment")
-        (number (unsigned 7)) no_members))))) ≡ Some (record { kind = Flat 7; dtype = int_type I64 NonNullable; rows = 3; children = [] }) }
+        (number (unsigned 7)) no_members))))) ≡ Some (record { kind = Flat 7 Plain; dtype = int_type I64 NonNullable; rows = 3; children = [] }) }
     ensures zoned { node_form (object (member (codes "children") (array (item (number (unsigned 1))
         (item (number (unsigned 2)) no_items))) (member (codes "dtype") (string (codes "i64")) (member (codes "kind")
         (string (codes "zoned")) (member (codes "rows") (number (unsigned 3)) (member (codes "stats")
         (array (item (string (codes "null_count")) no_items)) (member (codes "zone_len") (number (unsigned 2)) no_members)))))))
         ≡ Some (record { kind = Zoned 2 (NullCount ∷ []); dtype = int_type I64 NonNullable; rows = 3; children = 1 ∷ 2 ∷ [] }) }
+    ensures coded { node_form (object (member (codes "coding") (string (codes "runs")) (member (codes "dtype")
+        (string (codes "i64")) (member (codes "kind") (string (codes "flat")) (member (codes "rows") (number (unsigned 3))
+        (member (codes "segment") (number (unsigned 7)) no_members)))))) ≡ Some (record { kind = Flat 7 Runs; dtype = int_type I64 NonNullable; rows = 3; children = [] }) }
+    ensures no_coding { node_form (object (member (codes "coding") null (member (codes "dtype") (string (codes "i64"))
+        (member (codes "kind") (string (codes "flat")) (member (codes "rows") (number (unsigned 3)) (member (codes "segment")
+        (number (unsigned 7)) no_members)))))) ≡ None }
     ensures too_many { node_form (object (member (codes "children") (array no_items) (member (codes "dtype")
         (string (codes "i64")) (member (codes "kind") (string (codes "flat")) (member (codes "rows") (number (unsigned 3))
         (member (codes "segment") (number (unsigned 7)) no_members)))))) ≡ None }

@@ -6,14 +6,14 @@ ghost use Rattle.std.specs.Str.{bytes_eq};
 ghost use Rattle.serde_json.specs.View.{view, items_view};
 ghost use Rattle.vx_layout.specs.Nodes.{node_data};
 ghost use Rattle.scan_request.specs.JsonForms.{each_form};
-ghost use Rattle.scan_request.specs.NodeForms.{statistic_form, zones_form, flat_form, zoned_by, legacy_by, plain_kinds, kind_form, kind_named as named_kind, member_count as members_of_kind, children_form, node_form, node_of_kind};
+ghost use Rattle.scan_request.specs.NodeForms.{statistic_form, zones_form, coding_form, coding_under, coding_count as count_of_coding, flat_form, zoned_by, legacy_by, plain_kinds, kind_form, kind_named as named_kind, member_count as members_of_kind, children_form, node_form, node_of_kind};
 ghost use Rattle.scan_request.specs.NodeViews.{node_with};
 
 use crate::dtype_forms::dtype_under;
 use crate::json_forms::{has_members, numbers_in, whole_32, whole_64};
 use serde_json::Value;
 use std::alloc::{AllocError, Global};
-use vx_base::DType;
+use vx_base::{Coding, DType};
 use vx_expr::{Statistic, Statistics};
 use vx_layout::{LayoutKind, LayoutNode};
 
@@ -66,12 +66,45 @@ fn kind_of(alloc: Global, value: &Value) -> Result<Option<LayoutKind>, AllocErro
     }
 }
 
-/// The flat kind over the segment that its node tells.
+/// The coding of that name.
+fn coding_named(value: &Value) -> Option<Coding>
+    ensures { result ≡ coding_form (view value.now) }
+{
+    match value.as_str()? {
+        "plain" => Some(Coding::Plain),
+        "constant" => Some(Coding::Constant),
+        "runs" => Some(Coding::Runs),
+        _ => None,
+    }
+}
+
+/// How the segment of a flat node is coded: plainly where its node doesn't tell.
+fn coding_of(value: &Value) -> Option<Coding>
+    ensures { result ≡ coding_under (view value.now) }
+{
+    match value.get("coding") {
+        Some(coding) => coding_named(coding),
+        None => Some(Coding::Plain),
+    }
+}
+
+/// How many members of a node tell a coding.
+fn coding_count(value: &Value) -> usize
+    ensures { result ≡ count_of_coding (view value.now) }
+{
+    match value.get("coding") {
+        Some(_) => 1,
+        None => 0,
+    }
+}
+
+/// The flat kind over the segment that its node tells, coded as it tells.
 fn flat_kind(value: &Value) -> Option<LayoutKind>
     ensures { result ≡ flat_form (view value.now) }
 {
     let segment = value.get("segment").and_then(whole_32)?;
-    Some(LayoutKind::Flat { segment })
+    let coding = coding_of(value)?;
+    Some(LayoutKind::Flat { segment, coding })
 }
 
 /// The zoned kind with such zones, where there are any.
@@ -116,10 +149,11 @@ fn kind_named(alloc: Global, value: &Value, name: &str) -> Result<Option<LayoutK
 }
 
 /// How many members a node of the kind has.
-fn member_count(kind: &LayoutKind) -> usize
-    ensures { result ≡ members_of_kind kind.now }
+fn member_count(value: &Value, kind: &LayoutKind) -> usize
+    ensures { result ≡ members_of_kind kind.now (view value.now) }
 {
     match kind {
+        LayoutKind::Flat { .. } => 4 + coding_count(value),
         LayoutKind::Zoned { .. } | LayoutKind::LegacyStats { .. } => 6,
         _ => 4,
     }
@@ -158,7 +192,7 @@ fn facts_of(
 ) -> Result<Option<NodeFacts>, AllocError>
     ensures { IfOk result (λ facts. option_map (node_with kind.now) facts ≡ node_of_kind kind.now (view value.now)) }
 {
-    if !has_members(value, member_count(kind)) {
+    if !has_members(value, member_count(value, kind)) {
         return Ok(None);
     }
     let Some(row_count) = value.get("rows").and_then(whole_64) else {
