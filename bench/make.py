@@ -1,14 +1,16 @@
 #!/usr/bin/env python3
 """Turns a CSV file into a segment file and a request, or makes the example of the README.
 
-    python3 bench/make.py csv FILE.csv OUT [--dtype NAME=DTYPE ..] [--empty-text]
+    python3 bench/make.py csv FILE.csv OUT [--dtype NAME=DTYPE ..] [--coding NAME=CODING ..] [--empty-text]
     python3 bench/make.py example OUT [--rows N] [--seed N]
 
 `csv` writes OUT.seg and OUT.json, which `scan_cli scan OUT.seg OUT.json` prints. The first line of the CSV file names
 the columns. A column's dtype is told by --dtype (`bool`, `u8` to `u64`, `i8` to `i64`, `utf8`, with `?` where it takes
 nulls), or guessed: `bool` where each cell is `true` or `false`, `i64` where each is a whole number that fits, else
-`utf8`. An empty cell is a null, in a text too unless --empty-text is set. Columns are cut into chunks of 65536 rows; a
-chunk of texts is stored by a dictionary where that takes fewer bytes.
+`utf8`. An empty cell is a null, in a text too unless --empty-text is set. Columns are cut into chunks of 65536 rows. How
+the chunks of a column are coded is told by --coding: `runs` (a value for each run of equal rows, and where the run ends),
+`constant` (one value for all rows of a chunk, which have to be equal) or `plain` (a value for each row). Where it isn't
+told they are plain, and a chunk of texts is stored by a dictionary if that takes fewer bytes.
 
 `example` makes a few thousand readings: the level, the station (a text that may be null) and whether the reading is
 valid.
@@ -27,8 +29,11 @@ import sys
 
 CHUNK_ROWS = 65536
 WIDTHS = {"u8": 1, "u16": 2, "u32": 4, "u64": 8, "i8": 1, "i16": 2, "i32": 4, "i64": 8}
-# What the program reads of a request at the most, and how long a segment may be.
-MOST_REQUEST, MOST_SEGMENT = 16777216, 2**32 - 1
+LEAVES = [kind + mark for kind in [*WIDTHS, "bool", "utf8"] for mark in ("", "?")]
+CODINGS = ["plain", "constant", "runs"]
+# What the program reads of a request at the most, how long a segment may be, and how many rows it may have in a coding that
+# isn't plain.
+MOST_REQUEST, MOST_SEGMENT, MOST_CODED_ROWS = 16777216, 2**32 - 1, 16777216
 
 
 class Fault(Exception):
@@ -51,7 +56,7 @@ def bits_of(truths):
 
 
 def encode(dtype, values):
-    """The bytes of a leaf of that dtype; None is a null."""
+    """The plain bytes of a leaf of that dtype; None is a null."""
     nullable, kind = dtype.endswith("?"), dtype.rstrip("?")
     validity = bits_of([value is not None for value in values]) if nullable else b""
     if kind == "bool":
@@ -65,8 +70,38 @@ def encode(dtype, values):
     return validity + b"".join((value or 0).to_bytes(width, "little", signed=kind[0] == "i") for value in values)
 
 
+def first_other(values):
+    """The first row that isn't equal to the first one, or None."""
+    return next((row for row, value in enumerate(values) if value != values[0]), None)
+
+
+def runs_of(values):
+    """The value of each run of equal values, and where the run ends."""
+    runs, ends = [], []
+    for row, value in enumerate(values):
+        if row == 0 or value != runs[-1]:
+            runs.append(value)
+            ends.append(row)
+        ends[-1] = row + 1
+    return runs, ends
+
+
+def encode_as(dtype, coding, values):
+    """The bytes of a leaf of that dtype in a coding."""
+    if dtype not in LEAVES:
+        raise Fault("only the rows of a leaf are coded, and %s is none" % json.dumps(dtype))
+    if coding == "plain":
+        return encode(dtype, values)
+    if len(values) > MOST_CODED_ROWS:
+        raise Fault("%d rows in one segment, which may have %d with the coding %s" % (len(values), MOST_CODED_ROWS, coding))
+    if coding == "constant":
+        return encode(dtype, values[:1]) if values else b""
+    runs, ends = runs_of(values)
+    return len(runs).to_bytes(4, "little") + b"".join(end.to_bytes(8, "little") for end in ends) + encode(dtype, runs)
+
+
 def decode(dtype, rows, data):
-    """The values that the bytes of a leaf of so many rows spell, read on its own from `encode`."""
+    """The values that the plain bytes of a leaf of so many rows spell, read on its own from `encode`."""
     nullable, kind = dtype.endswith("?"), dtype.rstrip("?")
     count = (rows + 7) // 8
 
@@ -95,6 +130,25 @@ def decode(dtype, rows, data):
     return [value if there else None for value, there in zip(values, valid)]
 
 
+def decode_as(dtype, coding, rows, data):
+    """The values that the bytes of a leaf of so many rows spell in a coding, read on its own from `encode_as`."""
+    if coding == "plain":
+        return decode(dtype, rows, data)
+    if rows > MOST_CODED_ROWS:
+        raise ValueError("more rows than the coding may have")
+    if coding == "constant":
+        return decode(dtype, min(rows, 1), data) * rows
+    count = int.from_bytes(data[:4], "little")
+    ends = [int.from_bytes(data[4 + 8 * run : 12 + 8 * run], "little") for run in range(count)]
+    runs = decode(dtype, count, data[4 + 8 * count :])
+    starts = [0, *ends]
+    if len(data) < 4 + 8 * count or starts[-1] != rows or any(start >= end for start, end in zip(starts, ends)):
+        raise ValueError("runs that don't end one after another, the last with the last row")
+    if any(one == two for one, two in zip(runs, runs[1:])):
+        raise ValueError("two runs side by side with one value")
+    return [value for value, start, end in zip(runs, starts, ends) for _ in range(start, end)]
+
+
 # ---- layouts
 
 
@@ -108,11 +162,12 @@ class Layout:
         self.nodes.append(node)
         return len(self.nodes) - 1
 
-    def flat(self, dtype, values):
-        self.segments.append(encode(dtype, values))
+    def flat(self, dtype, values, coding="plain"):
+        self.segments.append(encode_as(dtype, coding, values))
         if len(self.segments[-1]) > MOST_SEGMENT:
             raise Fault("a chunk of %d rows has more bytes than a segment may have" % len(values))
-        return self.add(kind="flat", dtype=dtype, rows=len(values), segment=len(self.segments) - 1)
+        told = {} if coding == "plain" else {"coding": coding}
+        return self.add(kind="flat", dtype=dtype, rows=len(values), segment=len(self.segments) - 1, **told)
 
     def texts(self, dtype, values):
         """A chunk of texts, flat or by a dictionary, whichever takes fewer bytes."""
@@ -129,19 +184,33 @@ class Layout:
         self.nodes[node]["children"] = children
         return node
 
-    def column(self, dtype, values):
+    def chunk(self, dtype, values, start, coding):
+        """A chunk of a column, whose first row is `start`."""
+        part = values[start : start + CHUNK_ROWS]
+        if coding is None:
+            return self.texts(dtype, part) if dtype.rstrip("?") == "utf8" else self.flat(dtype, part)
+        other = first_other(part) if coding == "constant" else None
+        if other is not None:
+            raise Fault("row %d isn't equal to row %d, so that the coding can't be constant" % (start + other, start))
+        return self.flat(dtype, part, coding)
+
+    def column(self, dtype, values, coding=None):
         """A column in chunks; one chunk stands alone."""
-        chunk = self.texts if dtype.rstrip("?") == "utf8" else self.flat
         starts = range(0, len(values), CHUNK_ROWS)
         if len(starts) == 1:
-            return chunk(dtype, values)
+            return self.chunk(dtype, values, 0, coding)
         node = self.add(kind="chunked", dtype=dtype, rows=len(values), children=[])
-        self.nodes[node]["children"] = [chunk(dtype, values[start : start + CHUNK_ROWS]) for start in starts]
+        self.nodes[node]["children"] = [self.chunk(dtype, values, start, coding) for start in starts]
         return node
 
-    def table(self, names, dtypes, columns, rows):
+    def table(self, names, dtypes, columns, rows, codings=None):
+        """A struct of columns; the codings are those that are told of some of them, by their names."""
         node = self.add(kind="struct", dtype={"struct": [list(one) for one in zip(names, dtypes)]}, rows=rows, children=[])
-        self.nodes[node]["children"] = [self.column(*one) for one in zip(dtypes, columns)]
+        for name, dtype, values in zip(names, dtypes, columns):
+            try:
+                self.nodes[node]["children"].append(self.column(dtype, values, (codings or {}).get(name)))
+            except Fault as fault:
+                raise Fault("column %r: %s" % (name, fault)) from None
 
     def locations(self):
         places, offset = [], 0
@@ -164,7 +233,7 @@ def read_again(file, request, number=0):
     if node["kind"] == "flat":
         offset, length, _ = request["locations"][node["segment"]]
         file.seek(offset)
-        values = decode(node["dtype"], node["rows"], file.read(length))
+        values = decode_as(node["dtype"], node.get("coding", "plain"), node["rows"], file.read(length))
     else:
         children = [read_again(file, request, child) for child in node["children"]]
         if node["kind"] == "chunked":
@@ -281,7 +350,7 @@ def dtypes_told(words, names):
     told = {}
     for word in words:
         name, equals, dtype = word.rpartition("=")
-        if not equals or dtype.removesuffix("?") not in [*WIDTHS, "bool", "utf8"]:
+        if not equals or dtype not in LEAVES:
             raise Fault("--dtype %s: no dtype" % word)
         if name not in names:
             raise Fault("--dtype %s: no column has that name" % word)
@@ -291,17 +360,32 @@ def dtypes_told(words, names):
     return told
 
 
+def codings_told(words, names):
+    """The codings of --coding by the names of their columns."""
+    told = {}
+    for word in words:
+        name, equals, coding = word.rpartition("=")
+        if not equals or coding not in CODINGS:
+            raise Fault("--coding %s: no coding" % word)
+        if name not in names:
+            raise Fault("--coding %s: no column has that name" % word)
+        if name in told:
+            raise Fault("--coding %s: the column has a coding already" % word)
+        told[name] = coding
+    return told
+
+
 def from_csv(options):
     names, rows = table_of(options.file)
-    told = dtypes_told(options.dtype, names)
+    told, codings = dtypes_told(options.dtype, names), codings_told(options.coding, names)
     cells = [list(column) for column in zip(*rows)] or [[] for _ in names]
     dtypes = [told.get(name) or guessed(column, options.empty_text) for name, column in zip(names, cells)]
     columns = [column_of(*one, options.empty_text) for one in zip(names, dtypes, cells)]
     layout = Layout()
-    layout.table(names, dtypes, columns, len(rows))
+    layout.table(names, dtypes, columns, len(rows), codings)
     write(options.out, layout, columns)
     for name, dtype in zip(names, dtypes):
-        print("%s: %s" % (name, dtype))
+        print("%s: %s%s" % (name, dtype, ", " + codings[name] if name in codings else ""))
 
 
 # ---- the example
@@ -341,6 +425,7 @@ def options_of():
     of_csv.add_argument("file")
     of_csv.add_argument("out")
     of_csv.add_argument("--dtype", action="append", default=[], metavar="NAME=DTYPE")
+    of_csv.add_argument("--coding", action="append", default=[], metavar="NAME=CODING")
     of_csv.add_argument("--empty-text", action="store_true", help="an empty cell of a text is an empty text")
     example = modes.add_parser("example", help="the example of the README")
     example.add_argument("out")

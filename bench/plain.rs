@@ -151,7 +151,12 @@ impl<'a> Scan<'a> {
         match node.member("kind")?.text()? {
             "flat" => {
                 let bytes = self.segment(node.member("segment")?.number()? as usize)?;
-                leaf(dtype.text()?, bytes, node.member("rows")?.number()? as usize)
+                let rows = node.member("rows")?.number()? as usize;
+                match (dtype.text()?, node.member("coding").and_then(Json::text).unwrap_or("plain")) {
+                    (dtype, "plain") => leaf(dtype, bytes, rows),
+                    ("i64", "runs") => runs(&bytes, rows),
+                    _ => None,
+                }
             }
             "struct" => {
                 let mut fields = Vec::new();
@@ -194,6 +199,26 @@ fn leaf(dtype: &str, bytes: Vec<u8>, rows: usize) -> Option<Column> {
         "utf8" => texts(bytes.get(..4 * rows)?, &bytes[4 * rows..]),
         _ => None,
     }
+}
+
+/// The rows of a segment of runs of numbers, written out: each run must end behind the one before it, the last one with
+/// the last row, and have another number than that one.
+fn runs(bytes: &[u8], rows: usize) -> Option<Column> {
+    let count = u32::from_le_bytes(bytes.get(..4)?.try_into().ok()?) as usize;
+    let ends = bytes.get(4..4 + 8 * count)?;
+    let numbers = &bytes[4 + 8 * count..];
+    let (mut start, mut spread) = (0, Vec::with_capacity(8 * rows));
+    for (end, number) in ends.chunks_exact(8).zip(numbers.chunks_exact(8)) {
+        let end = u64::from_le_bytes(end.try_into().unwrap()) as usize;
+        if end <= start || end > rows || spread.ends_with(number) {
+            return None;
+        }
+        for _ in start..end {
+            spread.extend_from_slice(number);
+        }
+        start = end;
+    }
+    (start == rows && numbers.len() == 8 * count).then_some(Column::Numbers(spread))
 }
 
 /// Texts of these lengths, each of which must be UTF-8.

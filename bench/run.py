@@ -36,13 +36,19 @@ DATA_SETS = {
     "dict_texts": DataSet("dict", MILLION, 9, 2.5),
     "texts": DataSet("texts", MILLION, 9, 2.5),
     "leaves_290000": DataSet("one", 290_000, 5, None),
+    "runs_plain": DataSet("runs_plain", 10 * MILLION, 5, None),
+    "runs_coded": DataSet("runs_coded", 10 * MILLION, 5, None),
 }
-# Two data sets of one shape, and how many times the first one's time the second one's may be at the most.
-GROWTH = [("first_quarter", "chunks_128", 4.2), ("one_flat", "ten_flat", 10.5), ("chunks_128", "ten_chunks", 10.5)]
+# Two data sets, and how many times the first one's time the second one's may be at the most.
+COMPARED = [
+    ("first_quarter", "chunks_128", 4.2), ("one_flat", "ten_flat", 10.5), ("chunks_128", "ten_chunks", 10.5),
+    ("runs_plain", "runs_coded", 0.8)]
+# How many rows a run has, and how many a flat in runs; at least how many times as many bytes the plain segments have.
+RUN_ROWS, FLAT_ROWS, LEAST_SAVED = 1000, 65536, 50
 
 
-def flat(rows, segment, dtype="i64"):
-    return {"kind": "flat", "dtype": dtype, "rows": rows, "segment": segment}
+def flat(rows, segment, dtype="i64", **more):
+    return {"kind": "flat", "dtype": dtype, "rows": rows, "segment": segment, **more}
 
 
 def inner(kind, dtype, rows, count):
@@ -130,6 +136,30 @@ def make_columns(numbers):
     write_request("leaves_290000", [[0, 8, 8]], [inner("chunked", "i64", 290_000, 290_000)] + [flat(1, 0)] * 290_000)
 
 
+def bytes_of_runs(runs, rows):
+    """The segment of these rows in runs: how many there are, where each ends, and its number."""
+    inside = range(rows.start // RUN_ROWS, (rows.stop - 1) // RUN_ROWS + 1)
+    ends = [min((run + 1) * RUN_ROWS, rows.stop) - rows.start for run in inside]
+    return bytes_of("I", [len(ends)]) + bytes_of("Q", ends) + bytes_of("q", runs[inside.start : inside.stop])
+
+
+def make_runs(numbers):
+    """Ten million rows in runs of a thousand, in plain flats and in coded ones."""
+    apart = [number for place, number in enumerate(numbers) if place == 0 or number != numbers[place - 1]]
+    runs, count = apart[: 10 * MILLION // RUN_ROWS], 10 * MILLION
+    whole = memoryview(b"".join(bytes_of("q", [number]) * RUN_ROWS for number in runs))
+    parts = [range(start, min(start + FLAT_ROWS, count)) for start in range(0, count, FLAT_ROWS)]
+    plain = [whole[8 * part.start : 8 * part.stop] for part in parts]
+    coded = [bytes_of_runs(runs, part) for part in parts]
+    write_values("runs_plain", plain, (b"%d\n" % number * RUN_ROWS for number in runs))
+    write("runs_coded.seg", coded)
+    if not os.path.exists(path_of("runs_coded.lines")):
+        os.link(path_of("runs_plain.lines"), path_of("runs_coded.lines"))  # the same rows
+    for name, segments, more in (("runs_plain", plain, {}), ("runs_coded", coded, {"coding": "runs"})):
+        leaves = [flat(len(part), segment, **more) for segment, part in enumerate(parts)]
+        write_request(name, one_after_another(map(len, segments)), [inner("chunked", "i64", count, len(leaves))] + leaves)
+
+
 def make_struct(numbers, rows):
     """Fifty columns of numbers side by side, each in one segment."""
     names = ["field_%d" % place for place in range(FIELDS)]
@@ -163,6 +193,7 @@ def make_all(seed):
     rng = random.Random(seed)
     numbers = random_numbers(rng, MILLION)
     make_columns(numbers)
+    make_runs(numbers)
     make_struct(numbers, DATA_SETS["struct_50"].rows)
     make_texts(rng)
 
@@ -235,9 +266,13 @@ def main():
     print("%-14s %8s %8s %8s %8s %7s %7s %5s %9s %9s %9s" % (
         "data set", "best", "median", "best", "median", "best", "median", "most", "proved", "plain", "bytes/row"))
     best = {name: measure(programs, name, options.runs) for name in options.only}
-    for fewer, more, most in GROWTH:
-        if fewer in best and more in best:
-            print("from %s to %s: x %.2f (at most %s)" % (fewer, more, best[more] / best[fewer], most))
+    for one, other, most in COMPARED:
+        if one in best and other in best:
+            print("from %s to %s: x %.2f (at most %s)" % (one, other, best[other] / best[one], most))
+    if "runs_coded" in best:
+        plain, coded = (os.path.getsize(path_of(name + ".seg")) for name in ("runs_plain", "runs_coded"))
+        print("segments of runs_plain: %d bytes, of runs_coded: %d, %.0f times fewer (at least %d)" % (
+            plain, coded, plain / coded, LEAST_SAVED))
 
 
 if __name__ == "__main__":
