@@ -16,8 +16,8 @@ told they are plain, and a chunk of texts is stored by a dictionary if that take
 valid.
 
 Both files are written under other names first, read again and compared with the cells; only then they get their names.
-Input that can't be turned ends the script with one line on standard error: status 2 for words at fault, else 1. Then
-nothing is left behind, and files of these names are as they were.
+Input that can't be turned ends the script with one line on standard error: status 2 for words that don't parse, else 1.
+Then nothing is left behind, and files of these names are as they were. The whole table is held in memory.
 """
 import argparse
 import csv
@@ -191,7 +191,7 @@ class Layout:
             return self.texts(dtype, part) if dtype.rstrip("?") == "utf8" else self.flat(dtype, part)
         other = first_other(part) if coding == "constant" else None
         if other is not None:
-            raise Fault("row %d isn't equal to row %d, so that the coding can't be constant" % (start + other, start))
+            raise Fault("row %d isn't equal to row %d (the first row is 0), so that the coding can't be constant" % (start + other, start))
         return self.flat(dtype, part, coding)
 
     def column(self, dtype, values, coding=None):
@@ -317,7 +317,7 @@ def column_of(name, dtype, cells, empty_text):
         try:
             values.append(value_of(dtype, cell, empty_text))
         except Fault as fault:
-            raise Fault("row %d, column %r: %s" % (row, name, fault)) from None
+            raise Fault("row %d (the first is 0), column %r: %s" % (row, name, fault)) from None
     return values
 
 
@@ -351,7 +351,7 @@ def dtypes_told(words, names):
     for word in words:
         name, equals, dtype = word.rpartition("=")
         if not equals or dtype not in LEAVES:
-            raise Fault("--dtype %s: no dtype" % word)
+            raise Fault("--dtype %s: the dtypes are %s, each also with a ? behind it" % (word, ", ".join(sorted(it for it in LEAVES if not it.endswith("?")))))
         if name not in names:
             raise Fault("--dtype %s: no column has that name" % word)
         if name in told:
@@ -366,7 +366,7 @@ def codings_told(words, names):
     for word in words:
         name, equals, coding = word.rpartition("=")
         if not equals or coding not in CODINGS:
-            raise Fault("--coding %s: no coding" % word)
+            raise Fault("--coding %s: the codings are plain, constant and runs" % word)
         if name not in names:
             raise Fault("--coding %s: no column has that name" % word)
         if name in told:
@@ -442,6 +442,8 @@ def main():
         sys.exit("make.py: %s" % fault)
     except OSError as error:
         sys.exit("make.py: %s: %s" % (error.filename, error.strerror))
+    except MemoryError:
+        sys.exit("make.py: out of memory: the whole table is held in memory, so split it")
 
 
 if __name__ == "__main__":
