@@ -31,6 +31,7 @@ CHUNK_ROWS = 65536
 WIDTHS = {"u8": 1, "u16": 2, "u32": 4, "u64": 8, "i8": 1, "i16": 2, "i32": 4, "i64": 8}
 LEAVES = [kind + mark for kind in [*WIDTHS, "bool", "utf8"] for mark in ("", "?")]
 CODINGS = ["plain", "constant", "runs"]
+DTYPE_HELP = "the dtypes are %s, each also with a ? behind it" % ", ".join([*WIDTHS, "bool", "utf8"])
 # What the program reads of a request at the most, how long a segment may be, and how many rows it may have in a coding that
 # isn't plain.
 MOST_REQUEST, MOST_SEGMENT, MOST_CODED_ROWS = 16777216, 2**32 - 1, 16777216
@@ -345,39 +346,25 @@ def table_of(path):
     return names, rows
 
 
-def dtypes_told(words, names):
-    """The dtypes of --dtype by the names of their columns."""
+def told_by_name(option, words, names, known, help):
+    """What the words NAME=VALUE of an option tell of columns, by their names; `help` says which values are known."""
     told = {}
     for word in words:
-        name, equals, dtype = word.rpartition("=")
-        if not equals or dtype not in LEAVES:
-            raise Fault("--dtype %s: the dtypes are %s, each also with a ? behind it" % (word, ", ".join(sorted(it for it in LEAVES if not it.endswith("?")))))
+        name, equals, value = word.rpartition("=")
+        if not equals or value not in known:
+            raise Fault("%s %s: %s" % (option, word, help))
         if name not in names:
-            raise Fault("--dtype %s: no column has that name" % word)
+            raise Fault("%s %s: no column has that name" % (option, word))
         if name in told:
-            raise Fault("--dtype %s: the column has a dtype already" % word)
-        told[name] = dtype
-    return told
-
-
-def codings_told(words, names):
-    """The codings of --coding by the names of their columns."""
-    told = {}
-    for word in words:
-        name, equals, coding = word.rpartition("=")
-        if not equals or coding not in CODINGS:
-            raise Fault("--coding %s: the codings are plain, constant and runs" % word)
-        if name not in names:
-            raise Fault("--coding %s: no column has that name" % word)
-        if name in told:
-            raise Fault("--coding %s: the column has a coding already" % word)
-        told[name] = coding
+            raise Fault("%s %s: the column has one already" % (option, word))
+        told[name] = value
     return told
 
 
 def from_csv(options):
     names, rows = table_of(options.file)
-    told, codings = dtypes_told(options.dtype, names), codings_told(options.coding, names)
+    told = told_by_name("--dtype", options.dtype, names, LEAVES, DTYPE_HELP)
+    codings = told_by_name("--coding", options.coding, names, CODINGS, "the codings are plain, constant and runs")
     cells = [list(column) for column in zip(*rows)] or [[] for _ in names]
     dtypes = [told.get(name) or guessed(column, options.empty_text) for name, column in zip(names, cells)]
     columns = [column_of(*one, options.empty_text) for one in zip(names, dtypes, cells)]
