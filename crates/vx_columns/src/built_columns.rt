@@ -127,8 +127,8 @@ impl Column {
         Ok(made)
     }
 
-    /// The values of all parts, one part after another. It copies them into memory that it takes once; one part alone
-    /// is given as it is.
+    /// The values of all parts, one part after another. It copies them into memory that it takes once, and rows in runs
+    /// are spread there; one part alone is given as it is.
     pub fn concat(alloc: Global, dtype: DType, parts: Vec<Column>) -> Result<Column, AllocError>
         requires { AllByRecursion (λ part. part.dtype ≡ data_type dtype) parts.items }
         ensures dtype { IfOk result (λ column. column.dtype ≡ data_type dtype) }

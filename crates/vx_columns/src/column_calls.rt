@@ -58,7 +58,8 @@ impl Column {
         Ok(Column::of_rows(dtype, made))
     }
 
-    /// The rows of a range that the mask chooses of them, in one pass over the chosen rows.
+    /// The rows of a range that the mask chooses of them, in one pass over the chosen rows; of rows in runs, the runs of
+    /// the range are filtered.
     pub fn filter_range(
         &self,
         alloc: Global,

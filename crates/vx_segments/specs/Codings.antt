@@ -8,7 +8,7 @@ use Rattle.vx_segments.specs.Segment.{Spells}
 use Rattle.vx_segments.specs.declared.codings.Coding.{Coding}
 use Rattle.vx_segments.specs.declared.codings.Coding.TheVariants.{Plain, Constant, Runs}
 
--- all values are the same, and the bytes are the plain spelling of one alone
+-- Each of the values is the same one, and the bytes are the plain spelling of it alone.
 pub record SpellsOne (t : DataType) (bytes : List ℕ) (values : List Datum) : Type 0 where
   pub value : Datum
   pub alike : values ≡ replicate (length values) value

@@ -23,8 +23,8 @@ pub fn segments_by_hand()
 {}
 
 /// Runs that end at 2 and 3, of the values 5 and 7: three rows. Nothing is spelled where neighbours are the same, where
-/// ends do not ascend, where the last end is not the number of rows, where an end or a value is missing, and where a
-/// byte follows; no runs spell no rows alone.
+/// ends do not ascend, where the last end is not the number of rows, where a value is missing, where a byte follows, and
+/// where no byte is there; no runs spell no rows alone.
 pub fn run_segments_by_hand()
     ensures runs { decoded_as Runs (int_type I8 NonNullable) 3 ((2 ∷ 0 ∷ 0 ∷ 0 ∷ []) ++ (2 ∷ 0 ∷ 0 ∷ 0 ∷ 0 ∷ 0 ∷ 0 ∷ 0 ∷ []) ++ (3 ∷ 0 ∷ 0 ∷ 0 ∷ 0 ∷ 0 ∷ 0 ∷ 0 ∷ []) ++ (5 ∷ 7 ∷ [])) ≡ Some (number (pos 5) ∷ number (pos 5) ∷ number (pos 7) ∷ []) }
     ensures alike { decoded_as Runs (int_type I8 NonNullable) 3 ((2 ∷ 0 ∷ 0 ∷ 0 ∷ []) ++ (2 ∷ 0 ∷ 0 ∷ 0 ∷ 0 ∷ 0 ∷ 0 ∷ 0 ∷ []) ++ (3 ∷ 0 ∷ 0 ∷ 0 ∷ 0 ∷ 0 ∷ 0 ∷ 0 ∷ []) ++ (5 ∷ 5 ∷ [])) ≡ None }

@@ -35,8 +35,8 @@ pub use hindrances::{Hindrance, first_hindrance};
 pub use kept::KeptValue;
 pub use laws::{
     bad_codes_are_read, causes_are_free, causes_are_read, outermost_takes_are_asked,
-    selected_visits_are_reads, splits_are_read, visits_are_free, visits_are_reads,
-    whole_causes_are_causes,
+    selected_visits_are_reads, splits_are_read, splits_have_their_takes, used_values_serve,
+    visits_are_free, visits_are_reads, whole_causes_are_causes,
 };
 pub use leavings::ScanKept;
 pub use progress::Turn;
