@@ -183,3 +183,47 @@ shared size start end row other some from below other_from other_below =
     let forwards : start < end = omega arith in
     rw (lt-ltb start end forwards)
     (one_chunk size start end (start / size) ((end - 1) / size + 1 - start / size) row other some, lies_in_one size start end row other some from below other_from other_below)
+
+-- ---- the first chunk, and those of the rows behind it
+-- from a chunk on that begins behind both starts the pieces are the same
+behind_both : (size start other end n q : ℕ) → start ≤ q * size → other ≤ q * size → chunks_from size start end q n ≡ chunks_from size other end q n
+behind_both size start other end zero q from other_from = refl
+behind_both size start other end (suc n) q from other_from =
+    let next : (q + 1) * size ≡ q * size + size = next_multiple q size in
+    let starts : max start (q * size) ≡ max other (q * size) = omega arith in
+    ap (λ (low : ℕ). record { start = low; end = min end (q * size + size) } ∷ chunks_from size start end (q + 1) n) starts
+    ∙ ap (λ (rest : List (Range ℕ)). clipped_chunk size other end q ∷ rest) (behind_both size start other end n (q + 1) (omega arith) (omega arith))
+
+rest_of : (size start end : ℕ) → 0 < size → start < end → chunks_from size start end (start / size + 1) ((end - 1) / size - start / size) ≡ row_chunks size (min end (start / size * size + size)) end
+rest_of size start end some forwards =
+    let q : ℕ = start / size in
+    let last : ℕ = (end - 1) / size in
+    let here = first_chunk size start some in
+    elim (cases_lt (q * size + size) end) [
+      | inl more ↦
+          let low : ℕ = q * size + size in
+          let next : (q + 1) * size ≡ low = next_multiple q size in
+          let cut : min end low ≡ low = omega arith in
+          let number : low / size ≡ q + 1 = in_chunk size (q + 1) low some (omega arith) (omega arith) in
+          behind_both size start low end (last - q) (q + 1) (omega (arith, here)) (omega arith)
+          ∙ ap (λ (n : ℕ). chunks_from size low end (q + 1) n) (omega arith)
+          ∙ ap (λ (k : ℕ). chunks_from size low end k (last + 1 - k)) (sym number)
+          ∙ rw (lt-ltb low end more) refl
+          ∙ ap (λ (k : ℕ). row_chunks size k end) (sym cut)
+      | inr all ↦
+          let cut : min end (q * size + size) ≡ end = omega arith in
+          let number : last ≡ q = in_chunk size q (end - 1) some (omega (arith, here)) (omega arith) in
+          let none : last - q ≡ 0 = omega arith in
+          ap (λ (n : ℕ). chunks_from size start end (q + 1) n) none
+          ∙ rw (le-ltb end end (omega arith)) refl
+          ∙ ap (λ (k : ℕ). row_chunks size k end) (sym cut)
+    ]
+
+pub chunks_first : (size start end : ℕ) → 0 < size → start < end → row_chunks size start end ≡ clipped_chunk size start end (start / size) ∷ row_chunks size (min end (start / size * size + size)) end
+chunks_first size start end some forwards =
+    let q : ℕ = start / size in
+    let last : ℕ = (end - 1) / size in
+    let up : q ≤ last = first_before_last size start end some forwards in
+    let count : last + 1 - q ≡ suc (last - q) = omega arith in
+    rw (lt-ltb start end forwards) (ap (λ (n : ℕ). chunks_from size start end q n) count)
+    ∙ ap (λ (rest : List (Range ℕ)). clipped_chunk size start end q ∷ rest) (rest_of size start end some forwards)

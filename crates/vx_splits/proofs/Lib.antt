@@ -1,5 +1,6 @@
 pub mod Between
 pub mod ChunkRows
+pub mod FirstChunks
 pub mod Marks
 pub mod Rising
 pub mod Runs

@@ -68,7 +68,8 @@ abbrev pub ChunksJoin : Type 0
 ChunksJoin = (selection : Selection) (size start end : ℕ) → 0 < size →
     flat_map (λ chunk. selected_rows selection chunk.start chunk.end) (row_chunks size start end) ≡ selected_rows selection start end
 
--- the same of the rows of a scan: they are those that are selected of the chunks of its range below the row count
+-- the same of the rows of a scan without a limit: they are those that are selected of the chunks of its range below the
+-- row count
 abbrev pub ChunksTake : Type 0
 ChunksTake = (selection : Selection) (range : Range ℕ) (size row_count : ℕ) → 0 < size →
     flat_map (λ chunk. selected_rows selection chunk.start chunk.end) (row_chunks size range.start (min range.end row_count))

@@ -1,4 +1,5 @@
 pub mod Chunks
+pub mod FirstRows
 pub mod Limits
 pub mod Spans
 pub mod SplitRanges

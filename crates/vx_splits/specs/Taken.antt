@@ -22,8 +22,8 @@ selects (variants.ExcludeByIndex rows) row = not (is_among rows row)
 abbrev pub selected_rows : Selection → ℕ → ℕ → List ℕ
 selected_rows selection start end = filter (selects selection) (rows_between start end)
 
--- The rows of a scan: those of the range that the selection selects and that lie below the row count. The
--- range is the given one, else all rows.
+-- The rows that a scan without a limit has: those of the range that the selection selects and that lie below the
+-- row count. The range is the given one, else all rows.
 abbrev pub taken_rows : Selection → Option (Range ℕ) → ℕ → List ℕ
 taken_rows selection None row_count = selected_rows selection 0 row_count
 taken_rows selection (Some range) row_count = selected_rows selection range.start (min range.end row_count)
@@ -32,7 +32,7 @@ taken_rows selection (Some range) row_count = selected_rows selection range.star
 abbrev pub IsSelected : Selection → ℕ → ℕ → ℕ → Type 0
 IsSelected selection start end row = (start ≤ row) × (row < end) × (selects selection row ≡ true)
 
--- a row of a scan: it is below the row count, it lies in the range, if one is given, and it is selected
+-- such a row: it is below the row count, it lies in the range, if one is given, and it is selected
 abbrev pub IsTaken : Selection → Option (Range ℕ) → ℕ → ℕ → Type 0
 IsTaken selection None row_count row = (row < row_count) × (selects selection row ≡ true)
 IsTaken selection (Some range) row_count row = (row < row_count) × IsSelected selection range.start range.end row

@@ -1,6 +1,6 @@
 //! Chunks: a range of rows cut at the multiples of a size.
 
-ghost use Rattle.std.specs.Prelude.{◌≡◌, ◌*◌, ◌%◌, ◌<◌, ◌≤◌, true, length, IfOk};
+ghost use Rattle.std.specs.Prelude.{◌≡◌, ◌∷◌, ◌*◌, ◌%◌, ◌<◌, ◌≤◌, true, length, IfOk};
 ghost use Rattle.std.specs.List.{sum_by};
 ghost use Rattle.vx_base.specs.Limits.{most_segments};
 ghost use Rattle.vx_splits.specs.Limits.{most_chunk_rows, block_rows};
@@ -70,6 +70,19 @@ pub fn row_chunks(alloc: Global, rows: Range<u64>, size: u64) -> Result<Vec<Rang
     Ok(chunks)
 }
 
+/// The first of the chunks of a range that isn't empty: its rows up to the next multiple of the size. It takes no
+/// memory.
+pub fn first_chunk(rows: &Range<u64>, size: u64) -> Range<u64>
+    requires some { rows.now.start < rows.now.end }
+    requires size { 0 < size }
+    ensures first { row_chunks size rows.now.start rows.now.end ≡ result ∷ row_chunks size result.end rows.now.end }
+    ensures start { result.start ≡ rows.now.start }
+    ensures forwards { result.start < result.end }
+    ensures inside { result.end ≤ rows.now.end }
+{
+    clip(rows, size, rows.start / size)
+}
+
 /// The rows of the range in the chunk of that number. The chunk begins before the range's end.
 fn clip(rows: &Range<u64>, size: u64, number: u64) -> Range<u64>
     requires { number * size < rows.now.end }
@@ -80,7 +93,7 @@ fn clip(rows: &Range<u64>, size: u64, number: u64) -> Range<u64>
 }
 
 /// What is selected of the chunks of a range, one after the other, is what is selected of the range; and what is
-/// selected of the chunks of a scan's range below the row count are the rows of the scan.
+/// selected of the chunks of a scan's range below the row count are the rows of the scan, where it has no limit.
 pub fn chunks_join()
     ensures selected { ChunksJoin }
     ensures taken { ChunksTake }

@@ -182,8 +182,8 @@ fn left_of(rows: &Range<u64>, excluded: &[u64]) -> Option<Range<u64>>
     Some(start..end_left(rows.end, excluded))
 }
 
-/// The selected rows of a range, and the rows of a scan, one by one: they ascend, and they are exactly those that
-/// are selected.
+/// The selected rows of a range, and the rows of a scan without a limit, one by one: they ascend, and they are exactly
+/// those that are selected.
 pub fn rows_are_selected()
     ensures selected { SelectsRows }
     ensures taken { TakesRows }

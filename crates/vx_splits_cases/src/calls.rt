@@ -1,5 +1,6 @@
 //! The calls.
 
+use crate::first_rows::write_first;
 use crate::words::{number_of, numbers_of, range_of, selection_of, write_numbers, write_ranges};
 use std::alloc::{AllocError, Global};
 use std::ops::Range;
@@ -75,7 +76,7 @@ fn write_bits(mask: &Mask, out: &mut String) -> Result<(), AllocError> {
 }
 
 /// What is left of a scope: its rows, how many of them are chosen, and the mask of a short one.
-fn write_left(left: &SelectedRows, out: &mut String) -> Result<(), AllocError> {
+pub(crate) fn write_left(left: &SelectedRows, out: &mut String) -> Result<(), AllocError> {
     let (file, count) = (left.scope.file_ordinal, left.mask.true_count());
     let (start, end) = (left.scope.rows.start, left.scope.rows.end);
     write!(out, "file {file} rows {start}..{end} chosen {count}")?;
@@ -154,9 +155,12 @@ fn write_on_selection(
     if call == "attempt_split_ranges" {
         return write_splits(alloc, &selection, words, out);
     }
-    let (rows, count) = words.split_once(' ').unwrap_or((words, ""));
-    let (rows, count) = (range_of(rows), number_of(count));
-    write_selected(alloc, call, &selection, rows, count, out)
+    let (rows, words) = words.split_once(' ').unwrap_or((words, ""));
+    let rows = range_of(rows);
+    if call == "limit_rows" {
+        return write_first(alloc, &selection, rows, words, out);
+    }
+    write_selected(alloc, call, &selection, rows, number_of(words), out)
 }
 
 /// Appends the answer to a call.

@@ -5,6 +5,7 @@
 #![tactic(auto)]
 
 mod calls;
+mod first_rows;
 mod words;
 
 use calls::write_answers;
