@@ -27,7 +27,7 @@ bound_same t a b one two term =
 
 asked_same : (a b : Asked) → said_by a ≡ said_by b → a.projection ≡ b.projection → a ≡ b
 asked_same a b said projection =
-    λ i. record { locations = (said i).locations; nodes = (said i).nodes; projection = projection i; range = (said i).range; selection = (said i).selection; row_offset = (said i).row_offset }
+    λ i. record { locations = (said i).locations; nodes = (said i).nodes; projection = projection i; range = (said i).range; selection = (said i).selection; limit = (said i).limit; row_offset = (said i).row_offset }
 
 pub same_request : (bytes : List ℕ) (a b : Asked) → IsRequest bytes a → IsRequest bytes b → a ≡ b
 same_request bytes a b one two =

@@ -41,7 +41,7 @@ in_form bytes d parts is formed = rw is (sym formed)
 
 abbrev parts_by : Option FileSaid → Option RowsAsked → Option Term → Option Parts
 parts_by file rows projection =
-    file >>= λ f. rows >>= λ r. projection >>= λ e. here (record { locations = f.locations; nodes = f.nodes; projection = e; range = r.range; selection = r.selection; row_offset = r.row_offset })
+    file >>= λ f. rows >>= λ r. projection >>= λ e. here (record { locations = f.locations; nodes = f.nodes; projection = e; range = r.range; selection = r.selection; limit = r.limit; row_offset = r.row_offset })
 
 file_is : (b : Bool) (file : Option FileSaid) (rows : Option RowsAsked) (projection : Option Term) (parts : Parts) → cond b (parts_by file rows projection) None ≡ Some parts → file ≡ Some (record { locations = parts.locations; nodes = parts.nodes })
 file_is false file rows projection parts e = absurd cc
@@ -49,7 +49,7 @@ file_is true None rows projection parts e = absurd cc
 file_is true (Some f) None projection parts e = absurd cc
 file_is true (Some f) (Some r) None parts e = absurd cc
 file_is true (Some f) (Some r) (Some term) parts e =
-    let same = some_is (record { locations = f.locations; nodes = f.nodes; projection = term; range = r.range; selection = r.selection; row_offset = r.row_offset }) parts e in
+    let same = some_is (record { locations = f.locations; nodes = f.nodes; projection = term; range = r.range; selection = r.selection; limit = r.limit; row_offset = r.row_offset }) parts e in
     ap (λ (p : Parts). here (let file : FileSaid = record { locations = p.locations; nodes = p.nodes } in file)) same
 
 both : (locations : Option (List SegmentLocation)) (nodes : Option (List Node)) (file : FileSaid) → (locations >>= λ ls. nodes >>= λ ns. here (let said : FileSaid = record { locations = ls; nodes = ns } in said)) ≡ Some file → (locations ≡ Some file.locations) × (nodes ≡ Some file.nodes)

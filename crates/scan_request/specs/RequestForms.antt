@@ -32,13 +32,14 @@ pub record FileSaid : Type 0 where
   pub nodes : List Node
 
 -- What a request says: where each segment lies, the nodes of the layout, what is projected of a row, which rows are
--- asked for, and the number of the first row.
+-- asked for and how many of them at most, and the number of the first row.
 pub record Parts : Type 0 where
   pub locations : List SegmentLocation
   pub nodes : List Node
   pub projection : Term
   pub range : Option (Range ℕ)
   pub selection : Selection
+  pub limit : Option ℕ
   pub row_offset : ℕ
 
 -- 1 where a member of that name is there, else 0
@@ -47,7 +48,7 @@ present name d = if is_some (get name d) then 1 else 0
 
 -- how many members a request has: locations and nodes, and those of the others that are there
 abbrev pub members_of : Data → ℕ
-members_of d = 2 + present (codes "projection") d + present (codes "range") d + present (codes "indices") d + present (codes "exclude") d + present (codes "row_offset") d
+members_of d = 2 + present (codes "projection") d + present (codes "range") d + present (codes "indices") d + present (codes "exclude") d + present (codes "limit") d + present (codes "row_offset") d
 
 abbrev pub locations_form : Data → Option (List SegmentLocation)
 locations_form d = get (codes "locations") d >>= list_form location_form
@@ -67,7 +68,7 @@ request_form d = if has_members (members_of d) d then (
     file_form d >>= λ file.
     rows_form d >>= λ rows.
     optional_form root expression_form (get (codes "projection") d) >>= λ projection.
-    Some (record { locations = file.locations; nodes = file.nodes; projection = projection; range = rows.range; selection = rows.selection; row_offset = rows.row_offset })) else None
+    Some (record { locations = file.locations; nodes = file.nodes; projection = projection; range = rows.range; selection = rows.selection; limit = rows.limit; row_offset = rows.row_offset })) else None
 
 -- ---- of bytes
 
@@ -93,10 +94,11 @@ pub record Asked : Type 0 where
   pub projection : Bound
   pub range : Option (Range ℕ)
   pub selection : Selection
+  pub limit : Option ℕ
   pub row_offset : ℕ
 
 abbrev pub said_by : Asked → Parts
-said_by asked = record { locations = asked.locations; nodes = asked.nodes; projection = asked.projection.term; range = asked.range; selection = asked.selection; row_offset = asked.row_offset }
+said_by asked = record { locations = asked.locations; nodes = asked.nodes; projection = asked.projection.term; range = asked.range; selection = asked.selection; limit = asked.limit; row_offset = asked.row_offset }
 
 -- the bytes have the form of this request, its nodes are a layout tree, and its projection is bound to the root's dtype
 pub record IsRequest (bytes : List ℕ) (asked : Asked) : Type 0 where

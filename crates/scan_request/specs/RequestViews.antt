@@ -8,10 +8,10 @@ use Rattle.scan_request.specs.declared.request_forms.RequestParts.{RequestParts}
 use Rattle.scan_request.specs.RequestForms.{Asked, FileSaid, Parts}
 
 abbrev pub asked_of : Request → Asked
-asked_of request = record { locations = request.file.locations.items; nodes = request.file.layout; projection = request.projection; range = request.range; selection = request.selection; row_offset = request.row_offset }
+asked_of request = record { locations = request.file.locations.items; nodes = request.file.layout; projection = request.projection; range = request.range; selection = request.selection; limit = request.limit; row_offset = request.row_offset }
 
 abbrev pub file_of_parts : FileParts → FileSaid
 file_of_parts file = record { locations = file.locations.items; nodes = map node_data file.nodes.items }
 
 abbrev pub parts_said : RequestParts → Parts
-parts_said parts = record { locations = parts.file.locations.items; nodes = map node_data parts.file.nodes.items; projection = term parts.projection; range = parts.rows.range; selection = parts.rows.selection; row_offset = parts.rows.row_offset }
+parts_said parts = record { locations = parts.file.locations.items; nodes = map node_data parts.file.nodes.items; projection = term parts.projection; range = parts.rows.range; selection = parts.rows.selection; limit = parts.rows.limit; row_offset = parts.rows.row_offset }

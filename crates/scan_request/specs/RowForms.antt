@@ -1,5 +1,5 @@
--- The form of the rows that are asked for: a range, the rows of it that are read or left out, and the number of the first
--- row.
+-- The form of the rows that are asked for: a range, the rows of it that are read or left out, how many of them at most, and
+-- the number of the first row.
 use Rattle.std.specs.Prelude.{ℕ, ◌^◌, ◌&&◌, nat_lt, codes, if◌then◌else◌, List, [], ◌∷◌, Bool, true, Option, Some, None}
 use Rattle.std.specs.declared.ops.Range.{Range}
 use Rattle.serde_json.specs.Data.{Data, Items, no_items, item}
@@ -24,6 +24,10 @@ range_form d = as_array d >>= range_items
 abbrev pub given_range : Data → Option (Option (Range ℕ))
 given_range d = range_form d >>= λ range. Some (Some range)
 
+-- a number of rows of 64 bits that is given, where none may be
+abbrev pub given_limit : Data → Option (Option ℕ)
+given_limit d = whole_form (2 ^ 64) d >>= λ limit. Some (Some limit)
+
 -- each number is greater than the one before it
 abbrev pub ascends : List ℕ → Bool
 ascends [] = true
@@ -45,6 +49,7 @@ selection_form (Some d) (Some e) = None
 abbrev pub rows_form : Data → Option RowsAsked
 rows_form d =
     optional_form None given_range (get (codes "range") d) >>= λ range.
+    optional_form None given_limit (get (codes "limit") d) >>= λ limit.
     optional_form 0 (whole_form (2 ^ 64)) (get (codes "row_offset") d) >>= λ row_offset.
     selection_form (get (codes "indices") d) (get (codes "exclude") d) >>= λ selection.
-    Some (record { range = range; selection = selection; row_offset = row_offset })
+    Some (record { range = range; selection = selection; limit = limit; row_offset = row_offset })

@@ -94,11 +94,12 @@ pub fn row_forms_by_hand()
     ensures both { selection_form (Some (array no_items)) (Some (array no_items)) ≡ None }
 {}
 
-/// All rows whole where only locations and nodes are there; a further member makes it none, also an absent one's null.
+/// All rows whole where only locations and nodes are there, a limit of no row is one; a further member makes it none, and so
+/// does an absent one's null, and a limit that is no number.
 #[tactic(auto, unfolding(crate::specs::RequestForms::request_form, crate::specs::RequestForms::file_form))]
 pub fn request_forms_by_hand()
     ensures least { request_form (object (member (codes "locations") (array no_items) (member (codes "nodes") (array no_items) no_members)))
-        ≡ Some (record { locations = []; nodes = []; projection = root; range = None; selection = All; row_offset = 0 }) }
+        ≡ Some (record { locations = []; nodes = []; projection = root; range = None; selection = All; limit = None; row_offset = 0 }) }
     ensures more { request_form (object (member (codes "exclude") (array no_items) (member (codes "locations") (array no_items)
         (member (codes "nodes") (array no_items) (member (codes "projection") (string (codes "row_idx")) (member (codes "row_offset")
         (number (unsigned 5)) no_members)))))) ≡ Some (record {
@@ -107,10 +108,25 @@ pub fn request_forms_by_hand()
           projection = row_number;
           range = None;
           selection = ExcludeByIndex [];
+          limit = None;
           row_offset = 5;
+        }) }
+    ensures limited { request_form (object (member (codes "limit") (number (unsigned 0)) (member (codes "locations") (array no_items)
+        (member (codes "nodes") (array no_items) no_members)))) ≡ Some (record {
+          locations = [];
+          nodes = [];
+          projection = root;
+          range = None;
+          selection = All;
+          limit = Some 0;
+          row_offset = 0;
         }) }
     ensures further { request_form (object (member (codes "locations") (array no_items) (member (codes "nodes") (array no_items)
         (member (codes "rows") (array no_items) no_members)))) ≡ None }
     ensures null_range { request_form (object (member (codes "locations") (array no_items) (member (codes "nodes") (array no_items)
         (member (codes "range") null no_members)))) ≡ None }
+    ensures null_limit { request_form (object (member (codes "limit") null (member (codes "locations") (array no_items)
+        (member (codes "nodes") (array no_items) no_members)))) ≡ None }
+    ensures text_limit { request_form (object (member (codes "limit") (string (codes "4")) (member (codes "locations") (array no_items)
+        (member (codes "nodes") (array no_items) no_members)))) ≡ None }
 {}

@@ -38,6 +38,8 @@ pub struct Request {
     pub range: Option<Range<u64>>,
     /// Which of those rows are read.
     pub selection: Selection,
+    /// How many of the selected rows are read, the first ones, where not all are.
+    pub limit: Option<u64>,
     /// The number of the file's first row.
     pub row_offset: u64,
 }
@@ -85,6 +87,7 @@ pub fn request_of(alloc: Global, bytes: &[u8]) -> Result<Request, RequestError>
             projection,
             range: rows.range,
             selection: rows.selection,
+            limit: rows.limit,
             row_offset: rows.row_offset,
         }),
         Err(error) => {
@@ -136,6 +139,7 @@ fn members_of(value: &Value) -> usize
         + present(value, "range")
         + present(value, "indices")
         + present(value, "exclude")
+        + present(value, "limit")
         + present(value, "row_offset")
 }
 

@@ -1,11 +1,11 @@
-//! The form of the rows that are asked for: a range, the rows of it that are read or left out, and the number of the
-//! first row.
+//! The form of the rows that are asked for: a range, the rows of it that are read or left out, how many of them at most,
+//! and the number of the first row.
 
 ghost use Rattle.std.specs.Prelude.{◌≡◌, ◌^◌, None, IfOk, codes, option_map};
 ghost use Rattle.serde_json.specs.Find.{get};
 ghost use Rattle.serde_json.specs.View.{view, items_view};
 ghost use Rattle.scan_request.specs.JsonForms.{each_form, optional_form, whole_form};
-ghost use Rattle.scan_request.specs.RowForms.{range_items, range_form, given_range, indices_form, selection_form, rows_form};
+ghost use Rattle.scan_request.specs.RowForms.{range_items, range_form, given_range, given_limit, indices_form, selection_form, rows_form};
 
 use crate::json_forms::whole_64;
 use serde_json::Value;
@@ -20,6 +20,8 @@ pub(crate) struct RowsAsked {
     pub(crate) range: Option<Range<u64>>,
     /// Which of those rows are read.
     pub(crate) selection: Selection,
+    /// How many of the selected rows are read, the first ones, where not all are.
+    pub(crate) limit: Option<u64>,
     /// The number of the file's first row.
     pub(crate) row_offset: u64,
 }
@@ -100,6 +102,16 @@ fn selection_asked(alloc: Global, value: &Value) -> Result<Option<Selection>, Al
     }
 }
 
+/// How many of the selected rows are read at most: it is none where the request says nothing of it.
+fn limit_asked(value: &Value) -> Option<Option<u64>>
+    ensures { result ≡ optional_form None given_limit (get (codes "limit") (view value.now)) }
+{
+    match value.get("limit") {
+        Some(limit) => Some(Some(whole_64(limit)?)),
+        None => Some(None),
+    }
+}
+
 /// The number of the file's first row: 0 where the request says nothing of it.
 fn offset_asked(value: &Value) -> Option<u64>
     ensures { result ≡ optional_form 0 (whole_form (2 ^ 64)) (get (codes "row_offset") (view value.now)) }
@@ -117,6 +129,9 @@ pub(crate) fn rows_asked(alloc: Global, value: &Value) -> Result<Option<RowsAske
     let Some(range) = range_asked(value) else {
         return Ok(None);
     };
+    let Some(limit) = limit_asked(value) else {
+        return Ok(None);
+    };
     let Some(row_offset) = offset_asked(value) else {
         return Ok(None);
     };
@@ -124,6 +139,7 @@ pub(crate) fn rows_asked(alloc: Global, value: &Value) -> Result<Option<RowsAske
         Some(selection) => Ok(Some(RowsAsked {
             range,
             selection,
+            limit,
             row_offset,
         })),
         None => Ok(None),
