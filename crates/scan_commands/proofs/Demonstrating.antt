@@ -33,7 +33,7 @@ pub demo_scan : (number : ℕ) (nodes : List Node) (locations : List SegmentLoca
     → IsDemoScan number (scan_of builder)
 demo_scan number nodes locations builder is layout segments =
     subst (λ (b : Building). IsDemoScan number (scan_of b)) (sym is)
-    (record { layout = ap (λ (ns : List Node). subtree ns 0) layout; bare = refl; selection = refl; range = refl; locations = segments })
+    (record { layout = ap (λ (ns : List Node). subtree ns 0) layout; bare = refl; selection = refl; range = refl; limit = refl; locations = segments })
 
 -- sources that each tell these bytes tell the file of them
 all_tell : (bytes file : List ℕ) (sources : List MemorySource) → bytes ≡ file → All (TellsBytes bytes) sources → AllTell file (map memory_state sources)

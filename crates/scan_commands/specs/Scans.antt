@@ -26,6 +26,7 @@ scan_of asked = record {
   projection = record { root = subtree asked.nodes 0; expression = asked.projection; offset = first_row asked };
   selection = asked.selection;
   range = asked.range;
+  limit = asked.limit;
   locations = asked.locations;
 }
 

@@ -48,6 +48,10 @@ fn builder_of(alloc: Global, request: Request, idle_limit: u64) -> Result<ScanBu
         .with_selection(request.selection)
         .with_row_offset(request.row_offset)
         .with_idle_limit(idle_limit);
+    let builder = match request.limit {
+        Some(rows) => builder.with_limit(rows),
+        None => builder,
+    };
     match request.range {
         Some(range) => Ok(builder.with_row_range(range)),
         None => Ok(builder),

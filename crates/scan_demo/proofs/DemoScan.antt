@@ -15,7 +15,7 @@ use Rattle.vx_layout.specs.Shape.{IsGoodTree}
 use Rattle.vx_layout.specs.Trees.{Tree, head_of, subtree}
 use Rattle.vx_lower.specs.Projected.{Projection, projected_at}
 use Rattle.vx_rows.specs.Derivations.{Leaves}
-use Rattle.vx_scan.specs.Answer.{FileScan, ArePieces, in_front, pieces_of, row_count, scan_pieces, scan_rows}
+use Rattle.vx_scan.specs.Answer.{FileScan, ArePieces, in_front, limited, pieces_of, row_count, scan_pieces, scan_rows}
 use Rattle.vx_splits.specs.declared.selections.Selection.{Selection}
 use Rattle.vx_splits.specs.declared.selections.Selection.TheVariants.{All}
 use Rattle.vx_splits.specs.Chunks.{chunk_size}
@@ -53,7 +53,8 @@ pieces_at e count locations rows = pieces_of (chunk_size (is_root e) count locat
 
 rows_are : (number : ℕ) (scan : FileScan) → IsGoodTree (demo_nodes number) → IsDemoScan number scan → scan_rows scan ≡ range_with_len 0 number
 rows_are number scan good is =
-    ap₂ (λ (selection : Selection) (range : Option (Range ℕ)). taken_rows selection range (row_count scan)) is.selection is.range
+    ap (λ (limit : Option ℕ). limited limit (taken_rows scan.selection scan.range (row_count scan))) is.limit
+    ∙ ap₂ (λ (selection : Selection) (range : Option (Range ℕ)). taken_rows selection range (row_count scan)) is.selection is.range
     ∙ ap (taken_rows All None) (count_is number scan good is) ∙ all_taken number
 
 pub pieces_are_demo : PiecesAreDemo

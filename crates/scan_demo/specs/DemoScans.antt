@@ -18,6 +18,7 @@ pub record IsDemoScan (number : ℕ) (scan : FileScan) : Type 0 where
   pub bare : scan.projection.expression.term ≡ root
   pub selection : scan.selection ≡ All
   pub range : scan.range ≡ None
+  pub limit : scan.limit ≡ None
   pub locations : scan.locations ≡ demo_locations number
 
 -- the layout of the demo file keeps the rules of the shape

@@ -1,5 +1,5 @@
 -- What is decided before a scan begins.
-use Rattle.std.proofs.Common.{◌≡◌, ℕ, zero, suc, ◌-◌, ◌<◌, ◌≤◌, inl, inr, Bool, true, false, List, [], ◌∷◌, Option, Some, None, sym, ap, ◌∙◌, subst, arith}
+use Rattle.std.proofs.Common.{◌≡◌, ℕ, zero, suc, ◌-◌, ◌<◌, ◌≤◌, inl, inr, Bool, true, false, List, [], ◌∷◌, Option, Some, None, refl, sym, ap, ◌∙◌, subst, arith}
 use Rattle.std.specs.Prelude.{◌↔◌, ◌^◌, min, nat_lt, if◌then◌else◌, IsTrue}
 use Rattle.std.proofs.lemmas.Bool.{cases_lt, lt-ltb, ltb-true}
 use Rattle.vx_base.specs.Data.{DataType}
@@ -10,7 +10,7 @@ use Rattle.std.specs.List.{Any, AllByRecursion, filter, range_with_len}
 use Rattle.std.specs.declared.ops.Range.{Range}
 use Rattle.vx_splits.specs.declared.selections.Selection.{Selection}
 use Rattle.vx_splits.specs.Taken.{selected_rows, selects, taken_rows}
-use Rattle.vx_scan.specs.Answer.{FileScan, row_count, scan_rows, scan_pieces, size_of, pieces_of}
+use Rattle.vx_scan.specs.Answer.{FileScan, limited, row_count, scan_rows, scan_pieces, size_of, pieces_of}
 use Rattle.vx_scan.specs.Admission.{BeginsOver, HasWork, Overflows, range_or}
 use Rattle.vx_scan.specs.Settings.{scan_by}
 use Rattle.vx_scan.specs.Valid.{HasRows, IsBound, SelectsInside}
@@ -54,9 +54,18 @@ at_most : (start end : ℕ) → (start < end → ⊥) → end ≤ start
 at_most start end none = elim (cases_lt start end) [ inl less ↦ absurd (none less) | inr over ↦ over ]
 
 -- an empty range has no rows
-pub no_rows : (selection : Selection) (range : Option (Range ℕ)) (count : ℕ) → (HasRows range count → ⊥) → taken_rows selection range count ≡ []
+no_rows : (selection : Selection) (range : Option (Range ℕ)) (count : ℕ) → (HasRows range count → ⊥) → taken_rows selection range count ≡ []
 no_rows selection None count none = none_between selection 0 count (at_most 0 count none)
 no_rows selection (Some range) count none = none_between selection range.start (min range.end count) (let under : range.end ≤ range.start = at_most range.start range.end none in omega (arith, under))
+
+limited_none : (limit : Option ℕ) → limited limit [] ≡ []
+limited_none None = refl
+limited_none (Some zero) = refl
+limited_none (Some (suc limit)) = refl
+
+-- so a scan of one has none
+pub no_scan_rows : (scan : FileScan) → (HasRows scan.range (row_count scan) → ⊥) → scan_rows scan ≡ []
+no_scan_rows scan none = ap (limited scan.limit) (no_rows scan.selection scan.range (row_count scan) none) ∙ limited_none scan.limit
 
 -- without rows there are no pieces
 pub no_pieces : (scan : FileScan) → scan_rows scan ≡ [] → scan_pieces scan ≡ []
@@ -118,6 +127,6 @@ begins_told file settings count start end rows over past work same is overflows 
   work = work;
   fits = fits_told (scan_by file settings) over overflows fits;
   inside = subst (SelectsInside settings.selection settings.range) (sym same) (is_inside settings.selection settings.range count past reaches inside);
-  rows = cut_rows settings.selection settings.range count start end rows is first last ∙ ap (taken_rows settings.selection settings.range) (sym same);
+  rows = ap (limited settings.limit) (cut_rows settings.selection settings.range count start end rows is first last ∙ ap (taken_rows settings.selection settings.range) (sym same));
   below = omega (arith, last, same);
 }

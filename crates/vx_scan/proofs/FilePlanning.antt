@@ -39,7 +39,7 @@ use Rattle.vx_drive.specs.declared.plans.ScanPlans.{ScanPlans}
 use Rattle.vx_drive.specs.Plans.{AreInOrder}
 use Rattle.vx_layout.specs.declared.files.ScanFile.{ScanFile}
 use Rattle.vx_scan.specs.declared.settings.Settings.{Settings}
-use Rattle.vx_scan.specs.Answer.{row_count, size_of, pieces_of}
+use Rattle.vx_scan.specs.Answer.{limited, row_count, size_of, pieces_of}
 use Rattle.vx_scan.specs.Admission.{BeginsOver}
 use Rattle.vx_scan.specs.PlanTexts.{held_tree, projection_of, IsProjectionPlanBy}
 use Rattle.vx_scan.specs.FilePlans.{ArePlansOf, AreChunksOf, IsCutBy, IsPlannedFor, IsProjectedBy, IsProjectedIn, LiesInside}
@@ -185,16 +185,16 @@ lies_within few many less (chunk ∷ chunks) inside =
     (record { forwards = inside.0.forwards; below = let below = inside.0.below in omega (arith, below, less); mask = inside.0.mask }, lies_within few many less chunks inside.1)
 
 pub prepared_chunks : (file : ScanFile) (settings : Settings) (rows : Range ℕ) (size : ℕ) (chunks : List SelectedRows) → BeginsOver (scan_by file settings) rows → size ≡ size_of (scan_by file settings)
-    → map chosen_rows chunks ≡ pieces_of size (selected_rows settings.selection rows.start rows.end) → AllByRecursion (LiesInside rows.end) chunks → AreInOrder chunks → AllByRecursion (IsCutBy settings.selection) chunks → AreChunksOf (scan_by file settings) chunks
+    → map chosen_rows chunks ≡ pieces_of size (limited settings.limit (selected_rows settings.selection rows.start rows.end)) → AllByRecursion (LiesInside rows.end) chunks → AreInOrder chunks → AllByRecursion (IsCutBy settings.selection) chunks → AreChunksOf (scan_by file settings) chunks
 prepared_chunks file settings rows size chunks begins size_is pieces inside ordered trimmed = record {
-  pieces = pieces ∙ (ap (λ (n : ℕ). pieces_of n (selected_rows settings.selection rows.start rows.end)) size_is ∙ ap (pieces_of (size_of (scan_by file settings))) begins.rows);
+  pieces = pieces ∙ (ap (λ (n : ℕ). pieces_of n (limited settings.limit (selected_rows settings.selection rows.start rows.end))) size_is ∙ ap (pieces_of (size_of (scan_by file settings))) begins.rows);
   inside = lies_within rows.end (row_count (scan_by file settings)) begins.below chunks inside;
   ordered = ordered;
   trimmed = trimmed;
 }
 
 pub chunks_or : (file : ScanFile) (settings : Settings) (rows : Range ℕ) (size : ℕ) (result : Result (Vec SelectedRows Global) AllocError) → BeginsOver (scan_by file settings) rows → size ≡ size_of (scan_by file settings)
-    → IfOk result (λ chunks. map chosen_rows chunks.items ≡ pieces_of size (selected_rows settings.selection rows.start rows.end)) → IfOk result (λ chunks. AllByRecursion (LiesInside rows.end) chunks.items) → IfOk result (λ chunks. AreInOrder chunks.items) → IfOk result (λ chunks. AllByRecursion (IsCutBy settings.selection) chunks.items) → IfOk result (λ chunks. AreChunksOf (scan_by file settings) chunks.items)
+    → IfOk result (λ chunks. map chosen_rows chunks.items ≡ pieces_of size (limited settings.limit (selected_rows settings.selection rows.start rows.end))) → IfOk result (λ chunks. AllByRecursion (LiesInside rows.end) chunks.items) → IfOk result (λ chunks. AreInOrder chunks.items) → IfOk result (λ chunks. AllByRecursion (IsCutBy settings.selection) chunks.items) → IfOk result (λ chunks. AreChunksOf (scan_by file settings) chunks.items)
 chunks_or file settings rows size (Ok chunks) begins size_is pieces inside ordered trimmed = prepared_chunks file settings rows size chunks.items begins size_is pieces inside ordered trimmed
 chunks_or file settings rows size (Err error) begins size_is pieces inside ordered trimmed = tt
 

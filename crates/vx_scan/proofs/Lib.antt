@@ -14,6 +14,8 @@ mod Counting
 mod Cutting
 mod DictionaryReasons
 mod FilePlanning
+mod FirstPieces
+mod FirstRowsOf
 mod GivenBatches
 mod HinderedScans
 mod LeafPlaces

@@ -30,7 +30,7 @@ use Rattle.vx_scan.specs.Prepared.{IsPreparedFor}
 use Rattle.vx_scan.specs.FilePlans.{ArePlansOf, AreChunksOf, IsCutBy, LiesInside}
 use Rattle.vx_scan.specs.Settings.{scan_by}
 use Rattle.vx_scan.specs.Valid.{HasRows}
-use Rattle.vx_scan.proofs.AdmittedRows.{no_pieces, no_rows}
+use Rattle.vx_scan.proofs.AdmittedRows.{no_pieces, no_scan_rows}
 use Rattle.vx_scan.proofs.Cutting.{cut_has_rows}
 use Rattle.vx_scan.proofs.FilePlanning.{root_head}
 use Rattle.vx_scan.proofs.ScanAsks.{lie_together}
@@ -127,7 +127,7 @@ nothing_prepared file settings plans chunks few none empty are =
       no_eval_below = none_below scan.projection (projection_plan plans) are.plan_is;
       chunks = rw empty (record { each = tt; ordered = tt; few = omega arith });
       trimmed = rw empty tt;
-      pieces = ap (map chosen_rows) empty ∙ sym (no_pieces scan (no_rows settings.selection settings.range (row_count scan) none));
+      pieces = ap (map chosen_rows) empty ∙ sym (no_pieces scan (no_scan_rows scan none));
       plan = λ some. absurd (none some);
       inside = λ some. absurd (none some);
       uncounted = λ never. refl;

@@ -5,7 +5,7 @@ use Rattle.vx_expr.specs.Mentions.{uses_row_number}
 use Rattle.vx_splits.specs.Taken.{selected_rows}
 use Rattle.vx_drive.specs.declared.errors.ScanError.{ScanError}
 use Rattle.vx_drive.specs.declared.errors.ScanError.TheVariants.{BadProjection, OffsetOverflow, OutOfRange}
-use Rattle.vx_scan.specs.Answer.{FileScan, row_count, scan_rows}
+use Rattle.vx_scan.specs.Answer.{FileScan, limited, row_count, scan_rows}
 use Rattle.vx_scan.specs.Valid.{HasRows, IsBound, SelectsInside}
 
 -- The row's number is used, and with the offset that of a row past the last one passes 2^64-1. All rows of the file
@@ -35,12 +35,13 @@ Refuses scan OffsetOverflow = HasWork scan × Overflows scan
 Refuses scan OutOfRange = HasWork scan × (¬ (Overflows scan)) × SelectsPast scan
 Refuses scan error = ⊥
 
--- It begins, and these are its rows: those of the range that are selected.
+-- It begins, and these are its rows: those of the range that are selected, cut after the first ones where a limit is
+-- given.
 pub record BeginsOver (scan : FileScan) (range : Range ℕ) : Type 0 where
   pub work : HasWork scan
   pub fits : ¬ (Overflows scan)
   pub inside : SelectsInside scan.selection scan.range (row_count scan)
-  pub rows : selected_rows scan.selection range.start range.end ≡ scan_rows scan
+  pub rows : limited scan.limit (selected_rows scan.selection range.start range.end) ≡ scan_rows scan
   pub below : range.end ≤ row_count scan
 
 -- The range to scan, none where it is empty, or why the scan is refused.

@@ -1,5 +1,5 @@
 -- What a scan answers: the meaning of its projection at each of its rows, and that in pieces by chunk.
-use Rattle.std.specs.Prelude.{ℕ, ◌/◌, ◌==◌, if◌then◌else◌, List, [], ◌∷◌, Option}
+use Rattle.std.specs.Prelude.{ℕ, ◌/◌, ◌==◌, if◌then◌else◌, List, [], ◌∷◌, take, Option, Some, None}
 use Rattle.std.specs.declared.ops.Range.{Range}
 use Rattle.vx_base.specs.declared.locations.SegmentLocation.{SegmentLocation}
 use Rattle.vx_base.specs.Data.{Datum}
@@ -12,20 +12,26 @@ use Rattle.vx_splits.specs.declared.selections.Selection.{Selection}
 use Rattle.vx_splits.specs.Chunks.{chunk_size}
 use Rattle.vx_splits.specs.Taken.{taken_rows}
 
--- A scan of a file: what is projected of its tree, which rows are asked for, of the range if one is given, and where
--- the file's segments lie.
+-- A scan of a file: what is projected of its tree, which rows are asked for, of the range if one is given, and how many of
+-- them at most, if a limit is given, and where the file's segments lie.
 pub record FileScan : Type 0 where
   pub projection : Projection
   pub selection : Selection
   pub range : Option (Range ℕ)
+  pub limit : Option ℕ
   pub locations : List SegmentLocation
 
 abbrev pub row_count : FileScan → ℕ
 row_count scan = (head_of scan.projection.root).rows
 
--- the rows of the scan, in ascending order
+-- the first rows, as many as the limit; all of them where none is given
+abbrev pub limited : Option ℕ → List ℕ → List ℕ
+limited None rows = rows
+limited (Some limit) rows = take limit rows
+
+-- the rows of the scan, in ascending order: those that are taken, cut after the first ones where a limit is given
 abbrev pub scan_rows : FileScan → List ℕ
-scan_rows scan = taken_rows scan.selection scan.range (row_count scan)
+scan_rows scan = limited scan.limit (taken_rows scan.selection scan.range (row_count scan))
 
 -- how many rows of the file a chunk has
 abbrev pub size_of : FileScan → ℕ

@@ -15,15 +15,16 @@ use Rattle.vx_splits.specs.declared.selections.Selection.TheVariants.{All, Inclu
 use Rattle.vx_scan.specs.Answer.{FileScan}
 
 -- The nodes of the file's layout, and where its segments lie. What is projected of a row; the range of rows, if one is
--- given, and which rows of it are selected; from which number on rows are counted; whether the batches come in the order
--- of the file; how many pieces of work may be in hand; and how often a source may answer that a read goes on, from one
--- completion to the next.
+-- given, which rows of it are selected, and how many of them are read at most, if a limit is given; from which number on
+-- rows are counted; whether the batches come in the order of the file; how many pieces of work may be in hand; and how
+-- often a source may answer that a read goes on, from one completion to the next.
 pub record Building : Type 0 where
   pub nodes : List Node
   pub locations : List SegmentLocation
   pub projection : Bound
   pub range : Option (Range ℕ)
   pub selection : Selection
+  pub limit : Option ℕ
   pub row_offset : ℕ
   pub ordered : Bool
   pub concurrency : ℕ
@@ -49,6 +50,7 @@ new_building nodes locations = record {
   projection = whole_root (head_of (subtree nodes 0)).dtype;
   range = None;
   selection = All;
+  limit = None;
   row_offset = 0;
   ordered = true;
   concurrency = default_concurrency;
@@ -70,6 +72,7 @@ scan_of building = record {
   };
   selection = building.selection;
   range = building.range;
+  limit = building.limit;
   locations = building.locations;
 }
 
@@ -112,12 +115,12 @@ selection_back (ExcludeByIndex rows) = refl
 abbrev pub coded_selection : Coded Selection
 coded_selection = code_by (ℕ × List ℕ) (coded× coded_ℕ (coded_list coded_ℕ)) selection_parts selection_with selection_back
 
--- the rows of a scan, by range, selection and offset
+-- the rows of a scan, by range, selection, limit and offset
 abbrev pub Taking : Type 0
-Taking = Option (Range ℕ) × (Selection × ℕ)
+Taking = Option (Range ℕ) × (Selection × (Option ℕ × ℕ))
 
 abbrev pub coded_taking : Coded Taking
-coded_taking = coded× coded_range (coded× coded_selection coded_ℕ)
+coded_taking = coded× coded_range (coded× coded_selection (coded× (coded_option coded_ℕ) coded_ℕ))
 
 -- how it runs, by order, concurrency and idle limit
 abbrev pub Running : Type 0
@@ -131,7 +134,7 @@ Parts = List Node × (List SegmentLocation × (Bound × (Taking × Running)))
 
 abbrev pub building_parts : Building → Parts
 building_parts b =
-    (b.nodes, (b.locations, (b.projection, ((b.range, (b.selection, b.row_offset)), (b.ordered, (b.concurrency, b.idle_limit))))))
+    (b.nodes, (b.locations, (b.projection, ((b.range, (b.selection, (b.limit, b.row_offset))), (b.ordered, (b.concurrency, b.idle_limit))))))
 
 abbrev pub building_with : Parts → Building
 building_with parts = record {
@@ -140,7 +143,8 @@ building_with parts = record {
   projection = parts.1.1.0;
   range = parts.1.1.1.0.0;
   selection = parts.1.1.1.0.1.0;
-  row_offset = parts.1.1.1.0.1.1;
+  limit = parts.1.1.1.0.1.1.0;
+  row_offset = parts.1.1.1.0.1.1.1;
   ordered = parts.1.1.1.1.0;
   concurrency = parts.1.1.1.1.1.0;
   idle_limit = parts.1.1.1.1.1.1;

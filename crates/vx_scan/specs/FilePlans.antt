@@ -1,5 +1,5 @@
 -- What a scan is prepared to: a plan of its projection, and its chunks.
-use Rattle.std.specs.Prelude.{◌≡◌, ℕ, ◌+◌, ◌-◌, ◌<◌, ◌≤◌, Bool, true, false, List, length, map}
+use Rattle.std.specs.Prelude.{◌≡◌, ◌⊎◌, ℕ, ◌+◌, ◌-◌, ◌<◌, ◌≤◌, nat_le, Bool, true, false, List, [], ◌∷◌, ◌++◌, length, map, Option, Some, None}
 use Rattle.std.specs.List.{AllByRecursion}
 use Rattle.vx_base.specs.Data.{DataType}
 use Rattle.vx_expr.specs.Bound.{Bound}
@@ -106,6 +106,22 @@ pub record LiesInside (count : ℕ) (chunk : SelectedRows) : Type 0 where
 -- The chunk is a scope of the file's rows, cut down to its first and its last row that is selected.
 abbrev pub IsCutBy : Selection → SelectedRows → Type 0
 IsCutBy selection chunk = (scope : WorkScope) × (scope.file_ordinal ≡ 0) × IsTrimmed selection scope chunk
+
+-- the limit, if one is given, is at most so many rows
+abbrev pub is_met : Option ℕ → ℕ → Bool
+is_met None count = false
+is_met (Some limit) count = nat_le limit count
+
+-- how many rows pieces have
+abbrev pub rows_in : List (List ℕ) → ℕ
+rows_in [] = 0
+rows_in (rows ∷ pieces) = length rows + rows_in pieces
+
+-- The pieces are all of these, or the first of them, which have rows up to the limit.
+pub record AreEnough (limit : Option ℕ) (all pieces : List (List ℕ)) : Type 0 where
+  pub later : List (List ℕ)
+  pub joined : pieces ++ later ≡ all
+  pub enough : (later ≡ []) ⊎ (is_met limit (rows_in pieces) ≡ true)
 
 -- The chunks have the pieces of the scan's rows, in order.
 pub record AreChunksOf (scan : FileScan) (chunks : List SelectedRows) : Type 0 where

@@ -16,7 +16,7 @@ use Rattle.vx_scan.specs.Scanned.{ReadsListPlan, ReadsBadCodePlan, AnswersScan}
 -- A scan is refused before it begins for a reason of its own. Else some row of it reads a list; reaches a segment without a
 -- location; by the file that all sources tell, reads a leaf that the bytes of its segment don't spell, or a code that is
 -- neither null nor the place of a value, or is the row that is named, whose meaning is a fault over a value that is none. Or
--- in this call some source's faults rose, or its idle polls by the limit. Want of memory needs no cause.
+-- in this call some source's faults rose, or its idle polls by the idle limit. Want of memory needs no cause.
 abbrev pub PlainCause : FileScan → ℕ → ScanError → List SourceState → List SourceState → Type 0
 PlainCause scan limit BadProjection befores afters = Refuses scan BadProjection
 PlainCause scan limit OffsetOverflow befores afters = Refuses scan OffsetOverflow

@@ -118,6 +118,16 @@ impl ScanBuilder {
         self.with_selection(Selection::IncludeByIndex(rows))
     }
 
+    /// The scan of so many rows at most: the first ones of those that are selected, in the order of the file, whatever order
+    /// the batches come in. Only what these reach is asked for. A selected row of a given range that isn't one of the file's
+    /// refuses the scan also where the limit cuts it off.
+    pub fn with_limit(mut self, rows: u64) -> ScanBuilder
+        ensures { result ≡ record self { limit = Some rows } }
+    {
+        self.settings.limit = Some(rows);
+        self
+    }
+
     /// The scan, with numbers of rows that are counted from the offset on.
     pub fn with_row_offset(mut self, offset: u64) -> ScanBuilder
         ensures { result ≡ record self { row_offset = offset } }

@@ -3,12 +3,14 @@
 ghost use Rattle.std.specs.Prelude.{◌≡◌, ◌∷◌, []};
 ghost use Rattle.std.specs.Prelude.{Some, None};
 ghost use Rattle.vx_base.specs.Data.{null};
-ghost use Rattle.vx_base.specs.ColumnCalls.{natural};
 ghost use Rattle.vx_layout.specs.Rows.{file_leaves, segment_bytes};
 ghost use Rattle.vx_layout.specs.WorkedRows.{at, no_values, no_values_at, null_codes, code_zero, torn_value, torn_file, torn_at, list_field};
 ghost use Rattle.vx_rows.specs.ByHand.{all_have, i64, naturals, u64};
 ghost use Rattle.vx_lower.specs.WorkedPlans.{projection, ten_through_a, two_behind};
-ghost use Rattle.vx_scan.specs.Answer.{IsAnswer, pieces_of};
+ghost use Rattle.vx_splits.specs.declared.selections.Selection.TheVariants.{All, ExcludeByIndex, IncludeByIndex};
+ghost use Rattle.vx_splits.specs.SplitRanges.{range_of};
+ghost use Rattle.vx_splits.specs.Taken.{taken_rows};
+ghost use Rattle.vx_scan.specs.Answer.{IsAnswer, limited, pieces_of};
 ghost use Rattle.vx_scan.specs.Causes.{FaultsAt, LacksLocation, ReadsBadCode, ReadsList, ReadsTorn, ScanReaches};
 ghost use Rattle.vx_scan.specs.WorkedScans.{nine_numbers, nine_numbers_at, nine_numbers_file, three_numbers, three_numbers_file, whole_of};
 
@@ -17,6 +19,18 @@ pub fn pieces_by_hand()
     ensures threes { pieces_of 3 (0 ∷ 1 ∷ 2 ∷ 3 ∷ 5 ∷ 9 ∷ []) ≡ (0 ∷ 1 ∷ 2 ∷ []) ∷ (3 ∷ 5 ∷ []) ∷ (9 ∷ []) ∷ [] }
     ensures cut { pieces_of 65536 (0 ∷ 65535 ∷ 65536 ∷ []) ≡ (0 ∷ 65535 ∷ []) ∷ (65536 ∷ []) ∷ [] }
     ensures none { pieces_of 65536 [] ≡ [] }
+{}
+
+/// The first rows, as many as the limit: none, some, and all where there are no more; all where none is given; and their
+/// pieces.
+pub fn limits_by_hand()
+    ensures none { limited (Some 0) (taken_rows All (Some (range_of 3 9)) 5) ≡ [] }
+    ensures one { limited (Some 1) (taken_rows All (Some (range_of 3 9)) 5) ≡ 3 ∷ [] }
+    ensures selected { limited (Some 2) (taken_rows (IncludeByIndex (0 ∷ 7 ∷ 8 ∷ 9 ∷ [])) None 9) ≡ 0 ∷ 7 ∷ [] }
+    ensures last { limited (Some 3) (taken_rows (IncludeByIndex (0 ∷ 7 ∷ 8 ∷ 9 ∷ [])) None 9) ≡ 0 ∷ 7 ∷ 8 ∷ [] }
+    ensures all { limited (Some 4) (taken_rows (IncludeByIndex (0 ∷ 7 ∷ 8 ∷ 9 ∷ [])) None 9) ≡ 0 ∷ 7 ∷ 8 ∷ [] }
+    ensures unlimited { limited None (taken_rows (ExcludeByIndex (1 ∷ [])) None 4) ≡ 0 ∷ 2 ∷ 3 ∷ [] }
+    ensures pieces { pieces_of 3 (limited (Some 4) (0 ∷ 1 ∷ 2 ∷ 3 ∷ 5 ∷ 9 ∷ [])) ≡ (0 ∷ 1 ∷ 2 ∷ []) ∷ (3 ∷ []) ∷ [] }
 {}
 
 /// The numbers of a leaf; two rows of three chunks, and which segments they reach; null codes of a dictionary without

@@ -13,11 +13,11 @@ ghost use Rattle.vx_plan.specs.Tables.{IsGoodTable};
 ghost use Rattle.vx_splits.specs.Taken.{selected_rows};
 ghost use Rattle.vx_splits.specs.Trimmed.{chosen_rows};
 ghost use Rattle.vx_drive.specs.Plans.{AreInOrder};
-ghost use Rattle.vx_scan.specs.Answer.{pieces_of, size_of};
+ghost use Rattle.vx_scan.specs.Answer.{limited, pieces_of, size_of};
 ghost use Rattle.vx_scan.specs.Admission.{BeginsOver};
 ghost use Rattle.vx_scan.specs.Builders.{counted_from as offset_of};
 ghost use Rattle.vx_scan.specs.PlanTexts.{projection_of};
-ghost use Rattle.vx_scan.specs.FilePlans.{AreChunksOf, ArePlansOf, IsCutBy, IsPlannedFor, IsProjectedIn, LiesInside};
+ghost use Rattle.vx_scan.specs.FilePlans.{AreChunksOf, AreEnough, ArePlansOf, IsCutBy, IsPlannedFor, IsProjectedIn, LiesInside, is_met};
 ghost use Rattle.vx_scan.specs.Settings.{scan_by};
 ghost use Rattle.vx_scan.specs.Valid.{IsBound};
 
@@ -30,37 +30,77 @@ use vx_io::segment_ranges;
 use vx_layout::{LayoutTree, ScanFile};
 use vx_lower::{Lowered, lower, plan_row_idx_expression};
 use vx_plan::{PlanError, PlanRef, PlanTable};
-use vx_splits::{SelectedRows, Selection, WorkScope, row_chunks, rows_per_chunk, select_rows};
+use vx_splits::{
+    SelectedRows, Selection, WorkScope, first_chunk, limit_rows, rows_per_chunk, select_rows,
+};
 
 /// How many rows a chunk has where the projection isn't the bare root.
 const CHUNK_ROWS: u64 = 65536;
 
+/// Whether so many rows are as many as the limit, if one is given.
+fn is_met(limit: Option<u64>, count: u64) -> bool
+    ensures { result ≡ is_met limit count }
+{
+    match limit {
+        Some(limit) => limit <= count,
+        None => false,
+    }
+}
+
 /// The rows of a range that the selection selects, cut at the multiples of the size, each chunk trimmed to its first
-/// and last selected row. A chunk without a selected row is left out.
+/// and last selected row. A chunk without a selected row is left out, and so is each behind the one by which they have as
+/// many rows as the limit.
 fn cut_chunks(
     alloc: Global,
     rows: Range<u64>,
     size: u64,
     selection: &Selection,
+    limit: Option<u64>,
 ) -> Result<Vec<SelectedRows>, AllocError>
     requires { 0 < size }
-    ensures pieces { IfOk result (λ chunks. map chosen_rows chunks.items ≡ pieces_of size (selected_rows selection.now rows.start rows.end)) }
+    ensures pieces { IfOk result (λ chunks. AreEnough limit (pieces_of size (selected_rows selection.now rows.start rows.end)) (map chosen_rows chunks.items)) }
     ensures inside { IfOk result (λ chunks. AllByRecursion (LiesInside rows.end) chunks.items) }
     ensures ordered { IfOk result (λ chunks. AreInOrder chunks.items) }
     ensures trimmed { IfOk result (λ chunks. AllByRecursion (IsCutBy selection.now) chunks.items) }
 {
-    let ranges = row_chunks(alloc, rows, size)?;
-    let mut chunks = Vec::with_capacity(alloc, ranges.len())?;
-    for rows in ranges {
+    let mut left = rows;
+    let mut chunks = Vec::new(alloc);
+    let mut count: u64 = 0;
+    while left.start < left.end && !is_met(limit, count) {
+        let rows = first_chunk(&left, size);
+        left.start = rows.end;
         let scope = WorkScope {
             file_ordinal: 0,
             rows,
         };
         if let Some(chunk) = select_rows(alloc, scope, selection)? {
+            count = count.saturating_add(chunk.mask.true_count());
             chunks.push(chunk)?;
         }
     }
     Ok(chunks)
+}
+
+/// The first of the rows of a range that the selection selects, up to the limit, if one is given, in chunks as
+/// `cut_chunks` gives them. The last one is trimmed once more, to the row that meets the limit.
+fn cut_first_chunks(
+    alloc: Global,
+    rows: Range<u64>,
+    size: u64,
+    selection: &Selection,
+    limit: Option<u64>,
+) -> Result<Vec<SelectedRows>, AllocError>
+    requires { 0 < size }
+    ensures pieces { IfOk result (λ chunks. map chosen_rows chunks.items ≡ pieces_of size (limited limit (selected_rows selection.now rows.start rows.end))) }
+    ensures inside { IfOk result (λ chunks. AllByRecursion (LiesInside rows.end) chunks.items) }
+    ensures ordered { IfOk result (λ chunks. AreInOrder chunks.items) }
+    ensures trimmed { IfOk result (λ chunks. AllByRecursion (IsCutBy selection.now) chunks.items) }
+{
+    let chunks = cut_chunks(alloc, rows, size, selection, limit)?;
+    match limit {
+        Some(limit) => limit_rows(alloc, chunks, limit),
+        None => Ok(chunks),
+    }
 }
 
 /// How many rows of the file a chunk has.
@@ -77,7 +117,7 @@ fn chunk_rows(file: &ScanFile, settings: &Settings) -> u64
     }
 }
 
-/// The chunks of the scan, whose rows are those of the range that are selected.
+/// The chunks of the scan, whose rows are those of the range that are selected, up to the limit, if one is given.
 pub(crate) fn cut_file(
     alloc: Global,
     file: &ScanFile,
@@ -89,7 +129,7 @@ pub(crate) fn cut_file(
     ensures { IfOk result (λ chunks. AreChunksOf (scan_by file.now settings.now) chunks.items) }
 {
     let size = chunk_rows(file, settings);
-    cut_chunks(alloc, rows, size, &settings.selection)
+    cut_first_chunks(alloc, rows, size, &settings.selection, settings.limit)
 }
 
 /// Plans the projection over the lowered tree: the root alone is the tree's own plan.

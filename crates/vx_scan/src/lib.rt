@@ -12,7 +12,7 @@
 //! - Why there are no rows: [`ScanError`].
 //! - The laws of answers: [`scans_have_answers`], [`pieces_are_the_answer`]; of errors: [`errors_have_causes`]; of values
 //!   that were used: [`used_values_serve_chunks`]; of asks: [`asks_are_counted`], [`claimed_asks_are_counted`]; of texts:
-//!   [`plans_have_one_text`]; by hand: [`answers_by_hand`], [`faults_by_hand`], [`pieces_by_hand`].
+//!   [`plans_have_one_text`]; by hand: [`answers_by_hand`], [`faults_by_hand`], [`limits_by_hand`], [`pieces_by_hand`].
 //!
 //! It exports what callers need of `vx_drive`, `vx_chunks`, `vx_workers` and `vx_execute`.
 #![tactic(auto)]
@@ -28,7 +28,7 @@ mod prepared_scans;
 mod settings;
 
 pub use builders::ScanBuilder;
-pub use by_hand::{answers_by_hand, faults_by_hand, pieces_by_hand};
+pub use by_hand::{answers_by_hand, faults_by_hand, limits_by_hand, pieces_by_hand};
 pub use laws::{
     asks_are_counted, claimed_asks_are_counted, errors_have_causes, pieces_are_the_answer,
     plans_have_one_text, scans_have_answers, used_values_serve_chunks,

@@ -1,6 +1,6 @@
 //! The builder of a scan of the file, and its settings as words.
 
-ghost use Rattle.std.specs.Prelude.{◌≤◌, length, IfOk, IfSome};
+ghost use Rattle.std.specs.Prelude.{◌≡◌, ◌≤◌, length, IfOk, IfSome};
 ghost use Rattle.vx_base.specs.Limits.{most_segments};
 
 use crate::commands::CaseState;
@@ -22,12 +22,23 @@ fn scan_of(alloc: Global, layout: LayoutTree, places: &str) -> Result<ScanBuilde
     ScanBuilder::new(alloc, ScanFile { layout, locations })
 }
 
+/// The scan of as many rows at most as the word says, and of all where it is no number.
+fn at_most(builder: ScanBuilder, most: &str) -> ScanBuilder
+    ensures { result.locations ≡ builder.locations }
+{
+    match most.parse::<u64>() {
+        Ok(rows) => builder.with_limit(rows),
+        Err(_) => builder,
+    }
+}
+
 /// The builder of a scan of the whole file; none where its nodes are no tree.
 pub(crate) fn builder_of(alloc: Global, case_state: CaseState<'_>) -> Option<ScanBuilder>
     ensures { IfSome result (λ builder. length builder.locations ≤ most_segments) }
 {
     let layout = tree_of(alloc, case_state.nodes)?;
-    scan_of(alloc, layout, case_state.places).ok()
+    let builder = scan_of(alloc, layout, case_state.places).ok()?;
+    Some(at_most(builder, case_state.most))
 }
 
 /// The row's number for `row`, the root less the row's number for `less`, and the root for any other word.
@@ -117,5 +128,5 @@ pub(crate) fn set_of(alloc: Global, case_state: CaseState<'_>, words: &str) -> O
         .with_row_range(range_of(range))
         .with_selection(selection)
         .with_row_offset(offset);
-    Some(builder)
+    Some(at_most(builder, case_state.most))
 }

@@ -14,7 +14,7 @@ use std::sync::Wait;
 use std::thread::Threads;
 
 /// The file in words: the nodes of its tree, where its segments lie, its bytes, and the script that its source keeps
-/// to; and how often that may answer that a read goes on.
+/// to; how often that may answer that a read goes on; and how many rows of a scan are read at most, where a number is said.
 #[derive(Clone, Copy)]
 pub(crate) struct CaseState<'a> {
     pub(crate) nodes: &'a str,
@@ -22,6 +22,7 @@ pub(crate) struct CaseState<'a> {
     pub(crate) bytes: &'a str,
     pub(crate) script: &'a str,
     pub(crate) limit: u64,
+    pub(crate) most: &'a str,
 }
 
 /// Keeps what a line says of the file.
@@ -32,6 +33,7 @@ fn set<'a>(case_state: &mut CaseState<'a>, command: &str, words: &'a str) {
         "file" => case_state.bytes = words,
         "script" => case_state.script = words,
         "limit" => case_state.limit = words.parse::<u64>().unwrap_or(0),
+        "most" => case_state.most = words,
         _ => {}
     }
 }
@@ -46,7 +48,7 @@ fn write_answer<R: AllocGlobal + Threads + Wait + Sync>(
 ) -> Result<(), AllocError> {
     let alloc = rt.alloc();
     match command {
-        "at" | "file" | "script" | "limit" => Ok(()),
+        "at" | "file" | "script" | "limit" | "most" => Ok(()),
         "tree" => write_tree(alloc, words, out),
         "dtype" => write_dtype(alloc, case_state, out),
         "scan" => write_scan(rt, case_state, out),
@@ -77,6 +79,7 @@ pub(crate) fn write_lines<R: AllocGlobal + Threads + Wait + Sync>(
         bytes: "",
         script: "",
         limit: 1000000,
+        most: "",
     };
     for line in lines.lines() {
         out.push_str(line)?;

@@ -1,8 +1,7 @@
 use Rattle.std.proofs.Common.{Ok, Some, None, map, ap, ◌∙◌, subst}
-use Rattle.vx_scan.specs.Answer.{row_count}
 use Rattle.vx_scan.specs.Admission.{Begins}
 use Rattle.vx_scan.specs.Settings.{scan_by}
-use Rattle.vx_scan.proofs.AdmittedRows.{no_rows}
+use Rattle.vx_scan.proofs.AdmittedRows.{no_scan_rows}
 use Rattle.vx_scan.proofs.Scanning.{empty_answers, lacking_answers, refused_answers, run_answers}
 use Rattle.vx_scan.proofs.builders.scan_file.Goals as goal
 
@@ -11,7 +10,7 @@ returns-in-Ok-None-clause-answers g c =
     let begun : Begins (scan_by c.args.file c.args.settings.now) (Ok None) =
     subst (Begins (scan_by c.args.file c.args.settings.now)) (c.in-Ok-None.is ∙ ap Ok c.in-Ok-None.field-0-is) c.begin.ensures in
     empty_answers (scan_by c.args.file c.args.settings.now) c.args.settings.now.idle_limit c.new.result (map g.S.SegmentSource.state c.args.sources.now)
-    (no_rows c.args.settings.now.selection c.args.settings.now.range (row_count (scan_by c.args.file c.args.settings.now)) begun.1) c.new.ensures.items
+    (no_scan_rows (scan_by c.args.file c.args.settings.now) begun.1) c.new.ensures.items
 
 pub returns-in-Err-clause-answers : goal.returns-in-Err-clause-answers
 returns-in-Err-clause-answers g c =
