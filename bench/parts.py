@@ -36,6 +36,7 @@ def scan(segments, request, lines):
 PAIRS = {
     "two_of_fifty": ("two fields of fifty, 100,000 rows", "all fifty"),
     "hundred_rows": ("100 rows by number of 10,000,000 in 1280 chunks", "all rows of the chunks that they lie in"),
+    "first_row": ("the first row of the same by a limit", "this row by a range, of the same"),
     "one_range": ("65536 rows of the same by a range", "these rows as a file of their own"),
     "row_numbers": ("the numbers of 10,000,000 rows alone", "a column of these numbers in 1280 chunks"),
     "five_parts": ("an expression of five parts, 1,000,000 rows in 128 chunks", "the column"),
@@ -93,6 +94,15 @@ def hundred_rows(numbers, rng):
     write("their_chunks.lines", [lines_of(there)])
     return Pair(scan("ten_million", "hundred_rows", "hundred_rows"), scan("ten_million", "their_chunks", "their_chunks"),
                 PAIRS["hundred_rows"])
+
+
+def first_row(numbers, rng):
+    ten_million(numbers)
+    locations, nodes = in_chunks(10 * MILLION, 1280)
+    write_request("first_row", locations, nodes, limit=1)
+    write_request("row_0", locations, nodes, range=[0, 1])
+    write("first_row.lines", [lines_of(numbers[:1])])
+    return Pair(scan("ten_million", "first_row", "first_row"), scan("ten_million", "row_0", "first_row"), PAIRS["first_row"])
 
 
 def one_range(numbers, rng):
@@ -179,7 +189,7 @@ def demo(numbers, rng):
     return Pair(Run(["demo", str(MILLION)], "summary"), scan("demo", "demo", "demo"), PAIRS["demo"])
 
 
-MAKERS = [two_of_fifty, hundred_rows, one_range, row_numbers, five_parts, demo]
+MAKERS = [two_of_fifty, hundred_rows, first_row, one_range, row_numbers, five_parts, demo]
 
 
 def make_all(seed, names):
