@@ -3,6 +3,7 @@ pub mod AlikePlans
 pub mod AnyRow
 pub mod Broken
 pub mod ChildNodes
+pub mod Chunking
 pub mod Collecting
 pub mod Crossing
 pub mod Each
@@ -10,6 +11,8 @@ pub mod FittingPlans
 pub mod Growing
 pub mod Keeping
 pub mod Offsets
+pub mod PartSelecting
+pub mod Parting
 pub mod Refusing
 pub mod SelectedReads
 pub mod Selecting

@@ -1,7 +1,7 @@
--- What is reached of no selected rows, of rows one after another, and of chunks from one on.
+-- What is reached of no selected rows, and of rows one after another.
 use Rattle.std.proofs.Common.{◌≡◌, ℕ, zero, suc, ◌+◌, ◌-◌, ◌≤◌, min, Bool, true, false, List, [], ◌∷◌, ◌++◌, Option, Some, None, length, take, drop, replicate, refl, sym, ap, ◌∙◌, arith, append-nil, append_assoc, length-drop, length-take, drop-drop}
 use Rattle.std.specs.Prelude.{if◌then◌else◌}
-use Rattle.std.proofs.lemmas.List.{drop_all, drop-take, drop-replicate, length-replicate}
+use Rattle.std.proofs.lemmas.List.{drop-take, drop-replicate, length-replicate}
 use Rattle.vx_plan.specs.declared.reaching.Reach.{Reach}
 use Rattle.vx_plan.specs.declared.reaching.SegmentReach.{SegmentReach}
 use Rattle.vx_plan.specs.Plans.{Plan, no_plan, concat_plan, eval_plan, filter_plan, pack_plan, take_plan, share_plan, list_plan, row_idx_plan, scan_plan, zoned_plan, Plans, no_plans, plan, PlanValidity, all_valid, valid_as, plan_head, plans_from, field_plans, front_plans, last_plan, last_validity}
@@ -83,36 +83,6 @@ fields_apart (p ∷ q ∷ ps) at start bits =
 pub fields_then_validity : (has_validity : Bool) (ps : List Plan) (at : Reach) (start : ℕ) (bits : List Bool) → selected_fields (plans_from (field_plans has_validity ps)) at start bits ++ selected_validity (last_validity has_validity ps) at start bits ≡ selected_fields (plans_from ps) at start bits
 fields_then_validity false ps at start bits = append-nil (selected_fields (plans_from ps) at start bits)
 fields_then_validity true ps at start bits = fields_apart ps at start bits
-
--- ---- chunks from one on
-
--- what the chunks from one on reach, which starts behind so many rows
-abbrev pub chunks_from : List Plan → ℕ → Reach → ℕ → List Bool → List SegmentReach
-chunks_from rest before at start bits = selected_chunks before (plans_from rest) at (start - before) (drop (before - start) bits)
-
--- the first of them, and those behind it
-pub chunk_apart : (p : Plan) (rest : List Plan) (before : ℕ) (at : Reach) (start : ℕ) (bits : List Bool) → chunks_from (p ∷ rest) before at start bits ≡ selected_of p (shifted at before) (start - before) (take ((plan_head p).rows - (start - before)) (drop (before - start) bits)) ++ chunks_from rest (before + (plan_head p).rows) at start bits
-chunk_apart p rest before at start bits =
-    let n : ℕ = (plan_head p).rows in
-    let e : start - before - n ≡ start - (before + n) = omega arith in
-    let f : (before - start) + (n - (start - before)) ≡ before + n - start = omega arith in
-    let g : drop (n - (start - before)) (drop (before - start) bits) ≡ drop (before + n - start) bits = drop-drop (n - (start - before)) (before - start) bits ∙ ap (λ (k : ℕ). drop k bits) f in
-    ap (λ (s : ℕ). selected_of p (shifted at before) (start - before) (take (n - (start - before)) (drop (before - start) bits)) ++ selected_chunks (before + n) (plans_from rest) at s (drop (n - (start - before)) (drop (before - start) bits))) e
-    ∙ ap (λ (bs : List Bool). selected_of p (shifted at before) (start - before) (take (n - (start - before)) (drop (before - start) bits)) ++ selected_chunks (before + n) (plans_from rest) at (start - (before + n)) bs) g
-
--- chunks that end before the first row reach nothing
-pub chunk_skipped : (p : Plan) (rest : List Plan) (before : ℕ) (at : Reach) (start : ℕ) (bits : List Bool) → (plan_head p).rows ≤ start - before → chunks_from (p ∷ rest) before at start bits ≡ chunks_from rest (before + (plan_head p).rows) at start bits
-chunk_skipped p rest before at start bits le =
-    let none : (plan_head p).rows - (start - before) ≡ 0 = omega arith in
-    let empty : any_row (take ((plan_head p).rows - (start - before)) (drop (before - start) bits)) ≡ false = ap (λ (k : ℕ). any_row (take k (drop (before - start) bits))) none in
-    chunk_apart p rest before at start bits
-    ∙ ap (λ (xs : List SegmentReach). xs ++ chunks_from rest (before + (plan_head p).rows) at start bits) (nothing_selected p (shifted at before) (start - before) (take ((plan_head p).rows - (start - before)) (drop (before - start) bits)) empty)
-
--- and so do those that start behind the last
-pub chunks_behind : (rest : List Plan) (before : ℕ) (at : Reach) (start : ℕ) (bits : List Bool) → start + length bits ≤ before → chunks_from rest before at start bits ≡ []
-chunks_behind rest before at start bits le =
-    let none : drop (before - start) bits ≡ [] = drop_all (before - start) bits (omega arith) in
-    nothing_in_chunks (plans_from rest) before at (start - before) (drop (before - start) bits) (ap any_row none)
 
 -- ---- rows of a mask
 

@@ -6,7 +6,9 @@
 //! - The kinds of plan, with their constructors: [`ConcatPlan`], [`EvalPlan`], [`FilterPlan`], [`PackPlan`],
 //!   [`TakePlan`], [`SharePlan`], [`ListPackPlan`], [`RowIdxPlan`], [`SegmentScanPlan`], [`ZonedPlan`],
 //!   [`LegacyStatsPlan`]; which of them a plan is: [`PlanId`].
-//! - What a plan is over: [`Shape`].
+//! - What a plan is over: [`Shape`]; the children that its rows are read through, one after another:
+//!   [`PlanTable::next_part`] with [`Part`], [`ChildRows`], [`PartPlace`], [`NextPart`]; of a concat, which child holds a
+//!   row: [`chunk_at`] with [`Chunk`].
 //! - Which segments its rows could read: [`reach`], [`selected`], with [`Reach`] and [`SegmentReach`].
 //! - The laws: [`plans_unfold`], [`reached_is_read`], [`plans_are_alike`], [`alike_plans_are_worth_the_same`]; plans by hand: [`reach_by_hand`], [`rows_by_hand`].
 #![tactic(auto)]
@@ -15,6 +17,7 @@ mod by_hand;
 mod checks;
 mod child_names;
 mod children;
+mod chunks;
 mod concat_plans;
 mod errors;
 mod field_checks;
@@ -23,6 +26,7 @@ mod kinds;
 mod laws;
 mod list_plans;
 mod nodes;
+mod parts;
 mod plan_types;
 mod reaching;
 mod row_plans;
@@ -36,10 +40,12 @@ mod zoned_plans;
 
 pub use by_hand::{reach_by_hand, rows_by_hand};
 pub use children::{PlanChildren, PlanRef};
+pub use chunks::{Chunk, chunk_at};
 pub use errors::PlanError;
 pub use kinds::PlanId;
 pub use laws::{alike_plans_are_worth_the_same, plans_are_alike, plans_unfold, reached_is_read};
 pub use nodes::{EvalExpression, PlanKind, PlanNode};
+pub use parts::{ChildRows, NextPart, Part, PartPlace};
 pub use plan_types::{
     ConcatPlan, EvalPlan, FilterPlan, LegacyStatsPlan, ListPackPlan, PackPlan, RowIdxPlan,
     SegmentScanPlan, SharePlan, TakePlan, ZonedPlan,
