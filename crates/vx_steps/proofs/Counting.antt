@@ -1,8 +1,8 @@
 -- Which segments still have a leaf over them whose column is not kept: as leaves are counted, and as columns are kept.
-use Rattle.std.proofs.Common.{◌≡◌, Bor, ℕ, ◌+◌, ◌<◌, ◌≤◌, ◌==◌, ⊎_elim, ◌⊎◌, inl, inr, Bool, true, false, List, [], ◌∷◌, Option, Some, None, length, refl, sym, ap, ◌∙◌, subst, arith}
+use Rattle.std.proofs.Common.{◌≡◌, ℕ, ◌+◌, ◌<◌, ◌≤◌, ◌==◌, ⊎_elim, ◌⊎◌, inl, inr, Bool, true, false, List, [], ◌∷◌, Option, Some, None, length, refl, sym, ap, ◌∙◌, subst, arith}
 use Rattle.std.specs.Prelude.{if◌then◌else◌, IsSomeAnd}
 use Rattle.std.specs.List.{slice_get}
-use Rattle.std.specs.Option.{option_copied, is_some, unwrap_or}
+use Rattle.std.specs.Option.{unwrap_or}
 use Rattle.std.specs.BTreeMap.{BTreeMap, get}
 use Rattle.std.specs.Ordering.{nat_cmp}
 use Rattle.std.proofs.lemmas.Bool.{cases_eq}
@@ -93,11 +93,6 @@ together a b e = grind arith
 
 up_to : (n i : ℕ) → n < i + 1 → (n < i) ⊎ (n ≡ i)
 up_to n i less = ⊎_elim (λ (e : n ≡ i). inr e) (λ (apart : n ≡ i → ⊥). inl (omega arith)) (cases_eq n i)
-
--- what is found of a kept column
-pub found_kept : (found : Option (Bor ColumnData)) (o : Option ColumnData) → option_copied found ≡ o → is_some found ≡ true → (column : ColumnData) × (o ≡ Some column)
-found_kept None o e some = absurd cc
-found_kept (Some column) o e some = (column.now, sym e)
 
 -- one that is no open leaf
 pub counted_past : (nodes : List Node) (leaves : List Kept) (i : ℕ) (left : BTreeMap ℕ ℕ) → ((segment : ℕ) → IsOpenLeaf nodes leaves segment i → ⊥) → AreCountedTo nodes leaves i left → AreCountedTo nodes leaves (i + 1) left

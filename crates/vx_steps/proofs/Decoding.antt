@@ -1,12 +1,10 @@
 -- Decoded leaves, whatever lies outside that agrees with what was delivered.
-use Rattle.std.proofs.Common.{◌≡◌, Bor, ℕ, ◌+◌, ◌<◌, ◌==◌, ◌⊎◌, inl, inr, ⊎_elim, Bool, true, false, List, [], ◌∷◌, ◌++◌, Option, Some, None, length, take, get_or, refl, sym, ap, ◌∙◌, subst, arith}
+use Rattle.std.proofs.Common.{◌≡◌, ℕ, ◌<◌, ◌==◌, ◌⊎◌, inl, inr, ⊎_elim, Bool, true, false, List, [], ◌∷◌, ◌++◌, Option, Some, None, length, refl, sym, ap, ◌∙◌, subst, arith}
 use Rattle.std.specs.Prelude.{if◌then◌else◌, option_and_then}
-use Rattle.std.proofs.lemmas.List.{take_more}
+use Rattle.std.proofs.lemmas.Option.{none-some}
 use Rattle.vx_base.specs.declared.codings.Coding.{Coding}
 use Rattle.vx_base.specs.Columns.{ColumnData}
 use Rattle.vx_base.specs.CodingsRead.{decoded_as}
-use Rattle.vx_steps.specs.declared.errors.StepError.{StepError}
-use Rattle.vx_steps.specs.declared.errors.StepError.TheVariants.{BadSegment, Unsupported, BadCode, EvalFault, Memory}
 use Rattle.vx_steps.specs.declared.leaf_reads.LeafRead.{LeafRead}
 use Rattle.vx_plan.specs.declared.nodes.PlanKind.TheVariants as kinds
 use Rattle.vx_plan.specs.declared.shapes.Shape.TheVariants as shapes
@@ -24,20 +22,19 @@ use Rattle.vx_steps.specs.ReadTable.{bytes_of}
 use Rattle.vx_steps.specs.Wants.{IsNeededLeaf}
 use Rattle.vx_steps.specs.Wholes.{AddsOnly}
 use Rattle.vx_steps.specs.Agreement.{Agrees}
-use Rattle.vx_steps.specs.Delivered.{KeepsLeaves, HasTornCause, SomeTornCause}
-use Rattle.std.specs.Option.{option_copied, is_some}
+use Rattle.vx_steps.specs.Delivered.{KeepsLeaves}
 use Rattle.vx_steps.proofs.Keeping.{kept_new, kept_old}
 use Rattle.vx_steps.proofs.Agreeing.{bytes_found}
-use Rattle.vx_steps.proofs.Needing.{among_pushed}
 
 pub keeps_none : (nodes : List Node) (wanted : List Wanted) (old : List Kept) → KeepsLeaves nodes wanted old old
-keeps_none nodes wanted old = record { grows = λ n column at. at; typed = λ typed. typed; right = λ outside agrees have. have }
+keeps_none nodes wanted old = record { grows = λ n column at. at; typed = λ typed. typed; right = λ outside agrees have. have; came = λ n segment known leaf none kept. kept }
 
 pub keeps_then : (nodes : List Node) (wanted : List Wanted) (old mid new : List Kept) → KeepsLeaves nodes wanted old mid → KeepsLeaves nodes wanted mid new → KeepsLeaves nodes wanted old new
 keeps_then nodes wanted old mid new first second = record {
   grows = λ n column at. second.grows n column (first.grows n column at);
   typed = λ typed. second.typed (first.typed typed);
   right = λ outside agrees have. second.right outside agrees (first.right outside agrees have);
+  came = λ n segment known leaf none kept. first.came n segment known leaf none (second.came n segment known leaf none kept);
 }
 
 -- what is kept after one more column was: an old one, or that one
@@ -66,6 +63,7 @@ decoded_keeps nodes wanted old need bytes column known leaf none came dtype coun
   grows = λ n found at. kept_old old (more ∷ []) n found at;
   typed = λ typed n found at. ⊎_elim (λ (e : kept_at old n ≡ Some found). typed n found e) (λ (e : (need.leaf ≡ n) × (column ≡ found)). new_typed n found e.0 e.1) (kept_cases old need.leaf column none n found at);
   right = λ outside agrees have n segment found over at. ⊎_elim (λ (e : kept_at old n ≡ Some found). have n segment found over e) (λ (e : (need.leaf ≡ n) × (column ≡ found)). new_right outside agrees n segment found over e.0 e.1) (kept_cases old need.leaf column none n found at);
+  came = λ n segment inside over missing kept. ⊎_elim (λ (e : kept_at old n ≡ Some kept.0). (kept.0, e)) (λ (e : (need.leaf ≡ n) × (column ≡ kept.0)). absurd (not_missing n segment over e.0 missing)) (kept_cases old need.leaf column none n kept.0 kept.1);
 }
   where
     more : Kept
@@ -76,6 +74,12 @@ decoded_keeps nodes wanted old need bytes column known leaf none came dtype coun
         let P : ℕ → Type 0 = λ k. (found.dtype ≡ (node_at nodes k).dtype) × (length found.values ≡ (node_at nodes k).rows) in
         let Q : ColumnData → Type 0 = λ x. (x.dtype ≡ (node_at nodes need.leaf).dtype) × (length x.values ≡ (node_at nodes need.leaf).rows) in
         subst P same (subst Q is (dtype, count))
+
+    not_missing : (n segment : ℕ) → HasShape nodes n (shapes.Leaf segment) → need.leaf ≡ n → bytes_of wanted segment ≡ None → ⊥
+    not_missing n segment over same missing =
+        let P : ℕ → Type 0 = λ k. HasShape nodes k (shapes.Leaf segment) in
+        let named : need.segment ≡ segment = one_segment nodes need.leaf need.segment segment known leaf (subst P (sym same) over) in
+        none-some bytes (sym missing ∙ (ap (bytes_of wanted) (sym named) ∙ came))
 
     new_right : (outside : Bytes) → Agrees wanted outside → (n segment : ℕ) (found : ColumnData) → HasShape nodes n (shapes.Leaf segment) → need.leaf ≡ n → column ≡ found → leaves_of outside (node_at nodes n).dtype (coding_of (node_at nodes n).kind) (node_at nodes n).rows segment ≡ Some found.values
     new_right outside agrees n segment found over same is =
@@ -91,32 +95,11 @@ decoded_keeps nodes wanted old need bytes column known leaf none came dtype coun
         let G : ℕ → Type 0 = λ k. leaves_of outside (node_at nodes k).dtype (coding_of (node_at nodes k).kind) (node_at nodes k).rows segment ≡ Some column.values in
         subst G same (subst F named here) ∙ ap (λ (x : ColumnData). Some x.values) is
 
-pub none_kept : (found : Option (Bor ColumnData)) (kept : Option ColumnData) → option_copied found ≡ kept → is_some found ≡ false → kept ≡ None
-none_kept None kept e none = sym e
-none_kept (Some column) kept e none = absurd cc
-
 eq_self : (n : ℕ) → (n == n) ≡ true
 eq_self n = grind arith
 
 pub kept_here : (old : List Kept) (n : ℕ) (column : ColumnData) → kept_at old n ≡ None → IsKept (old ++ record { node = n; column = column } ∷ []) n
 kept_here old n column none = (column, kept_new old (record { node = n; column = column } ∷ []) n none ∙ ap (λ (b : Bool). if b then Some column else None) (eq_self n))
-
-pub torn_up : (nodes : List Node) (wanted : List Wanted) (needs : List LeafRead) (need : LeafRead) (error : StepError) → Among need needs → HasTornCause nodes wanted need error → SomeTornCause nodes wanted needs error
-torn_up nodes wanted needs need (BadSegment segment) among h = (need, among, h)
-torn_up nodes wanted needs need (Unsupported list) among h = absurd h
-torn_up nodes wanted needs need (BadCode n row) among h = absurd h
-torn_up nodes wanted needs need (EvalFault row) among h = absurd h
-torn_up nodes wanted needs need Memory among h = tt
-
-abbrev AllKept : List Kept → List LeafRead → Type 0
-AllKept leaves needs = (need : LeafRead) → Among need needs → IsKept leaves need.leaf
-
-pub kept_more : (nodes : List Node) (wanted : List Wanted) (old new : List Kept) (needs : List LeafRead) (i : ℕ) (need : LeafRead) → i < length needs → need ≡ get_or needs i need → AllKept old (take i needs) → KeepsLeaves nodes wanted old new → IsKept new need.leaf → AllKept new (take (i + 1) needs)
-kept_more nodes wanted old new needs i need inside is before keeps here read among =
-    let P : List LeafRead → Type 0 = Among read in
-    let more : take (i + 1) needs ≡ take i needs ++ need ∷ [] = take_more needs i need inside ∙ ap (λ (n : LeafRead). take i needs ++ n ∷ []) (sym is) in
-    let Q : LeafRead → Type 0 = λ n. IsKept new n.leaf in
-    ⊎_elim (λ (a : Among read (take i needs)). let k = before read a in (k.0, keeps.grows read.leaf k.0 k.1)) (λ (e : need ≡ read). subst Q e here) (among_pushed read need (take i needs) (subst P more among))
 
 -- what is not kept later was not kept before
 pub not_kept_before : (nodes : List Node) (wanted : List Wanted) (old new : List Kept) → KeepsLeaves nodes wanted old new → (n : ℕ) → kept_at new n ≡ None → kept_at old n ≡ None

@@ -8,10 +8,10 @@ use Rattle.vx_plan.specs.Nodes.{Node}
 use Rattle.vx_plan.specs.Plans.{Plan, plan_head, plan_at, plans_from, field_plans, last_validity, filter_plan, pack_plan, row_idx_plan, scan_plan, share_plan, take_plan}
 use Rattle.vx_plan.specs.Rules.{node_at}
 use Rattle.vx_plan.specs.Tables.{IsGoodTable}
-use Rattle.vx_steps.specs.declared.chunks.Chunk.{Chunk}
+use Rattle.vx_plan.specs.declared.chunks.Chunk.{Chunk}
 use Rattle.vx_steps.specs.declared.hindrances.Hindrance.{Hindrance}
 use Rattle.vx_steps.specs.declared.hindrances.Hindrance.TheVariants as hindrances
-use Rattle.vx_steps.specs.Chunks.{IsChunk}
+use Rattle.vx_plan.specs.Chunks.{IsChunk}
 use Rattle.vx_steps.specs.Hindrances.{AreHindered, IsHindrance, IsOne}
 use Rattle.vx_steps.specs.Rows.{IsRun}
 use Rattle.vx_steps.specs.Visits.{SomeVisit, Visits}

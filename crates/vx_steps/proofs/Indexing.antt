@@ -13,7 +13,7 @@ use Rattle.vx_steps.specs.Kept.{kept_at, kept_data, IsPlace}
 use Rattle.vx_steps.specs.Places.{place_in, KeepsPlaces}
 use Rattle.vx_steps.proofs.Keeping.{step_new, kept_new, kept_old, got_old, place_old, is_place_other, places_more, same_got}
 
-take_none : {X : Type 0} (xs : List X) → take zero xs ≡ []
+pub take_none : {X : Type 0} (xs : List X) → take zero xs ≡ []
 take_none [] = refl
 take_none (x ∷ xs) = refl
 
@@ -35,7 +35,7 @@ map_drop [] (suc i) = refl
 map_drop (x ∷ xs) zero = refl
 map_drop (x ∷ xs) (suc i) = map_drop xs i
 
-got_data : (xs : List KeptValue) (i : ℕ) (x : KeptValue) → i < length xs → x ≡ get_or xs i x → slice_get (map kept_data xs) i ≡ Some (kept_data x)
+pub got_data : (xs : List KeptValue) (i : ℕ) (x : KeptValue) → i < length xs → x ≡ get_or xs i x → slice_get (map kept_data xs) i ≡ Some (kept_data x)
 got_data [] i x h is = absurd (omega arith)
 got_data (y ∷ xs) zero x h is = ap (λ (v : KeptValue). Some (kept_data v)) (sym is)
 got_data (y ∷ xs) (suc i) x h is = got_data xs i x (omega arith) is
@@ -59,28 +59,57 @@ length_data : (xs : List KeptValue) → length (map kept_data xs) ≡ length xs
 length_data [] = refl
 length_data (x ∷ xs) = ap suc (length_data xs)
 
-pub found_place : (xs : List KeptValue) (indexed place n : ℕ) (x : KeptValue) → x ≡ get_or xs place x → IsPlace (take indexed (map kept_data xs)) n (Some place) → Some x.column ≡ kept_at (map kept_data xs) n
-found_place xs indexed place n x is placed = by (slice_get (take indexed (map kept_data xs)) place) refl placed
+-- the first column of a plan is the one that is kept for it
+pub first_of : (kept : List Kept) (place n : ℕ) (k : Kept) → slice_get kept place ≡ Some k → k.node ≡ n → kept_at (take place kept) n ≡ None → kept_at kept n ≡ Some k.column
+first_of [] place n k got same none = absurd cc
+first_of (x ∷ kept) zero n k got same none =
+    let is : x ≡ k = cc in
+    let e : (k.node == n) ≡ true = grind arith in
+    ap (λ (v : Kept). kept_at (v ∷ kept) n) is ∙ ap (λ (b : Bool). if b then Some k.column else kept_at kept n) e
+first_of (x ∷ kept) (suc place) n k got same none = step_new (x.node == n) x.column (kept_at (take place kept) n) (kept_at kept n) (Some k.column) (λ e. first_of kept place n k got same e) none
+
+-- the column at the place of a plan
+placed_at : (xs : List KeptValue) (indexed place n : ℕ) → IsPlace (take indexed (map kept_data xs)) n (Some place) → (k : Kept) × ((slice_get (map kept_data xs) place ≡ Some k) × ((k.node ≡ n) × (kept_at (map kept_data xs) n ≡ Some k.column)))
+placed_at xs indexed place n placed = by (slice_get (take indexed (map kept_data xs)) place) refl placed
   where
-    by : (o : Option Kept) → slice_get (take indexed (map kept_data xs)) place ≡ o → IsSomeAnd o (λ k. kept_at (take indexed (map kept_data xs)) n ≡ Some k.column) → Some x.column ≡ kept_at (map kept_data xs) n
+    by : (o : Option Kept) → slice_get (take indexed (map kept_data xs)) place ≡ o → IsSomeAnd o (λ k. (k.node ≡ n) × (kept_at (take place (take indexed (map kept_data xs))) n ≡ None)) →
+        (k : Kept) × ((slice_get (map kept_data xs) place ≡ Some k) × ((k.node ≡ n) × (kept_at (map kept_data xs) n ≡ Some k.column)))
     by None e h = absurd h
     by (Some k) e h =
+        let first = take indexed (map kept_data xs) in
         let rest = drop indexed (map kept_data xs) in
         let whole = take_drop (map kept_data xs) indexed in
         let G : List Kept → Type 0 = λ ks. slice_get ks place ≡ Some k in
         let K : List Kept → Type 0 = λ ks. kept_at ks n ≡ Some k.column in
-        let got = subst G whole (got_old (take indexed (map kept_data xs)) rest place k e) in
-        let count = length_data xs in
-        let less = slice_get_within (map kept_data xs) place k got in
-        let inside : place < length xs = omega arith in
-        let same = same_got (slice_get (map kept_data xs) place) k (kept_data x) got (got_data xs place x inside is) in
-        sym (subst K whole (kept_old (take indexed (map kept_data xs)) rest n k.column h) ∙ ap (λ (v : Kept). Some v.column) same)
+        (k, (subst G whole (got_old first rest place k e), (h.0, subst K whole (kept_old first rest n k.column (first_of first place n k e h.0 h.1)))))
+
+placed_is : (xs : List KeptValue) (place : ℕ) (k : Kept) (x : KeptValue) → x ≡ get_or xs place x → slice_get (map kept_data xs) place ≡ Some k → k ≡ kept_data x
+placed_is xs place k x is got =
+    let count = length_data xs in
+    let less = slice_get_within (map kept_data xs) place k got in
+    let inside : place < length xs = omega arith in
+    same_got (slice_get (map kept_data xs) place) k (kept_data x) got (got_data xs place x inside is)
+
+pub found_place : (xs : List KeptValue) (indexed place n : ℕ) (x : KeptValue) → x ≡ get_or xs place x → IsPlace (take indexed (map kept_data xs)) n (Some place) → Some x.column ≡ kept_at (map kept_data xs) n
+found_place xs indexed place n x is placed =
+    let at = placed_at xs indexed place n placed in
+    sym (at.1.1.1 ∙ ap (λ (v : Kept). Some v.column) (placed_is xs place at.0 x is at.1.0))
+
+pub placed_node : (xs : List KeptValue) (indexed place n : ℕ) (x : KeptValue) → x ≡ get_or xs place x → IsPlace (take indexed (map kept_data xs)) n (Some place) → number_of x.node ≡ n
+placed_node xs indexed place n x is placed =
+    let at = placed_at xs indexed place n placed in
+    sym (ap (λ (v : Kept). v.node) (placed_is xs place at.0 x is at.1.0)) ∙ at.1.1.0
 
 pub found_rest : (xs : List KeptValue) (indexed n : ℕ) → kept_at (take indexed (map kept_data xs)) n ≡ None → kept_at (map kept_data (drop indexed xs)) n ≡ kept_at (map kept_data xs) n
 found_rest xs indexed n none = ap (λ (ks : List Kept). kept_at ks n) (map_drop xs indexed) ∙ (sym (kept_new (take indexed (map kept_data xs)) (drop indexed (map kept_data xs)) n none) ∙ ap (λ (ks : List Kept). kept_at ks n) (take_drop (map kept_data xs) indexed))
 
 pub rest_whole : {X : Type 0} (xs : List X) (i : ℕ) → take (length xs - i) (drop i xs) ≡ drop i xs
 rest_whole xs i = take_all (drop i xs) (length xs - i) (omega (arith, length-drop i xs))
+
+pub all_taken : (xs : List KeptValue) (i : ℕ) → length xs ≤ i → take i (map kept_data xs) ≡ map kept_data xs
+all_taken xs i all =
+    let count = length_data xs in
+    take_all (map kept_data xs) i (omega arith)
 
 pub take_one : {X : Type 0} (xs : List X) (i : ℕ) (x : X) → slice_get xs i ≡ Some x → take (suc i) xs ≡ take i xs ++ x ∷ []
 take_one [] i x h = absurd cc

@@ -1,5 +1,5 @@
 -- Kept columns, and one more.
-use Rattle.std.proofs.Common.{◌≡◌, ℕ, zero, suc, ◌==◌, Bool, true, false, cond, List, [], ◌∷◌, ◌++◌, Option, Some, None, length, refl, sym, ap, ◌∙◌, subst, arith}
+use Rattle.std.proofs.Common.{◌≡◌, ℕ, zero, suc, ◌==◌, Bool, true, false, cond, List, [], ◌∷◌, ◌++◌, take, Option, Some, None, length, refl, sym, ap, ◌∙◌, subst, arith}
 use Rattle.std.specs.Prelude.{IsSomeAnd, if◌then◌else◌}
 use Rattle.std.specs.List.{slice_get}
 use Rattle.vx_base.specs.Columns.{ColumnData}
@@ -33,11 +33,22 @@ pub got_new : {X : Type 0} (xs : List X) (x : X) → slice_get (xs ++ x ∷ []) 
 got_new [] x = refl
 got_new (z ∷ xs) x = got_new xs x
 
-pub place_old : (kept more : List Kept) (n : ℕ) (o : Option Kept) (place : ℕ) → slice_get kept place ≡ o → IsSomeAnd o (λ k. kept_at kept n ≡ Some k.column) → IsSomeAnd (slice_get (kept ++ more) place) (λ k. kept_at (kept ++ more) n ≡ Some k.column)
+take_old : (kept more : List Kept) (place : ℕ) (k : Kept) → slice_get kept place ≡ Some k → take place (kept ++ more) ≡ take place kept
+take_old [] more place k h = absurd cc
+take_old (z ∷ kept) more zero k h = refl
+take_old (z ∷ kept) more (suc place) k h = ap (λ ks. z ∷ ks) (take_old kept more place k h)
+
+take_length : (kept : List Kept) (k : Kept) → take (length kept) (kept ++ k ∷ []) ≡ kept
+take_length [] k = refl
+take_length (z ∷ kept) k = ap (λ ks. z ∷ ks) (take_length kept k)
+
+pub place_old : (kept more : List Kept) (n : ℕ) (o : Option Kept) (place : ℕ) → slice_get kept place ≡ o → IsSomeAnd o (λ k. (k.node ≡ n) × (kept_at (take place kept) n ≡ None)) →
+    IsSomeAnd (slice_get (kept ++ more) place) (λ k. (k.node ≡ n) × (kept_at (take place (kept ++ more)) n ≡ None))
 place_old kept more n None place e h = absurd h
 place_old kept more n (Some k) place e h =
-    let P : Option Kept → Type 0 = λ o. IsSomeAnd o (λ k. kept_at (kept ++ more) n ≡ Some k.column) in
-    subst P (sym (got_old kept more place k e)) (kept_old kept more n k.column h)
+    let N : List Kept → Type 0 = λ ks. kept_at ks n ≡ None in
+    let P : Option Kept → Type 0 = λ o. IsSomeAnd o (λ k. (k.node ≡ n) × N (take place (kept ++ more))) in
+    subst P (sym (got_old kept more place k e)) (h.0, subst N (sym (take_old kept more place k e)) h.1)
 
 pub is_place_other : (kept : List Kept) (node : ℕ) (column : ColumnData) (n : ℕ) → (node == n) ≡ false → (o : Option ℕ) → IsPlace kept n o → IsPlace (kept ++ record { node = node; column = column } ∷ []) n o
 is_place_other kept node column n apart None h = kept_new kept (record { node = node; column = column } ∷ []) n h ∙ ap (λ (b : Bool). if b then Some column else None) apart
@@ -46,9 +57,9 @@ is_place_other kept node column n apart (Some place) h = place_old kept (record 
 is_place_here : (kept : List Kept) (node : ℕ) (column : ColumnData) → kept_at kept node ≡ None → IsPlace (kept ++ record { node = node; column = column } ∷ []) node (Some (length kept))
 is_place_here kept node column none =
     let k : Kept = record { node = node; column = column } in
-    let P : Option Kept → Type 0 = λ o. IsSomeAnd o (λ k. kept_at (kept ++ record { node = node; column = column } ∷ []) node ≡ Some k.column) in
-    let e : (node == node) ≡ true = grind arith in
-    subst P (sym (got_new kept k)) (kept_new kept (k ∷ []) node none ∙ ap (λ (b : Bool). if b then Some column else None) e)
+    let N : List Kept → Type 0 = λ ks. kept_at ks node ≡ None in
+    let P : Option Kept → Type 0 = λ o. IsSomeAnd o (λ k. (k.node ≡ node) × N (take (length kept) (kept ++ record { node = node; column = column } ∷ []))) in
+    subst P (sym (got_new kept k)) (refl, subst N (sym (take_length kept k)) none)
 
 -- the places, when one more column was kept
 pub places_more : (old new : PlaceTable) (kept : List Kept) (node : ℕ) (column : ColumnData) → ((n : ℕ) → IsPlace kept n (place_in old n)) → kept_at kept node ≡ None →

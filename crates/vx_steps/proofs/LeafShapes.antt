@@ -160,3 +160,28 @@ leaf_counts nodes good n there leaf row v all kept column typed keeps at =
     let shape = scan_shape nodes good leaf scan.0 scan.1 in
     let right = typed leaf column at in
     kept_first (IsForLeaf nodes) all kept leaf column keeps (record { plan = record { known = scan.0; dtype = right.0; count = right.1 }; segment = shape.0; leaf = shape.1 }) at
+
+-- ---- what is read of a leaf's segment
+
+read_kind : (read : LeafRead) (kind : PlanKind) (head : Head) (ps : List Plan) → IsScanOf read (plan_grown_as head kind ps) → (coding : Coding) × (kind ≡ kinds.SegmentScan read.segment coding)
+read_kind read kinds.Concat head ps is = absurd is
+read_kind read (kinds.Eval a) head ps is = absurd is
+read_kind read kinds.Filter head ps is = absurd is
+read_kind read (kinds.Pack has_validity) head ps is = absurd is
+read_kind read kinds.Take head ps is = absurd is
+read_kind read kinds.Share head ps is = absurd is
+read_kind read (kinds.ListPack has_validity) head ps is = absurd is
+read_kind read kinds.RowIdx head ps is = absurd is
+read_kind read (kinds.SegmentScan segment coding) head ps is = (coding, ap (λ (s : ℕ). kinds.SegmentScan s coding) is.1)
+read_kind read (kinds.Zoned zone_len stats) head ps is = absurd is
+read_kind read (kinds.LegacyStats zone_len stats) head ps is = absurd is
+
+-- a leaf that a row reads is one over the segment that it is read for
+pub read_shape : (nodes : List Node) → IsGoodTable nodes → (n : ℕ) → n < length nodes → (read : LeafRead) (handed : Handed) (row : ℕ) → Visits (IsLeafRead read) handed (plan_at nodes n) row → HasShape nodes read.leaf (shapes.Leaf read.segment)
+read_shape nodes good n there read handed row v =
+    let scan = read_there nodes good n there read handed row v in
+    let node : Node = node_at nodes read.leaf in
+    let at : slice_get nodes read.leaf ≡ Some node = slice_get-get_or nodes read.leaf absent scan.0 in
+    let k : Known nodes read.leaf node node.kind = known nodes good read.leaf node node.kind at refl in
+    let kind = read_kind read node.kind (head_at read.leaf node) (map (plan_at nodes) node.children) (subst (IsScanOf read) k.law scan.1) in
+    leaf_shape nodes good read.leaf node read.segment kind.0 at kind.1

@@ -1,23 +1,29 @@
--- The leaves that so many rows of a plan read, kind by kind.
-use Rattle.std.proofs.Common.{◌≡◌, ℕ, suc, ◌+◌, ◌-◌, ◌<◌, ◌≤◌, ◌⊎◌, inl, inr, ⊎_elim, Bool, true, false, List, [], ◌∷◌, Some, None, length, map, refl, sym, ap, ◌∙◌, subst, arith}
-use Rattle.std.specs.Prelude.{◌↔◌, IsTrue}
+-- The leaves that so many rows of a plan read: those of a leaf, and of the parts of another plan.
+use Rattle.std.proofs.Common.{◌≡◌, ℕ, ◌+◌, ◌-◌, ◌<◌, ◌≤◌, ◌⊎◌, inl, inr, ⊎_elim, Bool, true, false, List, [], ◌∷◌, Some, None, length, replicate, refl, sym, ◌∙◌, subst, arith}
+use Rattle.std.specs.Prelude.{◌↔◌, IsTrue, slice_range}
 use Rattle.std.specs.List.{slice_get}
-use Rattle.std.proofs.lemmas.Bool.{cases_lt}
+use Rattle.std.proofs.lemmas.List.{length-replicate}
+use Rattle.vx_plan.specs.declared.parts.ChildRows.{ChildRows}
+use Rattle.vx_plan.specs.declared.parts.Part.{Part}
+use Rattle.vx_plan.specs.declared.parts.Part.TheVariants as parts
+use Rattle.vx_plan.specs.declared.shapes.Shape.{Shape}
+use Rattle.vx_plan.specs.declared.shapes.Shape.TheVariants as shapes
 use Rattle.vx_plan.specs.Kinds.{coding_of}
 use Rattle.vx_plan.specs.Nodes.{Node}
-use Rattle.vx_plan.specs.Plans.{Plan, plan_head, plan_at, plans_from, field_plans, last_validity, filter_plan, pack_plan, scan_plan, share_plan, take_plan}
+use Rattle.vx_plan.specs.Parts.{parts_of}
+use Rattle.vx_plan.specs.Plans.{Plan, plan_at, scan_plan}
 use Rattle.vx_plan.specs.Rules.{node_at}
+use Rattle.vx_plan.specs.Shapes.{HasShape}
 use Rattle.vx_plan.specs.Tables.{IsGoodTable}
-use Rattle.vx_steps.specs.declared.chunks.Chunk.{Chunk}
 use Rattle.vx_steps.specs.declared.leavings.Sieve.{Sieve}
-use Rattle.vx_steps.specs.Chunks.{IsChunk}
+use Rattle.vx_steps.specs.Given.{Handed}
 use Rattle.vx_steps.specs.Leavings.{IsLeafOf, IsMet, Meets, RowReads, RowsRead}
+use Rattle.vx_steps.specs.PartVisits.{PartVisits, PartsVisit}
 use Rattle.vx_steps.specs.Places.{place_in}
-use Rattle.vx_steps.specs.Visits.{Visits}
-use Rattle.vx_steps.proofs.ChunkRows.{chunk_down, chunk_up, IsConcatPlan}
-use Rattle.vx_steps.proofs.Shaping.{head_of, IsLeafPlan, IsOverPlan, IsPackPlan, IsSharePlan, IsTakePlan, IsZonedPlan}
-use Rattle.vx_steps.proofs.Visiting.{any_packed, child_any, packed_any, AnyVisits}
-use Rattle.vx_steps.proofs.Selecting.{only_right}
+use Rattle.vx_steps.specs.Visits.{Visits, IsLeafRead}
+use Rattle.vx_steps.proofs.Parts.{leaf_alone, parts_down, parts_up, SomeOwn}
+use Rattle.vx_steps.proofs.Selecting.{all_true, got_range, past_true, range_got}
+use Rattle.vx_steps.proofs.Shaping.{head_of, IsLeafPlan}
 
 -- one of so many rows of this plan reads the leaf
 abbrev RowsVisit : ℕ → ℕ → ℕ → Plan → Type 0
@@ -56,160 +62,82 @@ leaf_rows nodes n segment start count old new over some meets =
         let r2 : RowsVisit leaf start count (scan_plan (head_of nodes n) segment (coding_of (node_at nodes n).kind)) = subst (RowsVisit leaf start count) over.law r in
         r2.2
 
--- ---- the rows of one child
+-- ---- parts
 
--- a plan that is no leaf reads what its child's row reads
-abbrev ReadsAlike : Plan → Plan → Type 0
-ReadsAlike p q = (leaf row : ℕ) → (Visits (IsLeafOf leaf) None q row → Visits (IsLeafOf leaf) None p row) × (Visits (IsLeafOf leaf) None p row → Visits (IsLeafOf leaf) None q row)
+-- one of these parts of so many rows reads the leaf
+abbrev pub PartsRead : List Node → ℕ → List Part → ℕ → Type 0
+PartsRead nodes count ps leaf = PartsVisit (IsLeafOf leaf) nodes None (replicate count true) ps
 
-child_rows : (nodes : List Node) (n child start count : ℕ) (p : Plan) (old new : Sieve) → plan_at nodes n ≡ p → ReadsAlike p (plan_at nodes child) → Meets (RowsRead nodes child start count) old new → Meets (RowsRead nodes n start count) old new
-child_rows nodes n child start count p old new law alike meets = meets_as (RowsRead nodes child start count) (RowsRead nodes n start count) old new up down meets
+abbrev PartReads : List Node → ℕ → Part → ℕ → Type 0
+PartReads nodes count part leaf = PartVisits (IsLeafOf leaf) nodes None (replicate count true) part
+
+-- rows of a child
+pub rows_met : (nodes : List Node) (count : ℕ) (rows : ChildRows) (old new : Sieve) → rows.from ≤ rows.to → rows.to ≤ count → Meets (RowsRead nodes rows.child rows.start (rows.to - rows.from)) old new → Meets (PartReads nodes count (parts.Rows rows)) old new
+rows_met nodes count rows old new forwards asked meets = meets_as (RowsRead nodes rows.child rows.start (rows.to - rows.from)) (PartReads nodes count (parts.Rows rows)) old new up down meets
   where
-    up : (leaf : ℕ) → RowsRead nodes child start count leaf → RowsRead nodes n start count leaf
-    up leaf r = subst (RowsVisit leaf start count) (sym law) (r.0, r.1, (alike leaf (start + r.0)).0 r.2)
+    IsChosen : ℕ → ℕ → Type 0
+    IsChosen place to = slice_get (slice_range (replicate count true) rows.from to) place ≡ Some true
 
-    down : (leaf : ℕ) → RowsRead nodes n start count leaf → RowsRead nodes child start count leaf
-    down leaf r =
-        let r2 : RowsVisit leaf start count p = subst (RowsVisit leaf start count) law r in
-        (r2.0, r2.1, (alike leaf (start + r2.0)).1 r2.2)
+    end : rows.from + (rows.to - rows.from) ≡ rows.to
+    end = omega (arith, forwards)
 
-pub same_rows : (nodes : List Node) (n child start count : ℕ) (old new : Sieve) → plan_at nodes n ≡ filter_plan (head_of nodes n) (plan_at nodes child) → Meets (RowsRead nodes child start count) old new → Meets (RowsRead nodes n start count) old new
-same_rows nodes n child start count old new law meets = child_rows nodes n child start count (filter_plan (head_of nodes n) (plan_at nodes child)) old new law (λ leaf row. (λ v. inr v, λ v. only_right v)) meets
+    up : (leaf : ℕ) → RowsRead nodes rows.child rows.start (rows.to - rows.from) leaf → PartReads nodes count (parts.Rows rows) leaf
+    up leaf (place, less, v) = (place, subst (IsChosen place) end (range_got (replicate count true) rows.from (rows.to - rows.from) place true less (all_true count (rows.from + place) (omega (arith, less, asked)))), v)
 
-pub zoned_rows : (nodes : List Node) (n content table start count : ℕ) (old new : Sieve) → IsZonedPlan nodes n content table → Meets (RowsRead nodes content start count) old new → Meets (RowsRead nodes n start count) old new
-zoned_rows nodes n content table start count old new over meets = child_rows nodes n content start count _ old new over.law (λ leaf row. (λ v. inr v, λ v. only_right v)) meets
+    down : (leaf : ℕ) → PartReads nodes count (parts.Rows rows) leaf → RowsRead nodes rows.child rows.start (rows.to - rows.from) leaf
+    down leaf (place, at, v) = (place, (got_range (replicate count true) rows.from (rows.to - rows.from) place true (subst (IsChosen place) (sym end) at)).0, v)
 
-pub over_rows : (nodes : List Node) (n child start count : ℕ) (old new : Sieve) → IsOverPlan nodes n child → Meets (RowsRead nodes child start count) old new → Meets (RowsRead nodes n start count) old new
-over_rows nodes n child start count old new over meets = child_rows nodes n child start count _ old new over.plan.law (λ leaf row. (λ v. inr v, λ v. only_right v)) meets
-
--- ---- no leaf
-
--- ---- whole values
-
-pub take_rows : (nodes : List Node) (n codes values start count rows : ℕ) (old mid new : Sieve) → IsTakePlan nodes n codes values → 0 < count → rows ≡ (node_at nodes values).rows → Meets (RowsRead nodes codes start count) old mid → Meets (RowsRead nodes values 0 rows) mid new → Meets (RowsRead nodes n start count) old new
-take_rows nodes n codes values start count rows old mid new over some same first second =
-    meets_as (λ leaf. RowsRead nodes codes start count leaf ⊎ RowsRead nodes values 0 rows leaf) (RowsRead nodes n start count) old new up (λ leaf r. down leaf (subst (RowsVisit leaf start count) over.law r))
-    (meets_then (RowsRead nodes codes start count) (RowsRead nodes values 0 rows) old mid new first second)
+-- all rows of a child
+pub whole_met : (nodes : List Node) (count whole child rows : ℕ) (old new : Sieve) → rows ≡ (node_at nodes child).rows → Meets (RowsRead nodes child 0 rows) old new → Meets (PartReads nodes count (parts.Whole whole child)) old new
+whole_met nodes count whole child rows old new same meets =
+    meets_as (RowsRead nodes child 0 rows) (PartReads nodes count (parts.Whole whole child)) old new (λ leaf r. let less : r.0 < rows = r.1 in (tt, (0 + r.0, omega (arith, less, same), r.2))) down meets
   where
-    up : (leaf : ℕ) → RowsRead nodes codes start count leaf ⊎ RowsRead nodes values 0 rows leaf → RowsRead nodes n start count leaf
-    up leaf (inl r) = subst (RowsVisit leaf start count) (sym over.law) (r.0, r.1, inr (inl r.2))
-    up leaf (inr r) =
-        let small : r.0 < rows = r.1 in
-        let inside : 0 + r.0 < (node_at nodes values).rows = omega arith in
-        let less : 0 + r.0 < (plan_head (plan_at nodes values)).rows = rw over.values_head inside in
-        subst (RowsVisit leaf start count) (sym over.law) (0, some, inr (inr (refl, (0 + r.0, less, r.2))))
+    down : (leaf : ℕ) → PartReads nodes count (parts.Whole whole child) leaf → RowsRead nodes child 0 rows leaf
+    down leaf (none, (row, less, v)) =
+        let here : row ≡ 0 + row = omega arith in
+        (row, omega (arith, less, same), subst (λ (k : ℕ). RowReads nodes child k leaf) here v)
 
-    down : (leaf : ℕ) → RowsVisit leaf start count (take_plan (head_of nodes n) (plan_at nodes codes) (plan_at nodes values)) → RowsRead nodes codes start count leaf ⊎ RowsRead nodes values 0 rows leaf
-    down leaf (place, less, inl none) = absurd none
-    down leaf (place, less, inr (inl v)) = inl (place, less, v)
-    down leaf (place, less, inr (inr w)) =
-        let inside : w.1.0 < (node_at nodes values).rows = rw over.values_head at w.1.1 in
-        let here : w.1.0 ≡ 0 + w.1.0 = omega arith in
-        inr (w.1.0, omega arith, subst (λ (row : ℕ). RowReads nodes values row leaf) here w.1.2)
+-- the next part was met, and those behind it are left
+pub next_met : (nodes : List Node) (count : ℕ) (left behind : List Part) (part made : Part) → left ≡ part ∷ behind → part ≡ made → (Goal : Sieve → Type 0) (old mid : Sieve) →
+    ((new : Sieve) → Meets (PartsRead nodes count left) old new → Goal new) → Meets (PartReads nodes count made) old mid → (new : Sieve) → Meets (PartsRead nodes count behind) mid new → Goal new
+next_met nodes count left behind part made e same Goal old mid far here new rest =
+    let F : Part → Type 0 = λ p. Meets (PartReads nodes count p) old mid in
+    let G : List Part → Type 0 = λ ps. Meets (PartsRead nodes count ps) old new in
+    far new (subst G (sym e) (meets_then (PartReads nodes count part) (PartsRead nodes count behind) old mid new (subst F (sym same) here) rest))
 
-pub share_rows : (nodes : List Node) (n child start count rows : ℕ) (old new : Sieve) → IsSharePlan nodes n child → 0 < count → rows ≡ (node_at nodes child).rows → Meets (RowsRead nodes child 0 rows) old new → Meets (RowsRead nodes n start count) old new
-share_rows nodes n child start count rows old new over some same meets =
-    meets_as (RowsRead nodes child 0 rows) (RowsRead nodes n start count) old new up (λ leaf r. down leaf (subst (RowsVisit leaf start count) over.law r)) meets
+-- all parts were
+pub parts_met : (nodes : List Node) (count : ℕ) (left : List Part) → left ≡ [] → (Goal : Sieve → Type 0) (new : Sieve) → ((all : Sieve) → Meets (PartsRead nodes count left) new all → Goal all) → Goal new
+parts_met nodes count left e Goal new far =
+    let G : List Part → Type 0 = λ ps. Meets (PartsRead nodes count ps) new new in
+    far new (subst G (sym e) (record { only = λ leaf met. inl met; kept = λ leaf met. met; all = λ leaf none. absurd none; gone = λ leaf none. none; wanted = refl; found = λ found. found }))
+
+leaf_of : (leaf : ℕ) (handed : Handed) (p : Plan) (row : ℕ) → IsLeafOf leaf handed p row → (segment : ℕ) × IsLeafRead (record { leaf = leaf; segment = segment }) handed p row
+leaf_of leaf handed (scan_plan head segment coding) row own = (segment, (own, refl))
+leaf_of leaf handed p row none = absurd none
+
+-- a plan that is no leaf reads what its parts do
+pub parts_rows : (nodes : List Node) → IsGoodTable nodes → (n : ℕ) → n < length nodes → (shape : Shape) → HasShape nodes n shape → ((segment : ℕ) → shape ≡ shapes.Leaf segment → ⊥) → (start count : ℕ) → 0 < count → (old new : Sieve) →
+    Meets (PartsRead nodes count (parts_of nodes n start count)) old new → Meets (RowsRead nodes n start count) old new
+parts_rows nodes good n known shape has not start count some old new meets = meets_as (PartsRead nodes count (parts_of nodes n start count)) (RowsRead nodes n start count) old new up down meets
   where
-    up : (leaf : ℕ) → RowsRead nodes child 0 rows leaf → RowsRead nodes n start count leaf
-    up leaf r =
-        let small : r.0 < rows = r.1 in
-        let inside : 0 + r.0 < (node_at nodes child).rows = omega arith in
-        let less : 0 + r.0 < (plan_head (plan_at nodes child)).rows = rw over.child_head inside in
-        subst (RowsVisit leaf start count) (sym over.law) (0, some, inr (refl, (0 + r.0, less, r.2)))
+    long : length (replicate count true) ≡ count
+    long = length-replicate count true
 
-    down : (leaf : ℕ) → RowsVisit leaf start count (share_plan (head_of nodes n) (plan_at nodes child)) → RowsRead nodes child 0 rows leaf
-    down leaf (place, less, inl none) = absurd none
-    down leaf (place, less, inr w) =
-        let inside : w.1.0 < (node_at nodes child).rows = rw over.child_head at w.1.1 in
-        let here : w.1.0 ≡ 0 + w.1.0 = omega arith in
-        (w.1.0, omega arith, subst (λ (row : ℕ). RowReads nodes child row leaf) here w.1.2)
+    up : (leaf : ℕ) → PartsRead nodes count (parts_of nodes n start count) leaf → RowsRead nodes n start count leaf
+    up leaf v =
+        let F : ℕ → Type 0 = λ k. PartsRead nodes count (parts_of nodes n start k) leaf in
+        let r = parts_up nodes good None n known shape has start (replicate count true) (0, all_true count 0 some) (IsLeafOf leaf) (subst F (sym long) v) in
+        (r.0, past_true count r.0 r.1, r.2)
 
--- ---- fields
-
--- one of the children in front of the place has such a row
-abbrev pub FieldsRead : List Node → List ℕ → ℕ → ℕ → ℕ → ℕ → Type 0
-FieldsRead nodes children place start count leaf = (p : ℕ) × (child : ℕ) × (p < place) × (slice_get children p ≡ Some child) × RowsRead nodes child start count leaf
-
-pub field_more : (nodes : List Node) (children : List ℕ) (place here start count : ℕ) (old mid new : Sieve) → slice_get children place ≡ Some here → Meets (FieldsRead nodes children place start count) old mid → Meets (RowsRead nodes here start count) mid new → Meets (FieldsRead nodes children (place + 1) start count) old new
-field_more nodes children place here start count old mid new at first second =
-    meets_as (λ leaf. FieldsRead nodes children place start count leaf ⊎ RowsRead nodes here start count leaf) (FieldsRead nodes children (place + 1) start count) old new up down
-    (meets_then (FieldsRead nodes children place start count) (RowsRead nodes here start count) old mid new first second)
-  where
-    up : (leaf : ℕ) → FieldsRead nodes children place start count leaf ⊎ RowsRead nodes here start count leaf → FieldsRead nodes children (place + 1) start count leaf
-    up leaf (inl (p, child, less, is, r)) = (p, child, omega arith, is, r)
-    up leaf (inr r) = (place, here, omega arith, at, r)
-
-    down : (leaf : ℕ) → FieldsRead nodes children (place + 1) start count leaf → FieldsRead nodes children place start count leaf ⊎ RowsRead nodes here start count leaf
-    down leaf (p, child, less, is, r) =
-        ⊎_elim (λ (before : p < place). inl (p, child, before, is, r)) (λ (past : place ≤ p). inr (last past)) (cases_lt p place)
-      where
-        last : place ≤ p → RowsRead nodes here start count leaf
-        last past =
-            let same : p ≡ place = omega arith in
-            let at_here : slice_get children place ≡ Some child = ap (slice_get children) (sym same) ∙ is in
-            let one : child ≡ here = cc in
-            subst (λ (k : ℕ). RowsRead nodes k start count leaf) one r
-
-any_child : (nodes : List Node) (ns : List ℕ) (leaf row : ℕ) → AnyVisits (IsLeafOf leaf) None (map (plan_at nodes) ns) row → (p : ℕ) × (child : ℕ) × (p < length ns) × (slice_get ns p ≡ Some child) × RowReads nodes child row leaf
-any_child nodes [] leaf row none = absurd none
-any_child nodes (n ∷ ns) leaf row (inl v) = (0, n, omega arith, refl, v)
-any_child nodes (n ∷ ns) leaf row (inr a) =
-    let c = any_child nodes ns leaf row a in
-    let less : c.0 < length ns = c.2 in
-    (suc c.0, c.1, omega arith, c.3, c.4)
-
--- all children of a pack were gone through
-pub pack_rows : (nodes : List Node) (n place start count : ℕ) (old new : Sieve) → IsPackPlan nodes n → length (node_at nodes n).children ≤ place → Meets (FieldsRead nodes (node_at nodes n).children place start count) old new → Meets (RowsRead nodes n start count) old new
-pack_rows nodes n place start count old new over past meets =
-    meets_as (FieldsRead nodes (node_at nodes n).children place start count) (RowsRead nodes n start count) old new up (λ leaf r. down leaf (subst (RowsVisit leaf start count) over.law r)) meets
-  where
-    ns : List ℕ
-    ns = (node_at nodes n).children
-
-    ps : List Plan
-    ps = map (plan_at nodes) (node_at nodes n).children
-
-    up : (leaf : ℕ) → FieldsRead nodes (node_at nodes n).children place start count leaf → RowsRead nodes n start count leaf
-    up leaf (p, child, less, at, r) = subst (RowsVisit leaf start count) (sym over.law) (r.0, r.1, inr (any_packed (IsLeafOf leaf) None over.has_validity ps (start + r.0) (child_any (IsLeafOf leaf) None nodes ns p child (start + r.0) at r.2)))
-
-    down : (leaf : ℕ) → RowsVisit leaf start count (pack_plan (head_of nodes n) (plans_from (field_plans over.has_validity ps)) (last_validity over.has_validity ps)) → FieldsRead nodes (node_at nodes n).children place start count leaf
-    down leaf (at, less, inl own) = absurd own
-    down leaf (at, less, inr v) =
-        let c = any_child nodes ns leaf (start + at) (packed_any (IsLeafOf leaf) None over.has_validity ps (start + at) (λ row gap. gap) v) in
-        let inside : c.0 < length ns = c.2 in
-        (c.0, c.1, omega arith, c.3, (at, less, c.4))
-
--- ---- chunks
-
-pub chunk_rows : (nodes : List Node) → IsGoodTable nodes → (n start done here : ℕ) (chunk : Chunk) (old mid new : Sieve) → IsChunk nodes n (start + done) chunk → IsConcatPlan nodes n → here ≤ chunk.end - (start + done) →
-    Meets (RowsRead nodes n start done) old mid → Meets (RowsRead nodes chunk.child (start + done - chunk.start) here) mid new → Meets (RowsRead nodes n start (done + here)) old new
-chunk_rows nodes good n start done here chunk old mid new is over fits first second =
-    meets_as (λ leaf. RowsRead nodes n start done leaf ⊎ RowsRead nodes chunk.child (start + done - chunk.start) here leaf) (RowsRead nodes n start (done + here)) old new up down
-    (meets_then (RowsRead nodes n start done) (RowsRead nodes chunk.child (start + done - chunk.start) here) old mid new first second)
-  where
-    end : chunk.end ≡ chunk.start + (node_at nodes chunk.child).rows
-    end = is.end
-
-    low : chunk.start ≤ start + done
-    low = is.at_most
-
-    up : (leaf : ℕ) → RowsRead nodes n start done leaf ⊎ RowsRead nodes chunk.child (start + done - chunk.start) here leaf → RowsRead nodes n start (done + here) leaf
-    up leaf (inl (place, less, v)) = (place, omega arith, v)
-    up leaf (inr (place, less, v)) =
-        let same : chunk.start + (start + done - chunk.start + place) ≡ start + (done + place) = omega (arith, low) in
-        let F : ℕ → Type 0 = Visits (IsLeafOf leaf) None (plan_at nodes n) in
-        (done + place, omega arith, subst F same (chunk_up (IsLeafOf leaf) None nodes good n (start + done) chunk is over (start + done - chunk.start + place) (omega (arith, low, end)) v))
-
-    later : (leaf place : ℕ) → place < done + here → done ≤ place → Visits (IsLeafOf leaf) None (plan_at nodes n) (start + place) → RowsRead nodes chunk.child (start + done - chunk.start) here leaf
-    later leaf place less past v =
-        let same : start + place ≡ chunk.start + (start + done - chunk.start + (place - done)) = omega (arith, low) in
-        let F : ℕ → Type 0 = Visits (IsLeafOf leaf) None (plan_at nodes n) in
-        let row : Visits (IsLeafOf leaf) None (plan_at nodes chunk.child) (start + done - chunk.start + (place - done)) = only_right (chunk_down (IsLeafOf leaf) None nodes good n (start + done) chunk is over (start + done - chunk.start + (place - done)) (omega (arith, low, end)) (subst F same v)) in
-        (place - done, omega arith, row)
-
-    down : (leaf : ℕ) → RowsRead nodes n start (done + here) leaf → RowsRead nodes n start done leaf ⊎ RowsRead nodes chunk.child (start + done - chunk.start) here leaf
-    down leaf (place, less, v) = ⊎_elim (λ (before : place < done). inl (place, before, v)) (λ (past : done ≤ place). inr (later leaf place less past v)) (cases_lt place done)
+    down : (leaf : ℕ) → RowsRead nodes n start count leaf → PartsRead nodes count (parts_of nodes n start count) leaf
+    down leaf (place, less, v) =
+        let F : ℕ → Type 0 = λ k. PartsRead nodes count (parts_of nodes n start k) leaf in
+        ⊎_elim
+        (λ (own : SomeOwn (IsLeafOf leaf) None (plan_at nodes n) start (replicate count true)).
+        let l = leaf_of leaf None (plan_at nodes n) (start + own.0) own.2 in
+        absurd (leaf_alone nodes n known shape has not (record { leaf = leaf; segment = l.0 }) None (start + own.0) l.1))
+        (λ (p : PartsRead nodes count (parts_of nodes n start (length (replicate count true))) leaf). subst F long p)
+        (parts_down nodes good None n known shape has start (replicate count true) (IsLeafOf leaf) (λ row none. none) (place, all_true count place less, v))
 
 -- ---- one row
 

@@ -1,26 +1,22 @@
 -- The segments that needed leaves want.
-use Rattle.std.proofs.Common.{◌≡◌, ℕ, zero, suc, ◌+◌, ◌<◌, ◌⊎◌, inl, inr, ⊎_elim, List, [], ◌∷◌, ◌++◌, Option, Some, None, Result, Ok, Err, length, take, get_or, refl, sym, ap, ◌∙◌, subst, arith}
+use Rattle.std.proofs.Common.{◌≡◌, ℕ, zero, suc, ◌+◌, ◌<◌, ◌⊎◌, inl, inr, ⊎_elim, List, [], ◌∷◌, ◌++◌, Option, Some, None, Result, Ok, Err, length, take, get_or, refl, sym, ap, ◌∙◌, subst, arith, map}
 use Rattle.std.specs.Prelude.{IsSomeAnd, OnOk, OnErr}
 use Rattle.std.specs.List.{slice_get}
 use Rattle.std.specs.declared.alloc.AllocError.{AllocError}
-use Rattle.std.proofs.lemmas.List.{take_more, get_or_default}
+use Rattle.std.proofs.lemmas.List.{take_more, length-map}
 use Rattle.std.proofs.lemmas.Option.{none-some}
 use Rattle.vx_steps.specs.declared.leaf_reads.LeafRead.{LeafRead}
+use Rattle.vx_steps.specs.declared.placed_reads.PlacedRead.{PlacedRead}
+use Rattle.vx_steps.specs.Pieces.{read_of}
 use Rattle.vx_steps.specs.KeptData.{Kept}
 use Rattle.vx_steps.specs.Kept.{kept_at}
-use Rattle.vx_steps.specs.Needs.{Among, Adds}
+use Rattle.vx_steps.specs.Needs.{Among}
 use Rattle.vx_steps.specs.ReadTableData.{Wanted, ReadsData}
 use Rattle.vx_steps.specs.ReadTable.{IsWanted}
 use Rattle.vx_steps.specs.Agreement.{Agrees}
-use Rattle.vx_steps.specs.Wants.{AreNeeds, IsAsked, IsNeeded, Grows}
+use Rattle.vx_steps.specs.Wants.{IsAsked, IsNeeded, Grows}
 use Rattle.vx_steps.proofs.WantedReads.{is_standing, got_pushed, pushed_old}
 use Rattle.vx_steps.proofs.Keeping.{got_new}
-
-pub needs_all : (P : LeafRead → Type 0) (needs : List LeafRead) → Adds P [] needs → AreNeeds P needs
-needs_all P needs added = record {
-  only = λ read h. ⊎_elim (λ (none : ⊥). absurd none) (λ (p : P read). p) (added.only read h);
-  all = added.all;
-}
 
 abbrev unread : ℕ → Wanted
 unread segment = record { segment = segment; bytes = None }
@@ -121,9 +117,6 @@ only_more handed first old new needs i need inside is before here s asked =
 abbrev pub need_at : List LeafRead → ℕ → LeafRead
 need_at needs i = get_or needs i (record { leaf = 0; segment = 0 })
 
-pub need_is : (needs : List LeafRead) (i : ℕ) → i < length needs → need_at needs i ≡ get_or needs i (need_at needs i)
-need_is needs i h = get_or_default needs i (record { leaf = 0; segment = 0 }) (need_at needs i) h
-
 wanted_agrees : (segment : ℕ) (old new : List Wanted) → IsWanted segment old new → (outside : ℕ → Option (List ℕ)) → Agrees old outside → Agrees new outside
 wanted_agrees segment old new (inl (there, same)) outside agrees =
     let P : List Wanted → Type 0 = λ ws. Agrees ws outside in
@@ -137,3 +130,43 @@ want_agrees (Ok x) segment old new wanted same outside agrees = wanted_agrees se
 want_agrees (Err e) segment old new wanted same outside agrees =
     let P : ReadsData → Type 0 = λ r. Agrees r.wanted outside in
     subst P (sym same) agrees
+
+-- ---- needs with their places
+
+abbrev pub placed_at : List PlacedRead → ℕ → PlacedRead
+placed_at needs i = get_or needs i (record { leaf = 0; segment = 0; from = 0; last = 0 })
+
+pub read_inside : (needs : List PlacedRead) (i : ℕ) → i < length needs → i < length (map read_of needs)
+read_inside needs i inside = omega (arith, inside, length-map needs read_of)
+
+pub reads_inside : (needs : List PlacedRead) (i : ℕ) → i < length (map read_of needs) → i < length needs
+reads_inside needs i inside = omega (arith, inside, length-map needs read_of)
+
+read_got : (needs : List PlacedRead) (i : ℕ) (d : PlacedRead) (e : LeafRead) → i < length needs → read_of (get_or needs i d) ≡ get_or (map read_of needs) i e
+read_got [] i d e inside = absurd (omega arith)
+read_got (need ∷ needs) zero d e inside = refl
+read_got (need ∷ needs) (suc i) d e inside = read_got needs i d e (omega arith)
+
+pub read_is : (needs : List PlacedRead) (i : ℕ) → i < length needs → read_of (placed_at needs i) ≡ get_or (map read_of needs) i (read_of (placed_at needs i))
+read_is needs i inside = read_got needs i (record { leaf = 0; segment = 0; from = 0; last = 0 }) (read_of (placed_at needs i)) inside
+
+-- what is said of the first so many, where these are all, is said of each
+pub all_placed : (needs : List PlacedRead) (count : ℕ) → length needs < count + 1 → (need : PlacedRead) → Among need needs → Among (read_of need) (take count (map read_of needs))
+all_placed [] count all need among = absurd among
+all_placed (first ∷ needs) zero all need among = absurd (omega arith)
+all_placed (first ∷ needs) (suc count) all need (inl e) = inl (ap read_of e)
+all_placed (first ∷ needs) (suc count) all need (inr more) = inr (all_placed needs count (omega arith) need more)
+
+-- one of the first so many and one more is one of them, or the next
+pub among_next : (needs : List PlacedRead) (i : ℕ) → i < length needs → (need : PlacedRead) → Among need (take (i + 1) needs) → Among need (take i needs) ⊎ (placed_at needs i ≡ need)
+among_next needs i inside need among =
+    let P : List PlacedRead → Type 0 = Among need in
+    let more : take (i + 1) needs ≡ take i needs ++ placed_at needs i ∷ [] = take_more needs i (record { leaf = 0; segment = 0; from = 0; last = 0 }) inside in
+    among_pushed need (placed_at needs i) (take i needs) (subst P more among)
+
+-- where the first so many are all, each is one of them
+pub all_taken : (needs : List PlacedRead) (count : ℕ) → length needs < count + 1 → (need : PlacedRead) → Among need needs → Among need (take count needs)
+all_taken [] count all need among = absurd among
+all_taken (first ∷ needs) zero all need among = absurd (omega arith)
+all_taken (first ∷ needs) (suc count) all need (inl e) = inl e
+all_taken (first ∷ needs) (suc count) all need (inr more) = inr (all_taken needs count (omega arith) need more)

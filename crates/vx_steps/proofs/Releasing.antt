@@ -1,24 +1,19 @@
 -- Bytes are let go only where no need is left that they serve.
-use Rattle.std.proofs.Common.{◌≡◌, ℕ, zero, suc, ◌+◌, ◌<◌, ⊎_elim, inl, inr, below_more, Global, Vec, Bool, true, false, List, [], ◌∷◌, ◌++◌, Option, Some, None, length, get_or, refl, sym, ap, ◌∙◌, subst, arith}
+use Rattle.std.proofs.Common.{◌≡◌, ℕ, zero, suc, ◌+◌, ◌<◌, ⊎_elim, inl, inr, below_more, List, [], ◌∷◌, Option, Some, None, length, get_or, refl, sym, ap, ◌∙◌, subst, arith}
 use Rattle.std.specs.List.{slice_get}
 use Rattle.std.proofs.lemmas.Option.{slice_get-get_or, same_Some}
 use Rattle.vx_base.specs.Columns.{ColumnData}
-use Rattle.vx_steps.specs.declared.jobs.ActiveSplit.{ActiveSplit}
-use Rattle.vx_steps.specs.declared.jobs.Job.{Job}
-use Rattle.vx_steps.specs.declared.jobs.Progress.{Progress}
 use Rattle.vx_steps.specs.declared.leaf_reads.LeafRead.{LeafRead}
-use Rattle.vx_steps.specs.declared.wholes.Wholes.{Wholes}
 use Rattle.vx_plan.specs.Nodes.{Node}
 use Rattle.vx_steps.specs.Delivered.{KeepsLeaves}
-use Rattle.vx_steps.specs.Jobs.{IsLast, KeepsColumns}
+use Rattle.vx_steps.specs.Jobs.{KeepsColumns}
 use Rattle.vx_steps.specs.Kept.{kept_at, IsKept}
 use Rattle.vx_steps.specs.KeptData.{Kept}
 use Rattle.vx_steps.specs.Needs.{Among, AreLeaves}
 use Rattle.vx_steps.specs.OpenSegments.{IsLeafOver}
 use Rattle.vx_steps.specs.ReadTable.{IsGone, IsNamed, KeepsStored, LetsGo, Passes}
 use Rattle.vx_steps.specs.ReadTableData.{ReadsData, Stored, Wanted}
-use Rattle.vx_steps.specs.Releasing.{AreHeld, AreNamed, IsServed, IsSpent, LetsSpentGo, ServesAll}
-use Rattle.vx_steps.proofs.Needing.{among_pushed}
+use Rattle.vx_steps.specs.Releasing.{AreHeld, IsServed, IsSpent, LetsSpentGo}
 
 pub none_before : (old new : List Kept) (n : ℕ) → KeepsColumns old new → kept_at new n ≡ None → kept_at old n ≡ None
 none_before old new n keeps e = by (kept_at old n) refl
@@ -43,6 +38,7 @@ pub stored_then : (old mid new : ReadsData) → KeepsStored old mid → KeepsSto
 stored_then old mid new first second = record {
   named = λ segment n named. second.named segment n (first.named segment n named);
   gone = λ segment gone. first.gone segment (second.gone segment gone);
+  still_gone = λ segment gone. second.still_gone segment (first.still_gone segment gone);
   passed = second.passed ∙ first.passed;
 }
 
@@ -88,7 +84,7 @@ spent_kept nodes old new segment keeps spent n leaf =
     (k.0, keeps n k.0 k.1)
 
 pub lets_none : (nodes : List Node) (leaves : List Kept) (reads : ReadsData) → LetsSpentGo nodes leaves reads reads
-lets_none nodes leaves reads = record { wanted = refl; handed = refl; passed = refl; named = λ segment n named. named; gone = λ segment gone. inl gone }
+lets_none nodes leaves reads = record { wanted = refl; handed = refl; passed = refl; named = λ segment n named. named; gone = λ segment gone. inl gone; still_gone = λ segment gone. gone }
 
 pub lets_then : (nodes : List Node) (kept new : List Kept) (first mid last : ReadsData) → KeepsColumns kept new → LetsSpentGo nodes kept first mid → LetsSpentGo nodes new mid last → LetsSpentGo nodes new first last
 lets_then nodes kept new first mid last keeps before after = record {
@@ -97,6 +93,7 @@ lets_then nodes kept new first mid last keeps before after = record {
   passed = after.passed ∙ before.passed;
   named = λ segment n named. after.named segment n (before.named segment n named);
   gone = λ segment gone. ⊎_elim (λ (g : IsGone mid.stored segment). ⊎_elim (λ (h : IsGone first.stored segment). inl h) (λ (spent : IsSpent nodes kept segment). inr (spent_kept nodes kept new segment keeps spent)) (before.gone segment g)) (λ (spent : IsSpent nodes new segment). inr spent) (after.gone segment gone);
+  still_gone = λ segment gone. after.still_gone segment (before.still_gone segment gone);
 }
 
 -- the bytes of a segment each of whose leaves is kept
@@ -107,6 +104,7 @@ lets_spent nodes leaves old new segment spent lets = record {
   passed = lets.passed;
   named = lets.named;
   gone = λ s gone. ⊎_elim (λ (g : IsGone old.stored s). inl g) (λ (e : segment ≡ s). inr (subst (IsSpent nodes leaves) e spent)) (lets.gone s gone);
+  still_gone = lets.still_gone;
 }
 
 -- where bytes are gone, a need's leaf is kept
@@ -176,109 +174,4 @@ served_passed leaves old new needs place need here count kept passes is = record
             let at = among_at needs n among in
             all at.0 (before at.0 (is.named at.0 n at.2 e)) n at.2
 
--- all were passed
-pub all_passed : (leaves : List Kept) (reads : ReadsData) (needs : List LeafRead) → IsServed leaves reads needs → (length needs < reads.passed + 1) → (need : LeafRead) → Among need needs → IsKept leaves need.leaf
-all_passed leaves reads needs is past need among =
-    let at = among_at needs need among in
-    let inside = at.1 in
-    is.passed at.0 need (omega arith) at.2
-
 -- ---- all active splits
-
-only_one : {X : Type 0} (xs : List X) (i : ℕ) (x y : X) → length xs ≡ 1 → slice_get xs i ≡ Some x → Among y xs → x ≡ y
-only_one [] i x y one at among = absurd among
-only_one (z ∷ []) zero x y one at (inl e) = sym (same_Some z x at) ∙ e
-only_one (z ∷ []) zero x y one at (inr h) = absurd h
-only_one (z ∷ []) (suc i) x y one at among = absurd cc
-only_one (z ∷ w ∷ zs) i x y one at among = absurd (omega arith)
-
--- One of them was tried. Unless no split is left to be started, and it is the only one, bytes were let go only of which
--- each leaf is kept.
-pub serves_tried : (nodes : List Node) (job : Job) (old : Progress) (active : Vec ActiveSplit Global) (reads : ReadsData) (leaves : List Kept) (wholes : Wholes) → active.items ≡ old.active.items → KeepsColumns old.leaves leaves → ((b : ActiveSplit) → Among b old.active.items → AreLeaves nodes b.needs) → (place : ℕ) (a : ActiveSplit) → slice_get old.active.items place ≡ Some a →
-    (last : Bool) → (last ≡ true → IsLast job old) → (last ≡ false → LetsSpentGo nodes leaves old.reads reads) → IsServed leaves reads a.needs → ServesAll nodes job old → ServesAll nodes job (record { next = old.next; active = active; reads = reads; leaves = leaves; wholes = wholes })
-serves_tried nodes job old active reads leaves wholes same keeps are place a at true is_last lets served serves =
-    let is = is_last refl in
-    let S : ActiveSplit → Type 0 = λ b. IsServed leaves reads b.needs in
-    record {
-      gone_late = λ segment gone. inl is.0;
-      passed_late = λ some. is.0;
-      served = λ b m. subst S (only_one old.active.items place a b is.1 at (subst (λ (xs : List ActiveSplit). Among b xs) same m)) served;
-      active_after = λ b m. serves.active_after b (subst (λ (xs : List ActiveSplit). Among b xs) same m);
-      gone_after = λ segment gone. serves.active_after a (got_among old.active.items place a at);
-    }
-serves_tried nodes job old active reads leaves wholes same keeps are place a at false is_last lets served serves =
-    let only = lets refl in
-    record {
-      gone_late = λ segment gone. ⊎_elim
-          (λ (g : IsGone old.reads.stored segment). ⊎_elim (λ (e : old.next ≡ length job.splits.items). inl e) (λ (spent : IsSpent nodes old.leaves segment). inr (spent_kept nodes old.leaves leaves segment keeps spent)) (serves.gone_late segment g))
-          (λ (spent : IsSpent nodes leaves segment). inr spent)
-          (only.gone segment gone);
-      passed_late = λ some. serves.passed_late (subst (λ (n : ℕ). 0 < n) only.passed some);
-      served = λ b m.
-          let among = subst (λ (xs : List ActiveSplit). Among b xs) same m in
-          served_let nodes old.leaves leaves old.reads reads b.needs (are b among) keeps only (serves.served b among);
-      active_after = λ b m. serves.active_after b (subst (λ (xs : List ActiveSplit). Among b xs) same m);
-      gone_after = λ segment gone. serves.active_after a (got_among old.active.items place a at);
-    }
-
-pub serves_stored : (nodes : List Node) (job : Job) (old : Progress) (reads : ReadsData) → KeepsStored old.reads reads → ServesAll nodes job old → ServesAll nodes job (record { next = old.next; active = old.active; reads = reads; leaves = old.leaves; wholes = old.wholes })
-serves_stored nodes job old reads keeps serves = record {
-  gone_late = λ segment gone. serves.gone_late segment (keeps.gone segment gone);
-  passed_late = λ some. serves.passed_late (subst (λ (n : ℕ). 0 < n) keeps.passed some);
-  served = λ a m. served_stored old.leaves old.reads reads a.needs keeps (serves.served a m);
-  active_after = serves.active_after;
-  gone_after = λ segment gone. serves.gone_after segment (keeps.gone segment gone);
-}
-
-not_late : (job : Job) (next : ℕ) → next < length job.splits.items → next ≡ length job.splits.items → ⊥
-not_late job next less e = omega arith
-
--- while a split is left to be started, each leaf over a segment whose bytes are gone is kept
-spent_late : (nodes : List Node) (job : Job) (old : Progress) → old.next < length job.splits.items → ServesAll nodes job old → (segment : ℕ) → IsGone old.reads.stored segment → IsSpent nodes old.leaves segment
-spent_late nodes job old less serves segment gone = ⊎_elim (λ (e : old.next ≡ length job.splits.items). absurd (not_late job old.next less e)) (λ (spent : IsSpent nodes old.leaves segment). spent) (serves.gone_late segment gone)
-
--- the next split is passed by
-pub serves_next : (nodes : List Node) (job : Job) (old : Progress) → old.next < length job.splits.items → ServesAll nodes job old → ServesAll nodes job (record { next = old.next + 1; active = old.active; reads = old.reads; leaves = old.leaves; wholes = old.wholes })
-serves_next nodes job old less serves = record {
-  gone_late = λ segment gone. inr (spent_late nodes job old less serves segment gone);
-  passed_late = λ some. absurd (not_late job old.next less (serves.passed_late some));
-  served = serves.served;
-  active_after = λ a m. omega arith;
-  gone_after = λ segment gone. omega arith;
-}
-
--- or started
-pub serves_pushed : (nodes : List Node) (job : Job) (old : Progress) (actives : Vec ActiveSplit Global) (a : ActiveSplit) (reads : ReadsData) → old.next < length job.splits.items → KeepsStored old.reads reads → AreLeaves nodes a.needs → AreNamed old.leaves a.needs reads.stored → actives.items ≡ old.active.items ++ a ∷ [] → ServesAll nodes job old →
-    ServesAll nodes job (record { next = old.next + 1; active = actives; reads = reads; leaves = old.leaves; wholes = old.wholes })
-serves_pushed nodes job old actives a reads less keeps are named more serves = record {
-  gone_late = λ segment gone. inr (spent segment gone);
-  passed_late = λ some. absurd (none_passed some);
-  served = λ b m. ⊎_elim
-      (λ (h : Among b old.active.items). served_stored old.leaves old.reads reads b.needs keeps (serves.served b h))
-      (λ (e : a ≡ b). subst S e (record { held = λ need among gone. spent need.segment gone need.leaf (leaf_among nodes a.needs need are among); passed = λ place need before at. absurd (none_passed (omega arith)); named = named }))
-      (among_pushed b a old.active.items (subst (λ (xs : List ActiveSplit). Among b xs) more m));
-  active_after = λ b m. omega arith;
-  gone_after = λ segment gone. omega arith;
-}
-  where
-    S : ActiveSplit → Type 0
-    S b = IsServed old.leaves reads b.needs
-
-    spent : (segment : ℕ) → IsGone reads.stored segment → IsSpent nodes old.leaves segment
-    spent segment gone = spent_late nodes job old less serves segment (keeps.gone segment gone)
-
-    none_passed : 0 < reads.passed → ⊥
-    none_passed some = not_late job old.next less (serves.passed_late (subst (λ (n : ℕ). 0 < n) keeps.passed some))
-
--- before the first step there is nothing to let go, whatever columns of leaves are handed in
-pub serves_handed : (nodes : List Node) (job : Job) (progress : Progress) (leaves : List Kept) → progress.next ≡ 0 → ServesAll nodes job progress → ServesAll nodes job (record { next = progress.next; active = progress.active; reads = progress.reads; leaves = leaves; wholes = progress.wholes })
-serves_handed nodes job progress leaves first serves = record {
-  gone_late = λ segment gone. absurd (not_after (serves.gone_after segment gone));
-  passed_late = serves.passed_late;
-  served = λ a m. absurd (not_after (serves.active_after a m));
-  active_after = serves.active_after;
-  gone_after = serves.gone_after;
-}
-  where
-    not_after : 0 < progress.next → ⊥
-    not_after after = omega arith

@@ -1,6 +1,6 @@
 -- A scan has the takes that the selected rows of its splits read.
 use Rattle.std.proofs.Common.{◌≡◌, ℕ, zero, suc, ◌+◌, ◌<◌, ◌==◌, ◌⊎◌, inl, inr, ⊎_elim, Bool, true, false, List, [], ◌∷◌, ◌++◌, Some, length, Result, Ok, Err, map, drop, refl, sym, ap, ◌∙◌, subst, arith}
-use Rattle.std.specs.Prelude.{if◌then◌else◌}
+use Rattle.std.specs.Prelude.{if◌then◌else◌, slice_set}
 use Rattle.std.specs.List.{slice_get, remove}
 use Rattle.std.proofs.lemmas.Bool.{eqb-true}
 use Rattle.vx_base.specs.Columns.{ColumnData}
@@ -11,19 +11,18 @@ use Rattle.vx_plan.specs.Tables.{IsGoodTable}
 use Rattle.vx_rows.specs.SegmentLeaves.{Bytes, leaves_of}
 use Rattle.vx_steps.specs.declared.errors.StepError.{StepError}
 use Rattle.vx_steps.specs.declared.errors.StepError.TheVariants.{Unsupported, BadSegment, BadCode, EvalFault, Memory}
-use Rattle.vx_steps.specs.declared.jobs.ActiveSplit.{ActiveSplit}
 use Rattle.vx_steps.specs.declared.jobs.Job.{Job}
-use Rattle.vx_steps.specs.declared.jobs.Progress.{Progress}
 use Rattle.vx_steps.specs.declared.progress.Turn.{Turn}
 use Rattle.vx_steps.specs.declared.progress.Turn.TheVariants.{Read, Output, Waiting, Done}
 use Rattle.vx_steps.specs.declared.splits.Split.{Split}
 use Rattle.vx_steps.specs.declared.wholes.Wholes.{Wholes}
 use Rattle.vx_steps.specs.Below.{HasNoShare, HasNoEvalBelowTake}
 use Rattle.vx_steps.specs.Given.{given_for}
-use Rattle.vx_steps.specs.Jobs.{left_of, numbers_from, number_of_active, IsTold, IsUnstarted, KeepsWholes}
+use Rattle.vx_steps.specs.Jobs.{number_left, IsTold, IsUnstarted, KeepsWholes}
 use Rattle.vx_steps.specs.KeptData.{Kept}
 use Rattle.vx_steps.specs.Laws.{IsValuesOf}
 use Rattle.vx_steps.specs.Needs.{Among}
+use Rattle.vx_steps.specs.Standings.{left_of, none_given, numbers_from, SplitLeft, Standing}
 use Rattle.vx_steps.specs.Steps.{GivesOutput, IsDone, IsSplitOutput, IsStepRefusal, LeavesSplit, TakesTurn}
 use Rattle.vx_steps.specs.TakeLaws.{HasWhole, HasTakes, EachHasTakes, Ends, Goes, WentThrough, last_of}
 use Rattle.vx_steps.specs.Turns.{FailsInWholes}
@@ -44,10 +43,10 @@ there_takes nodes good job there none split wholes are take reads =
     let one : (values : ℕ) × IsValuesOf nodes take values × IsThere job.given wholes values = take_there nodes good job.given wholes job.offset job.plan split.rows.start split.mask take there none are reads in
     (one.0, one.1, has_whole job.given wholes one.0 one.2)
 
-pub output_takes : (nodes : List Node) → IsGoodTable nodes → (job : Job) → job.plan < length nodes → HasNoShare (plan_at nodes job.plan) → (old : Progress) (after : Wholes) (split : Split) (column : ColumnData) → IsSplitOutput nodes job old after split column → HasTakes nodes job split after
+pub output_takes : (nodes : List Node) → IsGoodTable nodes → (job : Job) → job.plan < length nodes → HasNoShare (plan_at nodes job.plan) → (old : Standing) (after : Wholes) (split : Split) (column : ColumnData) → IsSplitOutput nodes job old after split column → HasTakes nodes job split after
 output_takes nodes good job there none old after split column output = there_takes nodes good job there none split after output.there
 
-pub fault_takes : (nodes : List Node) → IsGoodTable nodes → (job : Job) → job.plan < length nodes → HasNoShare (plan_at nodes job.plan) → HasNoEvalBelowTake (plan_at nodes job.plan) → (old : Progress) (after : Wholes) (split : Split) (at : ℕ) (outside : Bytes) → IsTold nodes job old outside → LeavesSplit nodes job old after split (EvalFault at) → HasTakes nodes job split after
+pub fault_takes : (nodes : List Node) → IsGoodTable nodes → (job : Job) → job.plan < length nodes → HasNoShare (plan_at nodes job.plan) → HasNoEvalBelowTake (plan_at nodes job.plan) → (old : Standing) (after : Wholes) (split : Split) (at : ℕ) (outside : Bytes) → IsTold nodes job old outside → LeavesSplit nodes job old after split (EvalFault at) → HasTakes nodes job split after
 fault_takes nodes good job there none evals old after split at outside told left =
     ⊎_elim
     (λ (are : AreThere nodes job.given after job.plan split.rows.start split.mask). there_takes nodes good job there none split after are)
@@ -98,10 +97,20 @@ numbered (first ∷ splits) k (suc number) split at = by (true_count first.mask 
     by true (inl among) = inl (next among)
     by false (inl among) = inl (inr (next among))
 
-pub unstarted_takes : (nodes : List Node) (job : Job) (progress : Progress) → IsUnstarted progress → EachHasTakes nodes job progress
+numbers_given : (ns : List ℕ) → map number_left (map none_given ns) ≡ ns
+numbers_given [] = refl
+numbers_given (n ∷ ns) = ap (λ (rest : List ℕ). n ∷ rest) (numbers_given ns)
+
+-- all splits that select a row are left
+unstarted_left : (job : Job) (progress : Standing) → IsUnstarted progress → map number_left (left_of job progress) ≡ numbers_from 0 job.splits.items
+unstarted_left job progress unstarted =
+    ap (λ (started : List SplitLeft). map number_left (started ++ map none_given (numbers_from progress.next (drop progress.next job.splits.items)))) unstarted.started
+    ∙ ap (λ (next : ℕ). map number_left (map none_given (numbers_from next (drop next job.splits.items)))) unstarted.next
+    ∙ numbers_given (numbers_from 0 job.splits.items)
+
+pub unstarted_takes : (nodes : List Node) (job : Job) (progress : Standing) → IsUnstarted progress → EachHasTakes nodes job progress
 unstarted_takes nodes job progress unstarted number split at =
-    let left : numbers_from 0 job.splits.items ≡ left_of job progress =
-    sym (ap (λ (active : List ActiveSplit). map number_of_active active ++ numbers_from progress.next (drop progress.next job.splits.items)) unstarted.active ∙ ap (λ (next : ℕ). numbers_from next (drop next job.splits.items)) unstarted.next) in
+    let left : numbers_from 0 job.splits.items ≡ map number_left (left_of job progress) = sym (unstarted_left job progress unstarted) in
     ⊎_elim
     (λ (among : Among (0 + number) (numbers_from 0 job.splits.items)).
     let e : 0 + number ≡ number = omega arith in
@@ -111,60 +120,78 @@ unstarted_takes nodes job progress unstarted number split at =
 
 -- ---- from step to step
 
-same_left : (nodes : List Node) (job : Job) (old new : Progress) → left_of job new ≡ left_of job old → KeepsWholes nodes job old.wholes new.wholes → EachHasTakes nodes job old → EachHasTakes nodes job new
+-- the splits that are left have the same numbers
+same_left : (nodes : List Node) (job : Job) (old new : Standing) → map number_left (left_of job new) ≡ map number_left (left_of job old) → KeepsWholes nodes job old.wholes new.wholes → EachHasTakes nodes job old → EachHasTakes nodes job new
 same_left nodes job old new left keeps each number split at =
     ⊎_elim
-    (λ (among : Among number (left_of job old)). inl (subst (Among number) (sym left) among))
+    (λ (among : Among number (map number_left (left_of job old))). inl (subst (Among number) (sym left) among))
     (λ (has : HasTakes nodes job split old.wholes). inr (more_takes nodes job split old.wholes new.wholes keeps has))
     (each number split at)
 
-pub same_takes : (nodes : List Node) (job : Job) (old new : Progress) → left_of job new ≡ left_of job old → new.wholes ≡ old.wholes → EachHasTakes nodes job old → EachHasTakes nodes job new
+pub same_takes : (nodes : List Node) (job : Job) (old new : Standing) → left_of job new ≡ left_of job old → new.wholes ≡ old.wholes → EachHasTakes nodes job old → EachHasTakes nodes job new
 same_takes nodes job old new left wholes each number split at =
     ⊎_elim
-    (λ (among : Among number (left_of job old)). inl (subst (Among number) (sym left) among))
+    (λ (among : Among number (map number_left (left_of job old))). inl (subst (Among number) (ap (map number_left) (sym left)) among))
     (λ (has : HasTakes nodes job split old.wholes). inr (subst (HasTakes nodes job split) (sym wholes) has))
     (each number split at)
 
--- a number stays, or is the one that was taken out
-stays_or_is : (xs : List ℕ) (place taken number : ℕ) → slice_get xs place ≡ Some taken → Among number xs → Among number (remove xs place) ⊎ (number ≡ taken)
+-- of the split at the place more rows were given: the numbers stay
+numbers_set : (xs : List SplitLeft) (place number from to : ℕ) → slice_get xs place ≡ Some (record { number = number; given = from }) → map number_left (slice_set xs place (record { number = number; given = to })) ≡ map number_left xs
+numbers_set [] place number from to at = refl
+numbers_set (x ∷ xs) zero number from to at =
+    let same : x ≡ record { number = number; given = from } = cc in
+    ap (λ (n : ℕ). n ∷ map number_left xs) (sym (ap number_left same))
+numbers_set (x ∷ xs) (suc place) number from to at = ap (λ (ns : List ℕ). number_left x ∷ ns) (numbers_set xs place number from to at)
+
+-- a number stays, or is that of the split that was taken out
+stays_or_is : (xs : List SplitLeft) (place : ℕ) (taken : SplitLeft) (number : ℕ) → slice_get xs place ≡ Some taken → Among number (map number_left xs) → Among number (map number_left (remove xs place)) ⊎ (number ≡ number_left taken)
 stays_or_is [] place taken number at among = absurd among
 stays_or_is (x ∷ xs) zero taken number at (inl here) =
-    let e : x ≡ taken = cc in
-    inr (sym here ∙ e)
+    let same : x ≡ taken = cc in
+    inr (sym here ∙ ap number_left same)
 stays_or_is (x ∷ xs) zero taken number at (inr among) = inl among
 stays_or_is (x ∷ xs) (suc place) taken number at (inl here) = inl (inl here)
 stays_or_is (x ∷ xs) (suc place) taken number at (inr among) =
-    ⊎_elim (λ (stays : Among number (remove xs place)). inl (inr stays)) (λ (is : number ≡ taken). inr is) (stays_or_is xs place taken number at among)
+    ⊎_elim (λ (stays : Among number (map number_left (remove xs place))). inl (inr stays)) (λ (is : number ≡ number_left taken). inr is) (stays_or_is xs place taken number at among)
 
-given_takes : (nodes : List Node) → IsGoodTable nodes → (job : Job) → job.plan < length nodes → HasNoShare (plan_at nodes job.plan) → (old new : Progress) (taken : ℕ) (column : ColumnData) → GivesOutput nodes job old new taken column → (number : ℕ) (split : Split) → slice_get job.splits.items number ≡ Some split → number ≡ taken → HasTakes nodes job split new.wholes
+given_takes : (nodes : List Node) → IsGoodTable nodes → (job : Job) → job.plan < length nodes → HasNoShare (plan_at nodes job.plan) → (old new : Standing) (taken : ℕ) (column : ColumnData) → GivesOutput nodes job old new taken column → (number : ℕ) (split : Split) → slice_get job.splits.items number ≡ Some split → number ≡ taken → HasTakes nodes job split new.wholes
 given_takes nodes good job there none old new taken column gives number split at is =
     let other : slice_get job.splits.items number ≡ Some gives.split = ap (slice_get job.splits.items) is ∙ gives.split_at in
     let same : gives.split ≡ split = cc in
-    subst (λ (s : Split). HasTakes nodes job s new.wholes) same (output_takes nodes good job there none old new.wholes gives.split column gives.output)
+    subst (λ (s : Split). HasTakes nodes job s new.wholes) same (there_takes nodes good job there none gives.split new.wholes gives.there)
 
-output_keeps : (nodes : List Node) → IsGoodTable nodes → (job : Job) → job.plan < length nodes → HasNoShare (plan_at nodes job.plan) → (old new : Progress) (taken : ℕ) (column : ColumnData) → KeepsWholes nodes job old.wholes new.wholes → GivesOutput nodes job old new taken column → EachHasTakes nodes job old → EachHasTakes nodes job new
-output_keeps nodes good job there none old new taken column keeps gives each number split at =
+-- a split is left, has its takes from before, or was given all its rows
+last_rows : (nodes : List Node) → IsGoodTable nodes → (job : Job) → job.plan < length nodes → HasNoShare (plan_at nodes job.plan) → (old new : Standing) (taken : ℕ) (column : ColumnData) → KeepsWholes nodes job old.wholes new.wholes → (gives : GivesOutput nodes job old new taken column) → left_of job new ≡ remove (left_of job old) gives.place → EachHasTakes nodes job old → EachHasTakes nodes job new
+last_rows nodes good job there none old new taken column keeps gives left each number split at =
     ⊎_elim
-    (λ (among : Among number (left_of job old)).
+    (λ (among : Among number (map number_left (left_of job old))).
     ⊎_elim
-    (λ (stays : Among number (remove (left_of job old) gives.place)). inl (subst (Among number) (sym gives.left) stays))
+    (λ (stays : Among number (map number_left (remove (left_of job old) gives.place))). inl (subst (Among number) (ap (map number_left) (sym left)) stays))
     (λ (is : number ≡ taken). inr (given_takes nodes good job there none old new taken column gives number split at is))
-    (stays_or_is (left_of job old) gives.place taken number gives.at among))
+    (stays_or_is (left_of job old) gives.place (record { number = taken; given = gives.from }) number gives.at among))
     (λ (has : HasTakes nodes job split old.wholes). inr (more_takes nodes job split old.wholes new.wholes keeps has))
     (each number split at)
 
-pub turn_takes : (nodes : List Node) → IsGoodTable nodes → (job : Job) → job.plan < length nodes → HasNoShare (plan_at nodes job.plan) → (old new : Progress) (turn : Turn) → KeepsWholes nodes job old.wholes new.wholes → TakesTurn nodes job old new turn → EachHasTakes nodes job old → EachHasTakes nodes job new
-turn_takes nodes good job there none old new (Read request) keeps turns each = same_left nodes job old new turns.left keeps each
+output_keeps : (nodes : List Node) → IsGoodTable nodes → (job : Job) → job.plan < length nodes → HasNoShare (plan_at nodes job.plan) → (old new : Standing) (taken : ℕ) (column : ColumnData) → KeepsWholes nodes job old.wholes new.wholes → GivesOutput nodes job old new taken column → EachHasTakes nodes job old → EachHasTakes nodes job new
+output_keeps nodes good job there none old new taken column keeps gives each =
+    ⊎_elim
+    (λ (rows : (gives.to < length gives.split.mask) × (left_of job new ≡ slice_set (left_of job old) gives.place (record { number = taken; given = gives.to }))).
+    same_left nodes job old new (ap (map number_left) rows.1 ∙ numbers_set (left_of job old) gives.place taken gives.from gives.to gives.at) keeps each)
+    (λ (all : (gives.to ≡ length gives.split.mask) × (left_of job new ≡ remove (left_of job old) gives.place)). last_rows nodes good job there none old new taken column keeps gives all.1 each)
+    gives.left
+
+pub turn_takes : (nodes : List Node) → IsGoodTable nodes → (job : Job) → job.plan < length nodes → HasNoShare (plan_at nodes job.plan) → (old new : Standing) (turn : Turn) → KeepsWholes nodes job old.wholes new.wholes → TakesTurn nodes job old new turn → EachHasTakes nodes job old → EachHasTakes nodes job new
+turn_takes nodes good job there none old new (Read request) keeps turns each = same_left nodes job old new (ap (map number_left) turns.left) keeps each
 turn_takes nodes good job there none old new (Output number column) keeps turns each = output_keeps nodes good job there none old new number column keeps turns each
-turn_takes nodes good job there none old new Waiting keeps turns each = same_left nodes job old new turns.left keeps each
-turn_takes nodes good job there none old new Done keeps turns each = same_left nodes job old new turns.left keeps each
+turn_takes nodes good job there none old new Waiting keeps turns each = same_left nodes job old new (ap (map number_left) turns.left) keeps each
+turn_takes nodes good job there none old new Done keeps turns each = same_left nodes job old new (ap (map number_left) turns.left) keeps each
 
 -- ---- at the end
 
-pub done_takes : (nodes : List Node) (job : Job) (old new : Progress) → IsDone job old new → EachHasTakes nodes job new → (number : ℕ) (split : Split) → slice_get job.splits.items number ≡ Some split → HasTakes nodes job split new.wholes
+pub done_takes : (nodes : List Node) (job : Job) (old new : Standing) → IsDone job old new → EachHasTakes nodes job new → (number : ℕ) (split : Split) → slice_get job.splits.items number ≡ Some split → HasTakes nodes job split new.wholes
 done_takes nodes job old new done each number split at =
     ⊎_elim
-    (λ (among : Among number (left_of job new)). absurd (subst (Among number) (done.left ∙ done.none_left) among))
+    (λ (among : Among number (map number_left (left_of job new))). absurd (subst (λ (left : List SplitLeft). Among number (map number_left left)) (done.left ∙ done.none_left) among))
     (λ (has : HasTakes nodes job split new.wholes). has)
     (each number split at)
 
@@ -175,13 +202,13 @@ only_one splits split other number is at = by number (ap (λ (xs : List Split). 
     by zero e = cc
     by (suc n) e = absurd cc
 
-refused_takes : (nodes : List Node) → IsGoodTable nodes → (job : Job) → job.plan < length nodes → HasNoShare (plan_at nodes job.plan) → HasNoEvalBelowTake (plan_at nodes job.plan) → (split : Split) → job.splits.items ≡ split ∷ [] → (old new : Progress) (outside : Bytes) (at : ℕ) → IsTold nodes job old outside → IsStepRefusal nodes job old new (EvalFault at) → HasTakes nodes job split new.wholes
+refused_takes : (nodes : List Node) → IsGoodTable nodes → (job : Job) → job.plan < length nodes → HasNoShare (plan_at nodes job.plan) → HasNoEvalBelowTake (plan_at nodes job.plan) → (split : Split) → job.splits.items ≡ split ∷ [] → (old new : Standing) (outside : Bytes) (at : ℕ) → IsTold nodes job old outside → IsStepRefusal nodes job old new (EvalFault at) → HasTakes nodes job split new.wholes
 refused_takes nodes good job there none evals split one old new outside at told (inl memory) = absurd cc
 refused_takes nodes good job there none evals split one old new outside at told (inr refuses) =
     let same : refuses.split ≡ split = only_one job.splits.items split refuses.split refuses.number one refuses.at in
     subst (λ (s : Split). HasTakes nodes job s new.wholes) same (fault_takes nodes good job there none evals old new.wholes refuses.split at outside told refuses.left)
 
-pub one_takes : (nodes : List Node) → IsGoodTable nodes → (job : Job) → job.plan < length nodes → HasNoShare (plan_at nodes job.plan) → HasNoEvalBelowTake (plan_at nodes job.plan) → (split : Split) → job.splits.items ≡ split ∷ [] → (old new : Progress) (outside : Bytes) (result : Result Turn StepError) → EachHasTakes nodes job old → IsTold nodes job old outside → KeepsWholes nodes job old.wholes new.wholes → Ends nodes job old new result → HasTakes nodes job split new.wholes
+pub one_takes : (nodes : List Node) → IsGoodTable nodes → (job : Job) → job.plan < length nodes → HasNoShare (plan_at nodes job.plan) → HasNoEvalBelowTake (plan_at nodes job.plan) → (split : Split) → job.splits.items ≡ split ∷ [] → (old new : Standing) (outside : Bytes) (result : Result Turn StepError) → EachHasTakes nodes job old → IsTold nodes job old outside → KeepsWholes nodes job old.wholes new.wholes → Ends nodes job old new result → HasTakes nodes job split new.wholes
 one_takes nodes good job there none evals split one old new outside (Ok (Read request)) each told keeps ends = absurd ends
 one_takes nodes good job there none evals split one old new outside (Ok (Output number column)) each told keeps ends = absurd ends
 one_takes nodes good job there none evals split one old new outside (Ok Waiting) each told keeps ends = absurd ends
@@ -195,14 +222,14 @@ one_takes nodes good job there none evals split one old new outside (Err Memory)
 
 -- ---- from the first step on
 
-goes_takes : (nodes : List Node) → IsGoodTable nodes → (job : Job) → job.plan < length nodes → HasNoShare (plan_at nodes job.plan) → (old new : Progress) → Goes nodes job old new → EachHasTakes nodes job old → EachHasTakes nodes job new
+goes_takes : (nodes : List Node) → IsGoodTable nodes → (job : Job) → job.plan < length nodes → HasNoShare (plan_at nodes job.plan) → (old new : Standing) → Goes nodes job old new → EachHasTakes nodes job old → EachHasTakes nodes job new
 goes_takes nodes good job there none old new (inl (turn, takes, keeps)) each = turn_takes nodes good job there none old new turn keeps takes each
 goes_takes nodes good job there none old new (inr (left, wholes)) each = same_takes nodes job old new left wholes each
 
-went_takes : (nodes : List Node) → IsGoodTable nodes → (job : Job) → job.plan < length nodes → HasNoShare (plan_at nodes job.plan) → (first : Progress) (more : List Progress) → WentThrough nodes job first more → EachHasTakes nodes job first → EachHasTakes nodes job (last_of first more)
+went_takes : (nodes : List Node) → IsGoodTable nodes → (job : Job) → job.plan < length nodes → HasNoShare (plan_at nodes job.plan) → (first : Standing) (more : List Standing) → WentThrough nodes job first more → EachHasTakes nodes job first → EachHasTakes nodes job (last_of first more)
 went_takes nodes good job there none first [] went each = each
 went_takes nodes good job there none first (next ∷ more) went each = went_takes nodes good job there none next more went.1 (goes_takes nodes good job there none first next went.0 each)
 
-pub scan_takes : (nodes : List Node) → IsGoodTable nodes → (job : Job) → job.plan < length nodes → HasNoShare (plan_at nodes job.plan) → HasNoEvalBelowTake (plan_at nodes job.plan) → (split : Split) → job.splits.items ≡ split ∷ [] → (first new : Progress) (more : List Progress) (outside : Bytes) (result : Result Turn StepError) → IsUnstarted first → WentThrough nodes job first more → IsTold nodes job (last_of first more) outside → KeepsWholes nodes job (last_of first more).wholes new.wholes → Ends nodes job (last_of first more) new result → HasTakes nodes job split new.wholes
+pub scan_takes : (nodes : List Node) → IsGoodTable nodes → (job : Job) → job.plan < length nodes → HasNoShare (plan_at nodes job.plan) → HasNoEvalBelowTake (plan_at nodes job.plan) → (split : Split) → job.splits.items ≡ split ∷ [] → (first new : Standing) (more : List Standing) (outside : Bytes) (result : Result Turn StepError) → IsUnstarted first → WentThrough nodes job first more → IsTold nodes job (last_of first more) outside → KeepsWholes nodes job (last_of first more).wholes new.wholes → Ends nodes job (last_of first more) new result → HasTakes nodes job split new.wholes
 scan_takes nodes good job there none evals split one first new more outside result unstarted went told keeps ends =
     one_takes nodes good job there none evals split one (last_of first more) new outside result (went_takes nodes good job there none first more went (unstarted_takes nodes job first unstarted)) told keeps ends

@@ -1,23 +1,17 @@
 -- Visits of a plan's selected rows and of its children's, whatever is tested.
-use Rattle.std.proofs.Common.{◌≡◌, ℕ, zero, suc, ◌+◌, ◌-◌, ◌<◌, ◌≤◌, ◌⊎◌, inl, inr, ⊎_elim, Bool, true, false, List, [], ◌∷◌, Option, Some, map, take, sym, ap, ◌∙◌, subst, arith}
-use Rattle.std.specs.Prelude.{slice_range}
+use Rattle.std.proofs.Common.{◌≡◌, ℕ, zero, suc, ◌<◌, ◌⊎◌, inl, inr, ⊎_elim, Bool, true, false, List, [], ◌∷◌, Option, Some, map, sym, subst}
 use Rattle.std.specs.List.{slice_get}
-use Rattle.std.proofs.lemmas.Bool.{cases_lt}
 use Rattle.vx_plan.specs.Nodes.{Node}
-use Rattle.vx_plan.specs.Plans.{Plan, plan_head, plan_at, plans_from, field_plans, last_validity, plan_gap, front_plans, last_plan, concat_plan, filter_plan, pack_plan}
+use Rattle.vx_plan.specs.Plans.{Plan, plan_head, plan_at, plans_from, field_plans, last_validity, plan_gap, front_plans, last_plan, filter_plan}
 use Rattle.vx_plan.specs.Rules.{node_at}
-use Rattle.vx_plan.specs.Tables.{IsGoodTable}
-use Rattle.vx_steps.specs.declared.chunks.Chunk.{Chunk}
-use Rattle.vx_steps.specs.Chunks.{IsChunk}
 use Rattle.vx_steps.specs.Given.{Handed, handed_by}
 use Rattle.vx_steps.specs.KeptData.{Kept}
 use Rattle.vx_steps.specs.Needs.{NoneGiven}
-use Rattle.vx_steps.specs.Rows.{SomeRow, SelectsSome}
+use Rattle.vx_steps.specs.Rows.{SelectsSome}
 use Rattle.vx_steps.specs.Visits.{Test, Visits, VisitsField, VisitsValidity, SomeVisit, SomeWholeVisit}
-use Rattle.vx_steps.proofs.ChunkRows.{chunk_down, chunk_up, IsConcatPlan}
 use Rattle.vx_steps.proofs.ComputedRows.{VisitsUp}
-use Rattle.vx_steps.proofs.Selecting.{given_none, got_range, got_taken, range_got, taken_got}
-use Rattle.vx_steps.proofs.Shaping.{head_of, IsOverPlan, IsPackPlan, IsSharePlan, IsTakePlan, IsZonedPlan}
+use Rattle.vx_steps.proofs.Selecting.{given_none}
+use Rattle.vx_steps.proofs.Shaping.{head_of, IsOverPlan, IsSharePlan, IsTakePlan, IsZonedPlan}
 
 abbrev pub RowVisits : Test → Handed → ℕ → List Bool → Plan → Type 0
 RowVisits P handed start bits p = SomeVisit P handed p start bits
@@ -108,55 +102,3 @@ child_any P handed nodes (n ∷ ns) zero child row at v =
     let F : ℕ → Type 0 = λ k. Visits P handed (plan_at nodes k) row in
     inl (subst F same v)
 child_any P handed nodes (n ∷ ns) (suc place) child row at v = inr (child_any P handed nodes ns place child row at v)
-
-pub up_field : (nodes : List Node) (handed : Handed) (n place child start : ℕ) (bits : List Bool) → IsPackPlan nodes n → slice_get (node_at nodes n).children place ≡ Some child → VisitsUp handed (plan_at nodes child) start bits handed (plan_at nodes n) start bits
-up_field nodes handed n place child start bits over at P r =
-    let ns : List ℕ = (node_at nodes n).children in
-    subst (RowVisits P handed start bits) (sym over.law) (r.0, r.1, inr (any_packed P handed over.has_validity (map (plan_at nodes) ns) (start + r.0) (child_any P handed nodes ns place child (start + r.0) at r.2)))
-
--- besides itself a pack visits what its children do
-pub down_fields : (nodes : List Node) (handed : Handed) (n start : ℕ) (bits : List Bool) → (over : IsPackPlan nodes n) → (P : Test) → NoGap P handed → ((row : ℕ) → P handed (pack_plan (head_of nodes n) (plans_from (field_plans over.has_validity (map (plan_at nodes) (node_at nodes n).children))) (last_validity over.has_validity (map (plan_at nodes) (node_at nodes n).children))) row → ⊥) →
-    SomeVisit P handed (plan_at nodes n) start bits → SomeRow (AnyVisits P handed (map (plan_at nodes) (node_at nodes n).children)) start bits
-down_fields nodes handed n start bits over P gap not r =
-    let ps : List Plan = map (plan_at nodes) (node_at nodes n).children in
-    let p : Plan = pack_plan (head_of nodes n) (plans_from (field_plans over.has_validity ps)) (last_validity over.has_validity ps) in
-    let r2 : RowVisits P handed start bits p = subst (RowVisits P handed start bits) over.law r in
-    (r2.0, r2.1, ⊎_elim (λ (own : P handed p (start + r2.0)). absurd (not (start + r2.0) own)) (λ (v : PackVisits P handed over.has_validity ps (start + r2.0)). packed_any P handed over.has_validity ps (start + r2.0) gap v) r2.2)
-
--- ---- one child of a concat
-
--- the rows that stand there are the concat's
-pub up_chunk : (nodes : List Node) → IsGoodTable nodes → (handed : Handed) (n start done here : ℕ) (bits : List Bool) (chunk : Chunk) → IsChunk nodes n (start + done) chunk → IsConcatPlan nodes n → here ≤ chunk.end - (start + done) →
-    VisitsUp handed (plan_at nodes chunk.child) (start + done - chunk.start) (slice_range bits done (done + here)) handed (plan_at nodes n) start bits
-up_chunk nodes good handed n start done here bits chunk is over fits P r =
-    let place : ℕ = r.0 in
-    let t = got_range bits done here r.0 true r.1 in
-    let below : r.0 < here = t.0 in
-    let end : chunk.end ≡ chunk.start + (node_at nodes chunk.child).rows = is.end in
-    let low : chunk.start ≤ start + done = is.at_most in
-    let same : chunk.start + (start + done - chunk.start + r.0) ≡ start + (done + r.0) = omega arith in
-    let F : ℕ → Type 0 = Visits P handed (plan_at nodes n) in
-    (done + r.0, t.1, subst F same (chunk_up P handed nodes good n (start + done) chunk is over (start + done - chunk.start + r.0) (omega arith) r.2))
-
--- besides itself a concat visits what the rows before do, and the child's
-pub down_chunk : (nodes : List Node) → IsGoodTable nodes → (handed : Handed) (n start done here : ℕ) (bits : List Bool) (chunk : Chunk) → IsChunk nodes n (start + done) chunk → IsConcatPlan nodes n → here ≤ chunk.end - (start + done) →
-    (P : Test) → ((row : ℕ) → P handed (concat_plan (head_of nodes n) (plans_from (map (plan_at nodes) (node_at nodes n).children))) row → ⊥) → SomeVisit P handed (plan_at nodes n) start (take (done + here) bits) →
-    SomeVisit P handed (plan_at nodes n) start (take done bits) ⊎ SomeVisit P handed (plan_at nodes chunk.child) (start + done - chunk.start) (slice_range bits done (done + here))
-down_chunk nodes good handed n start done here bits chunk is over fits P not (place, at, v) =
-    let t = got_taken bits (done + here) place true at in
-    let here_at : slice_get bits place ≡ Some true = t.1 in
-    ⊎_elim (λ (first : place < done). inl (place, taken_got bits done place true first here_at, v)) (λ (past : done ≤ place). inr (later past t.0 here_at)) (cases_lt place done)
-  where
-    own : Plan
-    own = concat_plan (head_of nodes n) (plans_from (map (plan_at nodes) (node_at nodes n).children))
-
-    later : done ≤ place → place < done + here → slice_get bits place ≡ Some true → SomeVisit P handed (plan_at nodes chunk.child) (start + done - chunk.start) (slice_range bits done (done + here))
-    later past below here_at =
-        let end : chunk.end ≡ chunk.start + (node_at nodes chunk.child).rows = is.end in
-        let low : chunk.start ≤ start + done = is.at_most in
-        let row : ℕ = start + done - chunk.start + (place - done) in
-        let same : start + place ≡ chunk.start + (start + done - chunk.start + (place - done)) = omega arith in
-        let back : done + (place - done) ≡ place = omega arith in
-        let F : ℕ → Type 0 = Visits P handed (plan_at nodes n) in
-        let down_row = chunk_down P handed nodes good n (start + done) chunk is over (start + done - chunk.start + (place - done)) (omega arith) (subst F same v) in
-        (place - done, range_got bits done here (place - done) true (omega arith) (ap (slice_get bits) back ∙ here_at), ⊎_elim (λ (h : P handed own (chunk.start + (start + done - chunk.start + (place - done)))). absurd (not (chunk.start + (start + done - chunk.start + (place - done))) h)) (λ (w : Visits P handed (plan_at nodes chunk.child) (start + done - chunk.start + (place - done))). w) down_row)

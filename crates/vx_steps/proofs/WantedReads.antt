@@ -12,7 +12,7 @@ use Rattle.vx_steps.specs.declared.reads.SegmentBytes.{SegmentBytes}
 use Rattle.vx_steps.specs.declared.reads.SegmentBytes.TheVariants.{NotYet, Came, LetGo}
 use Rattle.vx_steps.specs.declared.reads.WantedSegment.{WantedSegment}
 use Rattle.vx_steps.specs.ReadTableData.{Wanted, Stored, bytes_in, is_gone, stored_data, wanted_data}
-use Rattle.vx_steps.specs.ReadTable.{StandsAt, AreReads, IsGone, IsNamed, bytes_of}
+use Rattle.vx_steps.specs.ReadTable.{StandsAt, AreReads, IsGone, IsNamed, KeepsGone, bytes_of}
 use Rattle.vx_steps.proofs.Keeping.{got_new}
 
 pub wanted_at : (ws : List WantedSegment) (i : ℕ) (w : WantedSegment) → i < length ws → w ≡ get_or ws i w → slice_get (map wanted_data ws) i ≡ Some (wanted_data w)
@@ -248,6 +248,12 @@ item_mapped f ws i w at = slice_get-map f ws i ∙ ap (option_map f) at
 pub stored_at : (ws : List WantedSegment) (i : ℕ) (w : WantedSegment) → i < length ws → w ≡ get_or ws i w → slice_get (map stored_data ws) i ≡ Some (stored_data w)
 stored_at ws i w inside is = item_mapped stored_data ws i w (item_at ws i w inside is)
 
+-- the bytes of a wanted segment that came are those at its place
+pub came_at : (places : BTreeMap ℕ ℕ) (ws : List WantedSegment) (handed : ℕ) → AreReads places (map wanted_data ws) handed → (segment place : ℕ) (w : WantedSegment) → get nat_cmp places segment ≡ Some place → slice_get ws place ≡ Some w → (bytes : List ℕ) → bytes_of (map wanted_data ws) segment ≡ Some bytes → is_some (bytes_in w.bytes) ≡ true
+came_at places ws handed reads segment place w e at bytes came =
+    let is : bytes_of (map wanted_data ws) segment ≡ bytes_in w.bytes = bytes_at places (map wanted_data ws) handed reads segment place (wanted_data w) e (item_mapped wanted_data ws place w at) in
+    ap is_some (sym is ∙ came)
+
 stored_from : (ws : List WantedSegment) (i : ℕ) (s : Stored) → slice_get (map stored_data ws) i ≡ Some s → (w : WantedSegment) × (slice_get ws i ≡ Some w) × (stored_data w ≡ s)
 stored_from [] i s at = absurd cc
 stored_from (w ∷ ws) zero s at = (w, refl, same_Some (stored_data w) s at)
@@ -282,6 +288,28 @@ gone_set stored place old new at segment (i, s, at_i, is, gone) = ⊎_elim (λ (
         let S : ℕ → Type 0 = λ k. slice_get (set stored place new) k ≡ Some new in
         let one : new ≡ s = same_Some new s (sym (subst S e (set_here stored place new old at)) ∙ at_i) in
         (ap (λ (x : Stored). x.segment) one ∙ is, ap (λ (x : Stored). x.gone) one ∙ gone)
+
+-- what was gone still is, where the bytes that are changed don't come back
+still_set : (stored : List Stored) (place : ℕ) (old new : Stored) → slice_get stored place ≡ Some old → old.segment ≡ new.segment → (old.gone ≡ true → new.gone ≡ true) → KeepsGone stored (set stored place new)
+still_set stored place old new at same stays segment (i, s, at_i, is, gone) = ⊎_elim here (λ (apart : place ≡ i → ⊥). (i, s, set_there stored place i new apart ∙ at_i, is, gone)) (cases_eq place i)
+  where
+    here : place ≡ i → IsGone (set stored place new) segment
+    here e =
+        let G : ℕ → Type 0 = λ k. slice_get stored k ≡ Some old in
+        let S : ℕ → Type 0 = λ k. slice_get (set stored place new) k ≡ Some new in
+        let one : old ≡ s = same_Some old s (sym (subst G e at) ∙ at_i) in
+        (i, new, subst S e (set_here stored place new old at), sym same ∙ ap (λ (x : Stored). x.segment) one ∙ is, stays (ap (λ (x : Stored). x.gone) one ∙ gone))
+
+pub changed_still : (ws : List WantedSegment) (place : ℕ) (v w : WantedSegment) → slice_get ws place ≡ Some w → w.segment ≡ v.segment → (is_gone w.bytes ≡ true → is_gone v.bytes ≡ true) → KeepsGone (map stored_data ws) (map stored_data (set ws place v))
+changed_still ws place v w at same stays segment gone =
+    let P : List Stored → Type 0 = λ stored. IsGone stored segment in
+    subst P (sym (map_set stored_data ws place v)) (still_set (map stored_data ws) place (stored_data w) (stored_data v) (item_mapped stored_data ws place w at) same stays segment gone)
+
+-- bytes that are gone came
+pub gone_came : (bytes : SegmentBytes) → is_gone bytes ≡ true → is_some (bytes_in bytes) ≡ true
+gone_came NotYet gone = gone
+gone_came (Came bytes) gone = refl
+gone_came (LetGo bytes) gone = refl
 
 pub stored_set : (ws : List WantedSegment) (place : ℕ) (v w : WantedSegment) → slice_get ws place ≡ Some w → slice_get (map stored_data (set ws place v)) place ≡ Some (stored_data v)
 stored_set ws place v w at = item_mapped stored_data (set ws place v) place v (set_here ws place v w at)
@@ -320,6 +348,9 @@ named_before places ws handed reads place w at segment is n (i, s, at_i, named, 
 
 pub pushed_named : (old : List Stored) (more : Stored) (segment n : ℕ) → IsNamed old segment n → IsNamed (old ++ more ∷ []) segment n
 pushed_named old more segment n (i, s, at, is, less) = (i, s, pushed_old old more i s at, is, less)
+
+pub pushed_still : (old : List Stored) (more : Stored) → KeepsGone old (old ++ more ∷ [])
+pushed_still old more segment (i, s, at, is, gone) = (i, s, pushed_old old more i s at, is, gone)
 
 pub pushed_gone : (old : List Stored) (more : Stored) → more.gone ≡ false → (segment : ℕ) → IsGone (old ++ more ∷ []) segment → IsGone old segment
 pushed_gone old more kept segment (i, s, at, is, gone) = ⊎_elim (λ (e : slice_get old i ≡ Some s). (i, s, e, is, gone)) (λ (e : (i ≡ length old) × (more ≡ s)). absurd (true_false (sym gone ∙ ap (λ (x : Stored). x.gone) (sym e.1) ∙ kept))) (got_pushed old more i s at)

@@ -1,5 +1,5 @@
 -- Faults inside whole values that selected rows ask for.
-use Rattle.std.proofs.Common.{◌≡◌, ℕ, ◌+◌, ◌-◌, inl, inr, Bool, true, List, Option, Some, None, length, sym, subst, arith}
+use Rattle.std.proofs.Common.{◌≡◌, ℕ, ◌+◌, ◌-◌, inl, inr, Bool, true, List, Option, Some, None, Err, length, sym, subst, arith}
 use Rattle.std.proofs.lemmas.Option.{slice_get_within}
 use Rattle.std.specs.Prelude.{nat_lt}
 use Rattle.vx_rows.specs.Derivations.{Leaves}
@@ -7,28 +7,26 @@ use Rattle.vx_plan.specs.Nodes.{Node}
 use Rattle.vx_plan.specs.Plans.{Plan, Plans, PlanValidity, no_plans, plan, all_valid, valid_as, no_plan, plan_head, plan_at, concat_plan, eval_plan, filter_plan, pack_plan, take_plan, share_plan, list_plan, row_idx_plan, scan_plan, zoned_plan}
 use Rattle.vx_plan.specs.Refs.{number_of}
 use Rattle.vx_plan.specs.Rules.{node_at}
+use Rattle.vx_steps.specs.declared.leaf_reads.LeafRead.{LeafRead}
 use Rattle.vx_steps.specs.declared.errors.StepError.{StepError}
 use Rattle.vx_steps.specs.declared.errors.StepError.TheVariants.{Unsupported, BadSegment, BadCode, EvalFault, Memory}
-use Rattle.vx_steps.specs.Computed.{kept_in, HasCause, HasWholeCause}
+use Rattle.vx_steps.specs.Computed.{kept_in, whole_in, AreReadyWhole, Computes, HasCause, HasWholeCause}
 use Rattle.vx_steps.specs.Given.{Handed}
 use Rattle.vx_steps.specs.Held.{Held, IsBy, handed_in}
 use Rattle.vx_steps.specs.KeptData.{Kept}
 use Rattle.vx_steps.specs.Kept.{kept_at}
-use Rattle.vx_steps.specs.Needs.{NoneGiven}
-use Rattle.vx_steps.specs.Rows.{SelectsSome}
-use Rattle.vx_steps.specs.Visits.{Test, Visits, VisitsIn, VisitsField, VisitsValidity, SomeVisit, SomeWholeVisit, HasBadCode, HasEvalFault, IsListRead}
-use Rattle.vx_steps.specs.Wholes.{FailsInside, HasInsideCause, Inside, KeepsValues, WholeFails}
-use Rattle.vx_steps.proofs.ComputedRows.{VisitsUp, none_kept}
+use Rattle.vx_steps.specs.Needs.{IsUnderWhole, NoneGiven}
+use Rattle.vx_steps.specs.Visits.{Test, Visits, VisitsIn, VisitsField, VisitsValidity, SomeVisit, SomeWholeVisit, HasBadCode, HasEvalFault, IsListRead, IsLeafRead}
+use Rattle.vx_steps.specs.Wholes.{AreReadyInside, FailsInside, HasInsideCause, Inside, KeepsValues, WholeFails}
+use Rattle.vx_steps.proofs.ComputedRows.{VisitsUp, cause_up, memory_computed, none_kept}
 use Rattle.vx_steps.proofs.Premises.{unless_by}
-use Rattle.vx_steps.proofs.Shaping.{IsSharePlan, IsTakePlan}
-use Rattle.vx_steps.proofs.Visiting.{up_shared, up_values}
 use Rattle.vx_steps.proofs.WholeMaking.{holding}
-use Rattle.vx_steps.proofs.PlacedVisits.{match_mapped}
+use Rattle.vx_steps.proofs.PlacedVisits.{match_mapped, visit_mapped}
 
 -- ---- while whole values are made each visit is inside them
 
 mutual
-  inside : (P : Test) (p : Plan) (row : ℕ) → Visits P None p row → Visits (Inside P) None p row
+  pub inside : (P : Test) (p : Plan) (row : ℕ) → Visits P None p row → Visits (Inside P) None p row
   inside P (no_plan head) row v = v
   inside P (concat_plan head children) row (inl v) = inl v
   inside P (concat_plan head children) row (inr v) = inr (inside_in P children row v)
@@ -108,18 +106,43 @@ none_for (Some kept) n e = e
 whole_row : (P : Test) (p : Plan) (bits : List Bool) (rows : ℕ) → length bits ≡ rows → SomeVisit P None p 0 bits → SomeWholeVisit P p rows
 whole_row P p bits rows long r = (0 + r.0, omega (arith, slice_get_within bits r.0 true r.1), r.2)
 
-pub values_inside : (h : Held) (n codes values start : ℕ) (bits : List Bool) (error : StepError) → IsTakePlan h.nodes n codes values → SelectsSome bits → WholeFails h values values error → FailsInside h n start bits error
-values_inside h n codes values start bits error over some (inl memory) by are = memory_inside h n start bits error memory by are
-values_inside h n codes values start bits error over some (inr (none, computed)) by are =
-    let w : HasWholeCause by h.offset (plan_at h.nodes values) (node_at h.nodes values).rows error = computed by are in
-    let not_given : NoneGiven h.given values = none_for h.given values (none_kept (kept_in h.given values) (kept_at h.made values) none) in
-    inside_up by h.offset None (plan_at h.nodes values) 0 w.0 (handed_in h) (plan_at h.nodes n) start bits (λ P r. up_values h.nodes h.given n codes values start bits over some not_given P (whole_row P (plan_at h.nodes values) w.0 (node_at h.nodes values).rows w.1 r)) error
-    (cause_inside by h.offset (plan_at h.nodes values) 0 w.0 error w.2)
+not_given : (h : Held) (number : ℕ) → whole_in h number ≡ None → NoneGiven h.given number
+not_given h number none = none_for h.given number (none_kept (kept_in h.given number) (kept_at h.made number) none)
 
-pub shared_inside : (h : Held) (n child start : ℕ) (bits : List Bool) (error : StepError) → IsSharePlan h.nodes n child → SelectsSome bits → WholeFails h n child error → FailsInside h n start bits error
-shared_inside h n child start bits error over some (inl memory) by are = memory_inside h n start bits error memory by are
-shared_inside h n child start bits error over some (inr (none, computed)) by are =
+-- what all rows of the child visit is visited, where no whole values were handed in for the number
+abbrev pub WholeUp : Held → ℕ → ℕ → ℕ → ℕ → List Bool → Type 1
+WholeUp h number child n start bits = (P : Test) → IsUnderWhole h.nodes h.given number P child → SomeVisit P (handed_in h) (plan_at h.nodes n) start bits
+
+pub whole_inside : (h : Held) (number child n start : ℕ) (bits : List Bool) → WholeUp h number child n start bits → (error : StepError) → WholeFails h number child error → FailsInside h n start bits error
+whole_inside h number child n start bits up error (inl memory) by are = memory_inside h n start bits error memory by are
+whole_inside h number child n start bits up error (inr (none, computed)) by are =
     let w : HasWholeCause by h.offset (plan_at h.nodes child) (node_at h.nodes child).rows error = computed by are in
-    let not_given : NoneGiven h.given n = none_for h.given n (none_kept (kept_in h.given n) (kept_at h.made n) none) in
-    inside_up by h.offset None (plan_at h.nodes child) 0 w.0 (handed_in h) (plan_at h.nodes n) start bits (λ P r. up_shared h.nodes h.given n child start bits over some not_given P (whole_row P (plan_at h.nodes child) w.0 (node_at h.nodes child).rows w.1 r)) error
+    inside_up by h.offset None (plan_at h.nodes child) 0 w.0 (handed_in h) (plan_at h.nodes n) start bits (λ P r. up P (not_given h number none, whole_row P (plan_at h.nodes child) w.0 (node_at h.nodes child).rows w.1 r)) error
     (cause_inside by h.offset (plan_at h.nodes child) 0 w.0 error w.2)
+
+pub whole_fails : (h : Held) (number child n start : ℕ) (bits : List Bool) → WholeUp h number child n start bits → (error : StepError) → WholeFails h number child error → Computes h n start bits (Err error)
+whole_fails h number child n start bits up error (inl memory) =
+    let F : StepError → Type 0 = λ e. Computes h n start bits (Err e) in
+    subst F (sym memory) (memory_computed h n start bits)
+whole_fails h number child n start bits up error (inr (none, computed)) = failed
+  where
+    failed : Computes h n start bits (Err error)
+    failed by are =
+        let w : HasWholeCause by h.offset (plan_at h.nodes child) (node_at h.nodes child).rows error = computed by are in
+        cause_up by h.offset None (plan_at h.nodes child) 0 w.0 (handed_in h) (plan_at h.nodes n) start bits (λ P r. up P (not_given h number none, whole_row P (plan_at h.nodes child) w.0 (node_at h.nodes child).rows w.1 r)) error w.2
+
+-- the leaves of whole values are kept
+pub whole_ready : (h : Held) (number child n start : ℕ) (bits : List Bool) → WholeUp h number child n start bits → AreReadyInside h n start bits → NoneGiven h.given number → AreReadyWhole h child
+whole_ready h number child n start bits up ready none read w = ready read (up (Inside (IsLeafRead read)) (none, (w.0, w.1, inside (IsLeafRead read) (plan_at h.nodes child) w.0 w.2)))
+
+-- what the selected rows read for whole values below, they do above
+pub inside_ready_by : (h : Held) (child start : ℕ) (bits : List Bool) (n start2 : ℕ) (bits2 : List Bool) → VisitsUp (handed_in h) (plan_at h.nodes child) start bits (handed_in h) (plan_at h.nodes n) start2 bits2 → AreReadyInside h n start2 bits2 → AreReadyInside h child start bits
+inside_ready_by h child start bits n start2 bits2 up ready read v = ready read (up (Inside (IsLeafRead read)) v)
+
+inside_own : (read : LeafRead) (handed : Handed) (p : Plan) (row : ℕ) → Inside (IsLeafRead read) handed p row → IsLeafRead read handed p row
+inside_own read None p row h = h
+inside_own read (Some given) p row h = absurd h
+
+-- what is read for whole values is read
+pub inside_is : (read : LeafRead) (handed : Handed) (p : Plan) (start : ℕ) (bits : List Bool) → SomeVisit (Inside (IsLeafRead read)) handed p start bits → SomeVisit (IsLeafRead read) handed p start bits
+inside_is read handed p start bits v = (v.0, v.1, visit_mapped (Inside (IsLeafRead read)) (IsLeafRead read) (inside_own read) handed p (start + v.0) v.2)

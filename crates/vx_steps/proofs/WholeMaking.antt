@@ -13,19 +13,17 @@ use Rattle.vx_plan.specs.PlanRows.{plan_derivation}
 use Rattle.vx_plan.specs.Shapes.{HasShape, ShapeOf}
 use Rattle.vx_plan.specs.Tables.{IsGoodTable}
 use Rattle.vx_steps.specs.declared.errors.StepError.{StepError}
-use Rattle.vx_steps.specs.Computed.{AreReady, Computes, ComputesWhole}
+use Rattle.vx_steps.specs.Computed.{Computes, ComputesWhole}
 use Rattle.vx_steps.specs.Given.{whole_value}
 use Rattle.vx_steps.specs.Held.{Held, IsBy, IsHeld, handed_in}
 use Rattle.vx_steps.specs.KeptData.{Kept}
 use Rattle.vx_steps.specs.Kept.{kept_at, IsKept}
-use Rattle.vx_steps.specs.Rows.{SelectsSome}
-use Rattle.vx_steps.specs.Visits.{IsLeafRead}
-use Rattle.vx_steps.specs.Wholes.{AddsOnly, IsWholeOf, KeepsValues, UsesGiven, WholeFails}
+use Rattle.vx_steps.specs.Wholes.{AddsOnly, IsWholeOf, KeepsValues, UsesGiven}
 use Rattle.vx_steps.proofs.Apart.{apart_more}
-use Rattle.vx_steps.proofs.ComputedRows.{VisitsUp, cause_up, memory_computed, share_whole, shared_failed, values_failed}
+use Rattle.vx_steps.proofs.ComputedRows.{VisitsUp, cause_up, share_whole}
 use Rattle.vx_steps.proofs.Keeping.{kept_new, kept_old}
 use Rattle.vx_steps.proofs.Premises.{is_by_for}
-use Rattle.vx_steps.proofs.Shaping.{IsSharePlan, IsTakePlan, share_plan_at}
+use Rattle.vx_steps.proofs.Shaping.{share_plan_at}
 
 -- ---- one more column
 
@@ -149,10 +147,7 @@ made_one nodes good leaves offset given old new number whole column of dtype row
         let P : ℕ → Type 0 = λ k. whole_value by offset (plan_at nodes k) ≡ Some column.values in
         subst P same (alike.values by ∙ computed by are) ∙ ap (λ (x : ColumnData). Some x.values) e
 
--- ---- readiness, and faults
-
-pub ready_by : (h : Held) (child start : ℕ) (bits : List Bool) (n start2 : ℕ) (bits2 : List Bool) → VisitsUp (handed_in h) (plan_at h.nodes child) start bits (handed_in h) (plan_at h.nodes n) start2 bits2 → AreReady h n start2 bits2 → AreReady h child start bits
-ready_by h child start bits n start2 bits2 up ready read v = ready read (up (IsLeafRead read) v)
+-- ---- faults
 
 abbrev pub holding : List Node → List Kept → Option (List Kept) → ℕ → List Kept → Held
 holding nodes leaves given offset made = record { nodes = nodes; leaves = leaves; given = given; made = made; offset = offset }
@@ -181,16 +176,3 @@ any_err (Err error) P all = all error
 -- the child's fault is the plan's
 pub error_by : (h : Held) (child start : ℕ) (bits : List Bool) (n start2 : ℕ) (bits2 : List Bool) → VisitsUp (handed_in h) (plan_at h.nodes child) start bits (handed_in h) (plan_at h.nodes n) start2 bits2 → (error : StepError) → Computes h child start bits (Err error) → Computes h n start2 bits2 (Err error)
 error_by h child start bits n start2 bits2 up error computed by are = cause_up by h.offset (handed_in h) (plan_at h.nodes child) start bits (handed_in h) (plan_at h.nodes n) start2 bits2 up error (computed by are)
-
--- and so is that of whole values
-pub values_fail : (h : Held) (n codes values start : ℕ) (bits : List Bool) (error : StepError) → IsTakePlan h.nodes n codes values → SelectsSome bits → WholeFails h values values error → Computes h n start bits (Err error)
-values_fail h n codes values start bits error over some (inl memory) =
-    let F : StepError → Type 0 = λ e. Computes h n start bits (Err e) in
-    subst F (sym memory) (memory_computed h n start bits)
-values_fail h n codes values start bits error over some (inr (none, computed)) = values_failed h n codes values start bits error over none some computed
-
-pub shared_fails : (h : Held) (n child start : ℕ) (bits : List Bool) (error : StepError) → IsSharePlan h.nodes n child → SelectsSome bits → WholeFails h n child error → Computes h n start bits (Err error)
-shared_fails h n child start bits error over some (inl memory) =
-    let F : StepError → Type 0 = λ e. Computes h n start bits (Err e) in
-    subst F (sym memory) (memory_computed h n start bits)
-shared_fails h n child start bits error over some (inr (none, computed)) = shared_failed h n child start bits error over none some computed

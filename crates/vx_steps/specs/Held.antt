@@ -23,7 +23,7 @@ pub record Held : Type 0 where
   pub offset : ℕ
 
 abbrev pub held : Sources → Held
-held from = record { nodes = from.table.now; leaves = from.leaves.now; given = option_map (λ kept. kept.now) from.given; made = from.made.now; offset = from.offset }
+held from = record { nodes = from.table.now; leaves = from.leaves.now.here; given = option_map (λ kept. kept.now) from.given; made = from.made.now; offset = from.offset }
 
 -- the same while whole values are made
 abbrev pub alone : Held → Held

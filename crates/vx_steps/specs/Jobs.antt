@@ -1,81 +1,43 @@
--- How far a scan is: which splits are left, and what is true at each step.
-use Rattle.std.specs.Prelude.{◌≡◌, ℕ, ◌+◌, ◌<◌, ◌⊎◌, ◌==◌, ◌≤◌, max, if◌then◌else◌, List, [], ◌∷◌, ◌++◌, length, map, drop, Some, None}
-use Rattle.std.specs.List.{slice_get, AllByRecursion}
+-- What the steps of a scan keep and add.
+use Rattle.std.specs.Prelude.{◌≡◌, ℕ, ◌<◌, ◌⊎◌, ◌≤◌, max, List, [], length, map, Some, None}
+use Rattle.std.specs.List.{slice_get}
 use Rattle.vx_base.specs.Columns.{ColumnData}
-use Rattle.vx_base.specs.Masks.{true_count}
 use Rattle.vx_plan.specs.Nodes.{Node}
-use Rattle.vx_plan.specs.Rules.{node_at}
 use Rattle.vx_rows.specs.SegmentLeaves.{Bytes}
-use Rattle.vx_steps.specs.declared.jobs.ActiveSplit.{ActiveSplit}
 use Rattle.vx_steps.specs.declared.jobs.Job.{Job}
-use Rattle.vx_steps.specs.declared.jobs.Progress.{Progress}
 use Rattle.vx_steps.specs.declared.leaf_reads.LeafRead.{LeafRead}
 use Rattle.vx_steps.specs.declared.splits.Split.{Split}
 use Rattle.vx_steps.specs.declared.wholes.Wholes.{Wholes}
 use Rattle.vx_steps.specs.Delivered.{IsOf}
-use Rattle.vx_steps.specs.Held.{AreTyped, FitsOffset}
 use Rattle.vx_steps.specs.KeptData.{Kept}
-use Rattle.vx_steps.specs.Kept.{kept_at, AreOfDistinctPlans}
-use Rattle.vx_steps.specs.Needs.{Among, AreAmong, AreLeaves}
-use Rattle.vx_steps.specs.ReadTableData.{Wanted}
-use Rattle.vx_steps.specs.Releasing.{ServesAll}
-use Rattle.vx_steps.specs.Splits.{IsInside}
+use Rattle.vx_steps.specs.Kept.{kept_at}
+use Rattle.vx_steps.specs.Needs.{Among, AreAmong}
+use Rattle.vx_steps.specs.Standings.{left_of, SplitLeft, Standing}
 use Rattle.vx_steps.specs.Turns.{ReadsFor}
-use Rattle.vx_steps.specs.Wants.{AreNeeds, Grows, IsAsked}
-use Rattle.vx_steps.specs.Wholes.{AddsOnly, Asks, UsesGiven}
+use Rattle.vx_steps.specs.Wants.{Grows, IsAsked}
+use Rattle.vx_steps.specs.Wholes.{AddsOnly, Asks}
 
--- the numbers of the splits that select a row, counted from k on
-abbrev pub numbers_from : ℕ → List Split → List ℕ
-numbers_from k [] = []
-numbers_from k (split ∷ splits) = if true_count split.mask == 0 then numbers_from (k + 1) splits else k ∷ numbers_from (k + 1) splits
+-- the number of a split that is left
+abbrev pub number_left : SplitLeft → ℕ
+number_left left = left.number
 
-abbrev pub number_of_active : ActiveSplit → ℕ
-number_of_active active = active.split
-
--- the numbers of the active splits
-abbrev pub active_of : Progress → List ℕ
-active_of progress = map number_of_active progress.active.items
-
--- The splits that select a row and whose column was not given yet: the active ones, and then those that were not
--- started.
-abbrev pub left_of : Job → Progress → List ℕ
-left_of job progress = active_of progress ++ numbers_from progress.next (drop progress.next job.splits.items)
-
--- An active split has the needs of its split, each of which is kept or asked for.
-pub record IsActive (nodes : List Node) (job : Job) (leaves : List Kept) (wanted : List Wanted) (active : ActiveSplit) : Type 0 where
-  pub split : Split
-  pub at : slice_get job.splits.items active.split ≡ Some split
-  pub needs : AreNeeds (ReadsFor nodes job split) active.needs
-  pub are_leaves : AreLeaves nodes active.needs
-  pub asked : (need : LeafRead) → Among need active.needs → kept_at leaves need.leaf ≡ None → IsAsked wanted need.segment
-
--- What is true of a scan between its calls.
-pub record IsGood (nodes : List Node) (job : Job) (progress : Progress) : Type 0 where
-  pub known : job.plan < length nodes
-  pub inside : AllByRecursion (IsInside (node_at nodes job.plan).rows) job.splits.items
-  pub fits : FitsOffset nodes job.offset
-  pub typed_given : AreTyped nodes job.given
-  pub typed_leaves : AreTyped nodes progress.leaves
-  pub typed_made : AreTyped nodes progress.wholes.made
-  pub apart_made : AreOfDistinctPlans progress.wholes.made
-  pub apart_used : AreOfDistinctPlans progress.wholes.used
-  pub uses : UsesGiven job.given [] progress.wholes.used
-  pub actives : (active : ActiveSplit) → Among active progress.active.items → IsActive nodes job progress.leaves progress.reads.wanted active
-  pub serves : ServesAll nodes job progress
+-- the numbers of the splits that were started and are left
+abbrev pub active_of : Standing → List ℕ
+active_of standing = map number_left standing.started
 
 -- no split was started, no segment is wanted, and no value that was handed in was used
-pub record IsUnstarted (progress : Progress) : Type 0 where
+pub record IsUnstarted (progress : Standing) : Type 0 where
   pub next : progress.next ≡ 0
-  pub active : progress.active.items ≡ []
+  pub started : progress.started ≡ []
   pub wanted : progress.reads.wanted ≡ []
   pub used : progress.wholes.used ≡ []
 
 -- What the scan holds is so outside.
-abbrev pub IsTold : List Node → Job → Progress → Bytes → Type 0
+abbrev pub IsTold : List Node → Job → Standing → Bytes → Type 0
 IsTold nodes job progress outside = IsOf nodes job.offset progress.reads.wanted progress.leaves progress.wholes.made outside
 
 -- what was so outside still is
-abbrev pub KeepsTold : List Node → Job → Progress → Progress → Type 0
+abbrev pub KeepsTold : List Node → Job → Standing → Standing → Type 0
 KeepsTold nodes job old new = (outside : Bytes) → IsTold nodes job old outside → IsTold nodes job new outside
 
 -- a selected row of a split asks for the whole values of the number
@@ -122,12 +84,12 @@ abbrev pub IsWantedBy : List Node → Job → List ℕ → List Kept → ℕ →
 IsWantedBy nodes job numbers leaves segment = (read : IsReadFor nodes job leaves segment) × Among read.number numbers
 
 -- The segments that are wanted from now on are read for these splits.
-abbrev pub WantsFor : List Node → Job → List ℕ → Progress → Progress → Type 0
+abbrev pub WantsFor : List Node → Job → List ℕ → Standing → Standing → Type 0
 WantsFor nodes job numbers old new = (segment : ℕ) → IsAsked new.reads.wanted segment → IsAsked old.reads.wanted segment ⊎ IsWantedBy nodes job numbers old.leaves segment
 
 -- No more splits are active than may be at once, unless more were before.
-abbrev pub KeepsBound : Job → Progress → Progress → Type 0
-KeepsBound job old new = length new.active.items ≤ max (length old.active.items) (max 1 job.max_active)
+abbrev pub KeepsBound : Job → Standing → Standing → Type 0
+KeepsBound job old new = length new.started ≤ max (length old.started) (max 1 job.max_active)
 
 -- a selected row of one of these splits reads the leaf of the number
 pub record IsLeafFor (nodes : List Node) (job : Job) (numbers : List ℕ) (n : ℕ) : Type 0 where
@@ -145,7 +107,7 @@ AddsLeaves nodes job numbers old new = AddsOnly (IsLeafFor nodes job numbers) ol
 
 -- Splits were started: the splits that are left stay, those that were active still are, and nothing else changed but
 -- what is wanted, for splits that are active.
-pub record Starts (nodes : List Node) (job : Job) (old new : Progress) : Type 0 where
+pub record Starts (nodes : List Node) (job : Job) (old new : Standing) : Type 0 where
   pub left : left_of job new ≡ left_of job old
   pub active : AreAmong (active_of old) (active_of new)
   pub wants : WantsFor nodes job (active_of new) old new
@@ -154,17 +116,14 @@ pub record Starts (nodes : List Node) (job : Job) (old new : Progress) : Type 0 
   pub leaves : new.leaves ≡ old.leaves
 
 -- a split is left to be started, and one more may be active
-abbrev pub CanStart : Job → Progress → Type 0
-CanStart job progress = (progress.next < length job.splits.items) × ((length progress.active.items ≡ 0) ⊎ (length progress.active.items < job.max_active))
+abbrev pub CanStart : Job → Standing → Type 0
+CanStart job progress = (progress.next < length job.splits.items) × ((length progress.started ≡ 0) ⊎ (length progress.started < job.max_active))
 
--- no split is left to be started, and one alone is active
-abbrev pub IsLast : Job → Progress → Type 0
-IsLast job progress = (progress.next ≡ length job.splits.items) × (length progress.active.items ≡ 1)
-
--- An active split was tried: only leaves and whole values were kept.
-pub record OnlyKeeps (nodes : List Node) (job : Job) (old new : Progress) : Type 0 where
+-- An active split was tried: only leaves and whole values were kept, and no rows were given.
+pub record OnlyKeeps (nodes : List Node) (job : Job) (old new : Standing) : Type 0 where
   pub next : new.next ≡ old.next
-  pub active : new.active.items ≡ old.active.items
+  pub started : new.started ≡ old.started
+  pub held : new.held ≡ old.held
   pub wanted : new.reads.wanted ≡ old.reads.wanted
   pub handed : new.reads.handed ≡ old.reads.handed
   pub told : KeepsTold nodes job old new

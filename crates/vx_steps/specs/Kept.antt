@@ -17,10 +17,10 @@ abbrev pub kept_at : List Kept → ℕ → Option ColumnData
 kept_at [] n = None
 kept_at (kept ∷ more) n = if kept.node == n then Some kept.column else kept_at more n
 
--- where the column of a plan is kept
+-- where the first column of a plan is kept
 abbrev pub IsPlace : List Kept → ℕ → Option ℕ → Type 0
 IsPlace kept n None = kept_at kept n ≡ None
-IsPlace kept n (Some place) = IsSomeAnd (slice_get kept place) (λ k. kept_at kept n ≡ Some k.column)
+IsPlace kept n (Some place) = IsSomeAnd (slice_get kept place) (λ k. (k.node ≡ n) × (kept_at (take place kept) n ≡ None))
 
 abbrev pub ArePlaces : PlaceTable → List Kept → Type 0
 ArePlaces places kept = (n : ℕ) → IsPlace kept n (place_in places n)
@@ -29,6 +29,12 @@ ArePlaces places kept = (n : ℕ) → IsPlace kept n (place_in places n)
 pub record AreIndexed (places : PlaceTable) (indexed : ℕ) (kept : List Kept) : Type 0 where
   pub inside : indexed ≤ length kept
   pub placed : ArePlaces places (take indexed kept)
+
+-- Columns stand at the places of others that are for the same plans, and only those of one plan are others.
+abbrev pub ReplacesOnly : ℕ → List Kept → List Kept → Type 0
+ReplacesOnly node [] [] = Unit {0}
+ReplacesOnly node (k ∷ old) (l ∷ new) = (l.node ≡ k.node) × (((k.node ≡ node → ⊥) → l ≡ k) × ReplacesOnly node old new)
+ReplacesOnly node old new = ⊥
 
 -- no plan stands twice: two places whose columns are for one plan are the same
 abbrev pub AreOfDistinctPlans : List Kept → Type 0

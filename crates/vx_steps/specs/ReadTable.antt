@@ -35,20 +35,26 @@ pub record HandsOut (old new : ReadsData) (request : ReadRequest) : Type 0 where
 abbrev pub IsOutstanding : ReadsData → ReadId → Type 0
 IsOutstanding reads read = (read.0 < reads.handed) × IsSomeAnd (slice_get reads.wanted read.0) (λ w. w.bytes ≡ None)
 
--- The bytes came for the read's segment, and nothing else changed.
+-- The bytes came for the read's segment, and nothing else is wanted or handed out.
 pub record Delivers (read : ReadId) (bytes : List ℕ) (old new : ReadsData) : Type 0 where
   pub outstanding : IsOutstanding old read
   pub segment : ℕ
   pub at : slice_get old.wanted read.0 ≡ Some (record { segment = segment; bytes = None })
   pub taken : new.wanted ≡ slice_set old.wanted read.0 (record { segment = segment; bytes = Some bytes })
   pub handed : new.handed ≡ old.handed
-  pub stored : new.stored ≡ old.stored
-  pub passed : new.passed ≡ old.passed
 
 -- the bytes of a segment, where they came
 abbrev pub bytes_of : List Wanted → ℕ → Option (List ℕ)
 bytes_of [] segment = None
 bytes_of (w ∷ wanted) segment = if w.segment == segment then w.bytes else bytes_of wanted segment
+
+-- the bytes of a segment that are there now were there before
+abbrev pub NoneCame : List Wanted → List Wanted → Type 0
+NoneCame old new = (segment : ℕ) (bytes : List ℕ) → bytes_of new segment ≡ Some bytes → bytes_of old segment ≡ Some bytes
+
+-- the bytes came for the read, which is of the segment, and none had come of it
+abbrev pub DeliversOf : ReadId → List ℕ → ReadsData → ReadsData → ℕ → Type 0
+DeliversOf read bytes old new segment = (delivers : Delivers read bytes old new) × (delivers.segment ≡ segment) × (bytes_of old.wanted segment ≡ None)
 
 -- ---- what is stored of the segments
 
@@ -60,10 +66,15 @@ IsGone stored segment = (place : ℕ) × (s : Stored) × (slice_get stored place
 abbrev pub IsNamed : List Stored → ℕ → ℕ → Type 0
 IsNamed stored segment n = (place : ℕ) × (s : Stored) × (slice_get stored place ≡ Some s) × (s.segment ≡ segment) × (n ≤ s.last)
 
+-- what is gone from memory still is
+abbrev pub KeepsGone : List Stored → List Stored → Type 0
+KeepsGone old new = (segment : ℕ) → IsGone old segment → IsGone new segment
+
 -- What names the segments still does, no bytes were let go, and no need was passed.
 pub record KeepsStored (old new : ReadsData) : Type 0 where
   pub named : (segment n : ℕ) → IsNamed old.stored segment n → IsNamed new.stored segment n
   pub gone : (segment : ℕ) → IsGone new.stored segment → IsGone old.stored segment
+  pub still_gone : KeepsGone old.stored new.stored
   pub passed : new.passed ≡ old.passed
 
 -- So many needs were passed, the last of which names the segment. Only its bytes were let go, and only where no later
@@ -74,14 +85,17 @@ pub record Passes (segment count : ℕ) (old new : ReadsData) : Type 0 where
   pub passed : new.passed ≡ count
   pub named : (segment n : ℕ) → IsNamed old.stored segment n → IsNamed new.stored segment n
   pub gone : (s : ℕ) → IsGone new.stored s → IsGone old.stored s ⊎ ((segment ≡ s) × ((n : ℕ) → IsNamed old.stored s n → n < count))
+  pub still_gone : KeepsGone old.stored new.stored
 
--- Only bytes of the segment were let go.
+-- The bytes of the segment were let go, if they came, and no others.
 pub record LetsGo (segment : ℕ) (old new : ReadsData) : Type 0 where
   pub wanted : new.wanted ≡ old.wanted
   pub handed : new.handed ≡ old.handed
   pub passed : new.passed ≡ old.passed
   pub named : (s n : ℕ) → IsNamed old.stored s n → IsNamed new.stored s n
   pub gone : (s : ℕ) → IsGone new.stored s → IsGone old.stored s ⊎ (segment ≡ s)
+  pub still_gone : KeepsGone old.stored new.stored
+  pub let_go : (bytes : List ℕ) → bytes_of old.wanted segment ≡ Some bytes → IsGone new.stored segment
 
 -- how many bytes came, if they came
 abbrev pub byte_count : Option (List ℕ) → ℕ
@@ -97,3 +111,9 @@ abbrev pub held_bytes : List Wanted → List Stored → ℕ
 held_bytes [] stored = 0
 held_bytes (w ∷ wanted) [] = 0
 held_bytes (w ∷ wanted) (s ∷ stored) = bytes_held w s + held_bytes wanted stored
+
+-- Nothing else is wanted or handed out, and no bytes came; those that came may be gone.
+pub record LetsAllGo (old new : ReadsData) : Type 0 where
+  pub wanted : new.wanted ≡ old.wanted
+  pub handed : new.handed ≡ old.handed
+  pub gone : (segment : ℕ) (bytes : List ℕ) → bytes_of old.wanted segment ≡ Some bytes → IsGone new.stored segment

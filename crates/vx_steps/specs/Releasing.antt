@@ -1,17 +1,20 @@
 -- Which delivered bytes may be gone from memory: those that no split decodes any more.
-use Rattle.std.specs.Prelude.{◌≡◌, ℕ, ◌<◌, ◌⊎◌, List, Some, None, length}
+use Rattle.std.specs.Prelude.{◌≡◌, ℕ, ◌<◌, ◌≤◌, ◌⊎◌, List, Some, None, length, map}
 use Rattle.std.specs.List.{slice_get}
 use Rattle.vx_plan.specs.Nodes.{Node}
 use Rattle.vx_steps.specs.declared.jobs.ActiveSplit.{ActiveSplit}
 use Rattle.vx_steps.specs.declared.jobs.Job.{Job}
 use Rattle.vx_steps.specs.declared.jobs.Progress.{Progress}
 use Rattle.vx_steps.specs.declared.leaf_reads.LeafRead.{LeafRead}
+use Rattle.vx_steps.specs.declared.splits.Split.{Split}
 use Rattle.vx_steps.specs.Kept.{kept_at, IsKept}
 use Rattle.vx_steps.specs.KeptData.{Kept}
 use Rattle.vx_steps.specs.Needs.{Among}
 use Rattle.vx_steps.specs.OpenSegments.{IsLeafOver}
-use Rattle.vx_steps.specs.ReadTable.{IsGone, IsNamed}
+use Rattle.vx_steps.specs.Pieces.{read_of}
+use Rattle.vx_steps.specs.ReadTable.{IsGone, IsNamed, KeepsGone}
 use Rattle.vx_steps.specs.ReadTableData.{ReadsData, Stored}
+use Rattle.vx_steps.specs.Turns.{ReadsFor}
 
 -- where the bytes of a segment are gone, each needed leaf over it is kept
 abbrev pub AreHeld : List Kept → List Stored → List LeafRead → Type 0
@@ -42,12 +45,18 @@ pub record LetsSpentGo (nodes : List Node) (leaves : List Kept) (old new : Reads
   pub passed : new.passed ≡ old.passed
   pub named : (segment n : ℕ) → IsNamed old.stored segment n → IsNamed new.stored segment n
   pub gone : (segment : ℕ) → IsGone new.stored segment → IsGone old.stored segment ⊎ IsSpent nodes leaves segment
+  pub still_gone : KeepsGone old.stored new.stored
 
--- While a split is left to be started nothing is passed, and only bytes of segments are gone each of whose leaves is kept.
--- The needs of each active split are served. Before a split was started none is active, and no bytes are gone.
+-- no selected row of the split of that number, or of one behind it, reads a leaf over the segment
+abbrev pub NoneReads : List Node → Job → ℕ → ℕ → Type 0
+NoneReads nodes job next segment = (number : ℕ) (split : Split) (read : LeafRead) → next ≤ number → slice_get job.splits.items number ≡ Some split → ReadsFor nodes job split read → read.segment ≡ segment → ⊥
+
+-- While a split is left to be started nothing is passed. Bytes are gone only of segments each of whose leaves is kept, or of
+-- which no split that is left to be started reads a leaf. The needs of each active split are served. Before a split was
+-- started none is active, and no bytes are gone.
 pub record ServesAll (nodes : List Node) (job : Job) (progress : Progress) : Type 0 where
-  pub gone_late : (segment : ℕ) → IsGone progress.reads.stored segment → (progress.next ≡ length job.splits.items) ⊎ IsSpent nodes progress.leaves segment
+  pub gone_late : (segment : ℕ) → IsGone progress.reads.stored segment → IsSpent nodes progress.store.columns.all segment ⊎ NoneReads nodes job progress.next segment
   pub passed_late : 0 < progress.reads.passed → progress.next ≡ length job.splits.items
-  pub served : (active : ActiveSplit) → Among active progress.active.items → IsServed progress.leaves progress.reads active.needs
+  pub served : (active : ActiveSplit) → Among active progress.active.items → IsServed progress.store.columns.all progress.reads (map read_of active.needs.items)
   pub active_after : (active : ActiveSplit) → Among active progress.active.items → 0 < progress.next
   pub gone_after : (segment : ℕ) → IsGone progress.reads.stored segment → 0 < progress.next

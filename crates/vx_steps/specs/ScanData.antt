@@ -1,20 +1,21 @@
 -- A scan as plain data.
-use Rattle.std.specs.Prelude.{◌≡◌, ℕ, Bool, false, List, [], Some}
+use Rattle.std.specs.Prelude.{◌≡◌, ℕ, Bool, false, true, List, [], ◌⊎◌, ◌↔◌, map, Some}
 use Rattle.vx_plan.specs.Nodes.{Node}
 use Rattle.vx_rows.specs.SegmentLeaves.{Bytes, leaves_of}
 use Rattle.vx_steps.specs.declared.jobs.Job.{Job}
-use Rattle.vx_steps.specs.declared.jobs.Progress.{Progress}
 use Rattle.vx_steps.specs.declared.reads.ReadId.{ReadId}
 use Rattle.vx_steps.specs.declared.splits.Split.{Split}
 use Rattle.vx_steps.specs.Held.{AreMade, HaveLeaves}
-use Rattle.vx_steps.specs.Jobs.{numbers_from, left_of, IsTold, IsUnstarted}
+use Rattle.vx_steps.specs.Jobs.{IsTold, IsUnstarted}
+use Rattle.vx_steps.specs.Needs.{Among}
 use Rattle.vx_steps.specs.ReadTable.{Delivers}
+use Rattle.vx_steps.specs.Standings.{left_of, none_given, numbers_from, Standing}
 
 -- the table, what is to do, how far it is, and whether a step was refused
 pub record ScanData : Type 0 where
   pub nodes : List Node
   pub job : Job
-  pub progress : Progress
+  pub progress : Standing
   pub refused : Bool
 
 -- what the scan holds is so outside
@@ -39,19 +40,22 @@ pub record IsNew (nodes : List Node) (plan : ℕ) (splits : List Split) (scan : 
   pub given : scan.job.given ≡ []
   pub max_active : scan.job.max_active ≡ 1
   pub offset : scan.job.offset ≡ 0
-  pub left : left_of scan.job scan.progress ≡ numbers_from 0 splits
+  pub left : left_of scan.job scan.progress ≡ map none_given (numbers_from 0 splits)
   pub unstarted : IsUnstarted scan.progress
   pub handed : scan.progress.reads.handed ≡ 0
   pub leaves : scan.progress.leaves ≡ []
   pub made : scan.progress.wholes.made ≡ []
+  pub held : scan.progress.held ≡ []
   pub refused : scan.refused ≡ false
   pub told : (outside : Bytes) → IsScanOf scan outside
 
--- The bytes of the read came, and all else is as it was. Where they are those of its segment outside, the scan stays what
--- it is there.
+-- The bytes of the read came, its segment is held, unless a step was refused before, and all else is as it was. Where they are
+-- those of its segment outside, the scan stays what it is there.
 pub record TakesBytes (read : ReadId) (bytes : List ℕ) (old new : ScanData) : Type 0 where
   pub delivers : Delivers read bytes old.progress.reads new.progress.reads
-  pub same : new ≡ record old { progress = record old.progress { reads = new.progress.reads } }
+  pub same : new ≡ record old { progress = record old.progress { reads = new.progress.reads; held = new.progress.held } }
+  pub held : old.refused ≡ false → (s : ℕ) → Among s new.progress.held ↔ (Among s old.progress.held ⊎ (delivers.segment ≡ s))
+  pub let_go : old.refused ≡ true → new.progress.held ≡ old.progress.held
   pub nodes : new.nodes ≡ old.nodes
   pub job : new.job ≡ old.job
   pub left : left_of new.job new.progress ≡ left_of old.job old.progress

@@ -1,5 +1,5 @@
 -- What a scan has of the takes that the selected rows of its splits read.
-use Rattle.std.specs.Prelude.{◌≡◌, ℕ, ◌<◌, ◌⊎◌, List, [], ◌∷◌, length, Some, Result, Ok, Err}
+use Rattle.std.specs.Prelude.{◌≡◌, ℕ, ◌<◌, ◌⊎◌, List, [], ◌∷◌, length, Some, Result, Ok, Err, map}
 use Rattle.std.specs.List.{slice_get}
 use Rattle.vx_base.specs.Columns.{ColumnData}
 use Rattle.vx_plan.specs.Nodes.{Node}
@@ -9,13 +9,13 @@ use Rattle.vx_rows.specs.SegmentLeaves.{Bytes}
 use Rattle.vx_steps.specs.declared.errors.StepError.{StepError}
 use Rattle.vx_steps.specs.declared.errors.StepError.TheVariants.{EvalFault}
 use Rattle.vx_steps.specs.declared.jobs.Job.{Job}
-use Rattle.vx_steps.specs.declared.jobs.Progress.{Progress}
 use Rattle.vx_steps.specs.declared.progress.Turn.{Turn}
 use Rattle.vx_steps.specs.declared.progress.Turn.TheVariants.{Done}
 use Rattle.vx_steps.specs.declared.splits.Split.{Split}
 use Rattle.vx_steps.specs.declared.wholes.Wholes.{Wholes}
 use Rattle.vx_steps.specs.Below.{HasNoShare, HasNoEvalBelowTake}
-use Rattle.vx_steps.specs.Jobs.{left_of, IsTold, IsUnstarted, KeepsWholes}
+use Rattle.vx_steps.specs.Jobs.{number_left, IsTold, IsUnstarted, KeepsWholes}
+use Rattle.vx_steps.specs.Standings.{left_of, Standing}
 use Rattle.vx_steps.specs.Kept.{IsKept}
 use Rattle.vx_steps.specs.Laws.{IsValuesOf, ReadsTake}
 use Rattle.vx_steps.specs.Needs.{Among}
@@ -34,36 +34,36 @@ HasTakes nodes job split wholes = (take : ℕ) → SomeRow (ReadsTake take job.o
 
 -- A split whose column is given has its takes, where no share stands in the plan.
 abbrev pub OutputHasTakes : Type 0
-OutputHasTakes = (nodes : List Node) → IsGoodTable nodes → (job : Job) → job.plan < length nodes → HasNoShare (plan_at nodes job.plan) → (old : Progress) (after : Wholes) (split : Split) (column : ColumnData) → IsSplitOutput nodes job old after split column → HasTakes nodes job split after
+OutputHasTakes = (nodes : List Node) → IsGoodTable nodes → (job : Job) → job.plan < length nodes → HasNoShare (plan_at nodes job.plan) → (old : Standing) (after : Wholes) (split : Split) (column : ColumnData) → IsSplitOutput nodes job old after split column → HasTakes nodes job split after
 
 -- And where no expression stands below a take, so has one that is refused for an expression that is a fault.
 abbrev pub EvalFaultHasTakes : Type 0
-EvalFaultHasTakes = (nodes : List Node) → IsGoodTable nodes → (job : Job) → job.plan < length nodes → HasNoShare (plan_at nodes job.plan) → HasNoEvalBelowTake (plan_at nodes job.plan) → (old : Progress) (after : Wholes) (split : Split) (at : ℕ) (outside : Bytes) → IsTold nodes job old outside → LeavesSplit nodes job old after split (EvalFault at) → HasTakes nodes job split after
+EvalFaultHasTakes = (nodes : List Node) → IsGoodTable nodes → (job : Job) → job.plan < length nodes → HasNoShare (plan_at nodes job.plan) → HasNoEvalBelowTake (plan_at nodes job.plan) → (old : Standing) (after : Wholes) (split : Split) (at : ℕ) (outside : Bytes) → IsTold nodes job old outside → LeavesSplit nodes job old after split (EvalFault at) → HasTakes nodes job split after
 
 -- ---- a scan, from step to step
 
 -- Each split is left, or has its takes.
-abbrev pub EachHasTakes : List Node → Job → Progress → Type 0
-EachHasTakes nodes job progress = (number : ℕ) (split : Split) → slice_get job.splits.items number ≡ Some split → Among number (left_of job progress) ⊎ HasTakes nodes job split progress.wholes
+abbrev pub EachHasTakes : List Node → Job → Standing → Type 0
+EachHasTakes nodes job progress = (number : ℕ) (split : Split) → slice_get job.splits.items number ≡ Some split → Among number (map number_left (left_of job progress)) ⊎ HasTakes nodes job split progress.wholes
 
 -- It is so before the first step.
 abbrev pub UnstartedHasTakes : Type 0
-UnstartedHasTakes = (nodes : List Node) (job : Job) (progress : Progress) → IsUnstarted progress → EachHasTakes nodes job progress
+UnstartedHasTakes = (nodes : List Node) (job : Job) (progress : Standing) → IsUnstarted progress → EachHasTakes nodes job progress
 
 -- A turn leaves it so, where no share stands in the plan.
 abbrev pub TurnKeepsTakes : Type 0
-TurnKeepsTakes = (nodes : List Node) → IsGoodTable nodes → (job : Job) → job.plan < length nodes → HasNoShare (plan_at nodes job.plan) → (old new : Progress) (turn : Turn) → KeepsWholes nodes job old.wholes new.wholes → TakesTurn nodes job old new turn → EachHasTakes nodes job old → EachHasTakes nodes job new
+TurnKeepsTakes = (nodes : List Node) → IsGoodTable nodes → (job : Job) → job.plan < length nodes → HasNoShare (plan_at nodes job.plan) → (old new : Standing) (turn : Turn) → KeepsWholes nodes job old.wholes new.wholes → TakesTurn nodes job old new turn → EachHasTakes nodes job old → EachHasTakes nodes job new
 
 -- And so does what changes neither the splits that are left nor whole values, as bytes that come.
 abbrev pub SameKeepsTakes : Type 0
-SameKeepsTakes = (nodes : List Node) (job : Job) (old new : Progress) → left_of job new ≡ left_of job old → new.wholes ≡ old.wholes → EachHasTakes nodes job old → EachHasTakes nodes job new
+SameKeepsTakes = (nodes : List Node) (job : Job) (old new : Standing) → left_of job new ≡ left_of job old → new.wholes ≡ old.wholes → EachHasTakes nodes job old → EachHasTakes nodes job new
 
 -- A scan that is done has the takes of all its splits.
 abbrev pub DoneHasTakes : Type 0
-DoneHasTakes = (nodes : List Node) (job : Job) (old new : Progress) → IsDone job old new → EachHasTakes nodes job new → (number : ℕ) (split : Split) → slice_get job.splits.items number ≡ Some split → HasTakes nodes job split new.wholes
+DoneHasTakes = (nodes : List Node) (job : Job) (old new : Standing) → IsDone job old new → EachHasTakes nodes job new → (number : ℕ) (split : Split) → slice_get job.splits.items number ≡ Some split → HasTakes nodes job split new.wholes
 
 -- the scan is done, or is refused for an expression that is a fault
-abbrev pub Ends : List Node → Job → Progress → Progress → Result Turn StepError → Type 0
+abbrev pub Ends : List Node → Job → Standing → Standing → Result Turn StepError → Type 0
 Ends nodes job old new (Ok Done) = IsDone job old new
 Ends nodes job old new (Ok turn) = ⊥
 Ends nodes job old new (Err (EvalFault at)) = IsStepRefusal nodes job old new (EvalFault at)
@@ -72,20 +72,20 @@ Ends nodes job old new (Err error) = ⊥
 -- So a scan of one split that is done, or is refused for an expression that is a fault, has the split's takes.
 abbrev pub OneSplitHasTakes : Type 0
 OneSplitHasTakes = (nodes : List Node) → IsGoodTable nodes → (job : Job) → job.plan < length nodes → HasNoShare (plan_at nodes job.plan) → HasNoEvalBelowTake (plan_at nodes job.plan) → (split : Split) → job.splits.items ≡ split ∷ [] →
-    (old new : Progress) (outside : Bytes) (result : Result Turn StepError) → EachHasTakes nodes job old → IsTold nodes job old outside → KeepsWholes nodes job old.wholes new.wholes → Ends nodes job old new result → HasTakes nodes job split new.wholes
+    (old new : Standing) (outside : Bytes) (result : Result Turn StepError) → EachHasTakes nodes job old → IsTold nodes job old outside → KeepsWholes nodes job old.wholes new.wholes → Ends nodes job old new result → HasTakes nodes job split new.wholes
 
 -- ---- a scan, from its first step on
 
 -- The scan took a turn; or neither the splits that are left nor whole values changed, as where bytes came.
-abbrev pub Goes : List Node → Job → Progress → Progress → Type 0
+abbrev pub Goes : List Node → Job → Standing → Standing → Type 0
 Goes nodes job old new = ((turn : Turn) × TakesTurn nodes job old new turn × KeepsWholes nodes job old.wholes new.wholes) ⊎ ((left_of job new ≡ left_of job old) × (new.wholes ≡ old.wholes))
 
 -- it went from one to the next of these, and none of its steps was refused
-abbrev pub WentThrough : List Node → Job → Progress → List Progress → Type 0
+abbrev pub WentThrough : List Node → Job → Standing → List Standing → Type 0
 WentThrough nodes job first [] = Unit {0}
 WentThrough nodes job first (next ∷ more) = Goes nodes job first next × WentThrough nodes job next more
 
-abbrev pub last_of : Progress → List Progress → Progress
+abbrev pub last_of : Standing → List Standing → Standing
 last_of first [] = first
 last_of first (next ∷ more) = last_of next more
 
@@ -93,5 +93,5 @@ last_of first (next ∷ more) = last_of next more
 -- fault: it used or made the whole values of each outermost take that the split's selected rows read.
 abbrev pub ScanHasTakes : Type 0
 ScanHasTakes = (nodes : List Node) → IsGoodTable nodes → (job : Job) → job.plan < length nodes → HasNoShare (plan_at nodes job.plan) → HasNoEvalBelowTake (plan_at nodes job.plan) → (split : Split) → job.splits.items ≡ split ∷ [] →
-    (first new : Progress) (more : List Progress) (outside : Bytes) (result : Result Turn StepError) → IsUnstarted first → WentThrough nodes job first more → IsTold nodes job (last_of first more) outside → KeepsWholes nodes job (last_of first more).wholes new.wholes → Ends nodes job (last_of first more) new result →
+    (first new : Standing) (more : List Standing) (outside : Bytes) (result : Result Turn StepError) → IsUnstarted first → WentThrough nodes job first more → IsTold nodes job (last_of first more) outside → KeepsWholes nodes job (last_of first more).wholes new.wholes → Ends nodes job (last_of first more) new result →
     HasTakes nodes job split new.wholes

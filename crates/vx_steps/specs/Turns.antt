@@ -64,9 +64,3 @@ abbrev pub LeavesWholes : List Node → Job → Split → List Wanted → List K
 LeavesWholes nodes job split wanted leaves made after (BadSegment segment) = Unit {0}
 LeavesWholes nodes job split wanted leaves made after Memory = Unit {0}
 LeavesWholes nodes job split wanted leaves made after error = AreThere nodes job.given after job.plan split.rows.start split.mask ⊎ FailsInWholes nodes job split wanted leaves made error
-
--- And each leaf that these rows read is kept.
-abbrev pub LeavesLeaves : List Node → Job → Split → List Kept → StepError → Type 0
-LeavesLeaves nodes job split leaves (BadSegment segment) = Unit {0}
-LeavesLeaves nodes job split leaves Memory = Unit {0}
-LeavesLeaves nodes job split leaves error = AreLeavesKept nodes job split leaves

@@ -9,6 +9,7 @@ use Rattle.vx_plan.specs.Refs.{number_of}
 use Rattle.vx_plan.specs.Shapes.{HasShape}
 use Rattle.vx_steps.specs.declared.errors.StepError.{StepError}
 use Rattle.vx_steps.specs.declared.errors.StepError.TheVariants.{Unsupported, BadSegment, BadCode, EvalFault, Memory}
+use Rattle.vx_steps.specs.declared.leaf_reads.LeafRead.{LeafRead}
 use Rattle.vx_steps.specs.declared.wholes.Grounds.{Grounds}
 use Rattle.vx_steps.specs.declared.wholes.Wholes.{Wholes}
 use Rattle.vx_steps.specs.Computed.{whole_in, ComputesWhole, UnlessList}
@@ -16,11 +17,11 @@ use Rattle.vx_steps.specs.Given.{Handed, handed_by}
 use Rattle.vx_steps.specs.Held.{Held, handed_in, AreMade, AreTyped, HaveLeaves, IsBy}
 use Rattle.vx_steps.specs.KeptData.{Kept}
 use Rattle.vx_steps.specs.Kept.{kept_at, AreOfDistinctPlans, IsKept}
-use Rattle.vx_steps.specs.Visits.{Test, SomeVisit, HasBadCode, HasEvalFault, IsListRead, IsWholeRead}
+use Rattle.vx_steps.specs.Visits.{Test, SomeVisit, HasBadCode, HasEvalFault, IsLeafRead, IsListRead, IsWholeRead}
 
 -- what columns are computed from, with these whole values
 abbrev pub held_with : Grounds → Wholes → Held
-held_with grounds wholes = record { nodes = grounds.table.now; leaves = grounds.leaves.now; given = Some grounds.given.now; made = wholes.made; offset = grounds.offset }
+held_with grounds wholes = record { nodes = grounds.table.now; leaves = grounds.leaves.now.here; given = Some grounds.given.now; made = wholes.made; offset = grounds.offset }
 
 -- More values are kept, and what was right stays so.
 pub record KeepsValues (nodes : List Node) (leaves : List Kept) (offset : ℕ) (old new : List Kept) : Type 0 where
@@ -79,6 +80,10 @@ WholeFails h number plan error = (error ≡ Memory) ⊎ ((whole_in h number ≡ 
 abbrev pub Inside : Test → Test
 Inside P None p row = P None p row
 Inside P (Some given) p row = ⊥
+
+-- each leaf that the selected rows read for whole values is kept
+abbrev pub AreReadyInside : Held → ℕ → ℕ → List Bool → Type 0
+AreReadyInside h n start bits = (read : LeafRead) → SomeVisit (Inside (IsLeafRead read)) (handed_in h) (plan_at h.nodes n) start bits → IsKept h.leaves read.leaf
 
 -- Some selected row has the visit that the fault names, inside whole values.
 abbrev pub HasInsideCause : Leaves → Handed → ℕ → Plan → ℕ → List Bool → StepError → Type 0

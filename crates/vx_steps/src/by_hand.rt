@@ -10,7 +10,7 @@ ghost use Rattle.vx_steps.specs.ByHand.{held_of, kept_of, numbers_in, split_of, 
 ghost use Rattle.vx_steps.specs.Computed.{whole_in};
 ghost use Rattle.vx_steps.specs.Given.{given_as, row_value, whole_value};
 ghost use Rattle.vx_steps.specs.Held.{alone};
-ghost use Rattle.vx_steps.specs.Jobs.{numbers_from};
+ghost use Rattle.vx_steps.specs.Standings.{numbers_from};
 ghost use Rattle.vx_steps.specs.Kept.{kept_at};
 ghost use Rattle.vx_steps.specs.Leavings.{behind_all, behind_split};
 ghost use Rattle.vx_steps.specs.ReadTable.{bytes_of, held_bytes};

@@ -1,4 +1,5 @@
-//! The column of the selected rows of a plan, from the columns of its leaves.
+//! The column of the selected rows of a plan, from the columns of its leaves. This is no walk of the parts of a plan
+//! (`PlanTable::next_part`), since each shape joins the columns of its children in its own way.
 
 ghost use Rattle.std.specs.Prelude.{◌≡◌, ◌+◌, ◌-◌, ◌<◌, ◌≤◌, length, slice_range, true, Err, IfErr, IfOk, IfSome, IsTrue};
 ghost use Rattle.std.specs.List.{All, AllByRecursion};
@@ -15,21 +16,21 @@ ghost use Rattle.vx_steps.specs.Held.{held, IsHeld, IsLeafColumn};
 ghost use Rattle.vx_steps.specs.Rows.{SelectsSome};
 
 use crate::childless::{leaf_of, no_rows, numbers_of};
-use crate::chunks::chunk_at;
 use crate::errors::StepError;
 use crate::kept::KeptColumns;
+use crate::leaf_columns::LeafColumns;
 use crate::picking::{joined, looked_up, picked, picked_range, selects_none, structs, worked_out};
 use std::alloc::Global;
 use std::ops::Range;
 use vx_base::{Column, Mask};
-use vx_plan::{PlanRef, PlanTable, Shape};
+use vx_plan::{PlanRef, PlanTable, Shape, chunk_at};
 
 /// What columns are computed from: the plans, the columns of their leaves, the whole values that were handed in, which
 /// are none while whole values are made, those that were made, and what is added to the numbers of rows.
 #[derive(Clone, Copy)]
 pub(crate) struct Sources<'a> {
     pub(crate) table: &'a PlanTable,
-    pub(crate) leaves: &'a KeptColumns,
+    pub(crate) leaves: &'a LeafColumns,
     pub(crate) given: Option<&'a KeptColumns>,
     pub(crate) made: &'a KeptColumns,
     pub(crate) offset: u64,

@@ -1,4 +1,5 @@
-//! What keeps rows of a plan from having a column, whatever bytes come.
+//! What keeps rows of a plan from having a column, whatever bytes come. This is no walk of the parts of a plan
+//! (`PlanTable::next_part`), since it looks for lists besides leaves, and ends at the first of them that hinders.
 
 ghost use Rattle.std.specs.Prelude.{◌+◌, ◌<◌, ◌≤◌, length};
 ghost use Rattle.vx_plan.specs.declared.shapes.Shape.TheVariants.{Chunks};
@@ -12,9 +13,8 @@ ghost use Rattle.vx_steps.specs.Hindrances.{AreHindered, IsHindrance, IsOne};
 ghost use Rattle.vx_steps.specs.Rows.{IsRun};
 ghost use Rattle.vx_steps.specs.Visits.{SomeVisit};
 
-use crate::chunks::chunk_at;
 use vx_base::Mask;
-use vx_plan::{PlanRef, PlanTable, Shape};
+use vx_plan::{PlanRef, PlanTable, Shape, chunk_at};
 
 /// What keeps a row of a plan from having a value, whatever bytes come.
 #[derive(Clone, Copy, Debug, PartialEq, Eq)]

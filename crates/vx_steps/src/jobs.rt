@@ -1,13 +1,22 @@
 //! What a scan is to do, and how far it is.
 
-ghost use Rattle.std.specs.Prelude.{◌≡◌, []};
+ghost use Rattle.std.specs.Prelude.{◌≡◌, ℕ, [], List, true, false, Some, OnOk};
 ghost use Rattle.std.specs.Bool.{MatchBool};
 ghost use Rattle.vx_steps.specs.Jobs.{IsUnstarted};
+ghost use Rattle.vx_plan.specs.Nodes.{Node};
+ghost use Rattle.vx_steps.specs.LaterReads.{IsNotedOf};
 ghost use Rattle.vx_steps.specs.OpenSegments.{AreCounted};
+ghost use Rattle.vx_steps.specs.Places.{place_in};
+ghost use Rattle.vx_steps.specs.ReadTable.{LetsAllGo};
+ghost use Rattle.vx_steps.specs.Standings.{standing_of};
+ghost use Rattle.vx_steps.specs.StillRead.{IsTallyOf};
 
 use crate::kept::KeptColumns;
-use crate::leaves::NeededLeaves;
-use crate::open_segments::OpenSegments;
+use crate::leaf_stores::LeafStore;
+use crate::needed::Needed;
+use crate::open_needs::OpenNeeds;
+use crate::pieces::GivenRows;
+use crate::placed_reads::PlacedRead;
 use crate::reads::ReadTable;
 use crate::splits::Split;
 use crate::wholes::Wholes;
@@ -25,22 +34,25 @@ pub(crate) struct Job {
     pub(crate) offset: u64,
 }
 
-/// A split that was started and not finished, and the leaves that it needs.
+/// A split that was started and has rows left: its needs, how far its rows are given, and the needs of which rows are left.
 #[derive(Drop)]
 pub(crate) struct ActiveSplit {
     pub(crate) split: usize,
-    pub(crate) needs: NeededLeaves,
+    pub(crate) needs: Vec<PlacedRead>,
+    pub(crate) at: GivenRows,
+    pub(crate) rest: OpenNeeds,
 }
 
-/// How far a scan is: the first split that was not started, the active ones, the reads, the columns of leaves, and the
-/// whole values that were made or used.
+/// How far a scan is: the first split that was not started, the active ones, the reads, the columns of leaves, the whole
+/// values that were made or used, and what rows that are left need.
 #[derive(Drop)]
 pub(crate) struct Progress {
     pub(crate) next: usize,
     pub(crate) active: Vec<ActiveSplit>,
     pub(crate) reads: ReadTable,
-    pub(crate) leaves: KeptColumns,
+    pub(crate) store: LeafStore,
     pub(crate) wholes: Wholes,
+    pub(crate) needed: Needed,
 }
 
 impl Job {
@@ -79,7 +91,15 @@ impl Progress {
         ensures handed { result.reads.handed ≡ 0 }
         ensures stored { result.reads.stored ≡ [] }
         ensures passed { result.reads.passed ≡ 0 }
-        ensures leaves { result.leaves ≡ [] }
+        ensures all { result.store.columns.all ≡ [] }
+        ensures here { result.store.columns.here ≡ [] }
+        ensures counted { (nodes : List Node) → AreCounted nodes [] result.store.segments }
+        ensures found { result.needed.apart.found ≡ true }
+        ensures apart { (n : ℕ) (place : ℕ) → place_in result.needed.apart.places n ≡ Some place → ⊥ }
+        ensures tallies { IsTallyOf result.needed.still [] }
+        ensures later { IsNotedOf result.needed.later [] }
+        ensures noted { result.needed.noted ≡ false }
+        ensures held { result.needed.held.held ≡ [] }
         ensures made { result.wholes.made ≡ [] }
         ensures used { result.wholes.used ≡ [] }
     {
@@ -87,17 +107,18 @@ impl Progress {
             next: 0,
             active: Vec::new(alloc),
             reads: ReadTable::new(alloc),
-            leaves: KeptColumns::new(alloc),
+            store: LeafStore::new(alloc),
             wholes: Wholes {
                 made: KeptColumns::new(alloc),
                 used: KeptColumns::new(alloc),
             },
+            needed: Needed::new(alloc),
         }
     }
 
     /// Whether no split was started, no segment is wanted, and no value that was handed in was used.
     pub(crate) fn is_unstarted(&self) -> bool
-        ensures { MatchBool result (IsUnstarted self.now) (IsUnstarted self.now → ⊥) }
+        ensures { MatchBool result (IsUnstarted (standing_of self.now)) (IsUnstarted (standing_of self.now) → ⊥) }
     {
         self.next == 0
             && self.active.is_empty()
@@ -105,11 +126,11 @@ impl Progress {
             && self.wholes.used.is_empty()
     }
 
-    /// Puts these columns of leaves in place of those that are kept.
-    pub(crate) fn hand_in(&mut self, leaves: KeptColumns)
-        ensures { self.new ≡ record self.old { leaves = leaves } }
+    /// Puts these columns of leaves in place of those that were handed in.
+    pub(crate) fn hand_in(&mut self, store: LeafStore)
+        ensures { self.new ≡ record self.old { store = store } }
     {
-        self.leaves = leaves;
+        self.store = store;
     }
 
     /// Puts these whole values in place of those that were made.
@@ -120,33 +141,43 @@ impl Progress {
     }
 }
 
-/// Indexes what was handed in, so that none of it is looked through. Where memory is wanting, all is as before.
+impl Progress {
+    /// Lets all bytes go that came, and holds nothing from now on: no row is given any more. It takes no memory.
+    pub(crate) fn let_all_go(&mut self)
+        ensures reads { LetsAllGo self.old.reads self.new.reads }
+        ensures held { self.new.needed.held.held ≡ [] }
+        ensures same { self.new ≡ record self.old { reads = self.new.reads; needed = record self.old.needed { held = self.new.needed.held } } }
+    {
+        self.reads.let_all_go();
+        self.needed.held.clear();
+    }
+}
+
+/// Indexes the whole values that were handed in, so that none of them is looked through. Where memory is wanting, all is as before.
 fn index_handed(job: &mut Job, progress: &mut Progress) -> Result<(), AllocError>
     ensures job { job.new ≡ job.old }
     ensures progress { progress.new ≡ progress.old }
 {
     job.given.index()?;
-    progress.leaves.index()?;
     progress.wholes.made.index()
 }
 
 /// Indexes what was handed in, and counts for each segment the leaves over it whose columns are not kept, if there is a
-/// split after the first: the segment's bytes can go before it. Where memory is wanting, all is as before.
+/// split after the first.
 pub(crate) fn make_ready(
     alloc: Global,
     table: &PlanTable,
     job: &mut Job,
-    segments: &mut OpenSegments,
     progress: &mut Progress,
 ) -> Result<(), AllocError>
-    requires { AreCounted table.now progress.old.leaves segments.old }
-    ensures counted { AreCounted table.now progress.new.leaves segments.new }
+    requires counted { AreCounted table.now progress.old.store.columns.all progress.old.store.segments }
     ensures job { job.new ≡ job.old }
-    ensures progress { progress.new ≡ progress.old }
+    ensures standing { standing_of progress.new ≡ standing_of progress.old }
+    ensures counted { AreCounted table.now progress.new.store.columns.all progress.new.store.segments }
+    ensures here { progress.new.store.columns.here ≡ progress.old.store.columns.here }
+    ensures ready { OnOk result (progress.new.store.columns.ready ≡ true) }
+    ensures others { progress.new ≡ record progress.old { store = progress.new.store } }
 {
     index_handed(job, progress)?;
-    if job.splits.len() < 2 {
-        return Ok(());
-    }
-    segments.find(alloc, table, &progress.leaves)
+    progress.store.make_ready(alloc, table, job.splits.len())
 }

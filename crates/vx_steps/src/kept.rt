@@ -2,7 +2,7 @@
 
 ghost use Rattle.std.specs.Prelude.{◌≡◌, ◌+◌, ◌<◌, length, take, [], ◌∷◌, ◌++◌, None, map, MatchResult, OnOk, OnErr, option_copied};
 ghost use Rattle.std.specs.Bool.{MatchBool};
-ghost use Rattle.vx_steps.specs.Kept.{kept_at, kept_data, ArePlaces};
+ghost use Rattle.vx_steps.specs.Kept.{kept_at, kept_data, ArePlaces, ReplacesOnly};
 
 use crate::places::PlaceTable;
 use std::alloc::{AllocError, Global};
@@ -156,6 +156,15 @@ impl KeptColumns {
     {
         let shared = column.share(alloc)?;
         self.keep(node, shared)
+    }
+
+    /// Puts a column in place of the first one of a plan, if that is indexed. It takes no memory.
+    pub(crate) fn replace(&mut self, node: u32, column: Column)
+        ensures { ReplacesOnly node self.old self.new }
+    {
+        if let Some(place) = self.places.get(node) {
+            self.columns[place].column = column;
+        }
     }
 
     /// The kept columns, in the order in which they came.

@@ -4,6 +4,7 @@
 ghost use Rattle.vx_steps.specs.CauseLaws.{LeafIsVisitedFree, ListIsVisitedFree, LeafIsSelectedFree, ListIsSelectedFree, CertifiedCauseIsFree, InsideCauseIsFree, FreeCausesAreSame, WholeCauseIsCause, WholeLeafIsVisited};
 ghost use Rattle.vx_steps.specs.GivenLaws.{ServedStays, UsedServe, UsedGiveValues, UsedGiveColumns, CertifiedServe, CertifiedGiveColumns};
 ghost use Rattle.vx_steps.specs.Laws.{LeafVisitIsRead, LeafVisitIsPlanRead, ReadIsLeafVisit, PlanReadIsLeafVisit, NoColumnsHandNone, SelectedVisitIsRead, SelectedReadIsVisit, ListVisitIsRead, ReadIsListVisit, TypedGivenFits, BadCodeIsRead, ReadIsBadCode, EvalFaultIsWorkedOut, SelectedLeafIsRead, CauseIsRead, OutermostTakeIsAsked, TakesAreThere, NoShareInTable, EvalFaultIsOutside};
+ghost use Rattle.vx_steps.specs.PieceLaws.{PiecesJoin};
 ghost use Rattle.vx_steps.specs.ScanLaws.{WantedIsRead, SplitCauseIsRead};
 ghost use Rattle.vx_steps.specs.TakeLaws.{OutputHasTakes, EvalFaultHasTakes, UnstartedHasTakes, TurnKeepsTakes, SameKeepsTakes, DoneHasTakes, OneSplitHasTakes, ScanHasTakes};
 
@@ -63,6 +64,12 @@ pub fn splits_have_their_takes()
     ensures done { DoneHasTakes }
     ensures one { OneSplitHasTakes }
     ensures scan { ScanHasTakes }
+{}
+
+/// The pieces in which the rows of a split are given, each from where the one before it ends and the last one followed by
+/// no selected row, have, one behind another, the values of all its selected rows in their order.
+pub fn pieces_join()
+    ensures { PiecesJoin }
 {}
 
 /// Each segment that a scan wants is one that a selected row of a split reads; and each refusal has its cause in what

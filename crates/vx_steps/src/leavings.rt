@@ -1,25 +1,22 @@
 //! What a scan leaves to the next one: the columns of those leaves that the row behind its splits reads, and the
 //! whole values.
 
-ghost use Rattle.std.specs.Prelude.{◌≡◌, ◌+◌, ◌<◌, ◌≤◌, ◌↔◌, ℕ, false, length, map, true, IsTrue, None};
-ghost use Rattle.vx_plan.specs.declared.shapes.Shape.TheVariants.{Chunks};
-ghost use Rattle.vx_plan.specs.Kinds.{HasKind, IsPack};
+ghost use Rattle.std.specs.Prelude.{◌≡◌, ◌+◌, ◌<◌, ◌≤◌, ◌↔◌, ℕ, false, length, map, true, IsTrue, None, OnOk, Some};
+ghost use Rattle.std.specs.Option.{is_some};
 ghost use Rattle.vx_plan.specs.Refs.{number_of};
 ghost use Rattle.vx_plan.specs.Rules.{node_at};
-ghost use Rattle.vx_plan.specs.Shapes.{HasShape};
-ghost use Rattle.vx_plan.specs.Tables.{IsGoodTable};
-ghost use Rattle.vx_steps.specs.Kept.{kept_data};
+ghost use Rattle.vx_steps.specs.Kept.{kept_data, IsKept};
 ghost use Rattle.vx_steps.specs.Leavings.{behind_all, behind_split, IsReadBehind, Meets, RowReads, RowsRead};
 ghost use Rattle.vx_steps.specs.Offers.{Keeps};
-ghost use Rattle.vx_steps.specs.Places.{place_in};
+ghost use Rattle.vx_steps.specs.Places.{place_in, SetsPlace};
 
-use crate::chunks::chunk_at;
 use crate::jobs::Job;
-use crate::kept::{KeptColumns, KeptValue};
+use crate::kept::KeptValue;
+use crate::leaf_columns::LeafColumns;
 use crate::places::PlaceTable;
 use crate::splits::Split;
-use std::alloc::Global;
-use vx_plan::{PlanRef, PlanTable, Shape};
+use std::alloc::{AllocError, Global};
+use vx_plan::{Part, PartPlace, PlanRef, PlanTable, Shape};
 
 /// What a scan leaves to the next one.
 #[derive(Drop)]
@@ -44,7 +41,7 @@ fn behind(split: &Split) -> u64
 }
 
 /// The row behind all those of the splits, selected or not.
-fn row_behind(splits: &[Split]) -> u64
+pub(crate) fn row_behind(splits: &[Split]) -> u64
     ensures { result ≡ behind_all splits.now }
 {
     let mut row: u64 = 0;
@@ -75,6 +72,30 @@ impl Sieve {
             wanted: 0,
             found: true,
         }
+    }
+
+    /// Over no leaves, and none is looked for. It takes no memory.
+    pub(crate) fn none(alloc: Global) -> Sieve
+        ensures places { (n : ℕ) → place_in result.places n ≡ None }
+        ensures found { result.found ≡ true }
+    {
+        Sieve::over(PlaceTable::new(alloc))
+    }
+
+    /// Over one more leaf.
+    pub(crate) fn put(&mut self, leaf: u32) -> Result<(), AllocError>
+        ensures put { OnOk result (SetsPlace leaf (Some 0) self.old.places self.new.places) }
+        ensures found { self.new.found ≡ self.old.found }
+        ensures wanted { self.new.wanted ≡ self.old.wanted }
+    {
+        self.places.put(leaf, 0)
+    }
+
+    /// Whether the leaf stands in the index: it was put there, and not met.
+    pub(crate) fn has(&self, leaf: u32) -> bool
+        ensures { result ≡ is_some (place_in self.now.places leaf) }
+    {
+        self.places.get(leaf).is_some()
     }
 
     /// For one leaf that is looked for. It takes no memory.
@@ -112,64 +133,25 @@ fn meet_rows(table: &PlanTable, plan: u32, start: u64, count: u64, sieve: &mut S
     if count == 0 {
         return;
     }
-    match table.shape(PlanRef(plan)) {
-        Shape::Leaf(_) => sieve.meet(plan),
-        Shape::Same(child) => meet_rows(table, child, start, count, sieve),
-        Shape::Over(child) => meet_rows(table, child, start, count, sieve),
-        Shape::Zoned(content, _) => meet_rows(table, content, start, count, sieve),
-        Shape::Chunks => meet_chunks(table, plan, start, count, sieve),
-        Shape::Fields(_) => meet_fields(table, plan, start, count, sieve),
-        Shape::LookUp(codes, values) => {
-            meet_rows(table, codes, start, count, sieve);
-            meet_rows(table, values, 0, table.row_count(PlanRef(values)), sieve)
-        }
-        Shape::Shared(child) => {
-            meet_rows(table, child, 0, table.row_count(PlanRef(child)), sieve)
-        }
-        Shape::Lists => {}
-        Shape::RowNumbers => {}
+    if let Shape::Leaf(_) = table.shape(PlanRef(plan)) {
+        return sieve.meet(plan);
     }
-}
-
-/// Meets the leaves that so many rows of each child read.
-#[cycle(leavings)]
-fn meet_fields(table: &PlanTable, plan: u32, start: u64, count: u64, sieve: &mut Sieve)
-    requires good { IsGoodTable table.now }
-    requires known { HasKind IsPack table.now plan }
-    requires inside { start + count ≤ (node_at table.now plan).rows }
-    ensures { Meets (RowsRead table.now plan start count) sieve.old sieve.new }
-{
-    for place in 0..table.child_count(PlanRef(plan)) {
-        let child = table.child_required(PlanRef(plan), place);
-        meet_rows(table, child.0, start, count, sieve);
-    }
-}
-
-/// Meets the leaves that so many rows of a concat read: it enters each child that holds one of them, found by a search
-/// in the offsets.
-#[cycle(leavings)]
-fn meet_chunks(table: &PlanTable, plan: u32, start: u64, count: u64, sieve: &mut Sieve)
-    requires good { IsGoodTable table.now }
-    requires known { plan < length table.now }
-    requires concat { HasShape table.now plan Chunks }
-    requires inside { start + count ≤ (node_at table.now plan).rows }
-    ensures { Meets (RowsRead table.now plan start count) sieve.old sieve.new }
-{
-    table.numbers_fit(PlanRef(plan));
-    let mut done: u64 = 0;
-    let mut place: usize = 0;
-    while done < count {
-        let row = start + done;
-        let chunk = chunk_at(table, plan, row, place);
-        let here = (chunk.end - row).min(count - done);
-        meet_rows(table, chunk.child, row - chunk.start, here, sieve);
-        done += here;
-        place = chunk.next;
+    let mut place = PartPlace::first();
+    while let Some(next) = table.next_part(PlanRef(plan), start, count, place) {
+        match next.part {
+            Part::Rows(rows) => {
+                meet_rows(table, rows.child, rows.start, rows.to - rows.from, sieve)
+            }
+            Part::Whole(_, child) => {
+                meet_rows(table, child, 0, table.row_count(PlanRef(child)), sieve)
+            }
+        }
+        place = next.behind;
     }
 }
 
 /// Meets the leaves that a row of a plan reads, if there is such a row.
-fn meet_row(table: &PlanTable, plan: u32, row: u64, sieve: &mut Sieve)
+pub(crate) fn meet_row(table: &PlanTable, plan: u32, row: u64, sieve: &mut Sieve)
     requires { plan < length table.now }
     ensures { Meets (λ leaf. (row < (node_at table.now plan).rows) × RowReads table.now plan row leaf) sieve.old sieve.new }
 {
@@ -195,15 +177,16 @@ fn is_met(places: &PlaceTable, value: &KeptValue) -> bool
     places.get(value.node.0).is_none()
 }
 
-/// The columns of those leaves that the row behind the splits reads. It takes no memory.
+/// The columns of those leaves that the row behind the splits reads, none of which is gone. It takes no memory.
 pub(crate) fn leaves_behind(
     alloc: Global,
     table: &PlanTable,
     job: &Job,
-    leaves: KeptColumns,
+    leaves: LeafColumns,
 ) -> Vec<KeptValue>
-    requires { job.now.plan < length table.now }
-    ensures { Keeps (λ kept. IsReadBehind table.now job.now kept.node) leaves (map kept_data result.items) }
+    requires known { job.now.plan < length table.now }
+    requires here { (leaf : ℕ) → IsReadBehind table.now job.now leaf → IsKept leaves.all leaf → IsKept leaves.here leaf }
+    ensures { Keeps (λ kept. IsReadBehind table.now job.now kept.node) leaves.all (map kept_data result.items) }
 {
     let row = row_behind(&job.splits);
     let plan = job.plan;

@@ -7,7 +7,7 @@ ghost use Rattle.vx_plan.specs.Nodes.{Node};
 ghost use Rattle.vx_steps.specs.KeptData.{Kept};
 ghost use Rattle.vx_steps.specs.OpenSegments.{open_count, AddsOne, AreCounted, AreCountedTo, HasOneAtMost, TakesOne};
 
-use crate::kept::KeptColumns;
+use crate::leaf_columns::LeafColumns;
 use std::alloc::{AllocError, Global};
 use std::collections::BTreeMap;
 use vx_plan::{PlanRef, PlanTable, Shape};
@@ -45,14 +45,14 @@ fn add_one(left: &mut BTreeMap<u32, u64>, segment: u32) -> Result<(), AllocError
 fn count_next(
     table: &PlanTable,
     plan: u32,
-    leaves: &KeptColumns,
+    leaves: &LeafColumns,
     left: &mut BTreeMap<u32, u64>,
 ) -> Result<(), AllocError>
     requires known { plan < length table.now }
-    requires before { AreCountedTo table.now leaves.now plan left.old }
-    ensures { OnOk result (AreCountedTo table.now leaves.now (plan + 1) left.new) }
+    requires before { AreCountedTo table.now leaves.now.all plan left.old }
+    ensures { OnOk result (AreCountedTo table.now leaves.now.all (plan + 1) left.new) }
 {
-    if leaves.find(plan).is_some() {
+    if leaves.is_kept(plan) {
         return Ok(());
     }
     match table.shape(PlanRef(plan)) {
@@ -68,9 +68,9 @@ fn count_next(
 fn counted(
     alloc: Global,
     table: &PlanTable,
-    leaves: &KeptColumns,
+    leaves: &LeafColumns,
 ) -> Result<BTreeMap<u32, u64>, AllocError>
-    ensures { IfOk result (AreCountedTo table.now leaves.now (length table.now)) }
+    ensures { IfOk result (AreCountedTo table.now leaves.now.all (length table.now)) }
 {
     let mut left = BTreeMap::new(alloc);
     for plan in 0..table.len() {
@@ -96,10 +96,10 @@ impl OpenSegments {
         &mut self,
         alloc: Global,
         table: &PlanTable,
-        leaves: &KeptColumns,
+        leaves: &LeafColumns,
     ) -> Result<(), AllocError>
-        requires { AreCounted table.now leaves.now self.old }
-        ensures { AreCounted table.now leaves.now self.new }
+        requires { AreCounted table.now leaves.now.all self.old }
+        ensures { AreCounted table.now leaves.now.all self.new }
     {
         if self.found {
             return Ok(());

@@ -3,8 +3,8 @@
 ghost use Rattle.std.specs.Prelude.{◌≡◌, ◌⊎◌, ◌-◌, ◌^◌, [], length, min, Some, None, OnOk, OnErr, MatchOption};
 ghost use Rattle.std.specs.Bool.{MatchBool};
 ghost use Rattle.std.specs.Option.{is_some};
-ghost use Rattle.vx_steps.specs.ReadTable.{IsWanted, HandsOut, IsGone, IsNamed, IsOutstanding, Delivers, KeepsStored, LetsGo, Passes, bytes_of, held_bytes};
-ghost use Rattle.vx_steps.specs.ReadTableData.{bytes_in, count_held};
+ghost use Rattle.vx_steps.specs.ReadTable.{IsWanted, HandsOut, IsGone, IsNamed, IsOutstanding, DeliversOf, KeepsStored, LetsAllGo, LetsGo, Passes, bytes_of, held_bytes};
+ghost use Rattle.vx_steps.specs.ReadTableData.{bytes_in, count_held, is_gone};
 
 use std::alloc::{AllocError, Global};
 use std::collections::BTreeMap;
@@ -56,7 +56,8 @@ impl SegmentBytes {
 
     /// Lets the bytes go, if they came.
     fn let_go(&mut self)
-        ensures { bytes_in self.new ≡ bytes_in self.old }
+        ensures bytes { bytes_in self.new ≡ bytes_in self.old }
+        ensures gone { is_gone self.new ≡ is_some (bytes_in self.old) }
     {
         let seen = match self {
             SegmentBytes::NotYet => return,
@@ -169,17 +170,19 @@ impl ReadTable {
         })
     }
 
-    /// Takes the bytes of an outstanding read, and says whether the read was outstanding. It takes no
-    /// memory.
-    pub(crate) fn deliver(&mut self, read: ReadId, bytes: Vec<u8>) -> bool
-        ensures { MatchBool result (Delivers read bytes.items self.old self.new) ((IsOutstanding self.old read → ⊥) × (self.new ≡ self.old)) }
+    /// Takes the bytes of an outstanding read, and gives its segment, if the read was outstanding. It takes no memory.
+    pub(crate) fn deliver(&mut self, read: ReadId, bytes: Vec<u8>) -> Option<u32>
+        ensures delivers { MatchOption result ((IsOutstanding self.old read → ⊥) × (self.new ≡ self.old)) (DeliversOf read bytes.items self.old self.new) }
+        ensures stored { self.new.stored ≡ self.old.stored }
+        ensures passed { self.new.passed ≡ self.old.passed }
     {
         let place = read.0 as usize;
         if place >= self.handed || self.wanted[place].bytes.came() {
-            return false;
+            return None;
         }
+        let segment = self.wanted[place].segment;
         self.wanted[place].bytes = SegmentBytes::Came(bytes);
-        true
+        Some(segment)
     }
 
     /// The bytes of a segment, where they came and were not let go.
@@ -223,6 +226,15 @@ impl ReadTable {
     {
         if let Some(found) = self.places.get(&segment) {
             let place = *found;
+            self.wanted[place].bytes.let_go();
+        }
+    }
+
+    /// Lets all bytes go that came.
+    pub(crate) fn let_all_go(&mut self)
+        ensures { LetsAllGo self.old self.new }
+    {
+        for place in 0..self.wanted.len() {
             self.wanted[place].bytes.let_go();
         }
     }

@@ -1,6 +1,6 @@
 //! The scan: it asks for segments, and gives the columns of its splits.
 
-ghost use Rattle.std.specs.Prelude.{◌≡◌, ◌<◌, ◌-◌, ◌^◌, [], length, map, min, true, false, Ok, IfOk, IfErr, IsErr, IsOk, MatchResult};
+ghost use Rattle.std.specs.Prelude.{◌≡◌, ℕ, ◌<◌, ◌-◌, ◌^◌, [], List, length, map, min, true, false, Some, Ok, IfOk, IfErr, IsErr, IsOk, MatchResult};
 ghost use Rattle.std.specs.List.{AllByRecursion};
 ghost use Rattle.vx_plan.specs.Refs.{number_of};
 ghost use Rattle.vx_plan.specs.Rules.{node_at};
@@ -10,19 +10,21 @@ ghost use Rattle.vx_steps.specs.Jobs.{AddsLeaves, IsUnstarted, KeepsBound, Keeps
 ghost use Rattle.vx_steps.specs.Kept.{kept_data, AreOfDistinctPlans};
 ghost use Rattle.vx_steps.specs.Leavings.{IsReadBehind};
 ghost use Rattle.vx_steps.specs.Offers.{IsForLeaf, IsForPlan, Keeps};
-ghost use Rattle.vx_steps.specs.ReadTable.{IsOutstanding, held_bytes};
+ghost use Rattle.vx_steps.specs.Needs.{Among};
+ghost use Rattle.vx_steps.specs.Asked.{AreEachOnce};
+ghost use Rattle.vx_steps.specs.ReadTable.{bytes_of, held_bytes, IsGone, IsOutstanding};
 ghost use Rattle.vx_steps.specs.ScanData.{IsNew, IsOfHanded, StaysTold, TakesBytes};
 ghost use Rattle.vx_steps.specs.Splits.{IsInside};
-ghost use Rattle.vx_steps.specs.Steps.{active_in, GoesOn, IsStepRefusal, TakesTurn, work_left};
+ghost use Rattle.vx_steps.specs.Steps.{active_in, GoesOn, HasCame, IsReadByRest, IsStepRefusal, ServesRest, TakesTurn, work_left};
 ghost use Rattle.vx_steps.specs.Wants.{Grows};
 ghost use Rattle.vx_steps.specs.Wholes.{UsesGiven};
 
 use crate::errors::{DeliverError, StepError};
 use crate::jobs::{Job, Progress};
 use crate::kept::{KeptColumns, KeptValue};
+use crate::leaf_stores::LeafStore;
 use crate::leavings::{ScanKept, leaves_behind};
 use crate::offers::{for_leaves, for_plans};
-use crate::open_segments::OpenSegments;
 use crate::progress::{Turn, next_turn};
 use crate::reads::ReadId;
 use crate::splits::{ScanBuildError, Split, check_splits};
@@ -37,7 +39,6 @@ pub struct Scan<'a> {
     alloc: Global,
     table: &'a PlanTable,
     job: Job,
-    segments: OpenSegments,
     progress: Progress,
     refused: bool,
 }
@@ -52,12 +53,13 @@ impl<'a> Model for Scan<'a> {
 
     ghost coded = { Prim.hlevel (codes, coded_nodes, coded_kept_list) };
 
-    ghost use Rattle.vx_steps.specs.Jobs.{IsGood};
-    ghost use Rattle.vx_steps.specs.OpenSegments.{AreCounted};
+    ghost use Rattle.std.specs.Prelude.{◌≡◌, true, false};
+    ghost use Rattle.vx_steps.specs.Running.{IsEmptied, IsRunning, IsSound};
+    ghost use Rattle.vx_steps.specs.Standings.{standing_of};
 
-    ghost view = { λ a. record { nodes = a.table.now; job = a.job; progress = a.progress; refused = a.refused } };
+    ghost view = { λ a. record { nodes = a.table.now; job = a.job; progress = standing_of a.progress; refused = a.refused } };
 
-    ghost invariant = { λ a. IsGood a.table.now a.job a.progress × AreCounted a.table.now a.progress.leaves a.segments };
+    ghost invariant = { λ a. IsSound a.table.now a.job a.progress × ((a.refused ≡ false → IsRunning a.table.now a.job a.progress) × (a.refused ≡ true → IsEmptied a.progress)) };
 }
 
 impl<'a> Scan<'a> {
@@ -78,7 +80,6 @@ impl<'a> Scan<'a> {
             alloc,
             table,
             job: Job::new(alloc, plan.0, splits),
-            segments: OpenSegments::new(alloc),
             progress: Progress::new(alloc),
             refused: false,
         })
@@ -94,12 +95,17 @@ impl<'a> Scan<'a> {
     }
 
     /// The scan, with the offset added to the numbers of rows. Whole values that were made, or handed in by `with_made`,
-    /// are dropped, since they are of the former offset: so it is called before `with_made`. It takes no memory.
+    /// are dropped, since they are of the former offset: so it is called before `with_made`. While a split is active, whose
+    /// rows ask for those that were made, the scan stays as it is. It takes no memory.
     pub fn with_row_offset(mut self, offset: u64) -> Scan<'a>
         requires { FitsOffset self.nodes offset }
-        ensures scan { result ≡ record self.entry { job = record self.entry.job { offset = offset }; progress = record self.entry.progress { wholes = record self.entry.progress.wholes { made = [] } } } }
+        ensures scan { self.entry.progress.started ≡ [] → result ≡ record self.entry { job = record self.entry.job { offset = offset }; progress = record self.entry.progress { wholes = record self.entry.progress.wholes { made = [] } } } }
+        ensures active { (self.entry.progress.started ≡ [] → ⊥) → result ≡ self.entry }
         ensures told { StaysTold self.entry result }
     {
+        if !self.progress.active.is_empty() {
+            return self;
+        }
         self.job.offset = offset;
         let made = KeptColumns::new(self.alloc);
         self.progress.hand_in_made(made);
@@ -137,9 +143,8 @@ impl<'a> Scan<'a> {
             drop(leaves);
             return self;
         }
-        let leaves = KeptColumns::of(self.alloc, for_leaves(self.table, leaves));
-        self.progress.hand_in(leaves);
-        self.segments = OpenSegments::new(self.alloc);
+        let store = LeafStore::of(self.alloc, for_leaves(self.table, leaves));
+        self.progress.hand_in(store);
         self
     }
 
@@ -169,12 +174,18 @@ impl<'a> Scan<'a> {
         self
     }
 
-    /// Takes the bytes of a read that is outstanding. It takes no memory.
+    /// Takes the bytes of a read that is outstanding. After a refusal they are let go at once. It takes no memory.
     pub fn deliver(&mut self, read: ReadId, bytes: Vec<u8>) -> Result<(), DeliverError>
         ensures { MatchResult result (λ _. TakesBytes read bytes.items self.old self.new) (λ _. (IsOutstanding self.old.progress.reads read → ⊥) × (self.new ≡ self.old)) }
     {
-        if !self.progress.reads.deliver(read, bytes) {
-            return Err(DeliverError::UnknownRead);
+        let segment = match self.progress.reads.deliver(read, bytes) {
+            Some(segment) => segment,
+            None => return Err(DeliverError::UnknownRead),
+        };
+        if self.refused {
+            self.progress.reads.let_go(segment);
+        } else {
+            self.progress.needed.held.insert(segment);
         }
         Ok(())
     }
@@ -192,6 +203,22 @@ impl<'a> Scan<'a> {
         ensures { result ≡ min (held_bytes self.now.progress.reads.wanted self.now.progress.reads.stored) (2 ^ 64 - 1) }
     {
         self.progress.reads.held_bytes()
+    }
+
+    /// The segments of which the scan keeps bytes or decoded rows for rows to come, each once, in some order; whole values are
+    /// apart, and so are columns of leaves that are kept for `into_leaves` alone. It takes no memory.
+    pub fn held(&self) -> &[u32]
+        ensures held { result.now ≡ self.now.progress.held }
+        ensures once { AreEachOnce self.now.progress.held }
+        ensures bytes { (segment : ℕ) (bytes : List ℕ) → bytes_of self.now.progress.reads.wanted segment ≡ Some bytes → (IsGone self.now.progress.reads.stored segment → ⊥) → Among segment self.now.progress.held }
+        ensures read { self.now.refused ≡ false → (segment : ℕ) → Among segment self.now.progress.held → IsReadByRest self.now.nodes self.now.job self.now.progress segment }
+        ensures delivered { self.now.refused ≡ false → (segment : ℕ) (bytes : List ℕ) → bytes_of self.now.progress.reads.wanted segment ≡ Some bytes → IsReadByRest self.now.nodes self.now.job self.now.progress segment → Among segment self.now.progress.held }
+        ensures came { (segment : ℕ) → Among segment self.now.progress.held → HasCame self.now.nodes self.now.progress.reads.wanted self.now.progress.leaves segment }
+        ensures refused { self.now.refused ≡ true → self.now.progress.held ≡ [] }
+        ensures served { self.now.refused ≡ false → ServesRest self.now.nodes self.now.job self.now.progress }
+    {
+        self.table.keeps_rules();
+        self.progress.needed.held.as_slice()
     }
 
     /// The values that were handed in and used, each once. They are copies: the call lends a list, and the values stay
@@ -224,22 +251,24 @@ impl<'a> Scan<'a> {
             alloc,
             table,
             job,
-            segments,
             progress,
             ..
         } = self;
-        drop(segments);
         let Progress {
             active,
             reads,
-            leaves,
+            store,
             wholes,
+            needed,
             ..
         } = progress;
+        let LeafStore { columns, segments } = store;
+        drop(segments);
         drop(active);
         drop(reads);
+        drop(needed);
         drop(wholes);
-        let leaves = leaves_behind(alloc, table, &job, leaves);
+        let leaves = leaves_behind(alloc, table, &job, columns);
         drop(job);
         leaves
     }
@@ -261,22 +290,24 @@ impl<'a> Scan<'a> {
             alloc,
             table,
             job,
-            segments,
             progress,
             ..
         } = self;
-        drop(segments);
         let Progress {
             active,
             reads,
-            leaves,
+            store,
             wholes,
+            needed,
             ..
         } = progress;
+        let LeafStore { columns, segments } = store;
+        drop(segments);
         drop(active);
         drop(reads);
+        drop(needed);
         let Wholes { made, used } = wholes;
-        let leaves = leaves_behind(alloc, table, &job, leaves);
+        let leaves = leaves_behind(alloc, table, &job, columns);
         drop(job);
         ScanKept {
             leaves,
@@ -291,14 +322,19 @@ impl<'a> Scan<'a> {
     /// - `Done`: no split is left. A split that selects no row is never one of those that are left.
     /// - `Read`: the next wanted segment is to be read, and its bytes delivered under that number. Each segment is handed
     ///   out once, and its bytes serve each leaf that names it.
-    /// - `Output`: the column of an active split whose needed bytes all came, which then is active no more. Splits are
-    ///   given in whatever order their bytes come.
-    /// - `Waiting`: all wanted segments were handed out, and each active split needs bytes that did not come.
+    /// - `Output`: the column of the next selected rows of an active split, as many as are ready: all that they read is there,
+    ///   and all that the whole values read which the split asks for. A split whose last selected row is given is active
+    ///   no more. Of several the one that was started first gives its rows, so that splits are given in whatever order
+    ///   their bytes come, and each split's rows in their order.
+    /// - `Waiting`: all wanted segments were handed out, and the next selected row of each active split, or the whole values
+    ///   that the split asks for, read bytes that did not come.
+    ///
+    /// What no row to come reads is let go: bytes, and columns of leaves, unless the row behind the splits reads them.
     ///
     /// # Errors
     ///
     /// A refusal names what an active split comes to: `Unsupported` a list of which it reads a row, `BadSegment` a
-    /// segment whose delivered bytes spell no rows of a leaf that it reads, `BadCode` a code that is neither null nor the
+    /// segment whose delivered bytes spell no rows of a leaf that it reads, once the rows in front of it were given, `BadCode` a code that is neither null nor the
     /// place of a value, `EvalFault` a row at which an expression is a fault. Want of memory, `Memory`, is a refusal like
     /// these. None is tried again: later steps answer `Done`, whatever is left. What was made, used and decoded until
     /// then stays.
@@ -318,20 +354,18 @@ impl<'a> Scan<'a> {
         ensures cause { IfErr result (IsStepRefusal self.old.nodes self.old.job self.old.progress self.new.progress) }
         ensures refused { IsErr result → self.new.refused ≡ true }
         ensures not_refused { IsOk result → self.new.refused ≡ self.old.refused }
+        ensures held { (segment : ℕ) → Among segment self.new.progress.held → IsReadByRest self.old.nodes self.old.job self.new.progress segment }
+        ensures none_held { result ≡ Ok Done → self.new.progress.held ≡ [] }
+        ensures let_go { IsErr result → self.new.progress.held ≡ [] }
     {
         if self.refused {
             return Ok(Turn::Done);
         }
-        match next_turn(
-            self.alloc,
-            self.table,
-            &mut self.job,
-            &mut self.segments,
-            &mut self.progress,
-        ) {
+        match next_turn(self.alloc, self.table, &mut self.job, &mut self.progress) {
             Ok(turn) => Ok(turn),
             Err(error) => {
                 self.refused = true;
+                self.progress.let_all_go();
                 Err(error)
             }
         }

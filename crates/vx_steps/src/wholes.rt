@@ -3,32 +3,28 @@
 
 ghost use Rattle.std.specs.Prelude.{◌≡◌, ◌+◌, ◌-◌, ◌<◌, ◌≤◌, length, slice_range, Err, None, IfErr, IfOk, IsTrue, OnOk};
 ghost use Rattle.std.specs.Bool.{MatchBool};
-ghost use Rattle.vx_plan.specs.declared.shapes.Shape.TheVariants.{Chunks};
-ghost use Rattle.vx_plan.specs.Kinds.{HasKind, IsPack};
 ghost use Rattle.vx_plan.specs.Rules.{node_at};
-ghost use Rattle.vx_plan.specs.Shapes.{HasShape};
 ghost use Rattle.vx_plan.specs.Tables.{IsGoodTable};
-ghost use Rattle.vx_steps.specs.Computed.{AreReady, AreReadyWhole, Computes};
+ghost use Rattle.vx_steps.specs.Computed.{AreReadyWhole, Computes};
 ghost use Rattle.vx_steps.specs.Held.{held, IsHeld};
 ghost use Rattle.vx_steps.specs.Kept.{kept_at, IsKept};
-ghost use Rattle.vx_steps.specs.Wholes.{held_with, AddsAsked, AddsOne, AddsOnly, AreThere, AsksNone, FailsInside, IsThere, IsWholeOf, KeepsValues, UsesGiven, WholeFails};
+ghost use Rattle.vx_steps.specs.Wholes.{held_with, AddsAsked, AreReadyInside, AddsOne, AddsOnly, AreThere, AsksNone, FailsInside, IsThere, IsWholeOf, KeepsValues, UsesGiven, WholeFails};
 
-use crate::chunks::chunk_at;
 use crate::computing::{Sources, whole_of_plan};
 use crate::errors::StepError;
 use crate::kept::KeptColumns;
+use crate::leaf_columns::LeafColumns;
 use crate::picking::selects_none;
 use std::alloc::{AllocError, Global};
-use std::ops::Range;
 use vx_base::Mask;
-use vx_plan::{PlanRef, PlanTable, Shape};
+use vx_plan::{ChildRows, Part, PartPlace, PlanRef, PlanTable, Shape};
 
 /// What whole values are made from: the plans, the columns of their leaves, the whole values that were handed in, and
 /// what is added to the numbers of rows.
 #[derive(Clone, Copy)]
 pub(crate) struct Grounds<'a> {
     pub(crate) table: &'a PlanTable,
-    pub(crate) leaves: &'a KeptColumns,
+    pub(crate) leaves: &'a LeafColumns,
     pub(crate) given: &'a KeptColumns,
     pub(crate) offset: u64,
 }
@@ -90,7 +86,7 @@ fn ready_whole(
     requires same { IsWholeOf grounds.table.now number plan }
     requires held { IsHeld (held_with grounds wholes.old) }
     requires ready { kept_at grounds.given.now number ≡ None → AreReadyWhole (held_with grounds wholes.old) plan }
-    ensures made { KeepsValues grounds.entry.table.now grounds.entry.leaves.now grounds.entry.offset wholes.old.made wholes.new.made }
+    ensures made { KeepsValues grounds.entry.table.now grounds.entry.leaves.now.here grounds.entry.offset wholes.old.made wholes.new.made }
     ensures used { UsesGiven grounds.entry.given.now wholes.old.used wholes.new.used }
     ensures there { OnOk result (IsThere grounds.entry.given.now wholes.new number) }
     ensures one { AddsOne number wholes.old wholes.new }
@@ -124,8 +120,8 @@ pub(crate) fn ready_wholes(
     requires known { plan < length grounds.table.now }
     requires inside { start + length mask.now ≤ (node_at grounds.table.now plan).rows }
     requires held { IsHeld (held_with grounds wholes.old) }
-    requires ready { AreReady (held_with grounds wholes.old) plan start mask.now }
-    ensures made { KeepsValues grounds.entry.table.now grounds.entry.leaves.now grounds.entry.offset wholes.old.made wholes.new.made }
+    requires ready { AreReadyInside (held_with grounds wholes.old) plan start mask.now }
+    ensures made { KeepsValues grounds.entry.table.now grounds.entry.leaves.now.here grounds.entry.offset wholes.old.made wholes.new.made }
     ensures used { UsesGiven grounds.entry.given.now wholes.old.used wholes.new.used }
     ensures there { OnOk result (AreThere grounds.entry.table.now grounds.entry.given.now wholes.new plan start mask.now) }
     ensures asked { AddsAsked grounds.entry.table.now grounds.entry.given.now plan start mask.now wholes.old wholes.new }
@@ -135,147 +131,72 @@ pub(crate) fn ready_wholes(
     if selects_none(mask) {
         return Ok(());
     }
-    match grounds.table.shape(PlanRef(plan)) {
-        Shape::Leaf(_) => Ok(()),
-        Shape::RowNumbers => Ok(()),
-        Shape::Lists => Ok(()),
-        Shape::Same(child) => ready_wholes(alloc, grounds, child, start, mask, wholes),
-        Shape::Over(child) => ready_wholes(alloc, grounds, child, start, mask, wholes),
-        Shape::Zoned(content, _) => ready_wholes(alloc, grounds, content, start, mask, wholes),
-        Shape::Chunks => ready_chunks(alloc, grounds, plan, start, mask, wholes),
-        Shape::Fields(_) => ready_fields(alloc, grounds, plan, start, mask, wholes),
-        Shape::LookUp(codes, values) => {
-            match ready_wholes(alloc, grounds, codes, start, mask, wholes) {
-                Ok(()) => ready_whole(alloc, grounds, values, values, wholes),
-                Err(error) => Err(error),
+    if let Shape::Leaf(_) = grounds.table.shape(PlanRef(plan)) {
+        return Ok(());
+    }
+    let mut place = PartPlace::first();
+    while let Some(next) = grounds
+        .table
+        .next_part(PlanRef(plan), start, mask.len(), place)
+    {
+        match next.part {
+            Part::Rows(rows) => match ready_child_rows(alloc, grounds, rows, mask, wholes) {
+                Ok(()) => {}
+                Err(error) => return Err(error),
+            },
+            Part::Whole(number, child) => {
+                match ready_whole(alloc, grounds, number, child, wholes) {
+                    Ok(()) => {}
+                    Err(error) => return Err(error),
+                }
             }
         }
-        Shape::Shared(child) => ready_whole(alloc, grounds, plan, child, wholes),
-    }
-}
-
-/// Makes the whole values that the selected rows of each child ask for.
-#[cycle(wholes)]
-fn ready_fields(
-    alloc: Global,
-    grounds: Grounds<'_>,
-    plan: u32,
-    start: u64,
-    mask: &Mask,
-    wholes: &mut Wholes,
-) -> Result<(), StepError>
-    requires good { IsGoodTable grounds.table.now }
-    requires known { HasKind IsPack grounds.table.now plan }
-    requires inside { start + length mask.now ≤ (node_at grounds.table.now plan).rows }
-    requires held { IsHeld (held_with grounds wholes.old) }
-    requires ready { AreReady (held_with grounds wholes.old) plan start mask.now }
-    ensures made { KeepsValues grounds.entry.table.now grounds.entry.leaves.now grounds.entry.offset wholes.old.made wholes.new.made }
-    ensures used { UsesGiven grounds.entry.given.now wholes.old.used wholes.new.used }
-    ensures there { OnOk result (AreThere grounds.entry.table.now grounds.entry.given.now wholes.new plan start mask.now) }
-    ensures asked { AddsAsked grounds.entry.table.now grounds.entry.given.now plan start mask.now wholes.old wholes.new }
-    ensures cause { IfErr result (λ error. Computes (held_with grounds.entry wholes.old) plan start mask.now (Err error)) }
-    ensures inside { IfErr result (λ error. FailsInside (held_with grounds.entry wholes.old) plan start mask.now error) }
-{
-    for place in 0..grounds.table.child_count(PlanRef(plan)) {
-        let child = grounds.table.child_required(PlanRef(plan), place);
-        match ready_wholes(alloc, grounds, child.0, start, mask, wholes) {
-            Ok(()) => {}
-            Err(error) => return Err(error),
-        }
+        place = next.behind;
     }
     Ok(())
 }
 
-/// Makes the whole values that the selected rows of a concat ask for: it enters each child that holds a row of the
-/// range, found by a search in the offsets.
-#[cycle(wholes)]
-fn ready_chunks(
-    alloc: Global,
-    grounds: Grounds<'_>,
-    plan: u32,
-    start: u64,
-    mask: &Mask,
-    wholes: &mut Wholes,
-) -> Result<(), StepError>
-    requires good { IsGoodTable grounds.table.now }
-    requires known { plan < length grounds.table.now }
-    requires concat { HasShape grounds.table.now plan Chunks }
-    requires inside { start + length mask.now ≤ (node_at grounds.table.now plan).rows }
-    requires held { IsHeld (held_with grounds wholes.old) }
-    requires ready { AreReady (held_with grounds wholes.old) plan start mask.now }
-    ensures made { KeepsValues grounds.entry.table.now grounds.entry.leaves.now grounds.entry.offset wholes.old.made wholes.new.made }
-    ensures used { UsesGiven grounds.entry.given.now wholes.old.used wholes.new.used }
-    ensures there { OnOk result (AreThere grounds.entry.table.now grounds.entry.given.now wholes.new plan start mask.now) }
-    ensures asked { AddsAsked grounds.entry.table.now grounds.entry.given.now plan start mask.now wholes.old wholes.new }
-    ensures cause { IfErr result (λ error. Computes (held_with grounds.entry wholes.old) plan start mask.now (Err error)) }
-    ensures inside { IfErr result (λ error. FailsInside (held_with grounds.entry wholes.old) plan start mask.now error) }
-{
-    grounds.table.numbers_fit(PlanRef(plan));
-    let mut done: u64 = 0;
-    let mut place: usize = 0;
-    while done < mask.len() {
-        let row = start + done;
-        let chunk = chunk_at(grounds.table, plan, row, place);
-        let here = (chunk.end - row).min(mask.len() - done);
-        match ready_range(
-            alloc,
-            grounds,
-            chunk.child,
-            row - chunk.start,
-            mask,
-            done..done + here,
-            wholes,
-        ) {
-            Ok(()) => {}
-            Err(error) => return Err(error),
-        }
-        done += here;
-        place = chunk.next;
-    }
-    Ok(())
-}
-
-/// Whether no row of the plan asks for whole values, since there is no plan below it.
+/// Whether no row of the plan asks for whole values, since there is no plan below it but one that has the same rows.
+#[cycle(asking)]
 pub(crate) fn asks_none(table: &PlanTable, plan: u32) -> bool
     requires { plan < length table.now }
     ensures { IsTrue result → AsksNone table.now plan }
 {
-    matches!(
-        table.shape(PlanRef(plan)),
-        Shape::Leaf(_) | Shape::RowNumbers | Shape::Lists
-    )
+    match table.shape(PlanRef(plan)) {
+        Shape::Leaf(_) | Shape::RowNumbers | Shape::Lists => true,
+        Shape::Same(child) => asks_none(table, child),
+        _ => false,
+    }
 }
 
-/// Makes the whole values that the rows ask for which a range of a mask selects.
+/// Makes the whole values that rows of a child ask for which the mask selects at their places.
 #[cycle(wholes)]
-fn ready_range(
+fn ready_child_rows(
     alloc: Global,
     grounds: Grounds<'_>,
-    plan: u32,
-    start: u64,
+    rows: ChildRows,
     mask: &Mask,
-    range: Range<u64>,
     wholes: &mut Wholes,
 ) -> Result<(), StepError>
-    requires known { plan < length grounds.table.now }
-    requires forwards { range.start ≤ range.end }
-    requires masked { range.end ≤ length mask.now }
-    requires inside { start + (range.end - range.start) ≤ (node_at grounds.table.now plan).rows }
+    requires known { rows.child < length grounds.table.now }
+    requires forwards { rows.from ≤ rows.to }
+    requires asked { rows.to ≤ length mask.now }
+    requires inside { rows.start + (rows.to - rows.from) ≤ (node_at grounds.table.now rows.child).rows }
     requires held { IsHeld (held_with grounds wholes.old) }
-    requires ready { AreReady (held_with grounds wholes.old) plan start (slice_range mask.now range.start range.end) }
-    ensures made { KeepsValues grounds.entry.table.now grounds.entry.leaves.now grounds.entry.offset wholes.old.made wholes.new.made }
+    requires ready { AreReadyInside (held_with grounds wholes.old) rows.child rows.start (slice_range mask.now rows.from rows.to) }
+    ensures made { KeepsValues grounds.entry.table.now grounds.entry.leaves.now.here grounds.entry.offset wholes.old.made wholes.new.made }
     ensures used { UsesGiven grounds.entry.given.now wholes.old.used wholes.new.used }
-    ensures there { OnOk result (AreThere grounds.entry.table.now grounds.entry.given.now wholes.new plan start (slice_range mask.now range.start range.end)) }
-    ensures asked { AddsAsked grounds.entry.table.now grounds.entry.given.now plan start (slice_range mask.now range.start range.end) wholes.old wholes.new }
-    ensures cause { IfErr result (λ error. Computes (held_with grounds.entry wholes.old) plan start (slice_range mask.now range.start range.end) (Err error)) }
-    ensures inside { IfErr result (λ error. FailsInside (held_with grounds.entry wholes.old) plan start (slice_range mask.now range.start range.end) error) }
+    ensures there { OnOk result (AreThere grounds.entry.table.now grounds.entry.given.now wholes.new rows.child rows.start (slice_range mask.now rows.from rows.to)) }
+    ensures asked { AddsAsked grounds.entry.table.now grounds.entry.given.now rows.child rows.start (slice_range mask.now rows.from rows.to) wholes.old wholes.new }
+    ensures cause { IfErr result (λ error. Computes (held_with grounds.entry wholes.old) rows.child rows.start (slice_range mask.now rows.from rows.to) (Err error)) }
+    ensures inside { IfErr result (λ error. FailsInside (held_with grounds.entry wholes.old) rows.child rows.start (slice_range mask.now rows.from rows.to) error) }
 {
-    if let Shape::Same(child) = grounds.table.shape(PlanRef(plan)) {
-        return ready_range(alloc, grounds, child, start, mask, range, wholes);
+    if rows.from == 0 && rows.to == mask.len() {
+        return ready_wholes(alloc, grounds, rows.child, rows.start, mask, wholes);
     }
-    if asks_none(grounds.table, plan) {
+    if asks_none(grounds.table, rows.child) {
         return Ok(());
     }
-    let some = mask.slice(alloc, range)?;
-    ready_wholes(alloc, grounds, plan, start, &some, wholes)
+    let some = mask.slice(alloc, rows.from..rows.to)?;
+    ready_wholes(alloc, grounds, rows.child, rows.start, &some, wholes)
 }

@@ -1,13 +1,19 @@
-use Rattle.std.proofs.Common.{arith, ◌≡◌, ◌<◌, ℕ, List, Bool, None, true, replicate, ap, ◌∙◌, subst}
-use Rattle.std.specs.Prelude.{option_map}
+use Rattle.std.proofs.Common.{arith, ◌≡◌, ℕ, ◌∷◌, List, Bool, Option, None, true, replicate, ap, ◌∙◌, subst, length}
+use Rattle.std.specs.Prelude.{option_map, slice_range}
 use Rattle.std.proofs.lemmas.Result.{on_ok_weaker}
+use Rattle.vx_plan.specs.declared.parts.Part.TheVariants as parts
+use Rattle.vx_plan.specs.Parts.{parts_left, parts_of}
 use Rattle.vx_plan.specs.Rules.{node_at}
-use Rattle.vx_plan.proofs.Collecting.{field_part}
+use Rattle.vx_steps.specs.declared.leaf_reads.LeafRead.{LeafRead}
 use Rattle.vx_steps.specs.Given.{handed_by}
+use Rattle.vx_steps.specs.KeptData.{Kept}
 use Rattle.vx_steps.specs.Needs.{Adds}
-use Rattle.vx_steps.proofs.ChunkRows.{concat_plan_at}
-use Rattle.vx_steps.proofs.Selecting.{Reads, chunk_reads, chunks_done, field_more, fields_done, given_reads, leaf_reads, over_reads, same_reads, share_reads, take_reads, whole_reads, zoned_reads}
-use Rattle.vx_steps.proofs.Shaping.{leaf_plan, over_plan, pack_plan_at, same_law, share_plan_at, take_plan_at, zoned_law}
+use Rattle.vx_steps.specs.PartVisits.{PartsVisit}
+use Rattle.vx_steps.specs.Visits.{IsLeafRead}
+use Rattle.vx_steps.proofs.Parts.{all_rows_taken, next_adds, parts_done, parts_read}
+use Rattle.vx_steps.proofs.Selecting.{Reads, leaf_reads, whole_reads}
+use Rattle.vx_steps.proofs.Shaping.{leaf_plan}
+use Rattle.vx_steps.proofs.leaf_reads.+leaf_reads.Goals.{add_reads-in-Rows+in_ok-add_row_reads-in-Rows, add_reads-in-Whole+in_ok-add_whole_reads-in-Whole}
 use Rattle.vx_steps.proofs.leaf_reads.+leaf_reads.Goals as goal
 
 pub add_reads-returns-in-Leaf-clause-added : goal.add_reads-returns-in-Leaf-clause-added
@@ -16,23 +22,48 @@ add_reads-returns-in-Leaf-clause-added g c =
     let added = leaf_reads c.args.table.now handed c.args.plan c.in-Leaf.segment c.args.start c.args.mask.now (leaf_plan c.args.table.now c.args.plan c.in-Leaf.segment c.requires.known c.in-Leaf.ensures.shape) c.if-selects_none.ensures c.args.reads.now.items in
     on_ok_weaker c.add_leaf.result (λ items. rw items added) c.add_leaf.ensures
 
-pub add_reads-returns-in-Same-clause-added : goal.add_reads-returns-in-Same-clause-added
-add_reads-returns-in-Same-clause-added g c = on_ok_weaker c.add_reads.result (same_reads c.args.table.now (handed_by c.args.table.now (option_map (λ kept. kept.now) c.args.given)) c.args.plan c.in-Same.child c.args.start c.args.mask.now (same_law c.args.table.now c.args.plan c.in-Same.child c.requires.known c.in-Same.ensures.shape) c.args.reads.now.items c.add_reads.new.reads.items) c.add_reads.ensures.added
+pub add_reads-loop-next-preserved : goal.add_reads-loop-next-preserved
+add_reads-loop-next-preserved g c =
+    let nodes = c.args.table.now in
+    let given : Option (List Kept) = option_map (λ kept. kept.now) c.args.given in
+    let left = parts_left nodes c.args.plan c.args.start (length c.args.mask.now) c.loop-next.place in
+    let behind = parts_left nodes c.args.plan c.args.start (length c.args.mask.now) c.in-Some.next.behind in
+    let Goal : List LeafRead → Type 0 = λ new. Adds (λ read. PartsVisit (IsLeafRead read) nodes given c.args.mask.now (parts_of nodes c.args.plan c.args.start (length c.args.mask.now))) c.args.reads.now.items new in
+    let first : left ≡ c.in-Some.next.part ∷ behind = rw c.len.ensures at c.in-Some.ensures.left in
+    elim c.match-next.branch [
+      | add_reads-in-Rows+in_ok-add_row_reads-in-Rows w ↦ rw w.reads-is (record {
+        added = next_adds IsLeafRead nodes given c.args.mask.now left behind c.in-Some.next.part (parts.Rows w.in-Rows.rows) first w.in-Rows.is Goal c.loop-next.reads.items w.add_row_reads.new.reads.items c.loop-next.invariant.added w.in_ok-add_row_reads-in-Rows.ensures.added;
+        leaves = λ h. w.in_ok-add_row_reads-in-Rows.ensures.leaves (c.loop-next.invariant.leaves h);
+      })
+      | add_reads-in-Whole+in_ok-add_whole_reads-in-Whole w ↦ rw w.reads-is (record {
+        added = next_adds IsLeafRead nodes given c.args.mask.now left behind c.in-Some.next.part (parts.Whole w.in-Whole.whole w.in-Whole.child) first w.in-Whole.is Goal c.loop-next.reads.items w.add_whole_reads.new.reads.items c.loop-next.invariant.added w.in_ok-add_whole_reads-in-Whole.ensures.added;
+        leaves = λ h. w.in_ok-add_whole_reads-in-Whole.ensures.leaves (c.loop-next.invariant.leaves h);
+      })
+    ]
 
-pub add_reads-returns-in-Over-clause-added : goal.add_reads-returns-in-Over-clause-added
-add_reads-returns-in-Over-clause-added g c = on_ok_weaker c.add_reads-in-Over.result (over_reads c.args.table.now (handed_by c.args.table.now (option_map (λ kept. kept.now) c.args.given)) c.args.plan c.in-Over.child c.args.start c.args.mask.now (over_plan c.args.table.now c.in-Over.ensures.good c.args.plan c.in-Over.child c.requires.known c.in-Over.ensures.shape) c.args.reads.now.items c.add_reads-in-Over.new.reads.items) c.add_reads-in-Over.ensures.added
+pub add_reads-returns : goal.add_reads-returns
+add_reads-returns g c =
+    let nodes = c.args.table.now in
+    let given : Option (List Kept) = option_map (λ kept. kept.now) c.args.given in
+    let Goal : List LeafRead → Type 0 = λ new. Adds (λ read. PartsVisit (IsLeafRead read) nodes given c.args.mask.now (parts_of nodes c.args.plan c.args.start (length c.args.mask.now))) c.args.reads.now.items new in
+    record {
+      added = parts_read nodes c.shape.ensures.good given c.args.plan c.requires.known c.shape.result c.shape.ensures.shape c.in_default.not-Leaf c.args.start c.args.mask.now c.if-selects_none.ensures c.args.reads.now.items c.loop-next.reads.items
+          (parts_done IsLeafRead nodes given c.args.mask.now (parts_left nodes c.args.plan c.args.start (length c.args.mask.now) c.loop-next.place) (rw c.len.ensures at c.in_default-next_part.ensures) Goal c.loop-next.reads.items c.loop-next.invariant.added);
+      leaves = c.loop-next.invariant.leaves;
+    }
 
-pub add_reads-returns-in-Zoned-clause-added : goal.add_reads-returns-in-Zoned-clause-added
-add_reads-returns-in-Zoned-clause-added g c = on_ok_weaker c.add_reads-in-Zoned.result (zoned_reads c.args.table.now (handed_by c.args.table.now (option_map (λ kept. kept.now) c.args.given)) c.args.plan c.in-Zoned.content c.in-Zoned.field-1 c.args.start c.args.mask.now (zoned_law c.args.table.now c.args.plan c.in-Zoned.content c.in-Zoned.field-1 c.requires.known c.in-Zoned.ensures.shape) c.args.reads.now.items c.add_reads-in-Zoned.new.reads.items) c.add_reads-in-Zoned.ensures.added
+pub add_row_reads-returns-then-rows-len-clause-added : goal.add_row_reads-returns-then-rows-len-clause-added
+add_row_reads-returns-then-rows-len-clause-added g c =
+    let nodes = c.args.table.now in
+    let handed = handed_by nodes (option_map (λ kept. kept.now) c.args.given) in
+    let same : c.args.mask.now ≡ slice_range c.args.mask.now c.args.rows.from c.args.rows.to = all_rows_taken c.args.mask.now c.args.rows.from c.args.rows.to (omega arith) (omega arith) in
+    on_ok_weaker c.add_reads.result (λ h. let F : List Bool → Type 0 = λ bits. Adds (Reads nodes handed c.args.rows.child c.args.rows.start bits) c.args.reads.now.items c.add_reads.new.reads.items in subst F same h) c.add_reads.ensures.added
 
-pub add_reads-returns-in_ok-add_reads-in-LookUp-clause-added : goal.add_reads-returns-in_ok-add_reads-in-LookUp-clause-added
-add_reads-returns-in_ok-add_reads-in-LookUp-clause-added g c = on_ok_weaker c.add_whole_reads.result (take_reads c.args.table.now (option_map (λ kept. kept.now) c.args.given) c.args.plan c.in-LookUp.codes c.in-LookUp.values c.args.start c.args.mask.now (take_plan_at c.args.table.now c.in-LookUp.ensures.good c.args.plan c.in-LookUp.codes c.in-LookUp.values c.requires.known c.in-LookUp.ensures.shape) c.if-selects_none.ensures c.args.reads.now.items c.add_reads-in-LookUp.new.reads.items c.add_whole_reads.new.reads.items c.in_ok-add_reads-in-LookUp.ensures.added) c.add_whole_reads.ensures.added
-
-pub add_reads-returns-in-Shared-clause-added : goal.add_reads-returns-in-Shared-clause-added
-add_reads-returns-in-Shared-clause-added g c = on_ok_weaker c.add_whole_reads-in-Shared.result (share_reads c.args.table.now (option_map (λ kept. kept.now) c.args.given) c.args.plan c.in-Shared.child c.args.start c.args.mask.now (share_plan_at c.args.table.now c.in-Shared.ensures.good c.args.plan c.in-Shared.child c.requires.known c.in-Shared.ensures.shape) c.if-selects_none.ensures c.args.reads.now.items c.add_whole_reads-in-Shared.new.reads.items) c.add_whole_reads-in-Shared.ensures.added
-
-pub add_whole_reads-returns-then-is_handed-clause-added : goal.add_whole_reads-returns-then-is_handed-clause-added
-add_whole_reads-returns-then-is_handed-clause-added g c = given_reads c.args.table.now (option_map (λ kept. kept.now) c.args.given) c.args.whole c.args.plan c.if-is_handed.ensures c.args.reads.now.items
+pub add_row_reads-returns-clause-added : goal.add_row_reads-returns-clause-added
+add_row_reads-returns-clause-added g c =
+    let nodes = c.args.table.now in
+    let handed = handed_by nodes (option_map (λ kept. kept.now) c.args.given) in
+    on_ok_weaker c.add_reads-2.result (λ h. let F : List Bool → Type 0 = λ bits. Adds (Reads nodes handed c.args.rows.child c.args.rows.start bits) c.args.reads.now.items c.add_reads-2.new.reads.items in subst F c.in_ok-some.ensures h) c.add_reads-2.ensures.added
 
 pub add_whole_reads-returns-clause-added : goal.add_whole_reads-returns-clause-added
 add_whole_reads-returns-clause-added g c =
@@ -44,29 +75,3 @@ add_whole_reads-returns-clause-added g c =
     on_ok_weaker c.add_reads.result (λ h.
     let F : List Bool → Type 0 = λ b. Adds (Reads nodes None n 0 b) old new in
     whole_reads nodes (option_map (λ kept. kept.now) c.args.given) c.args.whole n c.if-is_handed.ensures old new (subst F bits h)) c.add_reads.ensures.added
-
-pub add_field_reads-add_reads-requires : goal.add_field_reads-add_reads-requires
-add_field_reads-add_reads-requires g c =
-    let part = field_part c.args.table.now c.requires.good c.args.plan c.loop-place.place c.child_required-child.result.0 c.requires.known c.child_required-child.ensures.at c.child_required-child.ensures.lower in
-    let lt : c.child_required-child.result.0 < c.args.plan = part.lower in
-    let rows : (node_at c.args.table.now c.args.plan).rows ≡ (node_at c.args.table.now c.child_required-child.result.0).rows = part.rows in
-    (omega arith, (part.known, omega arith))
-
-pub add_field_reads-loop-place-preserved : goal.add_field_reads-loop-place-preserved
-add_field_reads-loop-place-preserved g c = record {
-  added = field_more c.args.table.now (handed_by c.args.table.now (option_map (λ kept. kept.now) c.args.given)) c.args.start c.args.mask.now (node_at c.args.table.now c.args.plan).children c.loop-place.place c.child_required-child.result.0 c.child_required-child.ensures.at c.args.reads.now.items c.loop-place.reads.items c.add_reads.new.reads.items c.loop-place.invariant.added c.in_ok-add_reads.ensures.added;
-  leaves = λ h. c.in_ok-add_reads.ensures.leaves (c.loop-place.invariant.leaves h);
-}
-
-pub add_field_reads-returns-clause-added : goal.add_field_reads-returns-clause-added
-add_field_reads-returns-clause-added g c = fields_done c.args.table.now (handed_by c.args.table.now (option_map (λ kept. kept.now) c.args.given)) c.args.plan c.args.start c.args.mask.now c.loop-place.place (pack_plan_at c.args.table.now c.requires.good c.args.plan c.requires.known) (omega arith) c.args.reads.now.items c.loop-place.reads.items c.loop-place.invariant.added
-
-pub add_chunk_reads-loop-done-preserved : goal.add_chunk_reads-loop-done-preserved
-add_chunk_reads-loop-done-preserved g c = record {
-  inside = omega arith;
-  added = chunk_reads c.args.table.now c.requires.good (handed_by c.args.table.now (option_map (λ kept. kept.now) c.args.given)) c.args.plan c.args.start c.loop-done.done c.min-here.result c.args.mask.now c.chunk_at-chunk.result c.chunk_at-chunk.ensures (concat_plan_at c.args.table.now c.args.plan c.requires.known c.requires.concat) (omega arith) c.args.reads.now.items c.loop-done.reads.items c.add_reads.new.reads.items c.loop-done.invariant.added (rw c.in_ok-some.ensures at c.in_ok-add_reads.ensures.added);
-  leaves = λ h. c.in_ok-add_reads.ensures.leaves (c.loop-done.invariant.leaves h);
-}
-
-pub add_chunk_reads-returns-clause-added : goal.add_chunk_reads-returns-clause-added
-add_chunk_reads-returns-clause-added g c = chunks_done c.args.table.now (handed_by c.args.table.now (option_map (λ kept. kept.now) c.args.given)) c.args.plan c.args.start c.loop-done.done c.args.mask.now (omega arith) c.args.reads.now.items c.loop-done.reads.items c.loop-done.invariant.added

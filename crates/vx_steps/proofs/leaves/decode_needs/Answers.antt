@@ -1,53 +1,33 @@
-use Rattle.vx_steps.specs.Wants.{IsNeededLeaf}
-use Rattle.vx_steps.proofs.Decoding.{adds_then, keeps_then, need_added, torn_up, kept_more, not_kept_before}
-use Rattle.vx_steps.proofs.Releasing.{held_kept}
-use Rattle.vx_steps.proofs.Needing.{need_at, need_is, need_among}
+use Rattle.std.proofs.Common.{◌≡◌, true, false, sym, ◌∙◌, map}
+use Rattle.vx_steps.specs.Pieces.{read_of}
+use Rattle.vx_steps.proofs.Counting.{counted_kept}
+use Rattle.vx_steps.proofs.Releasing.{served_let}
 use Rattle.vx_steps.proofs.leaves.decode_needs.Goals as goal
 
-pub loop-need-preserved : goal.loop-need-preserved
-loop-need-preserved c =
-    let needs = c.args.needs.now in
-    let i = c.loop-need.need-index in
-    let there = rw c.in-Ok-true.field-0-test at c.in-Ok-true.ensures.there in
-    record {
-      keeps = keeps_then c.args.table.now c.args.reads.now.wanted c.args.leaves.now c.loop-need.leaves c.decode_need.new.leaves c.loop-need.invariant.keeps c.in-Ok-true.ensures.keeps;
-      only = adds_then (IsNeededLeaf needs) c.args.leaves.now c.loop-need.leaves c.decode_need.new.leaves c.loop-need.invariant.only (need_added needs (need_at needs i) c.loop-need.leaves c.decode_need.new.leaves (need_among needs i (need_at needs i) c.loop-need-test.true (need_is needs i c.loop-need-test.true)) c.in-Ok-true.ensures.only);
-      all = kept_more c.args.table.now c.args.reads.now.wanted c.loop-need.leaves c.decode_need.new.leaves needs i (need_at needs i) c.loop-need-test.true (need_is needs i c.loop-need-test.true) c.loop-need.invariant.all c.in-Ok-true.ensures.keeps there;
-    }
+true_not_false : true ≡ false → ⊥
+true_not_false same = cc
 
-pub returns-in-Ok-false-clause-keeps : goal.returns-in-Ok-false-clause-keeps
-returns-in-Ok-false-clause-keeps c = keeps_then c.args.table.now c.args.reads.now.wanted c.args.leaves.now c.loop-need.leaves c.decode_need.new.leaves c.loop-need.invariant.keeps c.in-Ok-false.ensures.keeps
+pub returns-then-last-clause-counted : goal.returns-then-last-clause-counted
+returns-then-last-clause-counted c = counted_kept c.args.table.now c.args.leaves.now.all c.decode_last.new.leaves.all c.args.segments.now c.decode_last.ensures.keeps.grows c.requires.counted
 
-pub returns-in-Ok-false-clause-none : goal.returns-in-Ok-false-clause-none
-returns-in-Ok-false-clause-none c =
-    let needs = c.args.needs.now in
-    let i = c.loop-need.need-index in
-    let there = rw c.in-Ok-false.field-0-test at c.in-Ok-false.ensures.there in
-    λ _. (need_at needs i, need_among needs i (need_at needs i) c.loop-need-test.true (need_is needs i c.loop-need-test.true), not_kept_before c.args.table.now c.args.reads.now.wanted c.args.leaves.now c.loop-need.leaves c.loop-need.invariant.keeps (need_at needs i).leaf there.0, there.1)
+pub returns-then-last-clause-decoded : goal.returns-then-last-clause-decoded
+returns-then-last-clause-decoded c = record {
+  keeps = c.decode_last.ensures.keeps;
+  only = c.decode_last.ensures.only;
+  wanted = c.decode_last.ensures.wanted;
+  handed = c.decode_last.ensures.handed;
+  served = c.decode_last.ensures.served;
+  lets = λ other. absurd (true_not_false (sym c.if-last.true ∙ other));
+  still_gone = c.decode_last.ensures.still_gone;
+}
 
-pub returns-in-Err-clause-keeps : goal.returns-in-Err-clause-keeps
-returns-in-Err-clause-keeps c = keeps_then c.args.table.now c.args.reads.now.wanted c.args.leaves.now c.loop-need.leaves c.decode_need.new.leaves c.loop-need.invariant.keeps c.in-Err.ensures.keeps
-
-pub returns-in-Err-clause-torn : goal.returns-in-Err-clause-torn
-returns-in-Err-clause-torn c =
-    let needs = c.args.needs.now in
-    let i = c.loop-need.need-index in
-    torn_up c.args.table.now c.args.reads.now.wanted needs (need_at needs i) c.in-Err.error (need_among needs i (need_at needs i) c.loop-need-test.true (need_is needs i c.loop-need-test.true)) c.in-Err.ensures.torn
-
-pub returns-in-Ok-false-clause-only : goal.returns-in-Ok-false-clause-only
-returns-in-Ok-false-clause-only c =
-    let needs = c.args.needs.now in
-    let i = c.loop-need.need-index in
-    adds_then (IsNeededLeaf needs) c.args.leaves.now c.loop-need.leaves c.decode_need.new.leaves c.loop-need.invariant.only (need_added needs (need_at needs i) c.loop-need.leaves c.decode_need.new.leaves (need_among needs i (need_at needs i) c.loop-need-test.true (need_is needs i c.loop-need-test.true)) c.in-Ok-false.ensures.only)
-
-pub returns-in-Err-clause-only : goal.returns-in-Err-clause-only
-returns-in-Err-clause-only c =
-    let needs = c.args.needs.now in
-    let i = c.loop-need.need-index in
-    adds_then (IsNeededLeaf needs) c.args.leaves.now c.loop-need.leaves c.decode_need.new.leaves c.loop-need.invariant.only (need_added needs (need_at needs i) c.loop-need.leaves c.decode_need.new.leaves (need_among needs i (need_at needs i) c.loop-need-test.true (need_is needs i c.loop-need-test.true)) c.in-Err.ensures.only)
-
-pub decode_need-requires-clause-held : goal.decode_need-requires-clause-held
-decode_need-requires-clause-held c =
-    let needs = c.args.needs.now in
-    let i = c.loop-need.need-index in
-    held_kept c.args.table.now c.args.reads.now.wanted c.args.leaves.now c.loop-need.leaves needs c.args.reads.now.stored (need_at needs i) c.loop-need.invariant.keeps (need_among needs i (need_at needs i) c.loop-need-test.true (need_is needs i c.loop-need-test.true)) c.requires.held
+pub returns-clause-decoded : goal.returns-clause-decoded
+returns-clause-decoded c = record {
+  keeps = c.decode_from.ensures.keeps;
+  only = c.decode_from.ensures.only;
+  wanted = c.decode_from.ensures.lets.wanted;
+  handed = c.decode_from.ensures.lets.handed;
+  served = served_let c.args.table.now c.args.leaves.now.all c.decode_from.new.leaves.all c.args.reads.now c.decode_from.new.reads (map read_of c.args.needs.now) c.requires.known c.decode_from.ensures.keeps.grows c.decode_from.ensures.lets c.requires.served;
+  lets = λ _. c.decode_from.ensures.lets;
+  still_gone = c.decode_from.ensures.lets.still_gone;
+}

@@ -1,50 +1,36 @@
-use Rattle.std.proofs.Common.{arith, ◌≡◌, ◌<◌}
-use Rattle.vx_plan.specs.Rules.{node_at}
-use Rattle.vx_plan.proofs.Collecting.{field_part}
-use Rattle.vx_steps.proofs.ChunkRows.{concat_plan_at}
-use Rattle.vx_steps.proofs.LeavingRows.{chunk_rows, field_more, leaf_rows, over_rows, pack_rows, same_rows, share_rows, take_rows, zoned_rows}
-use Rattle.vx_steps.proofs.Shaping.{leaf_plan, over_plan, pack_plan_at, same_law, share_plan_at, take_plan_at, zoned_law}
+use Rattle.std.proofs.Common.{arith, ◌<◌, subst}
+use Rattle.vx_plan.specs.declared.parts.Part.TheVariants as parts
+use Rattle.vx_plan.specs.Parts.{parts_left, parts_of, AreRowsOf, IsPartOf}
+use Rattle.vx_steps.specs.declared.leavings.Sieve.{Sieve}
+use Rattle.vx_steps.specs.Leavings.{Meets}
+use Rattle.vx_steps.proofs.LeavingRows.{leaf_rows, next_met, parts_met, parts_rows, rows_met, whole_met, PartsRead}
+use Rattle.vx_steps.proofs.Shaping.{leaf_plan}
+use Rattle.vx_steps.proofs.leavings.+leavings.Goals.{in-Rows, in-Whole}
 use Rattle.vx_steps.proofs.leavings.+leavings.Goals as goal
 
-pub meet_rows-returns-in-Leaf : goal.meet_rows-returns-in-Leaf
-meet_rows-returns-in-Leaf t c =
+pub returns-in-Leaf : goal.returns-in-Leaf
+returns-in-Leaf t c =
     let some : 0 < c.args.count = grind arith in
     leaf_rows c.args.table.now c.args.plan c.in-Leaf.field-0 c.args.start c.args.count c.args.sieve.now c.meet.new.self (leaf_plan c.args.table.now c.args.plan c.in-Leaf.field-0 c.requires.known c.in-Leaf.ensures.shape) some c.meet.ensures
 
-pub meet_rows-returns-in-Same : goal.meet_rows-returns-in-Same
-meet_rows-returns-in-Same t c = same_rows c.args.table.now c.args.plan c.in-Same.child c.args.start c.args.count c.args.sieve.now c.meet_rows.new.sieve (same_law c.args.table.now c.args.plan c.in-Same.child c.requires.known c.in-Same.ensures.shape) c.meet_rows.ensures
+pub loop-next-preserved : goal.loop-next-preserved
+loop-next-preserved t c =
+    let nodes = c.args.table.now in
+    let left = parts_left nodes c.args.plan c.args.start c.args.count c.loop-next.place in
+    let behind = parts_left nodes c.args.plan c.args.start c.args.count c.in-Some.next.behind in
+    let Goal : Sieve → Type 0 = λ new. Meets (PartsRead nodes c.args.count (parts_of nodes c.args.plan c.args.start c.args.count)) c.args.sieve.now new in
+    elim c.match-next.branch [
+      | in-Rows w ↦
+          let is : AreRowsOf nodes c.args.plan c.args.start c.args.count w.in-Rows.rows = subst (IsPartOf nodes c.args.plan c.args.start c.args.count) w.in-Rows.is c.in-Some.ensures.part in
+          rw w.sieve-is (next_met nodes c.args.count left behind c.in-Some.next.part (parts.Rows w.in-Rows.rows) c.in-Some.ensures.left w.in-Rows.is Goal c.loop-next.sieve w.meet_rows.new.sieve c.loop-next.invariant (rows_met nodes c.args.count w.in-Rows.rows c.loop-next.sieve w.meet_rows.new.sieve is.forwards is.asked w.meet_rows.ensures))
+      | in-Whole w ↦
+          rw w.sieve-is (next_met nodes c.args.count left behind c.in-Some.next.part (parts.Whole w.in-Whole.field-0 w.in-Whole.child) c.in-Some.ensures.left w.in-Whole.is Goal c.loop-next.sieve w.meet_rows-in-Whole.new.sieve c.loop-next.invariant (whole_met nodes c.args.count w.in-Whole.field-0 w.in-Whole.child w.row_count.result c.loop-next.sieve w.meet_rows-in-Whole.new.sieve w.row_count.ensures w.meet_rows-in-Whole.ensures))
+    ]
 
-pub meet_rows-returns-in-Over : goal.meet_rows-returns-in-Over
-meet_rows-returns-in-Over t c = over_rows c.args.table.now c.args.plan c.in-Over.child c.args.start c.args.count c.args.sieve.now c.meet_rows-in-Over.new.sieve (over_plan c.args.table.now c.in-Over.ensures.good c.args.plan c.in-Over.child c.requires.known c.in-Over.ensures.shape) c.meet_rows-in-Over.ensures
-
-pub meet_rows-returns-in-Zoned : goal.meet_rows-returns-in-Zoned
-meet_rows-returns-in-Zoned t c = zoned_rows c.args.table.now c.args.plan c.in-Zoned.content c.in-Zoned.field-1 c.args.start c.args.count c.args.sieve.now c.meet_rows-in-Zoned.new.sieve (zoned_law c.args.table.now c.args.plan c.in-Zoned.content c.in-Zoned.field-1 c.requires.known c.in-Zoned.ensures.shape) c.meet_rows-in-Zoned.ensures
-
-pub meet_rows-returns-in-LookUp : goal.meet_rows-returns-in-LookUp
-meet_rows-returns-in-LookUp t c =
+pub returns : goal.returns
+returns t c =
     let some : 0 < c.args.count = grind arith in
-    take_rows c.args.table.now c.args.plan c.in-LookUp.codes c.in-LookUp.values c.args.start c.args.count c.row_count.result c.args.sieve.now c.meet_rows-in-LookUp.new.sieve c.meet_rows-in-LookUp-2.new.sieve (take_plan_at c.args.table.now c.in-LookUp.ensures.good c.args.plan c.in-LookUp.codes c.in-LookUp.values c.requires.known c.in-LookUp.ensures.shape) some c.row_count.ensures c.meet_rows-in-LookUp.ensures c.meet_rows-in-LookUp-2.ensures
-
-pub meet_rows-returns-in-Shared : goal.meet_rows-returns-in-Shared
-meet_rows-returns-in-Shared t c =
-    let some : 0 < c.args.count = grind arith in
-    share_rows c.args.table.now c.args.plan c.in-Shared.child c.args.start c.args.count c.row_count-in-Shared.result c.args.sieve.now c.meet_rows-in-Shared.new.sieve (share_plan_at c.args.table.now c.in-Shared.ensures.good c.args.plan c.in-Shared.child c.requires.known c.in-Shared.ensures.shape) some c.row_count-in-Shared.ensures c.meet_rows-in-Shared.ensures
-
-pub meet_fields-meet_rows-requires : goal.meet_fields-meet_rows-requires
-meet_fields-meet_rows-requires t c =
-    let part = field_part c.args.table.now c.requires.good c.args.plan c.loop-place.place c.child_required-child.result.0 c.requires.known c.child_required-child.ensures.at c.child_required-child.ensures.lower in
-    let lt : c.child_required-child.result.0 < c.args.plan = part.lower in
-    let rows : (node_at c.args.table.now c.args.plan).rows ≡ (node_at c.args.table.now c.child_required-child.result.0).rows = part.rows in
-    (omega arith, (part.known, omega arith))
-
-pub meet_fields-loop-place-preserved : goal.meet_fields-loop-place-preserved
-meet_fields-loop-place-preserved t c = field_more c.args.table.now (node_at c.args.table.now c.args.plan).children c.loop-place.place c.child_required-child.result.0 c.args.start c.args.count c.args.sieve.now c.loop-place.sieve c.meet_rows.new.sieve c.child_required-child.ensures.at c.loop-place.invariant c.meet_rows.ensures
-
-pub meet_fields-returns : goal.meet_fields-returns
-meet_fields-returns t c = pack_rows c.args.table.now c.args.plan c.loop-place.place c.args.start c.args.count c.args.sieve.now c.loop-place.sieve (pack_plan_at c.args.table.now c.requires.good c.args.plan c.requires.known) (omega arith) c.loop-place.invariant
-
-pub meet_chunks-loop-done-preserved : goal.meet_chunks-loop-done-preserved
-meet_chunks-loop-done-preserved t c = record {
-  inside = omega arith;
-  meets = chunk_rows c.args.table.now c.requires.good c.args.plan c.args.start c.loop-done.done c.min-here.result c.chunk_at-chunk.result c.args.sieve.now c.loop-done.sieve c.meet_rows.new.sieve c.chunk_at-chunk.ensures (concat_plan_at c.args.table.now c.args.plan c.requires.known c.requires.concat) (omega arith) c.loop-done.invariant.meets c.meet_rows.ensures;
-}
+    let nodes = c.args.table.now in
+    let Goal : Sieve → Type 0 = λ new. Meets (PartsRead nodes c.args.count (parts_of nodes c.args.plan c.args.start c.args.count)) c.args.sieve.now new in
+    parts_rows nodes c.shape.ensures.good c.args.plan c.requires.known c.shape.result c.shape.ensures.shape c.in_default.not-Leaf c.args.start c.args.count some c.args.sieve.now c.loop-next.sieve
+    (parts_met nodes c.args.count (parts_left nodes c.args.plan c.args.start c.args.count c.loop-next.place) c.in_default-next_part.ensures Goal c.loop-next.sieve c.loop-next.invariant)

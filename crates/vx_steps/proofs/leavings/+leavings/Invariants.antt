@@ -1,26 +1,15 @@
-use Rattle.std.proofs.Common.{◌+◌, ◌*◌, ◌≤◌, ◌-◌}
-use Rattle.vx_plan.specs.Rules.{node_at}
-use Rattle.vx_steps.specs.Leavings.{Meets, RowsRead}
-use Rattle.vx_steps.proofs.LeavingRows.{FieldsRead}
+use Rattle.std.proofs.Common.{length}
+use Rattle.vx_plan.specs.Parts.{parts_left, parts_of}
+use Rattle.vx_steps.specs.declared.leavings.Sieve.{Sieve}
+use Rattle.vx_steps.specs.Leavings.{Meets}
+use Rattle.vx_steps.proofs.LeavingRows.{PartsRead}
 use Rattle.vx_steps.proofs.leavings.+leavings.Given as goal
 
 abbrev pub decreases-meet_rows : goal.decreases-meet_rows
-decreases-meet_rows l = 2 * l.plan + 1
+decreases-meet_rows l = l.plan
 
-abbrev pub decreases-meet_fields : goal.decreases-meet_fields
-decreases-meet_fields l = 2 * l.plan
+abbrev pub invariant-loop-next : goal.invariant-loop-next
+invariant-loop-next l = (new : Sieve) → Meets (PartsRead l.table l.count (parts_left l.table l.plan l.start l.count l.place)) l.sieve new → Meets (PartsRead l.table l.count (parts_of l.table l.plan l.start l.count)) l.fn.sieve new
 
-abbrev pub decreases-meet_chunks : goal.decreases-meet_chunks
-decreases-meet_chunks l = 2 * l.plan
-
-abbrev pub invariant-meet_fields-loop-place : goal.invariant-meet_fields-loop-place
-invariant-meet_fields-loop-place l = Meets (FieldsRead l.table (node_at l.table l.plan).children l.place l.start l.count) l.fn.sieve l.sieve
-
-abbrev pub invariant-meet_chunks-loop-done : goal.invariant-meet_chunks-loop-done
-invariant-meet_chunks-loop-done l = record {
-  inside : l.done ≤ l.count;
-  meets : Meets (RowsRead l.table l.plan l.start l.done) l.fn.sieve l.sieve;
-}
-
-abbrev pub decreases-meet_chunks-loop-done : goal.decreases-meet_chunks-loop-done
-decreases-meet_chunks-loop-done l = l.count - l.done
+abbrev pub decreases-loop-next : goal.decreases-loop-next
+decreases-loop-next l = length (parts_left l.table l.plan l.start l.count l.place)

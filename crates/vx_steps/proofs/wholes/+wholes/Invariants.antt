@@ -1,37 +1,23 @@
-use Rattle.std.proofs.Common.{◌+◌, ◌*◌, ◌≤◌, ◌-◌, length, take}
-use Rattle.std.specs.List.{AllByRecursion}
-use Rattle.vx_plan.specs.Rules.{node_at}
-use Rattle.vx_steps.specs.Wholes.{AddsAsked, AreThere, KeepsValues, UsesGiven}
+use Rattle.std.proofs.Common.{◌+◌, ◌*◌, length}
+use Rattle.vx_plan.specs.Parts.{parts_left, parts_of}
+use Rattle.vx_steps.specs.Wholes.{AddsAsked, KeepsValues, UsesGiven}
+use Rattle.vx_steps.proofs.WholeAsking.{AreLast, ThereOrLeft}
 use Rattle.vx_steps.proofs.wholes.+wholes.Given as goal
 
 abbrev pub decreases-ready_wholes : goal.decreases-ready_wholes
-decreases-ready_wholes l = 3 * l.plan + 1
+decreases-ready_wholes l = 2 * l.plan
 
-abbrev pub decreases-ready_fields : goal.decreases-ready_fields
-decreases-ready_fields l = 3 * l.plan
+abbrev pub decreases-ready_child_rows : goal.decreases-ready_child_rows
+decreases-ready_child_rows l = 2 * l.rows.child + 1
 
-abbrev pub decreases-ready_chunks : goal.decreases-ready_chunks
-decreases-ready_chunks l = 3 * l.plan
-
-abbrev pub decreases-ready_range : goal.decreases-ready_range
-decreases-ready_range l = 3 * l.plan + 2
-
-abbrev pub invariant-ready_fields-loop-place : goal.invariant-ready_fields-loop-place
-invariant-ready_fields-loop-place l = record {
-  made : KeepsValues l.grounds.table.now l.grounds.leaves.now l.grounds.offset l.fn.wholes.made l.wholes.made;
+abbrev pub invariant-ready_wholes-loop-next : goal.invariant-ready_wholes-loop-next
+invariant-ready_wholes-loop-next l = record {
+  made : KeepsValues l.grounds.table.now l.grounds.leaves.now.here l.grounds.offset l.fn.wholes.made l.wholes.made;
   used : UsesGiven l.grounds.given.now l.fn.wholes.used l.wholes.used;
-  there : AllByRecursion (λ n. AreThere l.grounds.table.now l.grounds.given.now l.wholes n l.start l.mask) (take l.place (node_at l.grounds.table.now l.plan).children);
+  last : AreLast (parts_of l.grounds.table.now l.plan l.start (length l.mask)) (parts_left l.grounds.table.now l.plan l.start (length l.mask) l.place);
+  there : ThereOrLeft l.grounds.table.now l.grounds.given.now l.mask l.wholes (parts_of l.grounds.table.now l.plan l.start (length l.mask)) (parts_left l.grounds.table.now l.plan l.start (length l.mask) l.place);
   asked : AddsAsked l.grounds.table.now l.grounds.given.now l.plan l.start l.mask l.fn.wholes l.wholes;
 }
 
-abbrev pub invariant-ready_chunks-loop-done : goal.invariant-ready_chunks-loop-done
-invariant-ready_chunks-loop-done l = record {
-  inside : l.done ≤ length l.mask;
-  made : KeepsValues l.grounds.table.now l.grounds.leaves.now l.grounds.offset l.fn.wholes.made l.wholes.made;
-  used : UsesGiven l.grounds.given.now l.fn.wholes.used l.wholes.used;
-  there : AreThere l.grounds.table.now l.grounds.given.now l.wholes l.plan l.start (take l.done l.mask);
-  asked : AddsAsked l.grounds.table.now l.grounds.given.now l.plan l.start l.mask l.fn.wholes l.wholes;
-}
-
-abbrev pub decreases-ready_chunks-loop-done : goal.decreases-ready_chunks-loop-done
-decreases-ready_chunks-loop-done l = length l.mask - l.done
+abbrev pub decreases-ready_wholes-loop-next : goal.decreases-ready_wholes-loop-next
+decreases-ready_wholes-loop-next l = length (parts_left l.grounds.table.now l.plan l.start (length l.mask) l.place)

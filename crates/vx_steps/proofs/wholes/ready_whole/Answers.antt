@@ -15,7 +15,7 @@ whole_of_plan-requires-clause-ready c =
     subst F (sym c.sources.ensures) (c.requires.ready none)
 
 pub returns-in_err-keep_shared-in-Ok-clause-made : goal.returns-in_err-keep_shared-in-Ok-clause-made
-returns-in_err-keep_shared-in-Ok-clause-made c = keeps_same c.args.grounds.table.now c.args.grounds.leaves.now c.args.grounds.offset c.args.wholes.now.made c.keep_shared.new.self c.in_err-keep_shared-in-Ok.ensures.as_before
+returns-in_err-keep_shared-in-Ok-clause-made c = keeps_same c.args.grounds.table.now c.args.grounds.leaves.now.here c.args.grounds.offset c.args.wholes.now.made c.keep_shared.new.self c.in_err-keep_shared-in-Ok.ensures.as_before
 
 pub returns-in_ok-keep_shared-in-Ok-clause-made : goal.returns-in_ok-keep_shared-in-Ok-clause-made
 returns-in_ok-keep_shared-in-Ok-clause-made c =
@@ -24,7 +24,7 @@ returns-in_ok-keep_shared-in-Ok-clause-made c =
     let D : Held → Type 0 = λ h. c.in-Ok.column.dtype ≡ (node_at h.nodes c.args.plan).dtype in
     let R : Held → Type 0 = λ h. length c.in-Ok.column.values ≡ (node_at h.nodes c.args.plan).rows in
     let none : kept_at c.args.wholes.now.made c.args.number ≡ None = grind (arith, common_steps) in
-    made_one c.args.grounds.table.now c.requires.good c.args.grounds.leaves.now c.args.grounds.offset (Some c.args.grounds.given.now) c.args.wholes.now.made c.keep_shared.new.self c.args.number c.args.plan c.in-Ok.column c.requires.same
+    made_one c.args.grounds.table.now c.requires.good c.args.grounds.leaves.now.here c.args.grounds.offset (Some c.args.grounds.given.now) c.args.wholes.now.made c.keep_shared.new.self c.args.number c.args.plan c.in-Ok.column c.requires.same
     (subst D c.sources.ensures c.in-Ok.ensures.dtype) (subst R c.sources.ensures c.in-Ok.ensures.rows) none (subst F c.sources.ensures c.in-Ok.ensures.computed) c.in_ok-keep_shared-in-Ok.ensures.kept
 
 pub returns-in_ok-keep_shared-in-Ok-clause-there : goal.returns-in_ok-keep_shared-in-Ok-clause-there

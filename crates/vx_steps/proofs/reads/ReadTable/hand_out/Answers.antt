@@ -23,4 +23,4 @@ returns-clause-turn c =
     })
 
 pub returns-clause-stored : goal.returns-clause-stored
-returns-clause-stored c = rw (← c.self.view_is) (record { named = λ segment n named. named; gone = λ segment gone. gone; passed = refl })
+returns-clause-stored c = rw (← c.self.view_is) (record { named = λ segment n named. named; gone = λ segment gone. gone; still_gone = λ segment gone. gone; passed = refl })

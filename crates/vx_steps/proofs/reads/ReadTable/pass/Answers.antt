@@ -5,7 +5,7 @@ use Rattle.std.specs.List.{slice_get}
 use Rattle.vx_steps.specs.declared.reads.WantedSegment.{WantedSegment}
 use Rattle.vx_steps.specs.ReadTable.{AreReads, IsGone}
 use Rattle.vx_steps.specs.ReadTableData.{Wanted, is_gone, stored_data, wanted_data}
-use Rattle.vx_steps.proofs.WantedReads.{changed_gone, changed_named, item_at, named_before, place_inside, same_item, same_set, stands_is, wanted_at}
+use Rattle.vx_steps.proofs.WantedReads.{changed_gone, changed_named, changed_still, gone_came, item_at, named_before, place_inside, same_item, same_set, stands_is, wanted_at}
 use Rattle.vx_steps.proofs.reads.ReadTable.pass.Goals as goal
 
 pub index-requires : goal.index-requires
@@ -26,7 +26,7 @@ invariant_of-self c =
     let v : WantedSegment = record { segment = w.segment; bytes = c.let_go.new.self; last = w.last } in
     let inside : place < length ws = place_inside c.self.inside.places ws c.self.inside.handed c.self.invariant c.args.segment place (sym c.in-Some.ensures.value) in
     let P : List Wanted → Type 0 = λ wanted. AreReads c.self.inside.places wanted c.self.inside.handed in
-    subst P (sym (same_set wanted_data ws place v w (item_at ws place w inside c.index_mut.ensures.value) (ap (λ (b : Option (List ℕ)). record { segment = w.segment; bytes = b }) c.let_go.ensures))) c.self.invariant
+    subst P (sym (same_set wanted_data ws place v w (item_at ws place w inside c.index_mut.ensures.value) (ap (λ (b : Option (List ℕ)). record { segment = w.segment; bytes = b }) c.let_go.ensures.bytes))) c.self.invariant
 
 pub returns-then-index-count : goal.returns-then-index-count
 returns-then-index-count c =
@@ -45,7 +45,7 @@ returns-then-index-count c =
     let own : w.last ≤ w.last = omega arith in
     let is : w.segment ≡ c.args.segment = stands_is (map wanted_data ws) c.args.segment place (wanted_data w) (wanted_at ws place w inside c.index_mut.ensures.value) (c.self.invariant.stands c.args.segment place (sym c.in-Some.ensures.value)) in
     rw (← c.self.view_is) (record {
-      wanted = same_set wanted_data ws place v w at (ap (λ (b : Option (List ℕ)). record { segment = w.segment; bytes = b }) c.let_go.ensures);
+      wanted = same_set wanted_data ws place v w at (ap (λ (b : Option (List ℕ)). record { segment = w.segment; bytes = b }) c.let_go.ensures.bytes);
       handed = refl;
       passed = refl;
       named = λ segment n named. changed_named ws place v w at refl own segment n named;
@@ -53,4 +53,5 @@ returns-then-index-count c =
           (λ (g : IsGone (map stored_data ws) s). inl g)
           (λ (e : (w.segment ≡ s) × (is_gone c.let_go.new.self ≡ true)). inr (sym is ∙ e.0, λ n named. let most : n ≤ w.last = named_before c.self.inside.places ws c.self.inside.handed c.self.invariant place w at s e.0 n named in omega arith))
           (changed_gone ws place v w at s gone);
+      still_gone = λ s gone. changed_still ws place v w at refl (λ e. c.let_go.ensures.gone ∙ gone_came w.bytes e) s gone;
     })

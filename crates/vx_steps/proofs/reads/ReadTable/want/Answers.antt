@@ -6,7 +6,7 @@ use Rattle.std.specs.Ordering.{nat_cmp}
 use Rattle.vx_steps.specs.declared.reads.WantedSegment.{WantedSegment}
 use Rattle.vx_steps.specs.ReadTable.{AreReads, IsGone, IsNamed}
 use Rattle.vx_steps.specs.ReadTableData.{Stored, Wanted, stored_data, wanted_data}
-use Rattle.vx_steps.proofs.WantedReads.{changed_named, item_at, kept_gone, one_more, place_inside, same_item, pushed_gone, pushed_named, same_set, stands_is, stored_at, stored_set, wanted_at}
+use Rattle.vx_steps.proofs.WantedReads.{changed_named, changed_still, item_at, kept_gone, one_more, place_inside, pushed_gone, pushed_named, pushed_still, same_item, same_set, stands_is, stored_at, stored_set, wanted_at}
 use Rattle.vx_steps.proofs.reads.ReadTable.want.Goals as goal
 use Rattle.vx_steps.proofs.Keeping.{got_new}
 
@@ -66,6 +66,7 @@ returns-then-index-need-clause-stored c =
     rw (← c.self.view_is) (record {
       named = λ segment n named. changed_named ws place v w at refl (subst G same less) segment n named;
       gone = λ segment gone. kept_gone ws place v w at refl refl segment gone;
+      still_gone = λ segment gone. changed_still ws place v w at refl (λ e. e) segment gone;
       passed = refl;
     })
 
@@ -109,5 +110,6 @@ returns-clause-stored c =
     rw (← c.self.view_is) (record {
       named = λ segment n named. subst (λ (st : List Stored). IsNamed st segment n) (sym more) (pushed_named stored one segment n named);
       gone = λ segment gone. pushed_gone stored one refl segment (subst (λ (st : List Stored). IsGone st segment) more gone);
+      still_gone = λ segment gone. subst (λ (st : List Stored). IsGone st segment) (sym more) (pushed_still stored one segment gone);
       passed = refl;
     })

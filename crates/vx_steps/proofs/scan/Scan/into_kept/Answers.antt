@@ -11,13 +11,14 @@ use Rattle.vx_steps.proofs.scan.Scan.into_kept.Goals as goal
 pub returns-clause-leaves : goal.returns-clause-leaves
 returns-clause-leaves c =
     let P : ScanData → Type 0 = λ scan. Keeps (λ kept. IsReadBehind scan.nodes scan.job kept.node) scan.progress.leaves (map kept_data c.leaves_behind-leaves.result.items) in
+    let inside = c.self.inside in
     subst P c.self.view_is c.leaves_behind-leaves.ensures
 
 pub returns-clause-typed_leaves : goal.returns-clause-typed_leaves
 returns-clause-typed_leaves c =
     let inside = c.self.inside in
     let P : ScanData → Type 0 = λ scan. AreTyped scan.nodes (map kept_data c.leaves_behind-leaves.result.items) in
-    subst P c.self.view_is (typed_those inside.table.now (IsReadBehind inside.table.now inside.job) inside.progress.leaves (map kept_data c.leaves_behind-leaves.result.items) c.leaves_behind-leaves.ensures c.self.invariant.0.typed_leaves)
+    subst P c.self.view_is (typed_those inside.table.now (IsReadBehind inside.table.now inside.job) inside.progress.store.columns.all (map kept_data c.leaves_behind-leaves.result.items) c.leaves_behind-leaves.ensures c.self.invariant.0.typed_leaves)
 
 pub returns-clause-typed_used : goal.returns-clause-typed_used
 returns-clause-typed_used c =

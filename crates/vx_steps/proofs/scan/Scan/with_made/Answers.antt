@@ -1,11 +1,9 @@
-use Rattle.std.proofs.Common.{List, ap, map, sym, subst}
+use Rattle.std.proofs.Common.{map, sym, subst}
 use Rattle.vx_steps.specs.Held.{AreTyped}
 use Rattle.vx_steps.specs.Kept.{kept_data, AreOfDistinctPlans}
-use Rattle.vx_steps.specs.KeptData.{Kept}
 use Rattle.vx_steps.specs.Offers.{IsForPlan}
-use Rattle.vx_steps.specs.OpenSegments.{AreCounted}
 use Rattle.vx_steps.specs.ScanData.{ScanData}
-use Rattle.vx_steps.proofs.Beginning.{good_with_made}
+use Rattle.vx_steps.proofs.Beginning.{scan_made}
 use Rattle.vx_steps.proofs.Offering.{apart_kept, typed_kept}
 use Rattle.vx_steps.proofs.scan.Scan.with_made.Goals as goal
 
@@ -14,8 +12,7 @@ invariant_of-self c =
     let nodes = c.self.inside.table.now in
     let typed = typed_kept nodes (IsForPlan nodes) (λ k is. is) (map kept_data c.args.made.items) (map kept_data c.for_plans.result.items) c.for_plans.ensures in
     let apart = apart_kept (IsForPlan nodes) (map kept_data c.args.made.items) (map kept_data c.for_plans.result.items) c.for_plans.ensures c.requires in
-    let C : List Kept → Type 0 = λ leaves. AreCounted nodes leaves c.self.inside.segments in
-    (good_with_made nodes c.self.inside.job c.self.inside.progress c.hand_in_made.new.self c.of-made.result c.if-not-is_unstarted.ensures c.self.invariant.0 (subst (AreTyped nodes) (sym c.of-made.ensures) typed) (subst AreOfDistinctPlans (sym c.of-made.ensures) apart) c.hand_in_made.ensures, subst C (sym (ap (λ p. p.leaves) c.hand_in_made.ensures)) c.self.invariant.1)
+    scan_made nodes c.self.inside.job c.self.inside.progress c.hand_in_made.new.self c.self.inside.refused c.of-made.result c.if-not-is_unstarted.ensures (subst (AreTyped nodes) (sym c.of-made.ensures) typed) (subst AreOfDistinctPlans (sym c.of-made.ensures) apart) c.hand_in_made.ensures c.self.invariant
 
 pub returns-clause-apart : goal.returns-clause-apart
 returns-clause-apart c =

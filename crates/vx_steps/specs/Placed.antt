@@ -1,0 +1,57 @@
+-- Leaves that rows read, by the places of the first and of the last row that read them.
+use Rattle.std.specs.Prelude.{◌≡◌, ℕ, ◌+◌, ◌<◌, ◌≤◌, ◌⊎◌, Bool, true, List, Some, length}
+use Rattle.std.specs.List.{slice_get}
+use Rattle.vx_plan.specs.declared.shapes.Shape.TheVariants as shapes
+use Rattle.vx_plan.specs.Nodes.{Node}
+use Rattle.vx_plan.specs.Shapes.{HasShape}
+use Rattle.vx_steps.specs.declared.leaf_reads.LeafRead.{LeafRead}
+use Rattle.vx_steps.specs.declared.placed_reads.Ends.{Ends}
+use Rattle.vx_steps.specs.declared.placed_reads.PlacedRead.{PlacedRead}
+use Rattle.vx_steps.specs.KeptData.{Kept}
+use Rattle.vx_steps.specs.Needs.{Among, IsUnderWhole}
+use Rattle.vx_steps.specs.Pieces.{read_of, Covers, ReadsDirectly, ReadsInside}
+use Rattle.vx_steps.specs.Visits.{IsLeafRead}
+
+-- the first and the last selected row
+pub record AreEnds (bits : List Bool) (ends : Ends) : Type 0 where
+  pub first : slice_get bits ends.first ≡ Some true
+  pub last : slice_get bits ends.last ≡ Some true
+  pub least : (place : ℕ) → slice_get bits place ≡ Some true → ends.first ≤ place
+  pub greatest : (place : ℕ) → slice_get bits place ≡ Some true → place ≤ ends.last
+
+-- the selected row at the place, behind the base, reads the leaf directly
+abbrev pub IsDirectAt : List Node → List Kept → ℕ → ℕ → List Bool → ℕ → LeafRead → ℕ → Type 0
+IsDirectAt nodes given n start bits base read at = (place : ℕ) × (at ≡ base + place) × (slice_get bits place ≡ Some true) × ReadsDirectly nodes given n (start + place) read
+
+-- and for whole values
+abbrev pub IsInsideAt : List Node → List Kept → ℕ → ℕ → List Bool → ℕ → LeafRead → ℕ → Type 0
+IsInsideAt nodes given n start bits base read at = (place : ℕ) × (at ≡ base + place) × (slice_get bits place ≡ Some true) × ReadsInside nodes given n (start + place) read
+
+-- It is of selected rows, which stand behind the base at its two places, or of whole values, for which all rows wait.
+abbrev pub IsPlacedAt : List Node → List Kept → ℕ → ℕ → List Bool → ℕ → PlacedRead → Type 0
+IsPlacedAt nodes given n start bits base need =
+    (IsDirectAt nodes given n start bits base (read_of need) need.from × IsDirectAt nodes given n start bits base (read_of need) need.last)
+    ⊎ ((need.from ≡ 0) × IsInsideAt nodes given n start bits base (read_of need) need.last)
+
+-- each need is of a leaf of the table, which names the segment
+abbrev pub AreOfLeaves : List Node → List PlacedRead → Type 0
+AreOfLeaves nodes needs = (need : PlacedRead) → Among need needs → (need.leaf < length nodes) × HasShape nodes need.leaf (shapes.Leaf need.segment)
+
+-- What the selected rows of a plan read was added, each by the places of rows that read it, behind the base.
+pub record AddsPlaced (nodes : List Node) (given : List Kept) (n start : ℕ) (bits : List Bool) (base : ℕ) (old new : List PlacedRead) : Type 0 where
+  pub only : (need : PlacedRead) → Among need new → Among need old ⊎ IsPlacedAt nodes given n start bits base need
+  pub kept : (need : PlacedRead) → Among need old → Among need new
+  pub direct : (read : LeafRead) (place : ℕ) → slice_get bits place ≡ Some true → ReadsDirectly nodes given n (start + place) read → Covers new read (base + place) (base + place)
+  pub inside : (read : LeafRead) (place : ℕ) → slice_get bits place ≡ Some true → ReadsInside nodes given n (start + place) read → Covers new read 0 (base + place)
+  pub leaves : AreOfLeaves nodes old → AreOfLeaves nodes new
+
+-- What the whole values of the number read was added, if none were handed in for it, up to the last place.
+pub record AddsUnder (nodes : List Node) (given : List Kept) (whole n last : ℕ) (old new : List PlacedRead) : Type 0 where
+  pub only : (need : PlacedRead) → Among need new → Among need old ⊎ ((need.from ≡ 0) × (need.last ≡ last) × IsUnderWhole nodes (Some given) whole (IsLeafRead (read_of need)) n)
+  pub kept : (need : PlacedRead) → Among need old → Among need new
+  pub all : (read : LeafRead) → IsUnderWhole nodes (Some given) whole (IsLeafRead read) n → Covers new read 0 last
+  pub leaves : AreOfLeaves nodes old → AreOfLeaves nodes new
+
+-- a leaf for which all rows wait, and which no row behind the place reads
+abbrev pub up_to : ℕ → LeafRead → PlacedRead
+up_to last read = record { leaf = read.leaf; segment = read.segment; from = 0; last = last }

@@ -1,0 +1,198 @@
+//! The columns of leaves, of which those that are not needed any more are forgotten.
+
+ghost use Rattle.std.specs.Prelude.{◌≡◌, ◌<◌, [], length, map, true, false, None, Some, MatchResult, OnErr, OnOk, option_copied, option_map};
+ghost use Rattle.std.specs.List.{slice_get};
+ghost use Rattle.std.specs.Bool.{MatchBool};
+ghost use Rattle.vx_steps.specs.Kept.{kept_at, kept_data, ArePlaces, IsKept};
+ghost use Rattle.vx_steps.specs.LeafColumns.{AddsColumn, AreAmongAll, Forgets, StandFor};
+ghost use Rattle.vx_steps.specs.PlanMarks.{HasRoom, KeepsMarks};
+
+use crate::kept::{KeptColumns, KeptValue};
+use crate::places::PlaceTable;
+use crate::plan_marks::PlanMarks;
+use std::alloc::{AllocError, Global};
+use std::marker::Model;
+use std::snapshot::Snapshot;
+use vx_base::{Column, DType, Nullability};
+use vx_plan::PlanRef;
+
+/// The column of a leaf as it was seen, which only clauses remember.
+#[derive(Drop)]
+pub(crate) struct SeenColumn {
+    node: PlanRef,
+    column: Snapshot<Column>,
+}
+
+/// The columns of leaves in the order in which they came; for a leaf the first of its columns counts. Where the column
+/// of a leaf is gone, the leaf is marked, and a column of no rows stands in its place.
+#[derive(Drop)]
+pub(crate) struct LeafColumns {
+    kept: KeptColumns,
+    gone: PlanMarks,
+    handed: Snapshot<Vec<KeptValue>>,
+    decoded: Vec<SeenColumn>,
+    ready: bool,
+}
+
+impl Model for LeafColumns {
+    ghost use Rattle.vx_steps.specs.LeavesData.{LeavesData, coded_leaves};
+
+    ghost Value = { LeavesData };
+
+    ghost coded = { coded_leaves };
+
+    ghost use Rattle.std.specs.Prelude.{map, ◌++◌};
+    ghost use Rattle.vx_steps.specs.Kept.{kept_data};
+    ghost use Rattle.vx_steps.specs.LeafColumns.{seen_data, unmarked, StoresLeaves};
+
+    ghost view = { λ a. record { all = map kept_data a.handed.value.items ++ map seen_data a.decoded.items; here = unmarked a.gone a.kept; ready = a.ready } };
+
+    ghost invariant = { λ a. StoresLeaves a.gone (map kept_data a.handed.value.items ++ map seen_data a.decoded.items) a.kept a.ready };
+}
+
+/// Makes room for the marks of the plans of the columns.
+fn reach_all(columns: &[KeptValue], gone: &mut PlanMarks) -> Result<(), AllocError>
+    ensures room { OnOk result (HasRoom gone.new (map kept_data columns.now)) }
+    ensures marks { KeepsMarks gone.old gone.new }
+{
+    for place in 0..columns.len() {
+        gone.reach(columns[place].node.0)?;
+    }
+    Ok(())
+}
+
+impl LeafColumns {
+    /// No columns. It takes no memory.
+    pub(crate) fn new(alloc: Global) -> LeafColumns
+        ensures all { result.all ≡ [] }
+        ensures here { result.here ≡ [] }
+    {
+        LeafColumns::of(alloc, Vec::new(alloc))
+    }
+
+    /// These columns. It takes no memory.
+    pub(crate) fn of(alloc: Global, columns: Vec<KeptValue>) -> LeafColumns
+        ensures all { result.all ≡ map kept_data columns.items }
+        ensures here { result.here ≡ map kept_data columns.items }
+    {
+        LeafColumns {
+            handed: Snapshot::of(&columns),
+            kept: KeptColumns::of(alloc, columns),
+            gone: PlanMarks::new(alloc),
+            decoded: Vec::new(alloc),
+            ready: false,
+        }
+    }
+
+    /// Indexes the columns, so that none is looked through, and makes room to forget any of them.
+    pub(crate) fn index(&mut self) -> Result<(), AllocError>
+        ensures all { self.new.all ≡ self.old.all }
+        ensures here { self.new.here ≡ self.old.here }
+        ensures ready { OnOk result (self.new.ready ≡ true) }
+    {
+        if self.ready {
+            return Ok(());
+        }
+        self.kept.index()?;
+        reach_all(self.kept.columns(), &mut self.gone)?;
+        self.ready = true;
+        Ok(())
+    }
+
+    /// The first column of a plan, where one was kept that is not gone.
+    pub(crate) fn find(&self, node: u32) -> Option<&Column>
+        ensures { option_copied result ≡ kept_at self.now.here node }
+    {
+        if self.gone.get(node) {
+            return None;
+        }
+        self.kept.find(node)
+    }
+
+    /// Whether a column of the plan was kept, gone or not.
+    pub(crate) fn is_kept(&self, node: u32) -> bool
+        ensures { MatchBool result (IsKept self.now.all node) (kept_at self.now.all node ≡ None) }
+    {
+        self.kept.find(node).is_some()
+    }
+
+    /// How many columns were kept, gone or not.
+    pub(crate) fn count(&self) -> usize
+        ensures { result ≡ length self.now.all }
+    {
+        self.kept.columns().len()
+    }
+
+    /// The plan of the column at a place.
+    pub(crate) fn node_at(&self, place: usize) -> u32
+        requires { place < length self.now.all }
+        ensures { option_map (λ kept. kept.node) (slice_get self.now.all place) ≡ Some result }
+    {
+        self.kept.columns()[place].node.0
+    }
+
+    /// Says that what is here is among all.
+    pub(crate) fn are_among_all(&self)
+        ensures { AreAmongAll self.now }
+    {
+        let _ = &self.gone;
+    }
+
+    /// Keeps the column of a plan of which none was kept yet, so that others can share its rows: copies of it, and
+    /// ranges of all its rows, then copy none.
+    pub(crate) fn keep_shared(
+        &mut self,
+        alloc: Global,
+        node: u32,
+        column: Column,
+    ) -> Result<(), AllocError>
+        requires { kept_at self.old.all node ≡ None }
+        ensures kept { OnOk result (AddsColumn node column self.old self.new) }
+        ensures as_before { OnErr result (self.new ≡ self.old) }
+    {
+        self.gone.reach(node)?;
+        self.decoded.push(SeenColumn {
+            node: PlanRef(node),
+            column: Snapshot::of(&column),
+        })?;
+        if self.kept.keep_shared(alloc, node, column).is_err() {
+            drop(self.decoded.pop());
+            return Err(AllocError);
+        }
+        Ok(())
+    }
+
+    /// Forgets the column of a plan, if one was kept: only clauses remember it. It takes no memory.
+    pub(crate) fn forget(&mut self, alloc: Global, node: u32)
+        requires ready { self.old.ready ≡ true }
+        ensures { Forgets node self.old self.new }
+    {
+        if self.kept.find(node).is_none() {
+            return;
+        }
+        self.gone.mark(node);
+        // A column of no rows takes no memory.
+        let empty = Column::empty(alloc, DType::Bool(Nullability::NonNullable));
+        if let Ok(column) = empty {
+            self.kept.replace(node, column);
+        }
+    }
+
+    /// For each of the columns one of its plan, which is the column itself where one of the plan is here; and the
+    /// places of the first ones, where all are indexed. It takes no memory.
+    pub(crate) fn into_indexed(self) -> Result<(Vec<KeptValue>, PlaceTable), Vec<KeptValue>>
+        ensures { MatchResult result (λ found. StandFor self.here self.all (map kept_data found.0.items) × ArePlaces found.1 (map kept_data found.0.items)) (λ columns. StandFor self.here self.all (map kept_data columns.items)) }
+    {
+        let LeafColumns {
+            kept,
+            gone,
+            handed,
+            decoded,
+            ..
+        } = self;
+        drop(gone);
+        drop(handed);
+        drop(decoded);
+        kept.into_indexed()
+    }
+}

@@ -1,0 +1,195 @@
+//! The leaves that the selected rows of a split read, each with the places of the first and of the last row that read it.
+
+ghost use Rattle.std.specs.Prelude.{◌≡◌, ◌+◌, ◌-◌, ◌<◌, ◌≤◌, ◌^◌, [], ◌∷◌, ◌++◌, length, map, slice_range, IfOk, MatchOption, OnOk};
+ghost use Rattle.std.specs.List.Sorted.{IsNonDecreasingBy, IsPermutation};
+ghost use Rattle.vx_plan.specs.Rules.{node_at};
+ghost use Rattle.vx_steps.specs.Needs.{AreLeaves};
+ghost use Rattle.vx_steps.specs.Pieces.{read_of, AreInOrder, ArePlaced};
+ghost use Rattle.vx_steps.specs.Placed.{up_to, AddsPlaced, AddsUnder, AreEnds};
+ghost use Rattle.vx_steps.specs.Rows.{SelectsNone};
+
+use crate::kept::KeptColumns;
+use crate::leaf_reads::{LeafRead, add_whole_reads};
+use std::alloc::{AllocError, Global};
+use vx_base::Mask;
+use vx_plan::{ChildRows, Part, PartPlace, PlanRef, PlanTable, Shape};
+
+/// A leaf that is read, the segment that it names, and the places of the first and of the last row that read it on one
+/// way through the plans. All rows wait for what is read for whole values.
+#[derive(Clone, Copy)]
+pub(crate) struct PlacedRead {
+    pub(crate) leaf: u32,
+    pub(crate) segment: u32,
+    pub(crate) from: u64,
+    pub(crate) last: u64,
+}
+
+/// The places of the first and of the last selected row.
+#[derive(Clone, Copy)]
+pub(crate) struct Ends {
+    pub(crate) first: u64,
+    pub(crate) last: u64,
+}
+
+/// The places of the first and of the last selected row, where there is one.
+fn ends_of(mask: &Mask) -> Option<Ends>
+    ensures { MatchOption result (SelectsNone mask.now) (AreEnds mask.now) }
+{
+    let first = match mask.first() {
+        Some(place) => place,
+        None => return None,
+    };
+    match mask.last() {
+        Some(last) => Some(Ends { first, last }),
+        None => None,
+    }
+}
+
+/// Adds a leaf that rows from the one place to the other read.
+fn add_need(
+    leaf: u32,
+    segment: u32,
+    from: u64,
+    last: u64,
+    needs: &mut Vec<PlacedRead>,
+) -> Result<(), AllocError>
+    ensures { OnOk result (needs.new.items ≡ needs.old.items ++ record { leaf = leaf; segment = segment; from = from; last = last } ∷ []) }
+{
+    needs.push(PlacedRead {
+        leaf,
+        segment,
+        from,
+        last,
+    })?;
+    Ok(())
+}
+
+/// Adds the leaves that the selected rows of a plan read. Its first row stands at a place behind the base.
+#[cycle(placed_reads)]
+pub(crate) fn add_placed(
+    alloc: Global,
+    table: &PlanTable,
+    given: &KeptColumns,
+    plan: u32,
+    start: u64,
+    mask: &Mask,
+    base: u64,
+    needs: &mut Vec<PlacedRead>,
+) -> Result<(), AllocError>
+    requires known { plan < length table.now }
+    requires inside { start + length mask.now ≤ (node_at table.now plan).rows }
+    requires base { base + length mask.now < 2 ^ 64 }
+    ensures { OnOk result (AddsPlaced table.now given.now plan start mask.now base needs.old.items needs.new.items) }
+{
+    let ends = match ends_of(mask) {
+        Some(ends) => ends,
+        None => return Ok(()),
+    };
+    if let Shape::Leaf(segment) = table.shape(PlanRef(plan)) {
+        return add_need(plan, segment, base + ends.first, base + ends.last, needs);
+    }
+    let mut place = PartPlace::first();
+    while let Some(next) = table.next_part(PlanRef(plan), start, mask.len(), place) {
+        match next.part {
+            Part::Rows(rows) => add_placed_rows(alloc, table, given, rows, mask, base, needs)?,
+            Part::Whole(whole, child) => {
+                add_under(alloc, table, given, whole, child, base + ends.last, needs)?
+            }
+        }
+        place = next.behind;
+    }
+    Ok(())
+}
+
+/// Adds the leaves that rows of a child read which the mask selects at their places.
+#[cycle(placed_reads)]
+fn add_placed_rows(
+    alloc: Global,
+    table: &PlanTable,
+    given: &KeptColumns,
+    rows: ChildRows,
+    mask: &Mask,
+    base: u64,
+    needs: &mut Vec<PlacedRead>,
+) -> Result<(), AllocError>
+    requires known { rows.child < length table.now }
+    requires forwards { rows.from ≤ rows.to }
+    requires asked { rows.to ≤ length mask.now }
+    requires inside { rows.start + (rows.to - rows.from) ≤ (node_at table.now rows.child).rows }
+    requires base { base + length mask.now < 2 ^ 64 }
+    ensures { OnOk result (AddsPlaced table.now given.now rows.child rows.start (slice_range mask.now rows.from rows.to) (base + rows.from) needs.old.items needs.new.items) }
+{
+    if rows.from == 0 && rows.to == mask.len() {
+        return add_placed(
+            alloc, table, given, rows.child, rows.start, mask, base, needs,
+        );
+    }
+    let some = mask.slice(alloc, rows.from..rows.to)?;
+    let behind = base + rows.from;
+    add_placed(
+        alloc, table, given, rows.child, rows.start, &some, behind, needs,
+    )
+}
+
+/// Adds leaves for which all rows wait, and which no row behind the last place reads.
+fn add_for_all(found: &[LeafRead], last: u64, needs: &mut Vec<PlacedRead>) -> Result<(), AllocError>
+    ensures { OnOk result (needs.new.items ≡ needs.old.items ++ map (up_to last) found.now) }
+{
+    for place in 0..found.len() {
+        let read = found[place];
+        add_need(read.leaf, read.segment, 0, last, needs)?;
+    }
+    Ok(())
+}
+
+/// Adds the leaves that all rows of a plan read, unless whole values were handed in for the number. All rows wait for
+/// them, and none behind the last place reads them.
+fn add_under(
+    alloc: Global,
+    table: &PlanTable,
+    given: &KeptColumns,
+    whole: u32,
+    plan: u32,
+    last: u64,
+    needs: &mut Vec<PlacedRead>,
+) -> Result<(), AllocError>
+    requires { plan < length table.now }
+    ensures { OnOk result (AddsUnder table.now given.now whole plan last needs.old.items needs.new.items) }
+{
+    let mut found = Vec::new(alloc);
+    add_whole_reads(alloc, table, Some(given), whole, plan, &mut found)?;
+    add_for_all(&found, last, needs)
+}
+
+/// Brings the needs into the order of their first places.
+fn sort_placed(needs: &mut Vec<PlacedRead>) -> Result<(), AllocError>
+    ensures order { OnOk result (IsNonDecreasingBy (λ need. need.from) needs.new.items) }
+    ensures same { IsPermutation needs.old.items needs.new.items }
+{
+    match needs.sort_by_key(|need| need.from) {
+        Ok(()) => Ok(()),
+        Err(error) => Err(error),
+    }
+}
+
+/// The leaves that the selected rows of a plan read, in the order of the first rows that wait for them.
+pub(crate) fn placed_of(
+    alloc: Global,
+    table: &PlanTable,
+    given: &KeptColumns,
+    plan: u32,
+    start: u64,
+    mask: &Mask,
+) -> Result<Vec<PlacedRead>, AllocError>
+    requires known { plan < length table.now }
+    requires inside { start + length mask.now ≤ (node_at table.now plan).rows }
+    ensures placed { IfOk result (λ needs. ArePlaced table.now given.now plan start mask.now needs.items) }
+    ensures order { IfOk result (λ needs. AreInOrder needs.items) }
+    ensures leaves { IfOk result (λ needs. AreLeaves table.now (map read_of needs.items)) }
+{
+    table.numbers_fit(PlanRef(plan));
+    let mut needs = Vec::new(alloc);
+    add_placed(alloc, table, given, plan, start, mask, 0, &mut needs)?;
+    sort_placed(&mut needs)?;
+    Ok(needs)
+}
