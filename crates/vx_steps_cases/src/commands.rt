@@ -6,6 +6,7 @@ ghost use Rattle.vx_plan.specs.Refs.{number_of};
 
 use crate::answers::{write_columns, write_error};
 use crate::scans::write_scan;
+use crate::segments::{Segment, take_segments};
 use crate::splits::write_splits;
 use std::alloc::{AllocError, Global};
 use std::mem::replace;
@@ -15,13 +16,6 @@ use vx_lower::{Lowered, plan_row_idx_expression};
 use vx_plan::{PlanError, PlanRef, PlanTable, SharePlan};
 use vx_steps::KeptValue;
 use vx_tree_notation::{lowered, tree_of};
-
-/// The bytes of a segment.
-#[derive(Drop)]
-pub(crate) struct Segment {
-    pub(crate) number: u32,
-    pub(crate) bytes: Vec<u8>,
-}
 
 /// The plans that a tree was lowered to, of which the root is scanned, the bytes of the segments, and the leaves that
 /// the last scan left.
@@ -113,33 +107,6 @@ fn write_tree(
     write!(out, " plan {}", plans.root.0)
 }
 
-/// Adds the byte of the hexadecimal digits; behind a `*` stands how many times.
-fn push_bytes(word: &str, bytes: &mut Vec<u8>) -> Result<(), AllocError> {
-    let (digits, count) = word.split_once('*').unwrap_or((word, "1"));
-    let byte = u8::from_str_radix(digits, 16).unwrap_or(0);
-    for _time in 0..count.parse::<u64>().unwrap_or(0) {
-        bytes.push(byte)?;
-    }
-    Ok(())
-}
-
-/// The bytes of the words. `07*200` is the byte 07 two hundred times. What has no room is left out.
-fn bytes_in(alloc: Global, words: &str) -> Vec<u8> {
-    let mut bytes = Vec::new(alloc);
-    for word in words.split_whitespace() {
-        let _pushed = push_bytes(word, &mut bytes).ok();
-    }
-    bytes
-}
-
-/// Puts bytes in the place of those of a segment.
-fn take_segment(alloc: Global, file: &mut Vec<Segment>, words: &str) {
-    let (number, words) = words.split_once(' ').unwrap_or((words, ""));
-    let number = number.parse::<u32>().unwrap_or(0);
-    let bytes = bytes_in(alloc, words);
-    let _pushed = file.push(Segment { number, bytes }).ok();
-}
-
 /// Appends the answer to a command over the plans, of which there are few.
 fn write_on_plans(
     alloc: Global,
@@ -177,10 +144,7 @@ fn write_answer(
     let (command, words) = line.split_once(' ').unwrap_or((line, ""));
     match command {
         "tree" => write_tree(alloc, &mut case_state.plans, words, out),
-        "file" => {
-            take_segment(alloc, &mut case_state.file, words);
-            Ok(())
-        }
+        "file" => take_segments(alloc, &mut case_state.file, words),
         "leaves" => write_columns(alloc, "leaf", &case_state.leaves, out),
         "splits" => write_splits(alloc, words, out),
         "error" => write_error(words, out),

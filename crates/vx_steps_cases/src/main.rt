@@ -8,6 +8,7 @@ mod commands;
 mod options;
 mod runs;
 mod scans;
+mod segments;
 mod splits;
 
 use commands::write_lines;

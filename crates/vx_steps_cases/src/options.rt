@@ -19,18 +19,27 @@ pub(crate) enum Order {
     Given,
 }
 
+/// A read that is to be delivered, and whether the next one is delivered at the same turn.
+#[derive(Clone, Copy)]
+pub(crate) struct Due {
+    pub(crate) read: u64,
+    pub(crate) joins_next: bool,
+}
+
 /// How a scan is run.
 #[derive(Drop)]
 pub(crate) struct Options {
     pub(crate) active: usize,
     pub(crate) offset: u64,
     pub(crate) order: Order,
-    /// The numbers of the reads that are to be delivered.
-    pub(crate) queue: Vec<u64>,
+    /// The reads that are to be delivered.
+    pub(crate) queue: Vec<Due>,
     /// The numbers of the reads that are delivered after the end.
     pub(crate) late: Vec<u64>,
     /// Whether it is told how many bytes of segments the scan holds.
     pub(crate) tells_held: bool,
+    /// Whether it is told which segments the scan holds.
+    pub(crate) tells_segments: bool,
     /// Whether the first turn is taken before anything is handed in.
     pub(crate) started: bool,
     pub(crate) given: Vec<KeptValue>,
@@ -41,6 +50,19 @@ pub(crate) struct Options {
 fn push_numbers(words: &str, numbers: &mut Vec<u64>) -> Result<(), AllocError> {
     for word in words.split_whitespace() {
         numbers.push(word.parse::<u64>().unwrap_or(0))?;
+    }
+    Ok(())
+}
+
+/// Adds the reads whose numbers stand between blanks. Behind a number that ends with a `+` the next is delivered at the same
+/// turn.
+fn push_due(words: &str, queue: &mut Vec<Due>) -> Result<(), AllocError> {
+    for word in words.split_whitespace() {
+        let digits = word.strip_suffix('+').unwrap_or(word);
+        queue.push(Due {
+            read: digits.parse::<u64>().unwrap_or(0),
+            joins_next: word.ends_with("+"),
+        })?;
     }
     Ok(())
 }
@@ -67,7 +89,7 @@ fn set_order(options: &mut Options, words: &str) -> Result<(), AllocError> {
         _ => Order::Given,
     };
     match options.order {
-        Order::Given => push_numbers(words, &mut options.queue),
+        Order::Given => push_due(words, &mut options.queue),
         _ => Ok(()),
     }
 }
@@ -81,6 +103,7 @@ fn set_option(alloc: Global, options: &mut Options, text: &str) -> Result<(), Al
         "order" => return set_order(options, words),
         "late" => return push_numbers(words, &mut options.late),
         "held" => options.tells_held = true,
+        "segments" => options.tells_segments = true,
         "started" => options.started = true,
         "given" => return push_column(alloc, words, &mut options.given),
         _ => return push_column(alloc, words, &mut options.leaves),
@@ -107,6 +130,7 @@ pub(crate) fn options_of(alloc: Global, text: &str, leaves: Vec<KeptValue>) -> O
         queue: Vec::new(alloc),
         late: Vec::new(alloc),
         tells_held: false,
+        tells_segments: false,
         started: false,
         given: Vec::new(alloc),
         leaves,

@@ -1,8 +1,8 @@
 //! The turns of a scan, whose reads are delivered from the bytes of segments.
 
 use crate::answers::{write_column, write_columns, write_refusal};
-use crate::commands::Segment;
-use crate::options::Order;
+use crate::options::{Due, Order};
+use crate::segments::{Segment, bytes_of};
 use std::alloc::{AllocError, Global};
 use vx_steps::{ReadId, ReadRequest, Scan, Turn};
 
@@ -13,18 +13,11 @@ pub(crate) struct Run<'a> {
     pub(crate) scan: Scan<'a>,
     pub(crate) order: Order,
     pub(crate) reads: Vec<ReadRequest>,
-    pub(crate) queue: Vec<u64>,
+    pub(crate) queue: Vec<Due>,
+    /// How many of the queue were delivered, from the first one on.
+    pub(crate) front: usize,
     pub(crate) tells_held: bool,
-}
-
-/// The bytes of a segment, the last that were put there; none where there are none, or no room for them.
-fn bytes_of(alloc: Global, file: &[Segment], number: u32) -> Vec<u8> {
-    for segment in file.iter().rev() {
-        if segment.number == number {
-            return Vec::from_slice(alloc, &segment.bytes).unwrap_or(Vec::new(alloc));
-        }
-    }
-    Vec::new(alloc)
+    pub(crate) tells_segments: bool,
 }
 
 /// The segment of a read that was handed out, and 0 for any other.
@@ -43,6 +36,27 @@ fn write_held(run: &Run<'_>, out: &mut String) -> Result<(), AllocError> {
     write!(out, " held {};", run.scan.held_bytes())
 }
 
+/// Appends the numbers of segments, the least first.
+fn write_sorted(alloc: Global, segments: &[u32], out: &mut String) -> Result<(), AllocError> {
+    let mut sorted = Vec::from_slice(alloc, segments)?;
+    sorted.sort()?;
+    let mut blank = "";
+    for segment in &sorted {
+        write!(out, "{blank}{segment}")?;
+        blank = " ";
+    }
+    Ok(())
+}
+
+/// Appends which segments the scan holds, where that is asked.
+fn write_segments(alloc: Global, run: &Run<'_>, out: &mut String) -> Result<(), AllocError> {
+    if !run.tells_segments {
+        return Ok(());
+    }
+    out.push_str(" holds [")?;
+    write_sorted(alloc, run.scan.held(), out).and(out.push_str("];"))
+}
+
 /// Delivers a read.
 fn deliver(
     alloc: Global,
@@ -59,24 +73,34 @@ fn deliver(
 }
 
 /// The next read that is to be delivered.
-fn next_read(run: &mut Run<'_>) -> Option<u64> {
+fn next_read(run: &mut Run<'_>) -> Option<Due> {
     match run.order {
         Order::Reverse => run.queue.pop(),
         _ => {
-            if run.queue.is_empty() {
-                return None;
-            }
-            Some(run.queue.remove(0))
+            let due = match run.queue.get(run.front) {
+                Some(due) => *due,
+                None => return None,
+            };
+            run.front = run.front.saturating_add(1);
+            Some(due)
         }
     }
 }
 
-/// Delivers the next read, and says whether there was one.
+/// Delivers the next read, with those that are delivered at the same turn, and says whether there was one.
 fn deliver_next(alloc: Global, run: &mut Run<'_>, out: &mut String) -> Result<bool, AllocError> {
-    match next_read(run) {
-        Some(number) => deliver(alloc, run, number, out).and(Ok(true)),
-        None => Ok(false),
+    let mut any = false;
+    for _time in 0..run.queue.len() {
+        let Some(due) = next_read(run) else {
+            break;
+        };
+        any = true;
+        deliver(alloc, run, due.read, out)?;
+        if !due.joins_next {
+            break;
+        }
     }
+    Ok(any)
 }
 
 /// Takes a read that is handed out.
@@ -88,15 +112,24 @@ fn take_read(
 ) -> Result<(), AllocError> {
     let number = read.id.0;
     write!(out, " read {number}:{};", read.segment_id)?;
+    write_segments(alloc, run, out)?;
     run.reads.push(read)?;
     match run.order {
         Order::Early => deliver(alloc, run, number, out),
         Order::Given => Ok(()),
         _ => {
-            run.queue.push(number)?;
+            run.queue.push(Due {
+                read: number,
+                joins_next: false,
+            })?;
             Ok(())
         }
     }
+}
+
+/// Appends how many bytes the scan holds, and which segments, where that is asked.
+fn write_kept(alloc: Global, run: &Run<'_>, out: &mut String) -> Result<(), AllocError> {
+    write_held(run, out).and(write_segments(alloc, run, out))
 }
 
 /// Takes a turn, and says whether there is another.
@@ -110,15 +143,15 @@ fn take_turn(
         Turn::Read(read) => take_read(alloc, run, *read, out).and(Ok(true)),
         Turn::Output(split, column) => write!(out, " out {split}")
             .and(write_column(alloc, column, out))
-            .and(write_held(run, out))
+            .and(write_kept(alloc, run, out))
             .and(Ok(true)),
         Turn::Waiting => out
             .push_str(" waiting;")
-            .and(write_held(run, out))
+            .and(write_kept(alloc, run, out))
             .and(deliver_next(alloc, run, out)),
         Turn::Done => out
             .push_str(" done;")
-            .and(write_held(run, out))
+            .and(write_kept(alloc, run, out))
             .and(Ok(false)),
     }
 }
@@ -133,7 +166,7 @@ pub(crate) fn take_step(
     let more = match &turn {
         Ok(turn) => take_turn(alloc, run, turn, out),
         Err(error) => write_refusal(*error, out)
-            .and(write_held(run, out))
+            .and(write_kept(alloc, run, out))
             .and(Ok(true)),
     };
     drop(turn);

@@ -4,9 +4,9 @@ ghost use Rattle.std.specs.Prelude.{◌≡◌, ◌<◌, length, IsTrue};
 ghost use Rattle.vx_plan.specs.Refs.{number_of};
 ghost use Rattle.vx_steps.specs.Held.{FitsOffset};
 
-use crate::commands::Segment;
 use crate::options::{Options, options_of};
 use crate::runs::{Run, take_step, write_run};
+use crate::segments::Segment;
 use crate::splits::splits_of;
 use std::alloc::{AllocError, Global};
 use std::mem::replace;
@@ -45,7 +45,9 @@ fn handed<'a>(run: Run<'a>, given: Vec<KeptValue>, leaves: Vec<KeptValue>) -> Ru
         order,
         reads,
         queue,
+        front,
         tells_held,
+        tells_segments,
     } = run;
     Run {
         file,
@@ -53,7 +55,9 @@ fn handed<'a>(run: Run<'a>, given: Vec<KeptValue>, leaves: Vec<KeptValue>) -> Ru
         order,
         reads,
         queue,
+        front,
         tells_held,
+        tells_segments,
     }
 }
 
@@ -72,6 +76,7 @@ fn write_turns<'a>(
         queue,
         late,
         tells_held,
+        tells_segments,
         started,
         given,
         leaves,
@@ -83,7 +88,9 @@ fn write_turns<'a>(
         order,
         reads: Vec::new(alloc),
         queue,
+        front: 0,
         tells_held,
+        tells_segments,
     };
     if started {
         let _more = take_step(alloc, &mut run, out).ok();

@@ -12,10 +12,11 @@ use vx_expr_notation::spelled;
 use vx_layout::{Kept, LayoutTree};
 use vx_lower::{Lowered, lower};
 
-/// The tree of the nodes that are written so, of which there are a thousand at most; none where they are no tree.
+/// The tree of the nodes that are written so, of which there are five hundred thousand at most; none where they are no
+/// tree.
 pub fn tree_of(alloc: Global, text: &str) -> Option<LayoutTree> {
     let nodes = nodes_of(alloc, text)?;
-    if nodes.len() > 1000 {
+    if nodes.len() > 500_000 {
         return None;
     }
     LayoutTree::try_new(alloc, nodes).ok()
