@@ -1,5 +1,5 @@
 -- The scan of a chunk as it is made, and with what is handed in.
-use Rattle.std.proofs.Common.{◌≡◌, ℕ, ◌+◌, ◌<◌, ◌≤◌, List, [], ◌∷◌, length, refl, sym, ap, ◌∙◌, subst, arith}
+use Rattle.std.proofs.Common.{◌≡◌, ℕ, ◌+◌, ◌<◌, ◌≤◌, List, [], ◌∷◌, length, map, refl, sym, ap, ◌∙◌, subst, arith}
 use Rattle.std.specs.Prelude.{slice_index_or}
 use Rattle.std.specs.List.{AllByRecursion}
 use Rattle.vx_rows.specs.SegmentLeaves.{leaves_of}
@@ -8,11 +8,12 @@ use Rattle.vx_plan.specs.Refs.{number_of}
 use Rattle.vx_plan.specs.Tables.{IsGoodTable}
 use Rattle.vx_steps.specs.declared.splits.Split.{Split}
 use Rattle.vx_steps.specs.Held.{AreMade, AreTyped, HaveLeaves}
-use Rattle.vx_steps.specs.Jobs.{numbers_from, IsUnstarted}
+use Rattle.vx_steps.specs.Jobs.{IsUnstarted}
 use Rattle.vx_steps.specs.KeptData.{Kept}
 use Rattle.vx_steps.specs.Offers.{IsForPlan, Keeps}
 use Rattle.vx_steps.specs.Splits.{IsInside}
 use Rattle.vx_steps.specs.ScanData.{ScanData, IsNew, IsOfHanded, StaysTold}
+use Rattle.vx_steps.specs.Standings.{none_given, numbers_from}
 use Rattle.vx_steps.proofs.Fitting.{fitting_typed, none_typed}
 use Rattle.vx_splits.specs.declared.selected_rows.SelectedRows.{SelectedRows}
 use Rattle.vx_drive.specs.declared.plans.ScanPlans.{ScanPlans}
@@ -57,11 +58,11 @@ begins_literal plans chosen splits scan are good one new told =
         known = let plan = new.plan_is in let nodes = ap length new.nodes_are in let known = are.known in omega (arith, plan, nodes, known);
         typed = subst (AreTyped scan.nodes) (sym new.given) (none_typed scan.nodes);
         splits = items ∙ ap (λ (s : Split). s ∷ []) (sym split);
-        left = new.left ∙ ap (numbers_from 0) (one ∙ ap (λ (s : Split). s ∷ []) (sym split));
+        left = new.left ∙ ap (λ (ss : List Split). map none_given (numbers_from 0 ss)) (one ∙ ap (λ (s : Split). s ∷ []) (sym split));
         wanted = new.unstarted.wanted;
         refused = new.refused;
       };
-      unstarted = record { next = new.unstarted.next; active = new.unstarted.active; wanted = new.unstarted.wanted; used = new.unstarted.used };
+      unstarted = record { next = new.unstarted.next; started = new.unstarted.started; wanted = new.unstarted.wanted; used = new.unstarted.used };
       handed = new.handed;
     }
 
@@ -123,14 +124,14 @@ handed_literal plans chosen leaves made scan is told = record {
     wanted = is.unread.wanted;
     refused = is.unread.refused;
   };
-  unstarted = record { next = is.unstarted.next; active = is.unstarted.active; wanted = is.unstarted.wanted; used = is.unstarted.used };
+  unstarted = record { next = is.unstarted.next; started = is.unstarted.started; wanted = is.unstarted.wanted; used = is.unstarted.used };
   handed = is.handed;
 }
 
 -- a scan that was handed leaves was not started by that
 pub leaves_unstarted : (leaves : List Kept) (scan first : ScanData) → IsUnstarted scan.progress → first ≡ record scan { progress = record scan.progress { leaves = leaves } } → IsUnstarted first.progress
 leaves_unstarted leaves scan first is one =
-    subst (λ (s : ScanData). IsUnstarted s.progress) (sym one) (record { next = is.next; active = is.active; wanted = is.wanted; used = is.used })
+    subst (λ (s : ScanData). IsUnstarted s.progress) (sym one) (record { next = is.next; started = is.started; wanted = is.wanted; used = is.used })
 
 pub with_handed : (plans : ScanPlans) (chosen : SelectedRows) (leaves made : List Kept) (scan first second : ScanData) → IsChunkScan plans chosen [] [] [] scan → first ≡ record scan { progress = record scan.progress { leaves = leaves } } →
     second ≡ record first { progress = record first.progress { wholes = record first.progress.wholes { made = made } } } → IsOfHanded second → IsChunkScan plans chosen [] leaves made second

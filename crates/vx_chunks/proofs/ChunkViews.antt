@@ -28,7 +28,7 @@ use Rattle.vx_drive.specs.declared.errors.ScanError.TheVariants as errors
 use Rattle.vx_drive.specs.declared.plans.ScanPlans.{ScanPlans}
 use Rattle.vx_drive.specs.Asks.{AsksOnly}
 use Rattle.vx_drive.specs.Plans.{bytes_of, projection_plan}
-use Rattle.vx_drive.specs.Runs.{GivesSplit, IsReadByStart, LeavesFault, LeavesRead, RunCause}
+use Rattle.vx_drive.specs.Runs.{GivesSplit, IsReadByStart, LeavesFault, RunCause}
 use Rattle.vx_drive.specs.Starts.{split_of}
 use Rattle.vx_chunks.specs.ChunkRows.{given_to, ChunkFailsInside, ChunkReaches, ChunkReadsSegment, ChunkVisits, IsPiece}
 use Rattle.vx_chunks.specs.ChunkScans.{IsChunkScan}
@@ -104,12 +104,6 @@ fault_left Told plans chosen given leaves made start scan before fault is claim 
     inr (claim (λ bytes. ChunkFailsInside (leaves_of bytes) plans given chosen fault) (λ file told held.
     subst (λ (v : View). HasInsideCause (leaves_of (bytes_of plans file)) (handed_by v.nodes (Some v.given)) v.offset (plan_at v.nodes v.plan) v.first v.mask fault)
     (view_same plans chosen given leaves made start is) (inside file told held)))
-
--- and the leaves that they read are kept
-pub fault_reads : (plans : ScanPlans) (chosen : SelectedRows) (given leaves made : List Kept) (start scan : ScanData) (fault : StepError) → IsChunkScan plans chosen given leaves made start →
-    LeavesRead start scan fault → (read : LeafRead) → ChunkVisits (IsLeafRead read) plans given chosen → IsKept scan.progress.leaves read.leaf
-fault_reads plans chosen given leaves made start scan fault is have read visits =
-    have read (subst (ViewVisits (IsLeafRead read)) (sym (view_same plans chosen given leaves made start is)) visits)
 
 -- what some selected row of the scan's splits asks for, some selected row of the chunk asks for
 pub is_asked : (plans : ScanPlans) (chosen : SelectedRows) (given leaves made : List Kept) (start : ScanData) (n : ℕ) → IsChunkScan plans chosen given leaves made start → IsAskedFor start.nodes start.job n → ChunkAsks plans given chosen n

@@ -43,10 +43,6 @@ told_with plans handed nothing before empty P holds file told by = holds file to
   made_are = by.made_are;
 })
 
-some_all : {X : Type 0} (option : Option X) (P : Type 0) → P → IfSome option (λ x. P)
-some_all None P p = tt
-some_all (Some x) P p = p
-
 some_as : {X : Type 0} (option : Option X) (P Q : X → Type 0) → ((x : X) → P x → Q x) → IfSome option P → IfSome option Q
 some_as None P Q f holds = tt
 some_as (Some x) P Q f holds = f x holds
@@ -70,8 +66,6 @@ more_bare plans chosen handed nothing given ran before is none can empty more =
           (λ (inside : T (λ bytes. ChunkFailsInside (leaves_of bytes) plans given chosen fault)). inr (told_with plans handed nothing before empty (λ bytes. ChunkFailsInside (leaves_of bytes) plans given chosen fault) inside)))) more.left;
       leaves_stay = λ leaf read kept. kept;
       leaves_there = there_as ran.piece (λ column. AreAllThere plans given (data_of ran.handed.made.items) chosen) (λ column. HandsLeavesRead plans chosen given (data_of handed.leaves.items)) (λ column there. reads) more.there;
-      leaves_left = error_as ran.piece (λ error. IfSome (row_fault error) (λ fault. HandsLeavesRead plans chosen given (data_of ran.handed.leaves.items))) (λ error. IfSome (row_fault error) (λ fault. HandsLeavesRead plans chosen given (data_of handed.leaves.items)))
-          (λ error left. some_all (row_fault error) (HandsLeavesRead plans chosen given (data_of handed.leaves.items)) reads) more.leaves_left;
     }
 
 given_bare : (plans : ScanPlans) (chosen : SelectedRows) (handed : HandedOn) (nothing : Vec KeptValue Global) (given all : List Kept) (ran : Ran) (before after : SourceState) → IsChunkOf plans chosen → chosen.scope.rows.end ≤ chosen.scope.rows.start → CanHandOn plans handed → nothing.items ≡ []

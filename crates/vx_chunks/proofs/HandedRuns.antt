@@ -33,7 +33,7 @@ use Rattle.vx_drive.specs.declared.runs.Finished.{Finished}
 use Rattle.vx_drive.specs.Asks.{AsksOnly}
 use Rattle.vx_drive.specs.Finished.{Finishes}
 use Rattle.vx_drive.specs.Plans.{bytes_of, projection_plan, IsChunkOf}
-use Rattle.vx_drive.specs.Runs.{LeavesFault, LeavesRead, row_fault}
+use Rattle.vx_drive.specs.Runs.{LeavesFault, row_fault}
 use Rattle.vx_chunks.specs.declared.outcomes.HandedOn.{HandedOn}
 use Rattle.vx_chunks.specs.declared.outcomes.Ran.{Ran}
 use Rattle.vx_chunks.specs.ChunkRows.{given_to, ChunkFailsInside, ChunkVisits}
@@ -44,7 +44,7 @@ use Rattle.vx_chunks.specs.Pieces.{PieceOf}
 use Rattle.vx_chunks.proofs.AddedVisits.{AreBehind, KeepsBoth, are_behind, cause_added, gives_added, keeps_both, kept_behind, kept_in_either, kept_in_front}
 use Rattle.vx_chunks.proofs.ChunkOutcomes.{asks_nothing, chunk_causes, chunk_content, chunk_error, chunk_faults, chunk_leaves, chunk_there, lasts_cleared, leaves_in, made_in, none_kept, there_as, typed_in}
 use Rattle.vx_chunks.proofs.ChunkScanning.{IsGoodChunk, good_chunk}
-use Rattle.vx_chunks.proofs.ChunkViews.{Claimable, asks_wanted, fault_left, fault_reads}
+use Rattle.vx_chunks.proofs.ChunkViews.{Claimable, asks_wanted, fault_left}
 use Rattle.vx_base.specs.Columns.{ColumnData}
 use Rattle.vx_base.specs.Sources.{SourceState, Cleared}
 
@@ -138,10 +138,6 @@ pub error_as : {X : Type 0} (piece : Result X ScanError) (P Q : ScanError → Ty
 error_as (Ok x) P Q f holds = tt
 error_as (Err error) P Q f holds = f error holds
 
-some_as : {X : Type 0} (option : Option X) (P Q : X → Type 0) → ((x : X) → P x → Q x) → IfSome option P → IfSome option Q
-some_as None P Q f holds = tt
-some_as (Some x) P Q f holds = f x holds
-
 -- they have the dtypes and the rows of their plans
 own_typed : (plans : ScanPlans) (chosen : SelectedRows) (made own : List Kept) → AreOwn plans chosen made own → AreTyped plans.table made → AreTyped plans.table own
 own_typed plans chosen made own are typed n column at = typed n column (are.from n column at)
@@ -226,10 +222,6 @@ runs_on plans chosen handed given own all leaves made start finished ran before 
             leaves_there = there_as ran.piece (λ column. (read : LeafRead) → ChunkVisits (IsLeafRead read) plans all chosen → IsKept scan.progress.leaves read.leaf) (λ column. HandsLeavesRead plans chosen all (data_of ran.handed.leaves.items))
                 (λ column have read past visits. on (some_row plans chosen all read chunk visits) read.leaf past (have read visits))
                 (chunk_leaves plans chosen all leaves made start scan before after finished.output ran.piece is gives.answer piece);
-            leaves_left = error_as ran.piece (λ error. IfSome (row_fault error) (LeavesRead start scan)) (λ error. IfSome (row_fault error) (λ fault. HandsLeavesRead plans chosen all (data_of ran.handed.leaves.items)))
-                (λ error. some_as (row_fault error) (LeavesRead start scan) (λ fault. HandsLeavesRead plans chosen all (data_of ran.handed.leaves.items))
-                (λ fault have read past visits. on (some_row plans chosen all read chunk visits) read.leaf past (fault_reads plans chosen all leaves made start scan fault is have read visits)))
-                (chunk_error (λ error. IfSome (row_fault error) (LeavesRead start scan)) plans finished.output ran.piece tt piece gives.left_leaves);
           };
           faults = chunk_faults plans before after finished.output ran.piece piece gives.faults;
           lasts = gives.lasts;
@@ -259,7 +251,6 @@ lacks_on plans chosen handed given ran before after can lacks same clears = reco
       left = rw lacks tt;
       leaves_stay = λ leaf read kept. subst (λ (h : HandedOn). IsKept (data_of h.leaves.items) leaf) (sym same) kept;
       leaves_there = rw lacks tt;
-      leaves_left = rw lacks tt;
     };
     faults = inl clears.faults;
     lasts = lasts_cleared before after clears;

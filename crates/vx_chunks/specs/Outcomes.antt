@@ -161,7 +161,8 @@ HandsLeavesRead plans chosen given leaves = (read : LeafRead) → IsReadAt plans
 -- What is handed on is so by the file, if what was handed in is, whatever was given. The values that were made before
 -- stay, and those that the selected rows of a piece ask for are among them or given. So are those that rows with a fault
 -- ask for, or the fault is one inside whole values. Of the leaves that were handed in, and of those that the selected
--- rows of a piece or with a fault read, each is handed on that the row behind the chunk reads.
+-- rows of a piece read, each is handed on that the row behind the chunk reads. A fault of rows may be found before all
+-- that the chunk reads came, so that nothing is said of the leaves that its rows read.
 pub record HandsOnMore (plans : ScanPlans) (chosen : SelectedRows) (handed : HandedOn) (given : List Kept) (ran : Ran) (before : SourceState) : Type 0 where
   pub can : CanHandOn plans ran.handed
   pub by_file : told_on plans handed before (IsHandedBy plans ran.handed)
@@ -171,7 +172,6 @@ pub record HandsOnMore (plans : ScanPlans) (chosen : SelectedRows) (handed : Han
       AreAllThere plans given (data_of ran.handed.made.items) chosen ⊎ told_on plans handed before (λ bytes. ChunkFailsInside (leaves_of bytes) plans given chosen fault)))
   pub leaves_stay : (leaf : ℕ) → IsReadAt plans (row_behind chosen) leaf → IsKept (data_of handed.leaves.items) leaf → IsKept (data_of ran.handed.leaves.items) leaf
   pub leaves_there : IfOk ran.piece (λ column. HandsLeavesRead plans chosen given (data_of ran.handed.leaves.items))
-  pub leaves_left : IfErr ran.piece (λ error. IfSome (row_fault error) (λ fault. HandsLeavesRead plans chosen given (data_of ran.handed.leaves.items)))
 
 -- These are some of the values that were made, and all of them that the chunk asks for.
 pub record AreOwn (plans : ScanPlans) (chosen : SelectedRows) (made own : List Kept) : Type 0 where

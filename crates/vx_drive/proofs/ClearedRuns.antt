@@ -43,7 +43,6 @@ gives_between : (locations : List SegmentLocation) (limit : ℕ) (start : ScanDa
 gives_between locations limit start result scan before after gives = record {
   answer = answer_between locations limit start result scan before after gives.answer;
   left = gives.left;
-  left_leaves = gives.left_leaves;
   asks = asks_between (IsReadByStart start) locations before after gives.asks;
   faults = gives.faults;
   nodes = gives.nodes;

@@ -1,6 +1,6 @@
 -- The step that a batch of fetches and the turn behind it make.
 use Rattle.std.proofs.Common.{◌≡◌, ℕ, ◌+◌, ◌-◌, ◌^◌, ◌<◌, ◌≤◌, ◌⊎◌, inl, inr, ⊎_elim, List, [], ◌∷◌, ◌++◌, Option, Some, None, Ok, Err, length, map, take, drop, true, false, refl, sym, ap, ◌∙◌, subst, arith, append-nil}
-use Rattle.std.specs.List.{All, slice_get, remove}
+use Rattle.std.specs.List.{All, slice_get, sum_by}
 use Rattle.std.specs.Global.{Vec}
 use Rattle.std.specs.Prelude.{IsSomeAnd}
 use Rattle.std.proofs.lemmas.Bool.{cases_lt}
@@ -9,14 +9,17 @@ use Rattle.std.proofs.lemmas.Option.{slice_get_within}
 use Rattle.vx_plan.specs.Nodes.{Node}
 use Rattle.vx_steps.specs.declared.progress.Turn.{Turn}
 use Rattle.vx_steps.specs.declared.progress.Turn.TheVariants as turns
-use Rattle.vx_steps.specs.Jobs.{CanStart, left_of}
+use Rattle.vx_steps.specs.Jobs.{CanStart}
 use Rattle.vx_steps.specs.Kept.{kept_at}
 use Rattle.vx_steps.specs.Needs.{Among}
 use Rattle.vx_steps.specs.ReadTableData.{Wanted}
 use Rattle.vx_steps.specs.ScanData.{ScanData}
-use Rattle.vx_steps.specs.Steps.{AreHandedOut, GivesOutput, IsHeldUp, IsWaiting, TakesTurn}
+use Rattle.vx_steps.specs.Pieces.{piece_of}
+use Rattle.vx_steps.specs.Standings.{SplitLeft, left_of}
+use Rattle.vx_steps.specs.Steps.{AreHandedOut, GivesOutput, IsHeldUpAt, IsLeftAt, IsMissing, IsWaiting, TakesTurn, rows_left}
 use Rattle.vx_steps.specs.Turns.{AreLeavesKept}
 use Rattle.vx_steps.specs.Wants.{IsAsked}
+use Rattle.vx_steps.specs.Wholes.{AreThere}
 use Rattle.vx_steps.proofs.Growing.{length_grown, take_grown}
 use Rattle.vx_io.specs.declared.requests.IoRequest.{IoRequest}
 use Rattle.vx_drive.specs.declared.adaptor_errors.AdaptorError.{AdaptorError}
@@ -132,16 +135,27 @@ asks_nothing locations batch old middle new asked held state all none =
 
 -- the output that came behind the reads is the next one of the scan before them
 comes_out : (locations : List SegmentLocation) (first : ℕ) (batch : List IoRequest) (old middle new : ScanData) (number : ℕ) (column : ColumnData) → Batched locations first batch old middle → Continues middle new → GivesOutput middle.nodes middle.job middle.progress new.progress number column → ComesOut number column old new
-comes_out locations first batch old middle new number column batched more gives = record {
-  place = gives.place;
-  at = subst (λ (left : List ℕ). slice_get left gives.place ≡ Some number) batched.left gives.at;
-  left = ap (λ job. left_of job new.progress) more.keeps.job ∙ gives.left ∙ ap (λ (left : List ℕ). remove left gives.place) batched.left;
-  split = gives.split;
-  split_at = subst (λ job. slice_get job.splits.items number ≡ Some gives.split) batched.scan.keeps.job gives.split_at;
-  output = output_before old middle new gives.split column batched.scan.keeps gives.output;
-  leaves = subst (λ job. AreLeavesKept old.nodes job gives.split new.progress.leaves) batched.scan.keeps.job
-      (subst (λ (nodes : List Node). AreLeavesKept nodes middle.job gives.split new.progress.leaves) batched.scan.keeps.nodes gives.leaves);
-}
+comes_out locations first batch old middle new number column batched more gives =
+    let nodes_is : middle.nodes ≡ old.nodes = batched.scan.keeps.nodes in
+    let job_is : middle.job ≡ old.job = batched.scan.keeps.job in
+    record {
+      place = gives.place;
+      from = gives.from;
+      to = gives.to;
+      at = subst (λ (left : List SplitLeft). slice_get left gives.place ≡ Some (record { number = number; given = gives.from })) batched.left gives.at;
+      split = gives.split;
+      split_at = subst (λ job. slice_get job.splits.items number ≡ Some gives.split) job_is gives.split_at;
+      within = gives.within;
+      some = gives.some;
+      rest = gives.rest;
+      output = output_before old middle new (piece_of gives.split gives.from gives.to) column batched.scan.keeps gives.output;
+      there = subst (λ job. AreThere old.nodes job.given new.progress.wholes job.plan gives.split.rows.start gives.split.mask) job_is
+          (subst (λ (nodes : List Node). AreThere nodes middle.job.given new.progress.wholes middle.job.plan gives.split.rows.start gives.split.mask) nodes_is gives.there);
+      leaves = subst (λ job. AreLeavesKept old.nodes job (piece_of gives.split gives.from gives.to) new.progress.leaves) job_is
+          (subst (λ (nodes : List Node). AreLeavesKept nodes middle.job (piece_of gives.split gives.from gives.to) new.progress.leaves) nodes_is gives.leaves);
+      left = subst (λ (left : List SplitLeft). IsLeftAt left (splits_left new) gives.place number gives.to (length gives.split.mask)) batched.left
+          (subst (λ job. IsLeftAt (splits_left middle) (left_of job new.progress) gives.place number gives.to (length gives.split.mask)) (sym more.keeps.job) gives.left);
+    }
 
 output_of : (number : ℕ) (column : ColumnData) (old new : ScanData) → TookTurn (turns.Output number column) old new → GivesOutput old.nodes old.job old.progress new.progress number column
 output_of number column old new (inl (refused, done, same)) = absurd cc
@@ -193,7 +207,7 @@ StaysLeft old new = (splits_left new ≡ splits_left old) × (work_in new ≡ wo
 stays_left : (old new : ScanData) → new.job ≡ old.job → left_of old.job new.progress ≡ left_of old.job old.progress → new.progress.reads.handed ≡ old.progress.reads.handed → StaysLeft old new
 stays_left old new job left handed =
     let same : splits_left new ≡ splits_left old = ap (λ js. left_of js new.progress) job ∙ left in
-    (same, (λ i. (2 ^ 64 - handed i) + length (same i)))
+    (same, (λ i. (2 ^ 64 - handed i) + sum_by (rows_left (job i).splits.items) (same i)))
 
 idle_left : (turn : Turn) (old new : ScanData) → (turn ≡ turns.Waiting) ⊎ (turn ≡ turns.Done) → GivesTurn turn old new → StaysLeft old new
 idle_left turn old new idle gives = by_turn turn idle gives.takes
@@ -239,7 +253,8 @@ none_done locations batch old middle new asked all none stays =
     let more = all.batched.handed in
     let handed : middle.progress.reads.handed ≡ old.scan.progress.reads.handed = omega (arith, size, more) in
     let left = all.batched.left in
-    (stays.0 ∙ left, stays.1 ∙ (λ i. (2 ^ 64 - handed i) + length (left i)))
+    let job = all.batched.scan.keeps.job in
+    (stays.0 ∙ left, stays.1 ∙ (λ i. (2 ^ 64 - handed i) + sum_by (rows_left (job i).splits.items) (left i)))
 
 -- ---- the scan waits
 
@@ -251,17 +266,19 @@ some_of P (one ∷ ones) some all = (one, all one (inl refl))
 some_outstanding : (locations : List SegmentLocation) (first asked : ℕ) (held : Option (ℕ × ColumnData)) (state : State) (middle new : ScanData) → AreAskedReads locations first asked new.progress.reads → IsWaiting middle.nodes middle.job middle.progress new.progress →
     SomeOutstanding (stepped first new asked held state) ⊎ SomeEarlierOutstanding (stepped first new asked held state)
 some_outstanding locations first asked held state middle new are_asked waits =
-    let up = (some_of (IsHeldUp middle.progress.leaves new.progress.reads.wanted) new.progress.active.items waits.some waits.held).1 in
-    let place = up.3.0 in
-    let here = up.3.1 in
-    let within = slice_get_within new.progress.reads.wanted place (unread up.0.segment) here in
+    let up = (some_of (IsHeldUpAt middle.nodes middle.job middle.progress.leaves new.progress.reads.wanted) new.progress.started waits.some waits.held).1.2 in
+    let segment : ℕ = up.0.segment in
+    let missing : IsMissing new.progress.reads.wanted segment = up.1.1 in
+    let place = missing.0 in
+    let here = missing.1 in
+    let within = slice_get_within new.progress.reads.wanted place (unread segment) here in
     let every = waits.all_handed in
     let all = are_asked.all in
     ⊎_elim
-    (λ (earlier : place < first). inr (place, earlier, (omega (arith, within, every), nothing_came place up.0.segment here)))
+    (λ (earlier : place < first). inr (place, earlier, (omega (arith, within, every), nothing_came place segment here)))
     (λ (own : first ≤ place).
     let same : first + (place - first) ≡ place = omega (arith, own) in
-    inl (place - first, (omega (arith, within, every, all, own), (omega (arith, within, every, same), nothing_came (first + (place - first)) up.0.segment (ap (slice_get new.progress.reads.wanted) same ∙ here)))))
+    inl (place - first, (omega (arith, within, every, all, own), (omega (arith, within, every, same), nothing_came (first + (place - first)) segment (ap (slice_get new.progress.reads.wanted) same ∙ here)))))
     (cases_lt place first)
   where
     nothing_came : (n segment : ℕ) → slice_get new.progress.reads.wanted n ≡ Some (unread segment) → IsSomeAnd (slice_get new.progress.reads.wanted n) (λ v. v.bytes ≡ None)

@@ -8,7 +8,7 @@ use Rattle.std.proofs.lemmas.List.Quantifiers.{all_pairs_push}
 use Rattle.std.proofs.lemmas.Option.{slice_get_within}
 use Rattle.vx_steps.specs.declared.reads.ReadRequest.{ReadRequest}
 use Rattle.vx_steps.specs.declared.progress.Turn.TheVariants as turns
-use Rattle.vx_steps.specs.Jobs.{left_of}
+use Rattle.vx_steps.specs.Standings.{left_of}
 use Rattle.vx_steps.specs.ReadTable.{StandsAt}
 use Rattle.vx_steps.specs.ReadTableData.{Wanted}
 use Rattle.vx_steps.specs.ScanData.{ScanData}

@@ -4,7 +4,9 @@ mod Computing
 mod Continuing
 pub mod Distinct
 mod FewApart
+mod Gathering
 mod HandingOut
+mod JoinedRuns
 pub mod Lasting
 mod Resulting
 mod RunEnds

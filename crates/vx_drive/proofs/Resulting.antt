@@ -1,10 +1,11 @@
 -- The bytes of an outstanding fetch come.
 use Rattle.std.proofs.Common.{◌≡◌, ℕ, zero, suc, ◌+◌, ◌-◌, ◌^◌, ◌<◌, List, [], ◌∷◌, Some, length, take, drop, refl, sym, ap, ◌∙◌, subst, arith}
 use Rattle.std.specs.Prelude.{slice_set}
-use Rattle.std.specs.List.{slice_get}
+use Rattle.std.specs.List.{slice_get, sum_by}
 use Rattle.vx_steps.specs.ReadTable.{Delivers}
 use Rattle.vx_steps.specs.ReadTableData.{ReadsData, Wanted}
 use Rattle.vx_steps.specs.ScanData.{ScanData, TakesBytes}
+use Rattle.vx_steps.specs.Steps.{rows_left}
 use Rattle.vx_steps.proofs.Growing.{got_front, take_set}
 use Rattle.vx_drive.specs.declared.adaptors.State.{State}
 use Rattle.vx_drive.specs.declared.adaptors.State.TheVariants.{Done}
@@ -56,5 +57,5 @@ takes_result number bytes old new state below takes at = record {
   reads = reads_set old.first number bytes old.asked old.scan.progress.reads new.progress.reads below takes.delivers;
   held = refl;
   state = at;
-  work = (λ i. ((2 ^ 64 - takes.delivers.handed i) + length (takes.left i)) + held_count old.held);
+  work = (λ i. ((2 ^ 64 - takes.delivers.handed i) + sum_by (rows_left (takes.job i).splits.items) (takes.left i)) + held_count old.held);
 }

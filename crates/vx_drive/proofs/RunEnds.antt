@@ -1,10 +1,9 @@
 -- How a run of a scan over a session ends.
-use Rattle.std.proofs.Common.{◌≡◌, ℕ, zero, suc, ◌<◌, ◌≤◌, ◌⊎◌, inl, inr, ⊎_elim, Bool, false, true, List, [], ◌∷◌, ◌++◌, Option, Some, None, Ok, Err, length, map, take, drop, refl, sym, ap, ◌∙◌, subst, arith, append_assoc}
-use Rattle.std.specs.Prelude.{if◌then◌else◌, ◌==◌, slice_get, slice_index_or, IfSome}
+use Rattle.std.proofs.Common.{◌≡◌, ℕ, zero, suc, ◌<◌, ◌≤◌, ◌⊎◌, inl, inr, ⊎_elim, false, true, List, [], ◌∷◌, ◌++◌, Some, None, Ok, Err, length, map, take, drop, refl, sym, ap, ◌∙◌, subst, arith, append_assoc}
+use Rattle.std.specs.Prelude.{slice_get, slice_index_or, IfSome}
 use Rattle.std.specs.List.{All}
 use Rattle.std.proofs.lemmas.List.{map-append, length-append}
 use Rattle.std.proofs.lemmas.List.Elements.{All-append, All-tail, All-take}
-use Rattle.std.proofs.lemmas.Bool.{eqb-true}
 use Rattle.vx_rows.specs.SegmentLeaves.{Bytes, leaves_of}
 use Rattle.vx_layout.specs.Rows.{segment_bytes}
 use Rattle.vx_plan.specs.declared.children.PlanRef.{PlanRef}
@@ -20,7 +19,7 @@ use Rattle.vx_steps.specs.Agreement.{Agrees}
 use Rattle.vx_steps.specs.Given.{handed_by}
 use Rattle.vx_steps.specs.ScanData.{ScanData, IsScanOf}
 use Rattle.vx_steps.specs.Steps.{HasCauseIn, RefusesSplit}
-use Rattle.vx_steps.specs.Turns.{AreLeavesKept, FailsInWholes}
+use Rattle.vx_steps.specs.Turns.{FailsInWholes}
 use Rattle.vx_steps.specs.Wholes.{AreThere, HasInsideCause}
 use Rattle.vx_steps.proofs.Premises.{unless_held}
 use Rattle.vx_steps.proofs.SplitVisits.{split_cause}
@@ -36,17 +35,18 @@ use Rattle.vx_drive.specs.declared.errors.ScanError.TheVariants as scan_errors
 use Rattle.vx_drive.specs.AdaptorData.{AdaptorData, reads_of}
 use Rattle.vx_drive.specs.Asks.{AsksOnly, KeepsFaults, Lasts, TellsFaults}
 use Rattle.vx_drive.specs.Computes.{Batches, HandsOn, StopCause, Stops, WhyYields, Yields}
-use Rattle.vx_drive.specs.Continues.{Continues, splits_left}
+use Rattle.vx_drive.specs.Continues.{splits_left}
 use Rattle.vx_drive.specs.Fetched.{AreDistinctNumbers, location_of, segments_in}
-use Rattle.vx_drive.specs.Runs.{GivesOutput, IsListCause, IsReadByStart, IsStepCause, LeavesFault, LeavesRead, RunCause, RunGives, WhereScanned, row_fault, scan_error}
+use Rattle.vx_drive.specs.Gathered.{GatherGives, Gathers}
+use Rattle.vx_drive.specs.Runs.{EndsRun, IsListCause, IsReadByStart, IsStepCause, LeavesFault, RunCause, WhereScanned, row_fault, scan_error}
 use Rattle.vx_drive.specs.Starts.{IsUnread, split_of}
 use Rattle.vx_drive.specs.Waits.{SendGives, WaitFails}
 use Rattle.vx_drive.proofs.Behind.{asked_behind}
+use Rattle.vx_drive.proofs.Gathering.{all_gathered, gathers_on}
 use Rattle.vx_drive.proofs.Running.{KeptSoFar, ScanSoFar, all_taken, kept_then, so_far_then}
-use Rattle.vx_drive.proofs.SessionRuns.{HeldSoFar, Running, piece_gives, segments_more}
+use Rattle.vx_drive.proofs.SessionRuns.{Running, none_held, segments_more}
 use Rattle.vx_drive.proofs.Sessions.{asked_then, fetches_places, fetches_taken}
 use Rattle.vx_base.specs.Columns.{ColumnData}
-use Rattle.vx_base.specs.Masks.{true_count}
 use Rattle.vx_base.specs.Sources.{SourceState, Rose}
 use Rattle.vx_base.specs.declared.locations.SegmentLocation.{SegmentLocation}
 
@@ -56,8 +56,8 @@ wanted_so_far : (locations : List SegmentLocation) (start : ScanData) (before : 
 wanted_so_far locations start before adaptor scan =
     all_taken (IsReadByStart start) adaptor.asked (drop adaptor.first adaptor.scan.progress.reads.wanted) (λ segment asked. scan.wanted segment (asked_behind adaptor.scan.progress.reads.wanted adaptor.first segment asked))
 
-asks_so_far : (locations : List SegmentLocation) (start : ScanData) (before : SourceState) (adaptor : AdaptorData) (state : SessionState) (after : SourceState) → Running locations start before adaptor state → after.asked ≡ state.source.asked → AsksOnly (IsReadByStart start) locations before after
-asks_so_far locations start before adaptor state after run same = record {
+asks_so_far : (locations : List SegmentLocation) (start : ScanData) (before : SourceState) (outputs : List ColumnData) (adaptor : AdaptorData) (state : SessionState) (after : SourceState) → Running locations start before outputs adaptor state → after.asked ≡ state.source.asked → AsksOnly (IsReadByStart start) locations before after
+asks_so_far locations start before outputs adaptor state after run same = record {
   segments = segments_in (reads_of adaptor);
   asks = record { apart = run.ready.apart; located = run.ready.located; asked = same ∙ run.asked };
   wanted = wanted_so_far locations start before adaptor run.scan;
@@ -71,14 +71,13 @@ told_of X error before after (inl same) = inl same
 told_of X error before after (inr is) = inr (ap Err is)
 
 -- the answer, with what was asked and what lasts
-gives_with : (locations : List SegmentLocation) (limit : ℕ) (start scan : ScanData) (before after : SourceState) (error : ScanError) → KeptSoFar locations start before scan → RunCause locations limit start error before after → IfSome (row_fault error) (LeavesFault locations start scan before) → IfSome (row_fault error) (LeavesRead start scan) → AsksOnly (IsReadByStart start) locations before after → Lasts before after → KeepsFaults before after ⊎ (error ≡ scan_errors.ReadFault) →
-    RunGives locations limit start (Err error) scan before after
-gives_with locations limit start scan before after error kept cause left left_leaves asks lasts faults = record {
+gives_with : {X : Type 0} (Gives : X → Type 0) (locations : List SegmentLocation) (limit : ℕ) (start scan : ScanData) (before after : SourceState) (error : ScanError) → KeptSoFar locations start before scan → RunCause locations limit start error before after → IfSome (row_fault error) (LeavesFault locations start scan before)
+    → AsksOnly (IsReadByStart start) locations before after → Lasts before after → KeepsFaults before after ⊎ (error ≡ scan_errors.ReadFault) → EndsRun Gives locations limit start (Err error) scan before after
+gives_with {X} Gives locations limit start scan before after error kept cause left asks lasts faults = record {
   answer = cause;
   left = left;
-  left_leaves = left_leaves;
   asks = asks;
-  faults = told_of (Option ColumnData) error before after faults;
+  faults = told_of X error before after faults;
   nodes = kept.nodes;
   job = kept.job;
   told = kept.told;
@@ -95,26 +94,16 @@ rose_after before now after same rose = subst (λ (n : ℕ). Rose n after.faults
 
 -- ---- a run that is done
 
-cons_is_none : (rest : List ℕ) (x : ℕ) → x ∷ rest ≡ [] → ⊥
-cons_is_none rest x both = cc
-
-none_selected : (count : ℕ) → if◌then◌else◌ {A = List ℕ} (count == 0) [] (0 ∷ []) ≡ [] → count ≡ 0
-none_selected count is = by_test (count == 0) refl is
-  where
-    by_test : (test : Bool) → (count == 0) ≡ test → if◌then◌else◌ {A = List ℕ} test [] (0 ∷ []) ≡ [] → count ≡ 0
-    by_test true same none = eqb-true count 0 same
-    by_test false same none = absurd (cons_is_none [] 0 none)
-
--- the answer of a run without an error
-gives_output : (locations : List SegmentLocation) (limit : ℕ) (start : ScanData) (before : SourceState) (adaptor next : AdaptorData) (output : Option ColumnData) (state : SessionState) →
-    Running locations start before adaptor state → Continues adaptor.scan next.scan → GivesOutput locations start next.scan before output → RunGives locations limit start (Ok output) next.scan before state.source
-gives_output locations limit start before adaptor next output state run continues answer =
-    let kept = kept_then locations start before adaptor.scan next.scan run.scan.kept continues.keeps in
+-- no split is left, and all outputs were handed on
+pub run_returns : (locations : List SegmentLocation) (limit : ℕ) (start : ScanData) (before : SourceState) (outputs : List ColumnData) (adaptor next : AdaptorData) (state : SessionState) →
+    Running locations start before outputs adaptor state → Yields adaptor next → next.state ≡ Done → GatherGives locations limit start (Ok tt) outputs next.scan before state.source
+run_returns locations limit start before outputs adaptor next state run yields done =
+    let kept = kept_then locations start before adaptor.scan next.scan run.scan.kept yields.scan.keeps in
     record {
-      answer = answer;
+      answer = gathers_on locations start adaptor.scan next.scan before (split_of start) outputs yields.scan.keeps.wholes yields.scan.keeps.leaves
+          (all_gathered locations start adaptor.scan before outputs (none_left yields.why) (none_held locations start before outputs adaptor yields.held run.held));
       left = tt;
-      left_leaves = tt;
-      asks = asks_so_far locations start before adaptor state state.source run refl;
+      asks = asks_so_far locations start before outputs adaptor state state.source run refl;
       faults = inl run.faults;
       nodes = kept.nodes;
       job = kept.job;
@@ -123,51 +112,43 @@ gives_output locations limit start before adaptor next output state run continue
       wholes = kept.wholes;
       lasts = record { file = run.file; faults = let p = run.faults in omega (arith, p); idle = run.idle };
     }
-
--- the column of the split is handed on
-pub run_hands : (locations : List SegmentLocation) (limit : ℕ) (start : ScanData) (before : SourceState) (column : ColumnData) (adaptor next : AdaptorData) (state : SessionState) →
-    Running locations start before adaptor state → HandsOn column adaptor next → RunGives locations limit start (Ok (Some column)) next.scan before state.source
-run_hands locations limit start before column adaptor next state run hands =
-    gives_output locations limit start before adaptor next (Some column) state run hands.scan (piece_gives locations start before hands.number column adaptor next run.unread run.scan hands.output run.held)
-
--- no split is left, and no column was handed on: no row of the split is selected
-pub run_returns : (locations : List SegmentLocation) (limit : ℕ) (start : ScanData) (before : SourceState) (adaptor next : AdaptorData) (state : SessionState) →
-    Running locations start before adaptor state → Yields adaptor next → next.state ≡ Done → RunGives locations limit start (Ok None) next.scan before state.source
-run_returns locations limit start before adaptor next state run yields done =
-    gives_output locations limit start before adaptor next None state run yields.scan (answer run.held)
   where
     none_left : WhyYields adaptor next → splits_left adaptor.scan ≡ []
     none_left (inl (waits, some)) = let both : Waiting ≡ Done = sym waits ∙ done in absurd cc
     none_left (inr (is, inl left)) = left
     none_left (inr (is, inr refused)) = let both : true ≡ false = sym refused ∙ run.scan.refused in absurd cc
 
-    answer : HeldSoFar locations start before adaptor → true_count (split_of start).mask ≡ 0
-    answer (inl (left, empty)) = none_selected (true_count (split_of start).mask) (sym (left ∙ run.unread.left) ∙ none_left yields.why)
-    answer (inr (left, number, column, full, gave)) = absurd (let both : None ≡ Some (number, column) = sym yields.held ∙ full in cc)
+-- there was no memory for an output
+pub run_full : (locations : List SegmentLocation) (limit : ℕ) (start : ScanData) (before : SourceState) (outputs others : List ColumnData) (column : ColumnData) (adaptor next : AdaptorData) (state : SessionState) →
+    Running locations start before outputs adaptor state → HandsOn column adaptor next → GatherGives locations limit start (Err scan_errors.Memory) others next.scan before state.source
+run_full locations limit start before outputs others column adaptor next state run hands =
+    gives_with (λ done. Gathers locations start next.scan before (split_of start) others) locations limit start next.scan before state.source scan_errors.Memory (kept_then locations start before adaptor.scan next.scan run.scan.kept hands.scan.keeps) tt tt
+    (asks_so_far locations start before outputs adaptor state state.source run refl)
+    (record { file = run.file; faults = let p = run.faults in omega (arith, p); idle = run.idle }) (inl run.faults)
 
 -- ---- refusals of the source
 
-pub run_stalls : (locations : List SegmentLocation) (limit : ℕ) (start : ScanData) (before : SourceState) (adaptor : AdaptorData) (state : SessionState) (after : SourceState) (error : ScanError) →
-    Running locations start before adaptor state → WaitFails limit error state.source after → RunGives locations limit start (Err error) adaptor.scan before after
-run_stalls locations limit start before adaptor state after scan_errors.ReadFault run (keeps, rose, idle) =
-    gives_with locations limit start adaptor.scan before after scan_errors.ReadFault run.scan.kept (rose_after before state.source after run.faults rose) tt tt (asks_so_far locations start before adaptor state after run keeps.asked)
+pub run_stalls : (locations : List SegmentLocation) (limit : ℕ) (start : ScanData) (before : SourceState) (outputs : List ColumnData) (adaptor : AdaptorData) (state : SessionState) (after : SourceState) (error : ScanError) →
+    Running locations start before outputs adaptor state → WaitFails limit error state.source after → GatherGives locations limit start (Err error) outputs adaptor.scan before after
+run_stalls locations limit start before outputs adaptor state after scan_errors.ReadFault run (keeps, rose, idle) =
+    gives_with (λ done. Gathers locations start adaptor.scan before (split_of start) outputs) locations limit start adaptor.scan before after scan_errors.ReadFault run.scan.kept (rose_after before state.source after run.faults rose) tt (asks_so_far locations start before outputs adaptor state after run keeps.asked)
     (lasts_after before state.source after run.file run.faults run.idle keeps.file rose.kept idle) (inr refl)
-run_stalls locations limit start before adaptor state after scan_errors.Stalled run (keeps, faults, waited) =
-    gives_with locations limit start adaptor.scan before after scan_errors.Stalled run.scan.kept
-    (record { kept = let p = waited.kept in let q = run.idle in omega (arith, p, q); raised = let p = waited.raised in let q = run.idle in omega (arith, p, q) }) tt tt
-    (asks_so_far locations start before adaptor state after run keeps.asked)
+run_stalls locations limit start before outputs adaptor state after scan_errors.Stalled run (keeps, faults, waited) =
+    gives_with (λ done. Gathers locations start adaptor.scan before (split_of start) outputs) locations limit start adaptor.scan before after scan_errors.Stalled run.scan.kept
+    (record { kept = let p = waited.kept in let q = run.idle in omega (arith, p, q); raised = let p = waited.raised in let q = run.idle in omega (arith, p, q) }) tt
+    (asks_so_far locations start before outputs adaptor state after run keeps.asked)
     (lasts_after before state.source after run.file run.faults run.idle keeps.file (omega (arith, faults)) waited.kept) (inl (faults ∙ run.faults))
-run_stalls locations limit start before adaptor state after scan_errors.Memory run (keeps, faults, idle) =
-    gives_with locations limit start adaptor.scan before after scan_errors.Memory run.scan.kept tt tt tt (asks_so_far locations start before adaptor state after run keeps.asked)
+run_stalls locations limit start before outputs adaptor state after scan_errors.Memory run (keeps, faults, idle) =
+    gives_with (λ done. Gathers locations start adaptor.scan before (split_of start) outputs) locations limit start adaptor.scan before after scan_errors.Memory run.scan.kept tt tt (asks_so_far locations start before outputs adaptor state after run keeps.asked)
     (lasts_after before state.source after run.file run.faults run.idle keeps.file (omega (arith, faults)) idle) (inl (faults ∙ run.faults))
-run_stalls locations limit start before adaptor state after scan_errors.BadProjection run gives = absurd gives
-run_stalls locations limit start before adaptor state after scan_errors.OffsetOverflow run gives = absurd gives
-run_stalls locations limit start before adaptor state after scan_errors.OutOfRange run gives = absurd gives
-run_stalls locations limit start before adaptor state after (scan_errors.Unsupported list) run gives = absurd gives
-run_stalls locations limit start before adaptor state after (scan_errors.NoLocation segment) run gives = absurd gives
-run_stalls locations limit start before adaptor state after (scan_errors.BadSegment segment) run gives = absurd gives
-run_stalls locations limit start before adaptor state after (scan_errors.BadCode take row) run gives = absurd gives
-run_stalls locations limit start before adaptor state after (scan_errors.EvalFault row) run gives = absurd gives
+run_stalls locations limit start before outputs adaptor state after scan_errors.BadProjection run gives = absurd gives
+run_stalls locations limit start before outputs adaptor state after scan_errors.OffsetOverflow run gives = absurd gives
+run_stalls locations limit start before outputs adaptor state after scan_errors.OutOfRange run gives = absurd gives
+run_stalls locations limit start before outputs adaptor state after (scan_errors.Unsupported list) run gives = absurd gives
+run_stalls locations limit start before outputs adaptor state after (scan_errors.NoLocation segment) run gives = absurd gives
+run_stalls locations limit start before outputs adaptor state after (scan_errors.BadSegment segment) run gives = absurd gives
+run_stalls locations limit start before outputs adaptor state after (scan_errors.BadCode take row) run gives = absurd gives
+run_stalls locations limit start before outputs adaptor state after (scan_errors.EvalFault row) run gives = absurd gives
 
 get_front : (ones twos : List ℕ) (i d : ℕ) → i < length ones → slice_index_or (ones ++ twos) i d ≡ slice_index_or ones i d
 get_front [] twos i d within = absurd (omega (arith, within))
@@ -190,9 +171,9 @@ wanted_behind P [] twos all = all
 wanted_behind P (one ∷ ones) twos all = wanted_behind P ones twos (All-tail P one (ones ++ twos) all)
 
 -- what was asked where a batch was refused
-asks_some : (locations : List SegmentLocation) (start : ScanData) (before : SourceState) (batch : List IoRequest) (adaptor next : AdaptorData) (state new : SessionState) →
-    Running locations start before adaptor state → Batches locations batch adaptor next → FetchedSome batch state new → AsksOnly (IsReadByStart start) locations before new.source
-asks_some locations start before batch adaptor next state new run batched some =
+asks_some : (locations : List SegmentLocation) (start : ScanData) (before : SourceState) (outputs : List ColumnData) (batch : List IoRequest) (adaptor next : AdaptorData) (state new : SessionState) →
+    Running locations start before outputs adaptor state → Batches locations batch adaptor next → FetchedSome batch state new → AsksOnly (IsReadByStart start) locations before new.source
+asks_some locations start before outputs batch adaptor next state new run batched some =
     let ones : List ℕ = segments_in (reads_of adaptor) in
     let twos : List ℕ = take some.count batched.segments in
     let more : segments_in (reads_of next) ≡ ones ++ batched.segments = ap segments_in batched.reads ∙ segments_more (reads_of adaptor) batched.segments in
@@ -215,25 +196,25 @@ asks_some locations start before batch adaptor next state new run batched some =
           (wanted_behind (IsReadByStart start) ones batched.segments (subst (All (IsReadByStart start)) more (wanted_so_far locations start before next scan))));
     }
 
-pub run_unsent : (locations : List SegmentLocation) (limit : ℕ) (start : ScanData) (before : SourceState) (batch : List IoRequest) (adaptor next : AdaptorData) (state new : SessionState) (error : ScanError) →
-    Running locations start before adaptor state → Batches locations batch adaptor next → SendGives batch (Err error) state new → RunGives locations limit start (Err error) next.scan before new.source
-run_unsent locations limit start before batch adaptor next state new scan_errors.ReadFault run batched (some, stays, rose) =
-    gives_with locations limit start next.scan before new.source scan_errors.ReadFault (kept_then locations start before adaptor.scan next.scan run.scan.kept batched.scan.keeps) (rose_after before state.source new.source run.faults rose) tt tt
-    (asks_some locations start before batch adaptor next state new run batched some)
+pub run_unsent : (locations : List SegmentLocation) (limit : ℕ) (start : ScanData) (before : SourceState) (outputs : List ColumnData) (batch : List IoRequest) (adaptor next : AdaptorData) (state new : SessionState) (error : ScanError) →
+    Running locations start before outputs adaptor state → Batches locations batch adaptor next → SendGives batch (Err error) state new → GatherGives locations limit start (Err error) outputs next.scan before new.source
+run_unsent locations limit start before outputs batch adaptor next state new scan_errors.ReadFault run batched (some, stays, rose) =
+    gives_with (λ done. Gathers locations start next.scan before (split_of start) outputs) locations limit start next.scan before new.source scan_errors.ReadFault (kept_then locations start before adaptor.scan next.scan run.scan.kept batched.scan.keeps) (rose_after before state.source new.source run.faults rose) tt
+    (asks_some locations start before outputs batch adaptor next state new run batched some)
     (lasts_after before state.source new.source run.file run.faults run.idle stays.file rose.kept (let p = stays.idle in omega (arith, p))) (inr refl)
-run_unsent locations limit start before batch adaptor next state new scan_errors.Memory run batched (some, stays, faults) =
-    gives_with locations limit start next.scan before new.source scan_errors.Memory (kept_then locations start before adaptor.scan next.scan run.scan.kept batched.scan.keeps) tt tt tt
-    (asks_some locations start before batch adaptor next state new run batched some)
+run_unsent locations limit start before outputs batch adaptor next state new scan_errors.Memory run batched (some, stays, faults) =
+    gives_with (λ done. Gathers locations start next.scan before (split_of start) outputs) locations limit start next.scan before new.source scan_errors.Memory (kept_then locations start before adaptor.scan next.scan run.scan.kept batched.scan.keeps) tt tt
+    (asks_some locations start before outputs batch adaptor next state new run batched some)
     (lasts_after before state.source new.source run.file run.faults run.idle stays.file (omega (arith, faults)) (let p = stays.idle in omega (arith, p))) (inl (faults ∙ run.faults))
-run_unsent locations limit start before batch adaptor next state new scan_errors.Stalled run batched gives = absurd gives
-run_unsent locations limit start before batch adaptor next state new scan_errors.BadProjection run batched gives = absurd gives
-run_unsent locations limit start before batch adaptor next state new scan_errors.OffsetOverflow run batched gives = absurd gives
-run_unsent locations limit start before batch adaptor next state new scan_errors.OutOfRange run batched gives = absurd gives
-run_unsent locations limit start before batch adaptor next state new (scan_errors.Unsupported list) run batched gives = absurd gives
-run_unsent locations limit start before batch adaptor next state new (scan_errors.NoLocation segment) run batched gives = absurd gives
-run_unsent locations limit start before batch adaptor next state new (scan_errors.BadSegment segment) run batched gives = absurd gives
-run_unsent locations limit start before batch adaptor next state new (scan_errors.BadCode take row) run batched gives = absurd gives
-run_unsent locations limit start before batch adaptor next state new (scan_errors.EvalFault row) run batched gives = absurd gives
+run_unsent locations limit start before outputs batch adaptor next state new scan_errors.Stalled run batched gives = absurd gives
+run_unsent locations limit start before outputs batch adaptor next state new scan_errors.BadProjection run batched gives = absurd gives
+run_unsent locations limit start before outputs batch adaptor next state new scan_errors.OffsetOverflow run batched gives = absurd gives
+run_unsent locations limit start before outputs batch adaptor next state new scan_errors.OutOfRange run batched gives = absurd gives
+run_unsent locations limit start before outputs batch adaptor next state new (scan_errors.Unsupported list) run batched gives = absurd gives
+run_unsent locations limit start before outputs batch adaptor next state new (scan_errors.NoLocation segment) run batched gives = absurd gives
+run_unsent locations limit start before outputs batch adaptor next state new (scan_errors.BadSegment segment) run batched gives = absurd gives
+run_unsent locations limit start before outputs batch adaptor next state new (scan_errors.BadCode take row) run batched gives = absurd gives
+run_unsent locations limit start before outputs batch adaptor next state new (scan_errors.EvalFault row) run batched gives = absurd gives
 
 -- ---- refusals of the scan
 
@@ -314,30 +295,12 @@ stop_left locations start old new before (errors.Step step_errors.Memory) unread
 stop_left locations start old new before errors.NotOutstanding unread kept cause = tt
 stop_left locations start old new before errors.Memory unread kept cause = tt
 
-leaves_read : (locations : List SegmentLocation) (start old new : ScanData) (before : SourceState) (fault : StepError) → IsUnread start → KeptSoFar locations start before old → (refuses : RefusesSplit old.nodes old.job old.progress new.progress fault) →
-    AreLeavesKept old.nodes old.job refuses.split new.progress.leaves → LeavesRead start new fault
-leaves_read locations start old new before fault unread kept refuses leaves =
-    subst (λ (s : Split). AreLeavesKept start.nodes start.job s new.progress.leaves) (refused_split locations start old new before fault unread kept refuses)
-    (subst (λ (j : Job). AreLeavesKept start.nodes j refuses.split new.progress.leaves) kept.job
-    (subst (λ (ns : List Node). AreLeavesKept ns old.job refuses.split new.progress.leaves) kept.nodes leaves))
-
-stop_leaves : (locations : List SegmentLocation) (start old new : ScanData) (before : SourceState) (error : AdaptorError) → IsUnread start → KeptSoFar locations start before old → StopCause locations error old new → IfSome (row_fault (scan_error error)) (LeavesRead start new)
-stop_leaves locations start old new before (errors.NoLocation segment) unread kept cause = tt
-stop_leaves locations start old new before (errors.Step (step_errors.Unsupported list)) unread kept cause = tt
-stop_leaves locations start old new before (errors.Step (step_errors.BadSegment segment)) unread kept cause = tt
-stop_leaves locations start old new before (errors.Step (step_errors.BadCode take row)) unread kept refuses = leaves_read locations start old new before (step_errors.BadCode take row) unread kept refuses.cause refuses.cause.leaves
-stop_leaves locations start old new before (errors.Step (step_errors.EvalFault row)) unread kept refuses = leaves_read locations start old new before (step_errors.EvalFault row) unread kept refuses.cause refuses.cause.leaves
-stop_leaves locations start old new before (errors.Step step_errors.Memory) unread kept cause = tt
-stop_leaves locations start old new before errors.NotOutstanding unread kept cause = tt
-stop_leaves locations start old new before errors.Memory unread kept cause = tt
-
-pub run_stops : (locations : List SegmentLocation) (limit : ℕ) (start : ScanData) (before : SourceState) (adaptor next : AdaptorData) (state : SessionState) (error : AdaptorError) →
-    Running locations start before adaptor state → Stops locations error adaptor next → RunGives locations limit start (Err (scan_error error)) next.scan before state.source
-run_stops locations limit start before adaptor next state error run stops =
+pub run_stops : (locations : List SegmentLocation) (limit : ℕ) (start : ScanData) (before : SourceState) (outputs : List ColumnData) (adaptor next : AdaptorData) (state : SessionState) (error : AdaptorError) →
+    Running locations start before outputs adaptor state → Stops locations error adaptor next → GatherGives locations limit start (Err (scan_error error)) outputs next.scan before state.source
+run_stops locations limit start before outputs adaptor next state error run stops =
     let kept = kept_then locations start before adaptor.scan next.scan run.scan.kept stops.scan in
-    gives_with locations limit start next.scan before state.source (scan_error error) kept
+    gives_with (λ done. Gathers locations start next.scan before (split_of start) outputs) locations limit start next.scan before state.source (scan_error error) kept
     (stop_cause locations limit start adaptor.scan next.scan before state.source error run.unread run.scan kept stops.cause)
     (stop_left locations start adaptor.scan next.scan before error run.unread run.scan.kept stops.cause)
-    (stop_leaves locations start adaptor.scan next.scan before error run.unread run.scan.kept stops.cause)
-    (asks_so_far locations start before adaptor state state.source run refl)
+    (asks_so_far locations start before outputs adaptor state state.source run refl)
     (record { file = run.file; faults = let p = run.faults in omega (arith, p); idle = run.idle }) (inl run.faults)

@@ -1,33 +1,25 @@
 -- A run of a scan of one split over a session: how far the scan came, and what it gave.
-use Rattle.std.proofs.Common.{◌≡◌, ℕ, zero, suc, ◌⊎◌, inl, inr, Bool, true, false, List, [], ◌∷◌, Some, None, take, refl, sym, ap, ◌∙◌, subst}
-use Rattle.std.specs.Prelude.{if◌then◌else◌, ◌==◌, slice_get, remove, slice_set}
+use Rattle.std.proofs.Common.{◌≡◌, ℕ, zero, suc, ◌⊎◌, inl, inr, false, List, [], ◌∷◌, Some, None, take, refl, sym, ap, ◌∙◌, subst}
+use Rattle.std.specs.Prelude.{slice_get, slice_set}
 use Rattle.std.specs.List.{All}
 use Rattle.std.proofs.lemmas.List.Elements.{All-cons, All-nil}
-use Rattle.vx_rows.specs.SegmentLeaves.{Bytes}
 use Rattle.vx_layout.specs.Rows.{segment_bytes}
 use Rattle.vx_plan.specs.Nodes.{Node}
 use Rattle.vx_steps.specs.declared.jobs.Job.{Job}
 use Rattle.vx_steps.specs.declared.reads.ReadId.{ReadId}
-use Rattle.vx_steps.specs.declared.splits.Split.{Split}
 use Rattle.vx_steps.specs.declared.wholes.Wholes.{Wholes}
-use Rattle.vx_steps.specs.Jobs.{IsTold, KeepsColumns, KeepsWholes, numbers_from, IsReadFor}
-use Rattle.vx_steps.specs.Kept.{kept_at, IsKept}
+use Rattle.vx_steps.specs.Jobs.{KeepsColumns, KeepsWholes, IsReadFor}
+use Rattle.vx_steps.specs.Kept.{kept_at}
 use Rattle.vx_steps.specs.KeptData.{Kept}
 use Rattle.vx_steps.specs.ReadTable.{StandsAt}
 use Rattle.vx_steps.specs.ReadTableData.{Wanted}
 use Rattle.vx_steps.specs.ScanData.{ScanData, IsScanOf, TakesBytes}
-use Rattle.vx_steps.specs.Steps.{IsSplitOutput}
-use Rattle.vx_steps.specs.Turns.{AreLeavesKept}
 use Rattle.vx_steps.specs.Wants.{IsAsked}
-use Rattle.vx_steps.specs.Wholes.{IsThere}
-use Rattle.vx_steps.proofs.SplitTakes.{only_one}
-use Rattle.vx_drive.specs.Continues.{ComesOut, Continues, KeepsScan, splits_left}
+use Rattle.vx_drive.specs.Continues.{Continues, KeepsScan}
 use Rattle.vx_drive.specs.Fetched.{segments_in}
-use Rattle.vx_drive.specs.Runs.{GivesSplit, IsReadByStart, WhereScanned}
-use Rattle.vx_drive.specs.Starts.{IsUnread, split_of}
+use Rattle.vx_drive.specs.Runs.{IsReadByStart, WhereScanned}
+use Rattle.vx_drive.specs.Starts.{IsUnread}
 use Rattle.vx_drive.proofs.Continuing.{none_before}
-use Rattle.vx_base.specs.Columns.{ColumnData}
-use Rattle.vx_base.specs.Masks.{true_count}
 use Rattle.vx_base.specs.Sources.{SourceState}
 use Rattle.vx_base.specs.declared.locations.SegmentLocation.{SegmentLocation}
 
@@ -66,7 +58,7 @@ wholes_on nodes others job other one two three same_nodes same_job first second 
       used_only = λ n kept. kept_or (more.used_only n kept) (first.used_only n);
     }
 
-wholes_same : (nodes : List Node) (job : Job) (wholes : Wholes) → KeepsWholes nodes job wholes wholes
+pub wholes_same : (nodes : List Node) (job : Job) (wholes : Wholes) → KeepsWholes nodes job wholes wholes
 wholes_same nodes job wholes = record { made = λ n column at. at; used = λ n column at. at; made_only = λ n kept. inl kept; used_only = λ n kept. inl kept }
 
 -- ---- the scan
@@ -154,64 +146,3 @@ all_taken P zero reads each = All-nil P
 all_taken P (suc n) [] each = All-nil P
 all_taken P (suc n) (read ∷ reads) each =
     All-cons P read.segment (segments_in (take n reads)) (each read.segment (0, refl)) (all_taken P n reads (λ segment asked. each segment (suc asked.0, asked.1)))
-
--- ---- the output
-
--- an output of a scan of one split is that of the split, and none is left behind it
-one_left : (none : Bool) (place number : ℕ) → slice_get (if none then [] else 0 ∷ []) place ≡ Some number → (number ≡ 0) × (remove {X = ℕ} (if none then [] else 0 ∷ []) place ≡ [])
-one_left true place number at = absurd (let both : None ≡ Some number = at in cc)
-one_left false zero number at = (let both : Some 0 ≡ Some number = at in let same : 0 ≡ number = cc in sym same, refl)
-one_left false (suc place) number at = absurd (let both : None ≡ Some number = at in cc)
-
-pub left_behind : (start old new : ScanData) (number : ℕ) (column : ColumnData) → IsUnread start → splits_left old ≡ splits_left start → ComesOut number column old new → splits_left new ≡ []
-left_behind start old new number column unread left out =
-    let one : splits_left old ≡ numbers_from 0 (split_of start ∷ []) = left ∙ unread.left in
-    let only = one_left (true_count (split_of start).mask == 0) out.place number (ap (λ (ns : List ℕ). slice_get ns out.place) (sym one) ∙ out.at) in
-    out.left ∙ ap (λ (ns : List ℕ). remove ns out.place) one ∙ only.1
-
-pub gave_now : (locations : List SegmentLocation) (start old new : ScanData) (before : SourceState) (number : ℕ) (column : ColumnData) → IsUnread start → KeptSoFar locations start before old → ComesOut number column old new → GivesSplit locations start new before column
-gave_now locations start old new before number column unread kept out =
-    let at : slice_get start.job.splits.items number ≡ Some out.split = ap (λ (j : Job). slice_get j.splits.items number) (sym kept.job) ∙ out.split_at in
-    let split : out.split ≡ split_of start = only_one start.job.splits.items (split_of start) out.split number unread.splits at in
-    let output : IsSplitOutput start.nodes start.job old.progress new.progress.wholes (split_of start) column =
-    subst (λ (s : Split). IsSplitOutput start.nodes start.job old.progress new.progress.wholes s column) split
-    (subst (λ (j : Job). IsSplitOutput start.nodes j old.progress new.progress.wholes out.split column) kept.job
-    (subst (λ (ns : List Node). IsSplitOutput ns old.job old.progress new.progress.wholes out.split column) kept.nodes out.output)) in
-    record {
-      dtype = output.dtype;
-      count = output.count;
-      right = λ file is held. output.right (segment_bytes file locations) (told_of (segment_bytes file locations) (kept.told file is held));
-      there = output.there;
-      leaves = leaves_of out.split (split_of start) split out.leaves;
-    }
-  where
-    leaves_of : (one split : Split) → one ≡ split → AreLeavesKept old.nodes old.job one new.progress.leaves → AreLeavesKept start.nodes start.job split new.progress.leaves
-    leaves_of one split same are =
-        subst (λ (s : Split). AreLeavesKept start.nodes start.job s new.progress.leaves) same
-        (subst (λ (j : Job). AreLeavesKept start.nodes j one new.progress.leaves) kept.job
-        (subst (λ (ns : List Node). AreLeavesKept ns old.job one new.progress.leaves) kept.nodes are))
-
-    told_of : (outside : Bytes) → IsScanOf old outside → IsTold start.nodes start.job old.progress outside
-    told_of outside is = subst (λ (j : Job). IsTold start.nodes j old.progress outside) kept.job (subst (λ (ns : List Node). IsTold ns old.job old.progress outside) kept.nodes is)
-
--- what is there stays there
-kept_on : (n : ℕ) (old new : List Kept) → ((m : ℕ) (column : ColumnData) → kept_at old m ≡ Some column → kept_at new m ≡ Some column) → IsKept old n → IsKept new n
-kept_on n old new keeps (column, at) = (column, keeps n column at)
-
-there_on : (nodes : List Node) (job : Job) (given : List Kept) (n : ℕ) (old new : Wholes) → KeepsWholes nodes job old new → IsThere given old n → IsThere given new n
-there_on nodes job given n old new keeps (inl (is, used)) = inl (is, kept_on n old.used new.used keeps.used used)
-there_on nodes job given n old new keeps (inr (none, made)) = inr (none, kept_on n old.made new.made keeps.made made)
-
-pub gave_on : (locations : List SegmentLocation) (start old new : ScanData) (before : SourceState) (column : ColumnData) → KeepsWholes old.nodes old.job old.progress.wholes new.progress.wholes → KeepsColumns old.progress.leaves new.progress.leaves → GivesSplit locations start old before column → GivesSplit locations start new before column
-gave_on locations start old new before column keeps stay gave = record {
-  dtype = gave.dtype;
-  count = gave.count;
-  right = gave.right;
-  there = λ n asks. there_on old.nodes old.job start.job.given n old.progress.wholes new.progress.wholes keeps (gave.there n asks);
-  leaves = λ read reads. kept_on read.leaf old.progress.leaves new.progress.leaves stay (gave.leaves read reads);
-}
-
-pub gave_same : (locations : List SegmentLocation) (start old new : ScanData) (before : SourceState) (column : ColumnData) → new.progress.wholes ≡ old.progress.wholes → new.progress.leaves ≡ old.progress.leaves → GivesSplit locations start old before column → GivesSplit locations start new before column
-gave_same locations start old new before column same leaves gave =
-    gave_on locations start old new before column (subst (KeepsWholes old.nodes old.job old.progress.wholes) (sym same) (wholes_same old.nodes old.job old.progress.wholes))
-    (λ n found at. subst (λ (ks : List Kept). kept_at ks n ≡ Some found) (sym leaves) at) gave

@@ -1,5 +1,5 @@
 -- A run of a scan over a session, step by step: what is in flight, what was asked, and what happens next.
-use Rattle.std.proofs.Common.{◌≡◌, ◌≢◌, ℕ, ◌+◌, ◌*◌, ◌<◌, ◌≤◌, ◌⊎◌, inl, inr, List, [], ◌∷◌, ◌++◌, Option, Some, None, Ok, Err, length, map, take, drop, refl, sym, ap, ◌∙◌, subst, arith}
+use Rattle.std.proofs.Common.{◌≡◌, ◌≢◌, ℕ, ◌+◌, ◌*◌, ◌<◌, ◌≤◌, inl, inr, List, [], ◌∷◌, ◌++◌, Option, Some, None, Ok, Err, length, map, take, drop, refl, sym, ap, ◌∙◌, subst, arith, append-nil}
 use Rattle.std.specs.Prelude.{slice_get, slice_set, remove, Result}
 use Rattle.std.specs.List.{All}
 use Rattle.std.proofs.lemmas.List.{map-append, length-map, length-append}
@@ -24,14 +24,13 @@ use Rattle.vx_drive.specs.declared.adaptors.AdaptorStep.{AdaptorStep}
 use Rattle.vx_drive.specs.declared.adaptors.State.{State}
 use Rattle.vx_drive.specs.declared.adaptors.State.TheVariants.{NeedsCompute, Waiting, Done}
 use Rattle.vx_drive.specs.AdaptorData.{AdaptorData, AreAskedReads, IsOutstanding, IsReady, reads_of, work_of}
-use Rattle.vx_drive.specs.Computes.{Batches, HoldsNext, IsNextOutput, Yields, WhyYields, Computes, ComputeGives, ResultGives, TakesResult, after_result}
-use Rattle.vx_drive.specs.Continues.{splits_left}
+use Rattle.vx_drive.specs.Computes.{AsksNothing, Batches, HandsOn, HoldsNext, IsNextOutput, Yields, WhyYields, Computes, ComputeGives, ResultGives, TakesResult, after_result}
 use Rattle.vx_drive.specs.Fetched.{fetches_from, location_of, segments_in, unread, delivered}
-use Rattle.vx_drive.specs.Runs.{GivesSplit}
 use Rattle.vx_drive.specs.Starts.{IsAtStart, IsUnread}
 use Rattle.vx_drive.specs.Waits.{owner, SendGives, Completed}
 use Rattle.vx_drive.proofs.Behind.{got_behind}
-use Rattle.vx_drive.proofs.Running.{ScanSoFar, so_far_start, so_far_then, so_far_taken, left_behind, gave_now, gave_same}
+use Rattle.vx_drive.proofs.Gathering.{GatheredSoFar, gathered_more, gathered_none, gathered_on, gathered_same}
+use Rattle.vx_drive.proofs.Running.{ScanSoFar, so_far_start, so_far_then, so_far_taken}
 use Rattle.vx_drive.proofs.Sessions.{known_fetches, all_fetches, fetches_places, asked_then, asked_nothing, outstanding, outstanding_more, OutstandingAt, outstanding_at, some_outstanding, is_outstanding, bytes_told}
 use Rattle.vx_drive.proofs.Computing.{length_fetches}
 use Rattle.vx_drive.proofs.Resulting.{segments_set}
@@ -42,14 +41,17 @@ use Rattle.vx_base.proofs.Got.{got_mapped}
 
 -- ---- what a run keeps
 
--- the column of the split is still to come, or the adaptor holds it
-abbrev pub HeldSoFar : List SegmentLocation → ScanData → SourceState → AdaptorData → Type 0
-HeldSoFar locations start before adaptor =
-    ((splits_left adaptor.scan ≡ splits_left start) × (adaptor.held ≡ None))
-    ⊎ ((splits_left adaptor.scan ≡ []) × (number : ℕ) × (column : ColumnData) × (adaptor.held ≡ Some (number, column)) × GivesSplit locations start adaptor.scan before column)
+-- the output that an adaptor holds
+abbrev pub held_in : Option (ℕ × ColumnData) → List ColumnData
+held_in None = []
+held_in (Some output) = output.1 ∷ []
+
+-- these outputs were handed on, and one more may be held
+abbrev pub HeldSoFar : List SegmentLocation → ScanData → SourceState → List ColumnData → AdaptorData → Type 0
+HeldSoFar locations start before outputs adaptor = GatheredSoFar locations start before adaptor.scan (outputs ++ held_in adaptor.held)
 
 -- The fetches in flight are the reads whose bytes did not come, and exactly the ranges of the reads were asked for.
-pub record Running (locations : List SegmentLocation) (start : ScanData) (before : SourceState) (adaptor : AdaptorData) (state : SessionState) : Type 0 where
+pub record Running (locations : List SegmentLocation) (start : ScanData) (before : SourceState) (outputs : List ColumnData) (adaptor : AdaptorData) (state : SessionState) : Type 0 where
   pub unread : IsUnread start
   pub scan : ScanSoFar locations start before adaptor.scan
   pub live : adaptor.state ≢ Done
@@ -61,7 +63,7 @@ pub record Running (locations : List SegmentLocation) (start : ScanData) (before
   pub file : state.source.file ≡ before.file
   pub faults : state.source.faults ≡ before.faults
   pub idle : before.idle ≤ state.source.idle
-  pub held : HeldSoFar locations start before adaptor
+  pub held : HeldSoFar locations start before outputs adaptor
 
 -- what stands of an adaptor that is not done
 pub ready_of : (locations others : List SegmentLocation) (adaptor : AdaptorData) → IsReady others adaptor.state adaptor.first adaptor.asked adaptor.scan.progress.reads → others ≡ locations → adaptor.state ≢ Done → AreAskedReads locations adaptor.first adaptor.asked adaptor.scan.progress.reads
@@ -70,8 +72,8 @@ ready_of locations others adaptor ready same live = subst (λ (ls : List Segment
 pub needs_is_live : (state : State) → state ≡ NeedsCompute → state ≢ Done
 needs_is_live state is done = let both : NeedsCompute ≡ Done = sym is ∙ done in absurd cc
 
-pub run_begins : (locations : List SegmentLocation) (adaptor : AdaptorData) (state : SessionState) → IsAtStart adaptor → IsReady locations adaptor.state adaptor.first adaptor.asked adaptor.scan.progress.reads → state.table ≡ empty_table → Running locations adaptor.scan state.source adaptor state
-run_begins locations adaptor state start ready empty =
+pub run_begins : (locations : List SegmentLocation) (adaptor : AdaptorData) (state : SessionState) (outputs : List ColumnData) → outputs ≡ [] → IsAtStart adaptor → IsReady locations adaptor.state adaptor.first adaptor.asked adaptor.scan.progress.reads → state.table ≡ empty_table → Running locations adaptor.scan state.source outputs adaptor state
+run_begins locations adaptor state outputs no_outputs start ready empty =
     let none : reads_of adaptor ≡ [] = ap (λ (n : ℕ). take n (drop adaptor.first adaptor.scan.progress.reads.wanted)) start.asked in record {
       unread = start.scan;
       scan = so_far_start locations adaptor.scan state.source start.scan;
@@ -84,8 +86,12 @@ run_begins locations adaptor state start ready empty =
       file = refl;
       faults = refl;
       idle = omega arith;
-      held = inl (refl, start.held);
+      held = subst (λ (all : List ColumnData). GatheredSoFar locations adaptor.scan state.source adaptor.scan all) (λ i. sym no_outputs i ++ held_in (sym start.held i)) (gathered_none locations adaptor.scan state.source start.scan);
     }
+
+-- where nothing is held, all outputs were handed on
+pub none_held : (locations : List SegmentLocation) (start : ScanData) (before : SourceState) (outputs : List ColumnData) (adaptor : AdaptorData) → adaptor.held ≡ None → HeldSoFar locations start before outputs adaptor → GatheredSoFar locations start before adaptor.scan outputs
+none_held locations start before outputs adaptor none held = subst (GatheredSoFar locations start before adaptor.scan) (ap (λ (h : Option (ℕ × ColumnData)). outputs ++ held_in h) none ∙ append-nil outputs) held
 
 -- ---- a batch
 
@@ -94,17 +100,18 @@ segments_more [] [] = refl
 segments_more [] (segment ∷ segments) = ap (λ (ss : List ℕ). segment ∷ ss) (segments_more [] segments)
 segments_more (read ∷ reads) segments = ap (λ (ss : List ℕ). read.segment ∷ ss) (segments_more reads segments)
 
-held_batch : (locations : List SegmentLocation) (start : ScanData) (before : SourceState) (batch : List IoRequest) (adaptor next : AdaptorData) → IsUnread start → ScanSoFar locations start before adaptor.scan → Batches locations batch adaptor next →
-    HeldSoFar locations start before adaptor → HoldsNext adaptor next → HeldSoFar locations start before next
-held_batch locations start before batch adaptor next fresh scan batched (inl (left, empty)) (inl (held, same)) = inl (same ∙ left, held)
-held_batch locations start before batch adaptor next fresh scan batched (inl (left, empty)) (inr (number, column, held, out)) =
-    inr (left_behind start adaptor.scan next.scan number column fresh left out, number, column, held, gave_now locations start adaptor.scan next.scan before number column fresh scan.kept out)
-held_batch locations start before batch adaptor next fresh scan batched (inr (left, number, column, full, gave)) one =
-    absurd (let both : None ≡ Some (number, column) = sym batched.held ∙ full in cc)
+held_batch : (locations : List SegmentLocation) (start : ScanData) (before : SourceState) (outputs : List ColumnData) (batch : List IoRequest) (adaptor next : AdaptorData) → IsUnread start → ScanSoFar locations start before adaptor.scan → Batches locations batch adaptor next →
+    HeldSoFar locations start before outputs adaptor → HoldsNext adaptor next → HeldSoFar locations start before outputs next
+held_batch locations start before outputs batch adaptor next fresh scan batched held (inl (none, same)) =
+    subst (GatheredSoFar locations start before next.scan) (ap (λ (h : Option (ℕ × ColumnData)). outputs ++ held_in h) (batched.held ∙ sym none))
+    (gathered_on locations start adaptor.scan next.scan before (outputs ++ held_in adaptor.held) batched.scan.keeps.wholes batched.scan.keeps.leaves same held)
+held_batch locations start before outputs batch adaptor next fresh scan batched held (inr (number, column, full, out)) =
+    subst (GatheredSoFar locations start before next.scan) (ap (λ (h : Option (ℕ × ColumnData)). outputs ++ held_in h) (sym full))
+    (gathered_more locations start adaptor.scan next.scan before number column outputs fresh scan.kept batched.scan.keeps.leaves out (none_held locations start before outputs adaptor batched.held held))
 
-pub run_batch : (locations : List SegmentLocation) (start : ScanData) (before : SourceState) (batch : List IoRequest) (adaptor next : AdaptorData) (old new : SessionState) →
-    Running locations start before adaptor old → Batches locations batch adaptor next → AreAskedReads locations next.first next.asked next.scan.progress.reads → SendGives batch (Ok tt) old new → Running locations start before next new
-run_batch locations start before batch adaptor next old new run batched ready (sent, stays, faults) =
+pub run_batch : (locations : List SegmentLocation) (start : ScanData) (before : SourceState) (outputs : List ColumnData) (batch : List IoRequest) (adaptor next : AdaptorData) (old new : SessionState) →
+    Running locations start before outputs adaptor old → Batches locations batch adaptor next → AreAskedReads locations next.first next.asked next.scan.progress.reads → SendGives batch (Ok tt) old new → Running locations start before outputs next new
+run_batch locations start before outputs batch adaptor next old new run batched ready (sent, stays, faults) =
     let segments : segments_in (reads_of next) ≡ segments_in (reads_of adaptor) ++ batched.segments = ap segments_in batched.reads ∙ segments_more (reads_of adaptor) batched.segments in
     let size = length_taken (drop adaptor.first adaptor.scan.progress.reads.wanted) adaptor.asked run.ready.wanted in
     record {
@@ -125,57 +132,63 @@ run_batch locations start before batch adaptor next old new run batched ready (s
       file = stays.file ∙ run.file;
       faults = faults ∙ run.faults;
       idle = let p = stays.idle in let q = run.idle in omega (arith, p, q);
-      held = held_batch locations start before batch adaptor next run.unread run.scan batched run.held batched.holds;
+      held = held_batch locations start before outputs batch adaptor next run.unread run.scan batched run.held batched.holds;
     }
 
--- ---- the column, and a wait
+-- ---- an output, and a wait
 
 -- a step that asks nothing leaves the session as it was
-moved_on : (locations : List SegmentLocation) (start : ScanData) (before : SourceState) (adaptor next : AdaptorData) (state : SessionState) →
-    Running locations start before adaptor state → ScanSoFar locations start before next.scan → next.first ≡ adaptor.first → reads_of next ≡ reads_of adaptor → next.state ≢ Done → AreAskedReads locations next.first next.asked next.scan.progress.reads → HeldSoFar locations start before next → Running locations start before next state
-moved_on locations start before adaptor next state run scan first reads live ready is = record {
+moved_on : (locations : List SegmentLocation) (start : ScanData) (before : SourceState) (outputs others : List ColumnData) (adaptor next : AdaptorData) (state : SessionState) → Running locations start before outputs adaptor state → ScanSoFar locations start before next.scan → AsksNothing adaptor next → next.state ≢ Done →
+    AreAskedReads locations next.first next.asked next.scan.progress.reads → HeldSoFar locations start before others next → Running locations start before others next state
+moved_on locations start before outputs others adaptor next state run scan asks live ready held = record {
   unread = run.unread;
   scan = scan;
   live = live;
-  first = first ∙ run.first;
+  first = asks.first ∙ run.first;
   ready = ready;
   waiting = run.waiting;
-  fetches = run.fetches ∙ ap (outstanding locations 0) (sym reads);
-  asked = run.asked ∙ ap (λ (rs : List Wanted). asked_for (map (location_of locations) (segments_in rs)) before.asked) (sym reads);
+  fetches = run.fetches ∙ ap (outstanding locations 0) (sym asks.reads);
+  asked = run.asked ∙ ap (λ (rs : List Wanted). asked_for (map (location_of locations) (segments_in rs)) before.asked) (sym asks.reads);
   file = run.file;
   faults = run.faults;
   idle = run.idle;
-  held = is;
+  held = held;
 }
 
--- the column of an output
-abbrev column_or : ColumnData → Option (ℕ × ColumnData) → ColumnData
-column_or other None = other
-column_or other (Some output) = output.1
+held_piece : (locations : List SegmentLocation) (start : ScanData) (before : SourceState) (outputs : List ColumnData) (column : ColumnData) (adaptor next : AdaptorData) → IsUnread start → ScanSoFar locations start before adaptor.scan → (hands : HandsOn column adaptor next) → IsNextOutput hands.number column adaptor next →
+    HeldSoFar locations start before outputs adaptor → HeldSoFar locations start before (outputs ++ column ∷ []) next
+held_piece locations start before outputs column adaptor next fresh scan hands which held = subst (GatheredSoFar locations start before next.scan) (sym all) (by_case which)
+  where
+    all : (outputs ++ column ∷ []) ++ held_in next.held ≡ outputs ++ column ∷ []
+    all = ap (λ (h : Option (ℕ × ColumnData)). (outputs ++ column ∷ []) ++ held_in h) hands.held ∙ append-nil (outputs ++ column ∷ [])
 
-pub piece_gives : (locations : List SegmentLocation) (start : ScanData) (before : SourceState) (number : ℕ) (column : ColumnData) (adaptor next : AdaptorData) → IsUnread start → ScanSoFar locations start before adaptor.scan → IsNextOutput number column adaptor next →
-    HeldSoFar locations start before adaptor → GivesSplit locations start next.scan before column
-piece_gives locations start before number column adaptor next fresh scan (inl (full, same)) (inl (left, empty)) =
-    absurd (let both : None ≡ Some (number, column) = sym empty ∙ full in cc)
-piece_gives locations start before number column adaptor next fresh scan (inl (full, same)) (inr (left, place, other, there, gave)) =
-    let column_is : other ≡ column = ap (column_or column) (sym there ∙ full) in
-    subst (GivesSplit locations start next.scan before) column_is (gave_same locations start adaptor.scan next.scan before other (ap (λ (s : ScanData). s.progress.wholes) same) (ap (λ (s : ScanData). s.progress.leaves) same) gave)
-piece_gives locations start before number column adaptor next fresh scan (inr (empty, out)) held =
-    gave_now locations start adaptor.scan next.scan before number column fresh scan.kept out
+    by_case : IsNextOutput hands.number column adaptor next → GatheredSoFar locations start before next.scan (outputs ++ column ∷ [])
+    by_case (inl (full, same)) =
+        subst (λ (scan : ScanData). GatheredSoFar locations start before scan (outputs ++ column ∷ [])) (sym same)
+        (subst (GatheredSoFar locations start before adaptor.scan) (ap (λ (h : Option (ℕ × ColumnData)). outputs ++ held_in h) full) held)
+    by_case (inr (empty, out)) = gathered_more locations start adaptor.scan next.scan before hands.number column outputs fresh scan.kept hands.scan.keeps.leaves out (none_held locations start before outputs adaptor empty held)
 
-held_waits : (locations : List SegmentLocation) (start : ScanData) (before : SourceState) (adaptor next : AdaptorData) → Yields adaptor next → HeldSoFar locations start before adaptor → HeldSoFar locations start before next
-held_waits locations start before adaptor next yields (inl (left, empty)) = inl (yields.left ∙ left, yields.none)
-held_waits locations start before adaptor next yields (inr (left, number, column, full, gave)) =
-    absurd (let both : None ≡ Some (number, column) = sym yields.held ∙ full in cc)
+-- an output is handed on
+pub run_piece : (locations : List SegmentLocation) (start : ScanData) (before : SourceState) (outputs more : List ColumnData) (column : ColumnData) (adaptor next : AdaptorData) (state : SessionState) →
+    Running locations start before outputs adaptor state → HandsOn column adaptor next → AreAskedReads locations next.first next.asked next.scan.progress.reads → more ≡ outputs ++ column ∷ [] → Running locations start before more next state
+run_piece locations start before outputs more column adaptor next state run hands ready pushed =
+    subst (λ (all : List ColumnData). Running locations start before all next state) (sym pushed)
+    (moved_on locations start before outputs (outputs ++ column ∷ []) adaptor next state run (so_far_then locations start before adaptor.scan next.scan run.scan hands.scan) hands.asks (needs_is_live next.state hands.state) ready
+    (held_piece locations start before outputs column adaptor next run.unread run.scan hands hands.output run.held))
 
-pub run_waits : (locations : List SegmentLocation) (start : ScanData) (before : SourceState) (adaptor next : AdaptorData) (state : SessionState) →
-    Running locations start before adaptor state → Yields adaptor next → next.state ≢ Done → AreAskedReads locations next.first next.asked next.scan.progress.reads → Running locations start before next state
-run_waits locations start before adaptor next state run yields live ready =
-    moved_on locations start before adaptor next state run (so_far_then locations start before adaptor.scan next.scan run.scan yields.scan) yields.asks.first yields.asks.reads live ready (held_waits locations start before adaptor next yields run.held)
+held_waits : (locations : List SegmentLocation) (start : ScanData) (before : SourceState) (outputs : List ColumnData) (adaptor next : AdaptorData) → Yields adaptor next → HeldSoFar locations start before outputs adaptor → HeldSoFar locations start before outputs next
+held_waits locations start before outputs adaptor next yields held =
+    subst (GatheredSoFar locations start before next.scan) (ap (λ (h : Option (ℕ × ColumnData)). outputs ++ held_in h) (yields.held ∙ sym yields.none))
+    (gathered_on locations start adaptor.scan next.scan before (outputs ++ held_in adaptor.held) yields.scan.keeps.wholes yields.scan.keeps.leaves yields.left held)
 
-pub some_in_flight : (locations : List SegmentLocation) (start : ScanData) (before : SourceState) (adaptor next : AdaptorData) (state : SessionState) →
-    Running locations start before next state → Yields adaptor next → next.state ≢ Done → 0 < length state.table.fetches
-some_in_flight locations start before adaptor next state run yields live = by_cause yields.why
+pub run_waits : (locations : List SegmentLocation) (start : ScanData) (before : SourceState) (outputs : List ColumnData) (adaptor next : AdaptorData) (state : SessionState) →
+    Running locations start before outputs adaptor state → Yields adaptor next → next.state ≢ Done → AreAskedReads locations next.first next.asked next.scan.progress.reads → Running locations start before outputs next state
+run_waits locations start before outputs adaptor next state run yields live ready =
+    moved_on locations start before outputs outputs adaptor next state run (so_far_then locations start before adaptor.scan next.scan run.scan yields.scan) yields.asks live ready (held_waits locations start before outputs adaptor next yields run.held)
+
+pub some_in_flight : (locations : List SegmentLocation) (start : ScanData) (before : SourceState) (outputs : List ColumnData) (adaptor next : AdaptorData) (state : SessionState) →
+    Running locations start before outputs next state → Yields adaptor next → next.state ≢ Done → 0 < length state.table.fetches
+some_in_flight locations start before outputs adaptor next state run yields live = by_cause yields.why
   where
     by_cause : WhyYields adaptor next → 0 < length state.table.fetches
     by_cause (inl (waits, inr (number, earlier, out))) = let first = run.first in absurd (omega (arith, earlier, first))
@@ -214,18 +227,18 @@ live_after NeedsCompute live done = live done
 live_after Waiting live done = let both : NeedsCompute ≡ Done = done in absurd cc
 live_after Done live done = live done
 
-held_result : (locations : List SegmentLocation) (start : ScanData) (before : SourceState) (number : ℕ) (bytes : List ℕ) (adaptor next : AdaptorData) → TakesResult number bytes adaptor next → HeldSoFar locations start before adaptor → HeldSoFar locations start before next
-held_result locations start before number bytes adaptor next takes (inl (left, empty)) = inl (takes.takes.left ∙ left, takes.held ∙ empty)
-held_result locations start before number bytes adaptor next takes (inr (left, place, column, full, gave)) =
-    inr (takes.takes.left ∙ left, place, column, takes.held ∙ full, gave_same locations start adaptor.scan next.scan before column takes.takes.wholes takes.takes.leaves gave)
+held_result : (locations : List SegmentLocation) (start : ScanData) (before : SourceState) (outputs : List ColumnData) (number : ℕ) (bytes : List ℕ) (adaptor next : AdaptorData) → TakesResult number bytes adaptor next → HeldSoFar locations start before outputs adaptor → HeldSoFar locations start before outputs next
+held_result locations start before outputs number bytes adaptor next takes held =
+    subst (GatheredSoFar locations start before next.scan) (ap (λ (h : Option (ℕ × ColumnData)). outputs ++ held_in h) (sym takes.held))
+    (gathered_same locations start adaptor.scan next.scan before (outputs ++ held_in adaptor.held) takes.takes.wholes takes.takes.leaves takes.takes.left held)
 
 abbrev segment_or_none : Option Wanted → ℕ
 segment_or_none None = 0
 segment_or_none (Some read) = read.segment
 
-pub run_result : (locations : List SegmentLocation) (start : ScanData) (before : SourceState) (completion : Completion) (adaptor next : AdaptorData) (old new : SessionState) →
-    Running locations start before adaptor old → Completed completion old new → TakesResult completion.request.0 completion.bytes.items adaptor next → (next.state ≢ Done → AreAskedReads locations next.first next.asked next.scan.progress.reads) → Running locations start before next new
-run_result locations start before completion adaptor next old new run done takes ready =
+pub run_result : (locations : List SegmentLocation) (start : ScanData) (before : SourceState) (outputs : List ColumnData) (completion : Completion) (adaptor next : AdaptorData) (old new : SessionState) →
+    Running locations start before outputs adaptor old → Completed completion old new → TakesResult completion.request.0 completion.bytes.items adaptor next → (next.state ≢ Done → AreAskedReads locations next.first next.asked next.scan.progress.reads) → Running locations start before outputs next new
+run_result locations start before outputs completion adaptor next old new run done takes ready =
     let ended = done.ended in
     let at = completed_read locations completion (reads_of adaptor) old new run.fetches ended in
     let bytes : List ℕ = completion.bytes.items in
@@ -250,7 +263,7 @@ run_result locations start before completion adaptor next old new run done takes
       file = done.keeps.file ∙ run.file;
       faults = done.faults ∙ run.faults;
       idle = let p = done.idle in let q = run.idle in omega (arith, p, q);
-      held = held_result locations start before completion.request.0 bytes adaptor next takes run.held;
+      held = held_result locations start before outputs completion.request.0 bytes adaptor next takes run.held;
     }
   where
     got_taken : (wanted : List Wanted) (n i : ℕ) (read : Wanted) → i < n → slice_get wanted i ≡ Some read → slice_get (take n wanted) i ≡ Some read
@@ -271,6 +284,12 @@ less_batch locations batch adaptor next batched =
     let fewer = batched.fewer in
     let some = batched.some in
     omega (arith, more, sum, mapped, fetched, fewer, some)
+
+pub less_piece : (locations : List SegmentLocation) (column : ColumnData) (adaptor next : AdaptorData) → HandsOn column adaptor next → work locations next < work locations adaptor
+less_piece locations column adaptor next hands =
+    let same = ap (λ (rs : List Wanted). length (outstanding locations 0 rs)) hands.asks.reads in
+    let fewer = hands.fewer in
+    omega (arith, same, fewer)
 
 pub less_result : (locations : List SegmentLocation) (completion : Completion) (adaptor waiting next : AdaptorData) (old new : SessionState) → fetches_of old.table ≡ outstanding locations 0 (reads_of waiting) → Yields adaptor waiting → FetchEnded completion old new →
     TakesResult completion.request.0 completion.bytes.items waiting next → fetches_of new.table ≡ outstanding locations 0 (reads_of next) → work locations next < work locations adaptor

@@ -6,9 +6,12 @@ use Rattle.vx_steps.specs.declared.errors.StepError.TheVariants as steps
 use Rattle.vx_steps.specs.declared.progress.Turn.{Turn}
 use Rattle.vx_steps.specs.declared.progress.Turn.TheVariants as turns
 use Rattle.vx_steps.specs.declared.splits.Split.{Split}
+use Rattle.vx_steps.specs.Computed.{UnlessList}
 use Rattle.vx_steps.specs.Jobs.{IsTold, IsWantedBy, KeepsColumns, KeepsTold, KeepsWholesFor, WantsFor}
 use Rattle.vx_steps.specs.ScanData.{ScanData, IsScanOf}
-use Rattle.vx_steps.specs.Steps.{GoesOn, IsSplitOutput, IsStepRefusal, LeavesSplit, RefusesSplit, TakesTurn, work_left}
+use Rattle.vx_steps.specs.Pieces.{piece_of}
+use Rattle.vx_steps.specs.Steps.{GoesOn, HasSplitCause, IsSplitOutput, IsStepRefusal, LeavesFirstRows, LeavesRows, LeavesSplit, RefusesSplit, TakesTurn, work_left}
+use Rattle.vx_steps.specs.Turns.{FailsInWholes}
 use Rattle.vx_steps.specs.Wants.{Grows, IsAsked}
 use Rattle.vx_steps.proofs.Finishing.{wholes_only}
 use Rattle.vx_steps.proofs.Premises.{unless_by}
@@ -82,6 +85,28 @@ left_before (steps.BadCode take at) old middle after split keeps (inr inside) = 
 left_before (steps.EvalFault at) old middle after split keeps (inl there) = inl there
 left_before (steps.EvalFault at) old middle after split keeps (inr inside) = inr (λ outside was. inside outside (told_at old middle outside keeps was))
 
+-- the first rows of which have the fault, or it is one inside whole values
+rows_before : (error : StepError) (old middle : ScanData) (after : ScanData) (split : Split) → KeepsScan old middle → LeavesFirstRows old.nodes old.job middle.progress after.progress split error → LeavesFirstRows old.nodes old.job old.progress after.progress split error
+rows_before error old middle after split keeps leaves = (
+  leaves.0,
+  leaves.1,
+  ⊎_elim
+      (λ (cause : HasSplitCause old.nodes old.job middle.progress after.progress.reads.wanted (piece_of split 0 leaves.0) error). inl (λ outside was. cause outside (told outside was)))
+      (λ (inside : FailsInWholes old.nodes old.job split middle.progress.reads.wanted middle.progress.leaves middle.progress.wholes.made error). inr (λ outside was. inside outside (told outside was)))
+      leaves.2,
+)
+  where
+    told : (outside : Bytes) → UnlessList error (IsTold old.nodes old.job old.progress outside) → UnlessList error (IsTold old.nodes old.job middle.progress outside)
+    told outside was = unless_by error (IsScanOf old outside) (IsTold old.nodes old.job middle.progress outside) (told_at old middle outside keeps) was
+
+-- and of leaves
+leaves_before : (error : StepError) (old middle : ScanData) (after : ScanData) (split : Split) → KeepsScan old middle → LeavesRows old.nodes old.job middle.progress after.progress split error → LeavesRows old.nodes old.job old.progress after.progress split error
+leaves_before (steps.BadSegment segment) old middle after split keeps leaves = tt
+leaves_before steps.Memory old middle after split keeps leaves = tt
+leaves_before (steps.Unsupported list) old middle after split keeps leaves = rows_before (steps.Unsupported list) old middle after split keeps leaves
+leaves_before (steps.BadCode take at) old middle after split keeps leaves = rows_before (steps.BadCode take at) old middle after split keeps leaves
+leaves_before (steps.EvalFault at) old middle after split keeps leaves = rows_before (steps.EvalFault at) old middle after split keeps leaves
+
 refuses_before : (error : StepError) (old middle new : ScanData) → KeepsScan old middle → RefusesSplit middle.nodes middle.job middle.progress new.progress error → RefusesSplit old.nodes old.job old.progress new.progress error
 refuses_before error old middle new keeps is =
     let here : RefusesSplit old.nodes old.job middle.progress new.progress error =
@@ -93,7 +118,7 @@ refuses_before error old middle new keeps is =
       active = here.active;
       cause = λ outside was. here.cause outside (unless_by error (IsScanOf old outside) (IsTold old.nodes old.job middle.progress outside) (told_at old middle outside keeps) was);
       left = left_before error old middle new here.split keeps here.left;
-      leaves = here.leaves;
+      leaves = leaves_before error old middle new here.split keeps here.leaves;
     }
 
 -- the refusal of a step as one of the adaptor

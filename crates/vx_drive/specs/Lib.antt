@@ -9,6 +9,7 @@ pub mod Finished
 pub mod Plans
 pub mod Refusals
 mod Receives
+pub mod Gathered
 pub mod Runs
 pub mod Starts
 pub mod Waits

@@ -1,5 +1,5 @@
 -- What a run of a scan of one split gives, and what it asks its source for.
-use Rattle.std.specs.Prelude.{◌≡◌, ℕ, ◌≤◌, ◌⊎◌, List, length, Option, Some, None, IfSome, IfErr, Result, Ok, Err}
+use Rattle.std.specs.Prelude.{◌≡◌, ℕ, ◌≤◌, ◌⊎◌, List, length, Option, Some, None, IfSome, IfErr, MatchResult, Result}
 use Rattle.vx_rows.specs.SegmentLeaves.{Bytes, leaves_of}
 use Rattle.vx_layout.specs.Rows.{segment_bytes}
 use Rattle.vx_plan.specs.Plans.{plan_at}
@@ -98,19 +98,11 @@ LeavesFault locations start scan before fault =
     AreThere start.nodes start.job.given scan.progress.wholes start.job.plan (split_of start).rows.start (split_of start).mask
     ⊎ WhereScanned locations start before (λ bytes. HasInsideCause (leaves_of bytes) (handed_by start.nodes (Some start.job.given)) start.job.offset (plan_at start.nodes start.job.plan) (split_of start).rows.start (split_of start).mask fault)
 
--- and the leaves that they read are kept
-abbrev pub LeavesRead : ScanData → ScanData → StepError → Type 0
-LeavesRead start scan fault = AreLeavesKept start.nodes start.job (split_of start) scan.progress.leaves
-
-abbrev pub RunAnswer : List SegmentLocation → ℕ → ScanData → Result (Option ColumnData) ScanError → ScanData → SourceState → SourceState → Type 0
-RunAnswer locations limit start (Ok output) scan before after = GivesOutput locations start scan before output
-RunAnswer locations limit start (Err error) scan before after = RunCause locations limit start error before after
-
-pub record RunGives (locations : List SegmentLocation) (limit : ℕ) (start : ScanData) (result : Result (Option ColumnData) ScanError) (scan : ScanData) (before after : SourceState) : Type 0 where
-  pub answer : RunAnswer locations limit start result scan before after
-  -- what a fault of rows leaves of whole values, and of leaves
+-- What a run comes to that gives this, or fails.
+pub record EndsRun {X : Type 0} (Gives : X → Type 0) (locations : List SegmentLocation) (limit : ℕ) (start : ScanData) (result : Result X ScanError) (scan : ScanData) (before after : SourceState) : Type 0 where
+  pub answer : MatchResult result Gives (λ error. RunCause locations limit start error before after)
+  -- what a fault of rows leaves of whole values
   pub left : IfErr result (λ error. IfSome (row_fault error) (LeavesFault locations start scan before))
-  pub left_leaves : IfErr result (λ error. IfSome (row_fault error) (LeavesRead start scan))
   pub asks : AsksOnly (IsReadByStart start) locations before after
   pub faults : TellsFaults result before after
   -- the scan is still of the told file, and keeps the columns that it had
@@ -120,3 +112,10 @@ pub record RunGives (locations : List SegmentLocation) (limit : ℕ) (start : Sc
   pub leaves : KeepsColumns start.progress.leaves scan.progress.leaves
   pub wholes : KeepsWholes start.nodes start.job start.progress.wholes scan.progress.wholes
   pub lasts : Lasts before after
+
+abbrev pub RunAnswer : List SegmentLocation → ℕ → ScanData → Result (Option ColumnData) ScanError → ScanData → SourceState → SourceState → Type 0
+RunAnswer locations limit start result scan before after = MatchResult result (GivesOutput locations start scan before) (λ error. RunCause locations limit start error before after)
+
+-- it gives the column of the split
+abbrev pub RunGives : List SegmentLocation → ℕ → ScanData → Result (Option ColumnData) ScanError → ScanData → SourceState → SourceState → Type 0
+RunGives locations limit start result scan before after = EndsRun (GivesOutput locations start scan before) locations limit start result scan before after

@@ -1,10 +1,10 @@
 -- An adaptor whose scan, of one split, did nothing yet.
-use Rattle.std.specs.Prelude.{◌≡◌, ◌<◌, false, [], ◌∷◌, None, length, slice_index_or}
+use Rattle.std.specs.Prelude.{◌≡◌, ◌<◌, false, [], ◌∷◌, None, length, map, slice_index_or}
 use Rattle.vx_plan.specs.Tables.{IsGoodTable}
 use Rattle.vx_steps.specs.declared.splits.Split.{Split}
 use Rattle.vx_steps.specs.Held.{AreTyped}
-use Rattle.vx_steps.specs.Jobs.{numbers_from}
 use Rattle.vx_steps.specs.ScanData.{ScanData}
+use Rattle.vx_steps.specs.Standings.{none_given, numbers_from}
 use Rattle.vx_drive.specs.declared.adaptors.State.TheVariants.{NeedsCompute}
 use Rattle.vx_drive.specs.AdaptorData.{AdaptorData}
 use Rattle.vx_drive.specs.Continues.{splits_left}
@@ -22,7 +22,7 @@ pub record IsUnread (scan : ScanData) : Type 0 where
   pub known : scan.job.plan < length scan.nodes
   pub typed : AreTyped scan.nodes scan.job.given
   pub splits : scan.job.splits.items ≡ split_of scan ∷ []
-  pub left : splits_left scan ≡ numbers_from 0 (split_of scan ∷ [])
+  pub left : splits_left scan ≡ map none_given (numbers_from 0 (split_of scan ∷ []))
   pub wanted : scan.progress.reads.wanted ≡ []
   pub refused : scan.refused ≡ false
 

@@ -44,7 +44,7 @@ pub enum AdaptorStep {
     Yield,
     /// The fetches of the reads that followed one another, in their order.
     NeedsIo(Vec<IoRequest>),
-    /// The scan's next output: the column of the selected rows of a split.
+    /// The scan's next output: the column of selected rows of a split.
     Piece(Column),
 }
 

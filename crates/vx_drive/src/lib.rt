@@ -1,5 +1,5 @@
 //! The drive of one scan of a plan over a session on a lent source: its reads become fetches, and what a fetch gives is
-//! handed to the reads that it was made for, until the column of its split is there.
+//! handed to the reads that it was made for, until all rows of its split are there.
 //!
 //! - What the chunks of a scan share: [`ScanPlans`].
 //! - Between the scan of a plan and a session: [`ScanAdaptor`], with its [`State`], [`AdaptorStep`] and
@@ -13,6 +13,7 @@ mod adaptor_errors;
 mod adaptors;
 mod batching;
 pub mod errors;
+mod gathered;
 mod plans;
 mod runs;
 mod waits;

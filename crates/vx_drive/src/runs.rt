@@ -1,6 +1,6 @@
-//! The run of a scan of one split over a session on a lent source, until the split's column is there.
+//! The run of a scan of one split over a session on a lent source, until all outputs of the split are there.
 
-ghost use Rattle.std.specs.Prelude.{◌≡◌, ◌<◌, length};
+ghost use Rattle.std.specs.Prelude.{◌≡◌, ◌<◌, [], length};
 ghost use Rattle.vx_io.specs.Ranges.{IsTableOf};
 ghost use Rattle.vx_io.specs.Session.{empty_table};
 ghost use Rattle.vx_io.specs.Tables.{session_state, KeepsLoans};
@@ -8,6 +8,7 @@ ghost use Rattle.vx_drive.specs.AdaptorData.{IsOutstanding};
 ghost use Rattle.vx_drive.specs.Adaptors.{adaptor_data};
 ghost use Rattle.vx_drive.specs.Computes.{TakesResult};
 ghost use Rattle.vx_drive.specs.Finished.{Finishes};
+ghost use Rattle.vx_drive.specs.Gathered.{GatherGives};
 ghost use Rattle.vx_drive.specs.Plans.{ArePlans};
 ghost use Rattle.vx_drive.specs.Runs.{scan_error, RunGives};
 ghost use Rattle.vx_drive.specs.Starts.{IsAtStart, IsUnread};
@@ -16,6 +17,7 @@ ghost use Rattle.vx_drive.specs.Receives.{AreOutstanding, ReceiveGives};
 use crate::adaptor_errors::AdaptorError;
 use crate::adaptors::{AdaptorStep, ScanAdaptor, State};
 use crate::errors::ScanError;
+use crate::gathered::joined;
 use crate::plans::ScanPlans;
 use crate::waits::{next_completion, send};
 use std::alloc::Global;
@@ -81,10 +83,51 @@ fn receive<S: SegmentSource>(
     }
 }
 
-/// Runs the scan of an adaptor over a session until the column of its split is there, or it is done without one, where
-/// no row of the split is selected: its reads are fetched, and what a fetch gives is handed to the read that it was made
-/// for.
+/// Runs the scan of an adaptor over a session until none of its split is left, and lists the outputs: its reads are
+/// fetched, and what a fetch gives is handed to the read that it was made for.
+fn gather<S: SegmentSource>(
+    adaptor: &mut ScanAdaptor<'_>,
+    session: &mut SegmentIoSource<'_, S>,
+    idle_limit: u64,
+    outputs: &mut Vec<Column>,
+) -> Result<(), ScanError>
+    requires start { IsAtStart (adaptor_data adaptor.old) }
+    requires empty { (session_state session.old).table ≡ empty_table }
+    requires ranges { IsTableOf session.old.ranges.now adaptor.old.locations.now }
+    requires none { outputs.old.items ≡ [] }
+    ensures loans { KeepsLoans session.old session.new }
+    ensures gives { GatherGives adaptor.old.locations.now idle_limit (adaptor_data adaptor.old).scan result outputs.new.items (adaptor_data adaptor.new).scan
+        (session_state session.old).source (session_state session.new).source }
+{
+    'turns: loop {
+        match adaptor.compute() {
+            Ok(AdaptorStep::NeedsIo(batch)) => match send(session, batch) {
+                Ok(()) => {}
+                Err(error) => return Err(error),
+            },
+            Ok(AdaptorStep::Piece(column)) => {
+                if outputs.push(column).is_err() {
+                    return Err(ScanError::Memory);
+                }
+            }
+            Ok(AdaptorStep::Yield) => {
+                if adaptor.state() == State::Done {
+                    return Ok(());
+                }
+                match receive(adaptor, session, idle_limit) {
+                    Ok(()) => {}
+                    Err(error) => return Err(error),
+                }
+            }
+            Err(error) => return Err(refusal(error)),
+        }
+    }
+}
+
+/// Runs the scan of an adaptor over a session until none of its split is left, and gives the split's column; none where no
+/// row of it is selected.
 fn run<S: SegmentSource>(
+    alloc: Global,
     adaptor: &mut ScanAdaptor<'_>,
     session: &mut SegmentIoSource<'_, S>,
     idle_limit: u64,
@@ -96,23 +139,12 @@ fn run<S: SegmentSource>(
     ensures gives { RunGives adaptor.old.locations.now idle_limit (adaptor_data adaptor.old).scan result (adaptor_data adaptor.new).scan
         (session_state session.old).source (session_state session.new).source }
 {
-    'turns: loop {
-        match adaptor.compute() {
-            Ok(AdaptorStep::NeedsIo(batch)) => match send(session, batch) {
-                Ok(()) => {}
-                Err(error) => return Err(error),
-            },
-            Ok(AdaptorStep::Piece(column)) => return Ok(Some(column)),
-            Ok(AdaptorStep::Yield) => {
-                if adaptor.state() == State::Done {
-                    return Ok(None);
-                }
-                match receive(adaptor, session, idle_limit) {
-                    Ok(()) => {}
-                    Err(error) => return Err(error),
-                }
-            }
-            Err(error) => return Err(refusal(error)),
+    let mut outputs = Vec::new(alloc);
+    match gather(adaptor, session, idle_limit, &mut outputs) {
+        Ok(()) => joined(alloc, outputs),
+        Err(error) => {
+            drop(outputs);
+            Err(error)
         }
     }
 }
@@ -132,7 +164,7 @@ pub fn run_over<S: SegmentSource>(
 {
     let mut session = SegmentIoSource::new(alloc, source, &plans.ranges);
     let mut adaptor = ScanAdaptor::new(alloc, scan, plans.locations.as_slice());
-    let output = run(&mut adaptor, &mut session, plans.idle_limit);
+    let output = run(alloc, &mut adaptor, &mut session, plans.idle_limit);
     session.clear();
     let _source = session.into_source();
     Finished {

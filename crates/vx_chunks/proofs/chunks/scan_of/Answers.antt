@@ -15,4 +15,4 @@ pub returns : goal.returns
 returns c =
     let one = (c.in_ok-push.ensures {u = tt}).items ∙ ap (λ (splits : List Split). splits ++ record { rows = c.args.chosen.now.scope.rows; mask = c.in_ok-copy.field-0 } ∷ []) (c.in_ok-splits.ensures {u = tt}).items
     ∙ ap (λ (mask : List Bool). record { rows = c.args.chosen.now.scope.rows; mask = mask } ∷ []) (c.in_ok-copy.ensures {u = tt}) in
-    begins (with_projection c.args.plans.now c.args.plan) c.args.chosen.now c.push.new.self.items c.in-Ok.scan c.with_row_offset.result (plans_with c.args.plans.now c.args.plan c.requires.plans c.requires.known) c.keeps_rules.ensures one (c.in-Ok.ensures {u = tt}).scan c.with_row_offset.ensures.scan c.with_row_offset.ensures.told
+    begins (with_projection c.args.plans.now c.args.plan) c.args.chosen.now c.push.new.self.items c.in-Ok.scan c.with_row_offset.result (plans_with c.args.plans.now c.args.plan c.requires.plans c.requires.known) c.keeps_rules.ensures one (c.in-Ok.ensures {u = tt}).scan (c.with_row_offset.ensures.scan (c.in-Ok.ensures {u = tt}).scan.unstarted.started) c.with_row_offset.ensures.told
