@@ -1,9 +1,9 @@
 -- What all workers gave together, and what came of the chunks that ran with borrowed values, is what the whole run gives.
-use Rattle.std.proofs.Common.{◌≡◌, ◌≢◌, ℕ, ◌<◌, ◌≤◌, ◌⊎◌, inl, inr, List, [], ◌∷◌, Some, None, length, map, refl, sym, ap, ◌∙◌, subst, arith}
+use Rattle.std.proofs.Common.{◌≡◌, ◌≢◌, ℕ, ◌<◌, ◌≤◌, ◌⊎◌, inl, inr, Bool, List, [], ◌∷◌, Some, None, length, map, refl, sym, ap, ◌∙◌, subst, arith}
 use Rattle.std.specs.Prelude.{Option, IfSome, IsSomeAnd, nat_lt, slice_index_or, slice_set}
 use native.Mathlib.Decide.{ℕ_discrete}
 use mathlib.Core.Logic.{dite}
-use Rattle.std.specs.List.{slice_get, All, AllByRecursion}
+use Rattle.std.specs.List.{All, AllByRecursion}
 use Rattle.std.specs.List.Sorted.{IsNonDecreasingBy}
 use Rattle.std.proofs.lemmas.Bool.{cases_lt, lt-ltb}
 use Rattle.std.proofs.lemmas.List.{length-map, get_or-map}
@@ -13,9 +13,7 @@ use Rattle.vx_rows.specs.SegmentLeaves.{Bytes, leaves_of}
 use Rattle.vx_plan.specs.Plans.{plan_at}
 use Rattle.vx_plan.specs.Refs.{number_of}
 use Rattle.vx_steps.specs.Given.{whole_value}
-use Rattle.vx_steps.specs.Kept.{kept_data}
 use Rattle.vx_steps.specs.KeptData.{Kept}
-use Rattle.vx_steps.specs.declared.kept.KeptValue.{KeptValue}
 use Rattle.vx_splits.specs.declared.selected_rows.SelectedRows.{SelectedRows}
 use Rattle.vx_claims.specs.Apart.{times, times_over, AreApart, AreWhole}
 use Rattle.vx_claims.proofs.Numbers.{once_yes, times_other}
@@ -24,7 +22,7 @@ use Rattle.vx_drive.specs.declared.errors.ScanError.TheVariants.{BadProjection, 
 use Rattle.vx_drive.specs.declared.plans.ScanPlans.{ScanPlans}
 use Rattle.vx_drive.specs.Asks.{KeepsFaults}
 use Rattle.vx_chunks.specs.Lent.{EachSourceBy, SomeSourceBy, AllTell}
-use Rattle.vx_chunks.specs.Outcomes.{data_of, told_by_all, Causes, ChunkAsks, Claims}
+use Rattle.vx_chunks.specs.Outcomes.{told_by_all, Causes, Claims}
 use Rattle.vx_chunks.proofs.LentSources.{each_by, each_first}
 use Rattle.vx_workers.specs.declared.joins.Joined.{Joined}
 use Rattle.vx_workers.specs.declared.worker_states.ChunkError.{ChunkError}
@@ -37,7 +35,7 @@ use Rattle.vx_workers.specs.Unhindered.{IsUnhindered}
 use Rattle.vx_workers.specs.Workers.{IsPieceOf, numbers_of, IsLast, FailsLast, RunsSource}
 use Rattle.vx_workers.proofs.Certifying.{each_weaker}
 use Rattle.vx_workers.proofs.JoinedWorkers.{not_lacking}
-use Rattle.vx_workers.proofs.BorrowerChunks.{of_chunk}
+use Rattle.vx_workers.proofs.BorrowerChunks.{borrower_asks}
 use Rattle.vx_execute.specs.declared.outcomes.Outcome.{Outcome}
 use Rattle.vx_execute.specs.declared.outcomes.Rerun.{Rerun}
 use Rattle.vx_execute.specs.Executes.{FailsLowest, FaultsAtLast, MayHaveBorrowed, StopsAtLast, Executed}
@@ -58,14 +56,6 @@ numbers_in_order (piece ∷ pieces) sorted i j d le lt =
     omega (arith, lower, one, two)
 
 -- ---- chunks that ran with borrowed values ask for whole ones
-
-first_asks : (plans : ScanPlans) (chosen : SelectedRows) (borrowed : List KeptValue) → borrowed ≢ [] → AllByRecursion (λ (one : Kept). ChunkAsks plans [] chosen one.node) (data_of borrowed) → AsksForWholes plans chosen
-first_asks plans chosen [] some each = absurd (some refl)
-first_asks plans chosen (one ∷ borrowed) some each = ((kept_data one).node, each.0)
-
-borrower_asks : (plans : ScanPlans) (chunks : List SelectedRows) (borrower : Borrower) → IsBorrower plans chunks borrower → IsAsking plans chunks borrower.chunk
-borrower_asks plans chunks borrower is =
-    of_chunk (λ chunk. AsksForWholes plans chunk × IsUnhindered plans chunk) (slice_get chunks borrower.chunk) is.chunk is.here (first_asks plans is.chunk borrower.borrowed.items is.some is.borrowed.asked, is.unhindered)
 
 has_borrower_chunks : (plans : ScanPlans) (chunks : List SelectedRows) (x : ℕ) (borrowers : List Borrower) → 1 ≤ times x (borrower_chunks borrowers) → All (IsBorrower plans chunks) borrowers → IsAsking plans chunks x
 has_borrower_chunks plans chunks x [] some are = absurd (omega (arith, some))
@@ -113,18 +103,18 @@ reruns_from Told Others from plans chunks (rerun ∷ reruns) each = (
 )
 
 -- the first source still tells the file that all told
-first_tells : (plans : ScanPlans) (chunks : List SelectedRows) (file : List ℕ) (lists : List (List ℕ)) (befores : List SourceState) (first : SourceState) (others : List SourceState) → EachSourceBy (RunsSource plans chunks) lists befores (first ∷ others) → AllTell file befores → first.file ≡ Some file
-first_tells plans chunks file [] [] first others each tell = absurd each
-first_tells plans chunks file [] (before ∷ befores) first others each tell = absurd each
-first_tells plans chunks file (list ∷ lists) [] first others each tell = absurd each
-first_tells plans chunks file (list ∷ lists) (before ∷ befores) first others each tell = each.0.lasts.file ∙ tell.0
+first_tells : (shares : Bool) (plans : ScanPlans) (chunks : List SelectedRows) (file : List ℕ) (lists : List (List ℕ)) (befores : List SourceState) (first : SourceState) (others : List SourceState) → EachSourceBy (RunsSource shares plans chunks) lists befores (first ∷ others) → AllTell file befores → first.file ≡ Some file
+first_tells shares plans chunks file [] [] first others each tell = absurd each
+first_tells shares plans chunks file [] (before ∷ befores) first others each tell = absurd each
+first_tells shares plans chunks file (list ∷ lists) [] first others each tell = absurd each
+first_tells shares plans chunks file (list ∷ lists) (before ∷ befores) first others each tell = each.0.lasts.file ∙ tell.0
 
 -- ---- the whole run
 
 module _ (plans : ScanPlans) (chunks : List SelectedRows) (joined : Joined) (outcome : Outcome) (befores : List SourceState) (first : SourceState) (others : List SourceState) (after : SourceState) (some : 0 < length befores)
     (gives : JoinedAll plans chunks joined befores (first ∷ others)) (validates : Validates plans chunks joined outcome first after) where
   by_all : (P : Bytes → Type 0) → told_right plans chunks joined first P → told_by_all plans befores P
-  by_all P told file tell = told file (first_tells plans chunks file joined.claimed.items befores first others gives.sources tell) (gives.right file tell)
+  by_all P told file tell = told file (first_tells (nat_lt 1 (length befores)) plans chunks file joined.claimed.items befores first others gives.sources tell) (gives.right file tell)
 
   over : (x : ℕ) → times_over x outcome.claimed.items ≡ times_over x joined.claimed.items
   over x = ap (times_over x) validates.lists
@@ -294,7 +284,7 @@ module _ (plans : ScanPlans) (chunks : List SelectedRows) (joined : Joined) (out
     faults = subst (λ (lists : List (List ℕ)). EachSourceBy (FaultsAtLast outcome.pieces.items) lists befores (first ∷ others)) (sym validates.lists)
         (each_by (FaultsWhereNotRan joined) (FaultsAtLast outcome.pieces.items) faults_last joined.claimed.items befores (first ∷ others) gives.faults);
     quiet = λ none. each_first KeepsFaults KeepsFaults (λ before now last one two. two ∙ one) befores (first ∷ others) (after ∷ others) (gives.quiet (none_joined none)) (none_fails none, refl);
-    sources = subst (λ (lists : List (List ℕ)). EachSourceBy (RunsSource plans chunks) lists befores (first ∷ others)) (sym validates.lists) gives.sources;
+    sources = subst (λ (lists : List (List ℕ)). EachSourceBy (RunsSource (nat_lt 1 (length befores)) plans chunks) lists befores (first ∷ others)) (sym validates.lists) gives.sources;
     again = (record { asks = validates.again; faults = validates.faults; lasts = validates.lasts; in_flight = validates.in_flight }, refl);
     reruns = reruns_from (told_right plans chunks joined first) (told_by_all plans befores) by_all plans chunks outcome.reruns.items validates.reruns;
     reruns_once = λ x.
@@ -306,13 +296,13 @@ module _ (plans : ScanPlans) (chunks : List SelectedRows) (joined : Joined) (out
   }
 
 -- no worker ran where there was no source
-none_ran : (plans : ScanPlans) (chunks : List SelectedRows) (lists : List (List ℕ)) (befores : List SourceState) → 0 < length befores → EachSourceBy (RunsSource plans chunks) lists befores [] → ⊥
-none_ran plans chunks lists [] some each = absurd (omega (arith, some))
-none_ran plans chunks [] (before ∷ befores) some each = each
-none_ran plans chunks (list ∷ lists) (before ∷ befores) some each = each
+none_ran : (shares : Bool) (plans : ScanPlans) (chunks : List SelectedRows) (lists : List (List ℕ)) (befores : List SourceState) → 0 < length befores → EachSourceBy (RunsSource shares plans chunks) lists befores [] → ⊥
+none_ran shares plans chunks lists [] some each = absurd (omega (arith, some))
+none_ran shares plans chunks [] (before ∷ befores) some each = each
+none_ran shares plans chunks (list ∷ lists) (before ∷ befores) some each = each
 
 -- the first of the sources is lent, and the others stay as they are
 pub executed_by : {S : Type 0} (state : S → SourceState) (plans : ScanPlans) (chunks : List SelectedRows) (joined : Joined) (outcome : Outcome) (befores : List SourceState) (sources : List S) (first after : S) → 0 < length befores
     → JoinedAll plans chunks joined befores (map state sources) → Validates plans chunks joined outcome (state (slice_index_or sources 0 first)) (state after) → Executed plans chunks outcome befores (map state (slice_set sources 0 after))
-executed_by state plans chunks joined outcome befores [] first after some gives validates = absurd (none_ran plans chunks joined.claimed.items befores some gives.sources)
+executed_by state plans chunks joined outcome befores [] first after some gives validates = absurd (none_ran (nat_lt 1 (length befores)) plans chunks joined.claimed.items befores some gives.sources)
 executed_by state plans chunks joined outcome befores (one ∷ sources) first after some gives validates = executed plans chunks joined outcome befores (state one) (map state sources) (state after) some gives validates

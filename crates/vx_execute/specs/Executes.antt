@@ -118,7 +118,7 @@ pub record Executed (plans : ScanPlans) (chunks : List SelectedRows) (outcome : 
   pub faults : EachSourceBy (FaultsAtLast outcome.pieces.items) outcome.claimed.items befores middles
   pub quiet : outcome.error ≡ None → EachSource KeepsFaults befores afters
   -- each source was asked for the chunks that its own worker claimed, and the first one again for what had to be tested
-  pub sources : EachSourceBy (RunsSource plans chunks) outcome.claimed.items befores middles
+  pub sources : EachSourceBy (RunsSource (nat_lt 1 (length befores)) plans chunks) outcome.claimed.items befores middles
   pub again : FirstSource (AskedAgain plans chunks (rerun_chunks outcome.reruns.items) outcome.error) middles afters
   -- a chunk that ran again was claimed and stands there once, with two columns that differ, the second of which is right
   pub reruns : AllByRecursion (IsRerun plans chunks (told_by_all plans befores)) outcome.reruns.items

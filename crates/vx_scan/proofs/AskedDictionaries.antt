@@ -1,6 +1,7 @@
 -- A row that asks for whole values reads a code of an outermost dictionary.
-use Rattle.std.proofs.Common.{◌≡◌, ℕ, ◌+◌, ◌-◌, inl, inr, Bool, true, false, List, [], ◌∷◌, Some, map, refl, ap, subst}
-use Rattle.std.specs.Prelude.{if◌then◌else◌, nat_lt}
+use Rattle.std.proofs.Common.{◌≡◌, ℕ, zero, suc, ◌+◌, ◌-◌, inl, inr, Bool, true, false, List, [], ◌∷◌, Some, map, refl, ap, subst}
+use Rattle.std.specs.Prelude.{if◌then◌else◌, nat_lt, IsSomeAnd}
+use Rattle.std.specs.List.{slice_get, AllByRecursion}
 use Rattle.std.specs.Bool.{MatchBool}
 use Rattle.vx_rows.specs.Derivations.{Derivation, packed, Derivations, each_row}
 use Rattle.vx_rows.specs.Given.{GivenValues}
@@ -18,7 +19,7 @@ use Rattle.vx_steps.specs.Visits.{Visits, VisitsIn, VisitsField, IsWholeRead}
 use Rattle.vx_drive.specs.declared.plans.ScanPlans.{ScanPlans}
 use Rattle.vx_drive.specs.Plans.{projection_plan}
 use Rattle.vx_chunks.proofs.Ways.{none_inside, SeesOutside}
-use Rattle.vx_workers.specs.Borrowers.{AsksForWholes}
+use Rattle.vx_workers.specs.Borrowers.{AsksForWholes, IsAsking}
 use Rattle.vx_scan.specs.Answer.{FileScan, row_count}
 use Rattle.vx_scan.specs.Causes.{ReadsDictionary}
 use Rattle.vx_scan.specs.FilePlans.{node_of, ArePlansOf, LiesInside}
@@ -114,3 +115,9 @@ asks_reads scan limit plans are chunk lies (n, (place, at, v)) =
     let there : AnyOf (IsDirect (node_of scan.projection one.0)) (scan_reads scan.projection row) =
     subst (AnyOf (IsDirect (node_of scan.projection one.0))) (are.plan.reads row) (reads_moved (node_of scan.projection) one.0 (plan_reads scan.projection.offset q row) one.1) in
     some_chosen (λ (r : ℕ). (dictionary : ℕ) × FindsBy directly (IsCodeOf dictionary) (scan_reads scan.projection r)) (row_count scan) chunk lies (place, at, (node_of scan.projection one.0, there))
+
+-- and so does the piece of a chunk that asks for whole values
+pub asking_reads : (scan : FileScan) (limit : ℕ) (plans : ScanPlans) → ArePlansOf scan limit plans → (chunks : List SelectedRows) → AllByRecursion (LiesInside (row_count scan)) chunks → (x : ℕ) → IsAsking plans chunks x → IsSomeAnd (slice_get (map chosen_rows chunks) x) (ReadsDictionary scan.projection)
+asking_reads scan limit plans are [] inside x asks = absurd asks
+asking_reads scan limit plans are (chunk ∷ chunks) inside zero asks = asks_reads scan limit plans are chunk inside.0 asks.0
+asking_reads scan limit plans are (chunk ∷ chunks) inside (suc x) asks = asking_reads scan limit plans are chunks inside.1 x asks

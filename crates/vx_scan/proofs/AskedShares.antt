@@ -1,5 +1,5 @@
 -- What the workers of all sources asked for: a share of each, among which no chunk and segment stands twice.
-use Rattle.std.proofs.Common.{◌≡◌, ◌≢◌, ℕ, ◌+◌, ◌≤◌, List, [], ◌∷◌, map, sym, ap, subst, arith}
+use Rattle.std.proofs.Common.{◌≡◌, ◌≢◌, ℕ, ◌+◌, ◌≤◌, Bool, List, [], ◌∷◌, map, sym, ap, subst, arith}
 use Rattle.std.specs.List.{AllByRecursion, flat_map}
 use Rattle.std.proofs.lemmas.List.{map-append}
 use Rattle.std.proofs.lemmas.List.Sums.{sum_by-cons}
@@ -18,12 +18,12 @@ use Rattle.vx_workers.proofs.WorkerEnds.{among_stands}
 use Rattle.vx_workers.proofs.Certifying.{each_weaker}
 use Rattle.vx_scan.specs.Batches.{Share, reasons_in}
 
-module _ (plans : ScanPlans) (chunks : List SelectedRows) where
+module _ (several : Bool) (plans : ScanPlans) (chunks : List SelectedRows) where
   abbrev pub Ran : List (List ℕ) → List SourceState → List SourceState → Type 0
-  Ran lists befores afters = EachSourceBy (RunsSource plans chunks) lists befores afters
+  Ran lists befores afters = EachSourceBy (RunsSource several plans chunks) lists befores afters
 
   abbrev pub AsksShares : List Share → List SourceState → List SourceState → Type 0
-  AsksShares shares befores afters = EachSourceBy (λ (share : Share). AsksReached plans chunks share.numbers share.reasons) shares befores afters
+  AsksShares shares befores afters = EachSourceBy (λ (share : Share). AsksReached several plans chunks share.numbers share.reasons) shares befores afters
 
   -- the chunk of the reason stands in the lists
   abbrev pub IsClaimed : List (List ℕ) → Reason → Type 0
@@ -76,7 +76,7 @@ module _ (plans : ScanPlans) (chunks : List SelectedRows) where
       }
 
   -- what follows of each source
-  pub each_from : (P : SourceState → SourceState → Type 0) → ((list : List ℕ) (before after : SourceState) → RunsSource plans chunks list before after → P before after)
+  pub each_from : (P : SourceState → SourceState → Type 0) → ((list : List ℕ) (before after : SourceState) → RunsSource several plans chunks list before after → P before after)
       → (lists : List (List ℕ)) (befores afters : List SourceState) → Ran lists befores afters → EachSource P befores afters
   each_from P from [] [] [] ran = tt
   each_from P from [] [] (after ∷ afters) ran = absurd ran

@@ -1,5 +1,6 @@
 -- A scan asks all sources together for a range at most as often as pairs reach it, with what the first one is asked again.
-use Rattle.std.proofs.Common.{◌≡◌, ℕ, ◌+◌, ◌*◌, ◌≤◌, List, [], ◌∷◌, ◌++◌, length, refl, sym, ap, subst, arith}
+use Rattle.std.proofs.Common.{◌≡◌, ℕ, ◌+◌, ◌*◌, ◌≤◌, Bool, List, [], ◌∷◌, ◌++◌, length, refl, sym, ap, subst, arith}
+use Rattle.std.specs.Prelude.{nat_lt}
 use Rattle.std.specs.List.{flat_map, AllByRecursion}
 use Rattle.std.proofs.lemmas.List.{length-append}
 use Rattle.std.proofs.lemmas.List.Concat.{flat_map-append}
@@ -56,14 +57,14 @@ module _ (scan : FileScan) (range : AskedRange) (shared : List (ℕ × ℕ)) (al
     are : ArePairs (IsDirectPair scan range) (flat_map direct_and_segment reasons) direct
     most : all_asked_times range afters ≤ all_asked_times range befores + (length direct + count * length shared)
 
-  counted_over : (reasons : List (List Reason)) (befores afters : List SourceState) → EachSourceBy (Gains scan) reasons befores afters → CountedOver (length befores) (flat_map (λ own. own) reasons) befores afters
-  counted_over [] [] [] each = record { direct = []; are = no_pairs (IsDirectPair scan range); most = omega arith }
-  counted_over [] [] (after ∷ afters) each = absurd each
-  counted_over [] (before ∷ befores) afters each = absurd each
-  counted_over (own ∷ reasons) [] afters each = absurd each
-  counted_over (own ∷ reasons) (before ∷ befores) [] each = absurd each
-  counted_over (own ∷ reasons) (before ∷ befores) (after ∷ afters) each =
-      let rest : CountedOver (length befores) (flat_map (λ one. one) reasons) befores afters = counted_over reasons befores afters each.1 in
+  counted_over : (shares : Bool) (reasons : List (List Reason)) (befores afters : List SourceState) → EachSourceBy (Gains shares scan) reasons befores afters → CountedOver (length befores) (flat_map (λ own. own) reasons) befores afters
+  counted_over shares [] [] [] each = record { direct = []; are = no_pairs (IsDirectPair scan range); most = omega arith }
+  counted_over shares [] [] (after ∷ afters) each = absurd each
+  counted_over shares [] (before ∷ befores) afters each = absurd each
+  counted_over shares (own ∷ reasons) [] afters each = absurd each
+  counted_over shares (own ∷ reasons) (before ∷ befores) [] each = absurd each
+  counted_over shares (own ∷ reasons) (before ∷ befores) (after ∷ afters) each =
+      let rest : CountedOver (length befores) (flat_map (λ one. one) reasons) befores afters = counted_over shares reasons befores afters each.1 in
       let these : Counted (PieceReaches scan range) (times_asked range each.0.ranges) (flat_map direct_and_segment own) (flat_map (dictionary_and_segment scan.projection) own) =
       counted (PieceReaches scan range) (node_of scan.projection) range (IsReasonFor scan) (reason_reaches scan range) own each.0.ranges (scan_backed scan own each.0.ranges each.0.are_reasons) in
       let few = pairs_most (IsSharedPair scan range) (flat_map (dictionary_and_segment scan.projection) own) these.shared shared these.are_shared each.0.once_a_dictionary all_shared in
@@ -80,7 +81,7 @@ module _ (scan : FileScan) (range : AskedRange) (shared : List (ℕ × ℕ)) (al
   -- once all workers were done
   middle_counted : (befores afters : List SourceState) → (gains : GainsOver scan befores afters) → (direct : List (ℕ × ℕ)) → AreAllOf (IsDirectPair scan range) direct → all_asked_times range gains.middles ≤ all_asked_times range befores + (length direct + length befores * length shared)
   middle_counted befores afters gains direct all_direct =
-      let over = counted_over gains.reasons befores gains.middles gains.each in
+      let over = counted_over (nat_lt 1 (length befores)) gains.reasons befores gains.middles gains.each in
       let few = pairs_most (IsDirectPair scan range) (flat_map direct_and_segment (flat_map (λ own. own) gains.reasons)) over.direct direct over.are (direct_once (flat_map (λ own. own) gains.reasons) gains.once_a_chunk) all_direct in
       let most = over.most in
       omega (arith, few, most)

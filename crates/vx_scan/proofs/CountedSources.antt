@@ -59,9 +59,9 @@ module _ (plans : ScanPlans) (chunks : List SelectedRows) (range : AskedRange) (
       let gains = gained_times range (ranges_for plans reasons) before after gained in
       omega (arith, most, gains)
 
-pub source_counted : (plans : ScanPlans) (chunks : List SelectedRows) (numbers : List ℕ) (before after : SourceState) → RunsSource plans chunks numbers before after
+pub source_counted : (shares : Bool) (plans : ScanPlans) (chunks : List SelectedRows) (numbers : List ℕ) (before after : SourceState) → RunsSource shares plans chunks numbers before after
     → (range : AskedRange) (direct shared : List (ℕ × ℕ)) → AreAllOf (IsDirectRead plans chunks range numbers) direct → AreAllOf (IsSharedRead plans chunks range) shared → asked_times range after ≤ asked_times range before + (length direct + length shared)
-source_counted plans chunks numbers before after runs range direct shared all_direct all_shared =
+source_counted shares plans chunks numbers before after runs range direct shared all_direct all_shared =
     reads_counted plans chunks range numbers runs.reasons before after (each_weaker (λ (reason : Reason). IsAmong reason.chunk numbers) (IsDirectAmong numbers) (λ reason among way. among) runs.reasons runs.asks.own) runs.asks.are runs.asks.located runs.asks.asked
     (direct_once runs.reasons runs.asks.once_a_chunk) runs.asks.once_a_take direct shared all_direct all_shared
 
@@ -109,9 +109,9 @@ module _ (plans : ScanPlans) (chunks : List SelectedRows) (range : AskedRange) (
       (ap (option_map range_of) (located_at plans.locations.items reason.segment (All-head (λ segment. segment < length plans.locations.items) reason.segment (map segment_of reasons) located)))
       (counted_by_chunks reasons own.1 are.1 (All-tail (λ segment. segment < length plans.locations.items) reason.segment (map segment_of reasons) located))
 
-pub source_counted_by_chunks : (plans : ScanPlans) (chunks : List SelectedRows) (numbers : List ℕ) (before after : SourceState) → RunsSource plans chunks numbers before after
+pub source_counted_by_chunks : (shares : Bool) (plans : ScanPlans) (chunks : List SelectedRows) (numbers : List ℕ) (before after : SourceState) → RunsSource shares plans chunks numbers before after
     → (range : AskedRange) (pairs : List (ℕ × ℕ)) → AreAllOf (IsReadOf plans chunks range numbers) pairs → asked_times range after ≤ asked_times range before + length pairs
-source_counted_by_chunks plans chunks numbers before after runs range pairs all_pairs =
+source_counted_by_chunks shares plans chunks numbers before after runs range pairs all_pairs =
     let these = counted_by_chunks plans chunks range numbers runs.reasons runs.asks.own runs.asks.are runs.asks.located in
     let most = pairs_most (IsReadOf plans chunks range numbers) (map chunk_and_segment runs.reasons) these.pairs pairs these.are runs.asks.once_a_chunk all_pairs in
     let sum = these.sum in

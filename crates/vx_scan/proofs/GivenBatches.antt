@@ -22,7 +22,7 @@ use Rattle.vx_drive.specs.declared.plans.ScanPlans.{ScanPlans}
 use Rattle.vx_drive.specs.Asks.{IsLeftClear, Lasts}
 use Rattle.vx_drive.specs.Fetched.{AreDistinct}
 use Rattle.vx_drive.specs.Plans.{bytes_of, projection_node}
-use Rattle.vx_drive.proofs.Distinct.{distinct_none}
+use Rattle.vx_drive.proofs.Distinct.{distinct_none, pairs_none}
 use Rattle.vx_drive.proofs.Lasting.{lasts_then}
 use Rattle.vx_drive.proofs.Sessions.{asked_nothing}
 use Rattle.vx_chunks.specs.ChunkRows.{IsPiece}
@@ -32,7 +32,7 @@ use Rattle.vx_workers.specs.declared.worker_states.ChunkError.{ChunkError}
 use Rattle.vx_workers.specs.declared.worker_states.Piece.{Piece}
 use Rattle.vx_workers.specs.Merges.{no_memory}
 use Rattle.vx_workers.specs.Borrowers.{AsksForWholes, IsAsking}
-use Rattle.vx_workers.specs.Reasons.{chunk_and_segment}
+use Rattle.vx_workers.specs.Reasons.{chunk_and_segment, AreOfOneLeafOnlyBehind}
 use Rattle.vx_workers.specs.Unhindered.{IsUnhindered, IsUnhinderedAt}
 use Rattle.vx_workers.specs.Workers.{HasDtype, HasItsRows, IsPieceOf, numbers_of, IsLast, AsksReached, RunsSource, FailsLast}
 use Rattle.vx_workers.proofs.Certifying.{each_weaker}
@@ -198,7 +198,7 @@ module _ (plans : ScanPlans) (chunks : List SelectedRows) where
     chunk_there : (error : ChunkError) → Fails error → (chunk : SelectedRows) × (slice_get chunks error.chunk ≡ Some chunk)
     chunk_there error (inl fails) = fails_there error outcome.claimed.items befores executed.middles fails
     chunk_there error (inr fails) =
-        let first = first_there (RunsSource plans chunks) (FailsAgain plans chunks error befores) error.chunk outcome.claimed.items befores executed.middles afters fails.1 executed.sources fails.2 in
+        let first = first_there (RunsSource (nat_lt 1 (length befores)) plans chunks) (FailsAgain plans chunks error befores) error.chunk outcome.claimed.items befores executed.middles afters fails.1 executed.sources fails.2 in
         (first.2.chunk, first.2.here)
 
     -- what has no piece isn't below the chunk that failed
@@ -272,7 +272,7 @@ module _ (plans : ScanPlans) (chunks : List SelectedRows) where
 
     asks_of : AsksOver plans chunks befores afters
     asks_of =
-        let all = shared plans chunks outcome.claimed.items befores executed.middles executed.apart.once executed.sources in
+        let all = shared (nat_lt 1 (length befores)) plans chunks outcome.claimed.items befores executed.middles executed.apart.once executed.sources in
         record {
           shares = all.shares;
           middles = executed.middles;
@@ -293,11 +293,11 @@ module _ (plans : ScanPlans) (chunks : List SelectedRows) where
 
     all_last : EachSource Lasts befores afters
     all_last = each_first Lasts (AskedAgain plans chunks (rerun_chunks outcome.reruns.items) outcome.error) (λ before now after one two. lasts_then before now after one two.lasts) befores executed.middles afters
-        (each_from plans chunks Lasts (λ list before after runs. runs.lasts) outcome.claimed.items befores executed.middles executed.sources) executed.again
+        (each_from (nat_lt 1 (length befores)) plans chunks Lasts (λ list before after runs. runs.lasts) outcome.claimed.items befores executed.middles executed.sources) executed.again
 
     all_clear : EachSource IsLeftClear befores afters
     all_clear = each_first IsLeftClear (AskedAgain plans chunks (rerun_chunks outcome.reruns.items) outcome.error) (λ before now after one two. clear_then before now after one two.in_flight) befores executed.middles afters
-        (each_from plans chunks IsLeftClear (λ list before after runs. runs.in_flight) outcome.claimed.items befores executed.middles executed.sources) executed.again
+        (each_from (nat_lt 1 (length befores)) plans chunks IsLeftClear (λ list before after runs. runs.in_flight) outcome.claimed.items befores executed.middles executed.sources) executed.again
 
     from_executed : (result : Result (Vec ColumnData Global) ScanError) → TakesBatches outcome result → GivesBatches plans chunks result befores afters
     from_executed (Ok batches) takes =
@@ -338,14 +338,16 @@ module _ (plans : ScanPlans) (chunks : List SelectedRows) where
   idle_shares [] = []
   idle_shares (source ∷ sources) = idle_share ∷ idle_shares sources
 
-  idle_asks : (source : SourceState) → AsksReached plans chunks [] [] source source
-  idle_asks source = record {
+  idle_asks : (shares : Bool) (source : SourceState) → AsksReached shares plans chunks [] [] source source
+  idle_asks shares source = record {
     are = tt;
     own = tt;
     located = All-nil (λ segment. segment < length plans.locations.items);
     asked = sym (asked_nothing source.asked);
     once_a_chunk = distinct_none;
-    once_a_leaf = λ order together. distinct_none;
+    faulted = [];
+    faulted_are = tt;
+    once_a_leaf = λ order together. pairs_none (AreOfOneLeafOnlyBehind []);
     once_a_take = distinct_none;
   }
 
@@ -360,9 +362,9 @@ module _ (plans : ScanPlans) (chunks : List SelectedRows) where
     once_a_take = distinct_none;
   }
 
-  all_idle : (sources : List SourceState) → AsksShares plans chunks (idle_shares sources) sources sources
-  all_idle [] = tt
-  all_idle (source ∷ sources) = (idle_asks source, all_idle sources)
+  all_idle : (shares : Bool) (sources : List SourceState) → AsksShares shares plans chunks (idle_shares sources) sources sources
+  all_idle shares [] = tt
+  all_idle shares (source ∷ sources) = (idle_asks shares source, all_idle shares sources)
 
   idle_distinct : (sources : List SourceState) → AreDistinct (map chunk_and_segment (flat_map reasons_in (idle_shares sources)))
   idle_distinct [] = distinct_none
@@ -386,7 +388,7 @@ module _ (plans : ScanPlans) (chunks : List SelectedRows) where
     asks = record {
       shares = idle_shares sources;
       middles = sources;
-      each = all_idle sources;
+      each = all_idle (nat_lt 1 (length sources)) sources;
       once_a_chunk = idle_distinct sources;
       reruns = [];
       reruns_once = λ x. omega arith;

@@ -20,7 +20,7 @@ use Rattle.vx_chunks.proofs.LentSources.{each_by, first_by, some_by}
 use Rattle.vx_workers.specs.declared.worker_states.ChunkError.{ChunkError}
 use Rattle.vx_workers.specs.Merges.{no_memory}
 use Rattle.vx_workers.specs.Borrowers.{AsksForWholes, IsAsking}
-use Rattle.vx_workers.specs.Unhindered.{IsUnhindered, IsUnhinderedAt}
+use Rattle.vx_workers.specs.Unhindered.{IsUnhinderedAt}
 use Rattle.vx_workers.specs.Workers.{IsLast, FailsLast, RunsSource}
 use Rattle.vx_execute.specs.Executes.{AskedAgain, FailsAgain, FailsOn}
 use Rattle.vx_scan.specs.Answer.{FileScan, row_count, scan_pieces}
@@ -28,16 +28,16 @@ use Rattle.vx_scan.specs.Batches.{AreUnhinderedButLast, AskedForChunks, ClaimedU
 use Rattle.vx_scan.specs.Causes.{ReadsDictionary}
 use Rattle.vx_scan.specs.FilePlans.{ArePlansOf, AreChunksOf, LiesInside}
 use Rattle.vx_scan.specs.Scanned.{AreUnhindered, FailsPiece, FailsPieceAgain, FailsPieceOn, GainedForPieces, HasAnswer, HaveAnswersButLast, LowestCause, OthersHaveAnswers, PieceReadsDictionary, PiecesUnhinderedButLast, RunsAgain, RunsPieces}
-use Rattle.vx_scan.proofs.AskedDictionaries.{asks_reads}
+use Rattle.vx_scan.proofs.AskedDictionaries.{asking_reads, asks_reads}
 use Rattle.vx_scan.proofs.HinderedScans.{first_unhindered, unhindered_there}
 use Rattle.vx_scan.proofs.ScanAsks.{gains_again, gains_of}
 use Rattle.vx_scan.proofs.ScanCauses.{cause_of, cause_of_all, have_answers, inside_at, piece_answers, same_bytes}
 
 module _ (scan : FileScan) (limit : ℕ) (plans : ScanPlans) (are : ArePlansOf scan limit plans) (chunks : List SelectedRows) (of_scan : AreChunksOf scan chunks) where
-  runs_pieces : (numbers : List ℕ) (before after : SourceState) → RunsSource plans chunks numbers before after → RunsPieces scan numbers before after
-  runs_pieces numbers before after runs = record {
+  runs_pieces : (shares : Bool) (numbers : List ℕ) (before after : SourceState) → RunsSource shares plans chunks numbers before after → RunsPieces shares scan numbers before after
+  runs_pieces shares numbers before after runs = record {
     reasons = runs.reasons;
-    gains = gains_of scan limit plans are chunks of_scan numbers runs.reasons before after runs.asks;
+    gains = gains_of shares scan limit plans are chunks of_scan numbers runs.reasons before after runs.asks;
     own = runs.asks.own;
     lasts = runs.lasts;
   }
@@ -91,12 +91,6 @@ module _ (scan : FileScan) (limit : ℕ) (plans : ScanPlans) (are : ArePlansOf s
   answer_there bytes (chunk ∷ others) inside zero has = (has.0.values, piece_answers scan limit plans are bytes chunk inside.0 has.0 has.1)
   answer_there bytes (chunk ∷ others) inside (suc x) has = answer_there bytes others inside.1 x has
 
-  -- a piece whose chunk asks for whole values reads a dictionary
-  asking_there : (others : List SelectedRows) → AllByRecursion (LiesInside (row_count scan)) others → (x : ℕ) → IsSomeAnd (slice_get others x) (λ chunk. AsksForWholes plans chunk × IsUnhindered plans chunk) → IsSomeAnd (slice_get (map chosen_rows others) x) (ReadsDictionary scan.projection)
-  asking_there [] inside x asks = absurd asks
-  asking_there (chunk ∷ others) inside zero asks = asks_reads scan limit plans are chunk inside.0 asks.0
-  asking_there (chunk ∷ others) inside (suc x) asks = asking_there others inside.1 x asks
-
   answers_but_last : (bytes : Bytes) (shares : Bool) (place : ℕ) (lists : List (List ℕ)) → AllByRecursion (HavePiecesButLast (leaves_of bytes) plans chunks shares place) lists → AllByRecursion (HaveAnswersButLast (leaves_of bytes) scan shares place) lists
   answers_but_last bytes shares place [] have = tt
   answers_but_last bytes shares place (list ∷ lists) have = ((λ x among. by_case x (have.0 x among)), answers_but_last bytes shares place lists have.1)
@@ -107,7 +101,7 @@ module _ (scan : FileScan) (limit : ℕ) (plans : ScanPlans) (are : ArePlansOf s
       by_case x (inr (inr (shared, least, asks))) = inr (inr (
         shared,
         least,
-        subst (λ (pieces : List (List ℕ)). IsSomeAnd (slice_get pieces x) (ReadsDictionary scan.projection)) of_scan.pieces (asking_there chunks of_scan.inside x asks),
+        subst (λ (pieces : List (List ℕ)). IsSomeAnd (slice_get pieces x) (ReadsDictionary scan.projection)) of_scan.pieces (asking_reads scan limit plans are chunks of_scan.inside x asks),
       ))
 
   unhindered_but_last : (lists : List (List ℕ)) → AllByRecursion (AreUnhinderedButLast plans chunks) lists → AllByRecursion (PiecesUnhinderedButLast scan) lists
@@ -124,7 +118,7 @@ module _ (scan : FileScan) (limit : ℕ) (plans : ScanPlans) (are : ArePlansOf s
   gained_pieces : (place : ℕ) (chunk : SelectedRows) → slice_get chunks place ≡ Some chunk → (error : ScanError) → error ≢ Memory → (claims : List (List ℕ)) (reruns : List ℕ) (befores middles afters : List SourceState)
       → AskedForChunks plans chunks (record { chunk = place; error = error }) claims reruns befores middles afters → GainedForPieces scan place error claims reruns befores middles afters
   gained_pieces place chunk here error other claims reruns befores middles afters asked = record {
-    ran = each_by (RunsSource plans chunks) (RunsPieces scan) runs_pieces claims befores middles asked.ran;
+    ran = each_by (RunsSource (nat_lt 1 (length befores)) plans chunks) (RunsPieces (nat_lt 1 (length befores)) scan) (runs_pieces (nat_lt 1 (length befores))) claims befores middles asked.ran;
     again = first_by (AskedAgain plans chunks reruns (Some (record { chunk = place; error = error }))) (RunsAgain scan reruns error)
         (λ before after more. record { gains = gains_again scan limit plans are chunks of_scan reruns before after more.asks; faults = read_failed place chunk here error other before after more.faults; lasts = more.lasts }) middles afters asked.again;
     alone = asked.alone;

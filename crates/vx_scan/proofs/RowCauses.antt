@@ -1,5 +1,6 @@
 -- Each error of a scan has its plain cause.
-use Rattle.std.proofs.Common.{◌≡◌, ℕ, zero, suc, ◌≤◌, ◌⊎◌, inl, inr, List, [], ◌∷◌, ◌++◌, Some, Ok, Err, sym, subst, arith}
+use Rattle.std.proofs.Common.{◌≡◌, ℕ, zero, suc, ◌≤◌, ◌⊎◌, inl, inr, Bool, List, [], ◌∷◌, ◌++◌, Some, Ok, Err, length, sym, subst, arith}
+use Rattle.std.specs.Prelude.{nat_lt}
 use Rattle.std.specs.List.{slice_get, flat_map}
 use Rattle.vx_base.specs.Sources.{SourceState, Rose, RoseBy}
 use Rattle.vx_claims.specs.Apart.{times_over}
@@ -96,13 +97,13 @@ module _ (scan : FileScan) (limit place : ℕ) (rows : List ℕ) (here : slice_g
       last_plain error claims befores middles afters (λ file told. (tell file told).1) (λ P later. some P (inr later)) fails last.1
 
   -- on the first source, once all workers were done
-  again_plain : (error : ScanError) (claims : List (List ℕ)) (befores middles afters : List SourceState) → ((P : SourceState → SourceState → Type 0) → SomeSource P befores afters → SomeSource P sources ends) → 1 ≤ times_over place claims
-      → EachSourceBy (RunsPieces scan) claims befores middles → FirstSource (FailsPieceAgain scan limit rows error sources) middles afters → PlainCause scan limit error sources ends
-  again_plain error [] befores middles afters some claimed ran fails = absurd (omega (arith, claimed))
-  again_plain error (numbers ∷ claims) [] middles afters some claimed ran fails = absurd ran
-  again_plain error (numbers ∷ claims) (before ∷ befores) [] afters some claimed ran fails = absurd ran
-  again_plain error (numbers ∷ claims) (before ∷ befores) (now ∷ middles) [] some claimed ran fails = absurd fails
-  again_plain error (numbers ∷ claims) (before ∷ befores) (now ∷ middles) (after ∷ afters) some claimed ran fails =
+  again_plain : (shares : Bool) (error : ScanError) (claims : List (List ℕ)) (befores middles afters : List SourceState) → ((P : SourceState → SourceState → Type 0) → SomeSource P befores afters → SomeSource P sources ends) → 1 ≤ times_over place claims
+      → EachSourceBy (RunsPieces shares scan) claims befores middles → FirstSource (FailsPieceAgain scan limit rows error sources) middles afters → PlainCause scan limit error sources ends
+  again_plain shares error [] befores middles afters some claimed ran fails = absurd (omega (arith, claimed))
+  again_plain shares error (numbers ∷ claims) [] middles afters some claimed ran fails = absurd ran
+  again_plain shares error (numbers ∷ claims) (before ∷ befores) [] afters some claimed ran fails = absurd ran
+  again_plain shares error (numbers ∷ claims) (before ∷ befores) (now ∷ middles) [] some claimed ran fails = absurd fails
+  again_plain shares error (numbers ∷ claims) (before ∷ befores) (now ∷ middles) (after ∷ afters) some claimed ran fails =
       plain_of (WhereAllTell sources) (λ P claim. claim) error now after
       (λ rose. some (λ one two. Rose one.faults two.faults) (inl (rose_from 1 before.faults now.faults after.faults ran.0.lasts.faults rose)))
       (λ rose. some (λ one two. RoseBy limit one.idle two.idle) (inl (rose_from limit before.idle now.idle after.idle ran.0.lasts.idle rose))) fails.0.cause
@@ -115,7 +116,7 @@ lowest_plain scan limit error befores afters lowest = by_cause lowest.cause
         last_plain scan limit lowest.place lowest.rows lowest.here befores afters error lowest.claims befores lowest.middles afters (λ file told. told) (λ P some. some) fails
         (all_last scan lowest.reruns error lowest.middles afters lowest.gained.again)
     by_cause (inr fails) =
-        again_plain scan limit lowest.place lowest.rows lowest.here befores afters error lowest.claims befores lowest.middles afters (λ P some. some) fails.1 lowest.gained.ran fails.2
+        again_plain scan limit lowest.place lowest.rows lowest.here befores afters (nat_lt 1 (length befores)) error lowest.claims befores lowest.middles afters (λ P some. some) fails.1 lowest.gained.ran fails.2
 
 -- a scan that is refused is refused for its own reason
 refused_plain : (scan : FileScan) (limit : ℕ) (error : ScanError) (befores afters : List SourceState) → Refuses scan error → PlainCause scan limit error befores afters

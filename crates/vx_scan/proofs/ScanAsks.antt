@@ -1,6 +1,6 @@
 -- What the chunks of a scan ask for is what the scan reaches, each time for another reason.
 use Rattle.std.proofs.Common.{◌≡◌, ℕ, zero, suc, ◌+◌, ◌<◌, inl, inr, List, [], ◌∷◌, ◌++◌, Some, length, map, sym, ap, ◌∙◌, subst}
-use Rattle.std.specs.Prelude.{option_map}
+use Rattle.std.specs.Prelude.{Bool, IsSomeAnd, nat_lt, option_map}
 use Rattle.std.specs.List.{slice_get, flat_map, AllByRecursion}
 use Rattle.std.proofs.lemmas.List.Elements.{All-head, All-tail}
 use Rattle.vx_base.specs.Sources.{SourceState, range_of}
@@ -27,16 +27,20 @@ use Rattle.vx_chunks.specs.Ways.{ReadsBy}
 use Rattle.vx_chunks.proofs.LentSources.{each_source_by, first_by, joined_map}
 use Rattle.vx_chunks.proofs.TakenReads.{read_below}
 use Rattle.vx_chunks.proofs.Ways.{found_by}
+use Rattle.vx_workers.specs.Borrowers.{FaultsBorrowing, IsAsking}
 use Rattle.vx_workers.specs.Reasons.{Reason, read_for, segment_of, chunk_and_segment, IsReasonAmong}
 use Rattle.vx_workers.specs.Workers.{AsksReached}
+use Rattle.vx_workers.proofs.BorrowerChunks.{borrower_asks}
+use Rattle.vx_workers.proofs.Certifying.{each_weaker}
 use Rattle.vx_execute.specs.Validating.{AsksAgain}
 use Rattle.vx_scan.specs.Answer.{FileScan, row_count, scan_pieces, scan_rows, size_of}
 use Rattle.vx_scan.specs.Batches.{AsksOver, Share, reasons_in}
-use Rattle.vx_scan.specs.Causes.{ScanReaches}
+use Rattle.vx_scan.specs.Causes.{ReadsDictionary, ScanReaches}
 use Rattle.vx_scan.specs.PlanTexts.{held_tree}
 use Rattle.vx_scan.specs.FilePlans.{node_of, ArePlansOf, LiesInside, AreChunksOf}
-use Rattle.vx_scan.specs.Scanned.{AreReasonsFor, Gains, GainsAgain, GainsOver, IsReasonFor, ReachesRange, ScanReachesBy, way_in}
+use Rattle.vx_scan.specs.Scanned.{AreReasonsFor, Gains, GainsAgain, GainsOver, IsReasonFor, PieceMayBorrow, ReachesRange, ScanReachesBy, way_in}
 use Rattle.vx_scan.proofs.Answered.{pieces_join}
+use Rattle.vx_scan.proofs.AskedDictionaries.{asking_reads}
 use Rattle.vx_scan.proofs.DictionaryReasons.{once_a_dictionary}
 use Rattle.vx_scan.proofs.LeafPlaces.{reads_between, tree_reads}
 use Rattle.vx_scan.proofs.ScanCauses.{inside_at}
@@ -144,14 +148,24 @@ lie_together scan limit plans are = record {
   below = read_below plans.table are.good (number_of plans.projection) are.known;
 }
 
-pub gains_of : (scan : FileScan) (limit : ℕ) (plans : ScanPlans) → ArePlansOf scan limit plans → (chunks : List SelectedRows) → AreChunksOf scan chunks → (numbers : List ℕ) (reasons : List Reason) (before after : SourceState) → AsksReached plans chunks numbers reasons before after → Gains scan reasons before after
-gains_of scan limit plans are chunks of_scan numbers reasons before after asks =
+-- a chunk that ran with borrowed values may borrow
+may_borrow : (shares : Bool) (scan : FileScan) (limit : ℕ) (plans : ScanPlans) → ArePlansOf scan limit plans → (chunks : List SelectedRows) → AreChunksOf scan chunks → (before : SourceState) (x : ℕ) → FaultsBorrowing shares plans chunks before x → PieceMayBorrow shares scan x
+may_borrow shares scan limit plans are chunks of_scan before x faults = (
+  faults.shared,
+  subst (λ (pieces : List (List ℕ)). IsSomeAnd (slice_get pieces x) (ReadsDictionary scan.projection)) of_scan.pieces
+      (asking_reads scan limit plans are chunks of_scan.inside x (subst (IsAsking plans chunks) faults.number_is (borrower_asks plans chunks faults.borrower faults.is))),
+)
+
+pub gains_of : (shares : Bool) (scan : FileScan) (limit : ℕ) (plans : ScanPlans) → ArePlansOf scan limit plans → (chunks : List SelectedRows) → AreChunksOf scan chunks → (numbers : List ℕ) (reasons : List Reason) (before after : SourceState) → AsksReached shares plans chunks numbers reasons before after → Gains shares scan reasons before after
+gains_of shares scan limit plans are chunks of_scan numbers reasons before after asks =
     let for_ranges : AreReasonsFor scan reasons (ranges_for plans reasons) = each_reason scan limit plans are chunks of_scan reasons asks.located asks.are in
     record {
       ranges = ranges_for plans reasons;
       gained = asks.asked;
       reached = each_range scan reasons (ranges_for plans reasons) for_ranges;
       are_reasons = for_ranges;
+      faulted = asks.faulted;
+      faulted_are = each_weaker (FaultsBorrowing shares plans chunks before) (PieceMayBorrow shares scan) (may_borrow shares scan limit plans are chunks of_scan before) asks.faulted asks.faulted_are;
       once_a_leaf = asks.once_a_leaf of_scan.ordered (lie_together scan limit plans are);
       once_a_dictionary = once_a_dictionary scan are.apart reasons (ranges_for plans reasons) for_ranges asks.once_a_take;
     }
@@ -175,8 +189,8 @@ pub gains_over : (scan : FileScan) (limit : ℕ) (plans : ScanPlans) → ArePlan
 gains_over scan limit plans are chunks of_scan befores afters asks = record {
   reasons = map reasons_in asks.shares;
   middles = asks.middles;
-  each = each_source_by reasons_in (λ (share : Share). AsksReached plans chunks share.numbers share.reasons) (Gains scan)
-      (λ share before after reached. gains_of scan limit plans are chunks of_scan share.numbers share.reasons before after reached) asks.shares befores asks.middles asks.each;
+  each = each_source_by reasons_in (λ (share : Share). AsksReached (nat_lt 1 (length befores)) plans chunks share.numbers share.reasons) (Gains (nat_lt 1 (length befores)) scan)
+      (λ share before after reached. gains_of (nat_lt 1 (length befores)) scan limit plans are chunks of_scan share.numbers share.reasons before after reached) asks.shares befores asks.middles asks.each;
   once_a_chunk = subst (λ (reasons : List Reason). AreDistinct (map chunk_and_segment reasons)) (sym (joined_map reasons_in asks.shares)) asks.once_a_chunk;
   reruns = asks.reruns;
   reruns_once = asks.reruns_once;

@@ -1,6 +1,6 @@
 -- A valid scan has no cause to fail.
-use Rattle.std.proofs.Common.{◌≡◌, ℕ, zero, suc, ◌+◌, ◌<◌, ◌≤◌, inl, inr, List, [], ◌∷◌, ◌++◌, Option, Some, None, length, refl, sym, ap, ◌∙◌, subst, arith}
-use Rattle.std.specs.Prelude.{IfSome, IsSome, IsSomeAnd, option_and_then}
+use Rattle.std.proofs.Common.{◌≡◌, ℕ, zero, suc, ◌+◌, ◌<◌, ◌≤◌, inl, inr, Bool, List, [], ◌∷◌, ◌++◌, Option, Some, None, length, refl, sym, ap, ◌∙◌, subst, arith}
+use Rattle.std.specs.Prelude.{IfSome, IsSome, IsSomeAnd, nat_lt, option_and_then}
 use Rattle.std.specs.List.{slice_get, flat_map, AllByRecursion}
 use Rattle.vx_base.specs.Data.{Datum}
 use Rattle.vx_base.specs.CodingsRead.{decoded_as}
@@ -172,13 +172,13 @@ module _ (scan : FileScan) (limit place : ℕ) (rows : List ℕ) (error : ScanEr
   last_memory (numbers ∷ claims) (before ∷ befores) (now ∷ middles) (after ∷ afters) (inr fails) last told quiet = last_memory claims befores middles afters fails last.1 told.1 quiet.1
 
   -- on the first source, once all workers were done
-  again_memory : (sources : List SourceState) → AllTell file sources → (claims : List (List ℕ)) (befores middles afters : List SourceState) → 1 ≤ times_over place claims → EachSourceBy (RunsPieces scan) claims befores middles
+  again_memory : (shares : Bool) (sources : List SourceState) → AllTell file sources → (claims : List (List ℕ)) (befores middles afters : List SourceState) → 1 ≤ times_over place claims → EachSourceBy (RunsPieces shares scan) claims befores middles
       → FirstSource (FailsPieceAgain scan limit rows error sources) middles afters → EachSource (IsQuiet limit) befores afters → error ≡ Memory
-  again_memory sources told [] befores middles afters claimed ran fails quiet = absurd (omega (arith, claimed))
-  again_memory sources told (numbers ∷ claims) [] middles afters claimed ran fails quiet = absurd ran
-  again_memory sources told (numbers ∷ claims) (before ∷ befores) [] afters claimed ran fails quiet = absurd ran
-  again_memory sources told (numbers ∷ claims) (before ∷ befores) (now ∷ middles) [] claimed ran fails quiet = absurd fails
-  again_memory sources told (numbers ∷ claims) (before ∷ befores) (now ∷ middles) (after ∷ afters) claimed ran fails quiet =
+  again_memory shares sources told [] befores middles afters claimed ran fails quiet = absurd (omega (arith, claimed))
+  again_memory shares sources told (numbers ∷ claims) [] middles afters claimed ran fails quiet = absurd ran
+  again_memory shares sources told (numbers ∷ claims) (before ∷ befores) [] afters claimed ran fails quiet = absurd ran
+  again_memory shares sources told (numbers ∷ claims) (before ∷ befores) (now ∷ middles) [] claimed ran fails quiet = absurd fails
+  again_memory shares sources told (numbers ∷ claims) (before ∷ befores) (now ∷ middles) (after ∷ afters) claimed ran fails quiet =
       only_memory (WhereAllTell sources) file (λ P all. all file told) scan limit now after (quiet_back limit before now after ran.0.lasts quiet.0) rows fine answered error fails.0.cause
 
 pub valid_memory : (scan : FileScan) (limit : ℕ) (error : ScanError) (befores afters : List SourceState) → LowestCause scan limit error befores afters → (file : List ℕ) → AllTell file befores → IsValidScan (file_leaves file scan.locations) scan → EachSource (IsQuiet limit) befores afters → error ≡ Memory
@@ -192,7 +192,7 @@ valid_memory scan limit error befores afters lowest file told valid quiet = by_c
 
     by_cause : FailsPieceOn scan limit lowest.place lowest.rows error lowest.claims befores lowest.middles afters → error ≡ Memory
     by_cause (inl fails) = last_memory scan limit lowest.place lowest.rows error file fine answered lowest.claims befores lowest.middles afters fails (all_last scan lowest.reruns error lowest.middles afters lowest.gained.again) told quiet
-    by_cause (inr fails) = again_memory scan limit lowest.place lowest.rows error file fine answered befores told lowest.claims befores lowest.middles afters fails.1 lowest.gained.ran fails.2 quiet
+    by_cause (inr fails) = again_memory scan limit lowest.place lowest.rows error file fine answered (nat_lt 1 (length befores)) befores told lowest.claims befores lowest.middles afters fails.1 lowest.gained.ran fails.2 quiet
 
 -- what is no cause is none of the lowest piece
 pub no_lowest : (scan : FileScan) (limit : ℕ) (error : ScanError) (befores afters : List SourceState) → ((Told : FileClaims) (rows : List ℕ) (before after : SourceState) → CausedIn Told scan limit rows error before after → ⊥) → LowestCause scan limit error befores afters → ⊥
@@ -201,7 +201,7 @@ no_lowest scan limit error befores afters never lowest = by_cause lowest.cause
     by_cause : FailsPieceOn scan limit lowest.place lowest.rows error lowest.claims befores lowest.middles afters → ⊥
     by_cause (inl fails) = none_by (FailsPiece scan limit lowest.place lowest.rows error) (λ numbers before after fails. never (WhereTold before) lowest.rows before after fails.cause) lowest.claims befores lowest.middles fails
     by_cause (inr fails) =
-        let first = first_there (RunsPieces scan) (FailsPieceAgain scan limit lowest.rows error befores) lowest.place lowest.claims befores lowest.middles afters fails.1 lowest.gained.ran fails.2 in
+        let first = first_there (RunsPieces (nat_lt 1 (length befores)) scan) (FailsPieceAgain scan limit lowest.rows error befores) lowest.place lowest.claims befores lowest.middles afters fails.1 lowest.gained.ran fails.2 in
         never (WhereAllTell befores) lowest.rows first.0 first.1 first.2.cause
 
 -- ---- it is not refused

@@ -1,5 +1,6 @@
 -- From the batches of chunks to the answer of the scan.
 use Rattle.std.proofs.Common.{◌≡◌, ◌≢◌, ℕ, Bool, ◌⊎◌, inl, inr, List, [], ◌∷◌, Result, Ok, Err, Vec, Global, length, map, refl, sym, ap, ◌∙◌, subst, arith}
+use Rattle.std.specs.Prelude.{nat_lt}
 use Rattle.std.specs.Result.{IsErrAnd}
 use Rattle.std.specs.List.{AllByRecursion}
 use Rattle.std.proofs.lemmas.List.{length-map}
@@ -20,11 +21,11 @@ use Rattle.vx_drive.specs.declared.plans.ScanPlans.{ScanPlans}
 use Rattle.vx_drive.specs.Asks.{KeepsFaults}
 use Rattle.vx_drive.specs.Fetched.{AreDistinct}
 use Rattle.vx_drive.specs.Plans.{bytes_of, projection_node, IsQuiet}
-use Rattle.vx_drive.proofs.Distinct.{distinct_none}
+use Rattle.vx_drive.proofs.Distinct.{distinct_none, pairs_none}
 use Rattle.vx_drive.proofs.Sessions.{asked_nothing}
 use Rattle.vx_chunks.specs.Lent.{EachSource, AllTell}
 use Rattle.vx_chunks.proofs.LentSources.{each_clear, each_lasts, each_same, each_same_by, first_same, for_each, joined_none}
-use Rattle.vx_workers.specs.Reasons.{Reason, chunk_and_segment}
+use Rattle.vx_workers.specs.Reasons.{Reason, chunk_and_segment, AreOfOneLeafOnlyBehind}
 use Rattle.vx_scan.specs.declared.prepared_scans.Prepared.{Prepared}
 use Rattle.vx_scan.specs.Answer.{FileScan, row_count, scan_rows, scan_pieces, ArePieces}
 use Rattle.vx_scan.specs.Batches.{LowestFailure, GivesBatches}
@@ -110,13 +111,15 @@ run_answers scan limit ordered prepared is some result befores afters gives = an
 
 -- ---- nothing was asked
 
-gains_none : (scan : FileScan) (source : SourceState) → Gains scan [] source source
-gains_none scan source = record {
+gains_none : (shares : Bool) (scan : FileScan) (source : SourceState) → Gains shares scan [] source source
+gains_none shares scan source = record {
   ranges = [];
   gained = sym (asked_nothing source.asked);
   reached = tt;
   are_reasons = tt;
-  once_a_leaf = distinct_none;
+  faulted = [];
+  faulted_are = tt;
+  once_a_leaf = pairs_none (AreOfOneLeafOnlyBehind []);
   once_a_dictionary = distinct_none;
 }
 
@@ -136,7 +139,7 @@ pub none_gain : (scan : FileScan) (sources : List SourceState) → GainsOver sca
 none_gain scan sources = record {
   reasons = for_each [] sources;
   middles = sources;
-  each = each_same_by (Gains scan) [] (gains_none scan) sources;
+  each = each_same_by (Gains (nat_lt 1 (length sources)) scan) [] (gains_none (nat_lt 1 (length sources)) scan) sources;
   once_a_chunk = subst (λ (reasons : List Reason). AreDistinct (map chunk_and_segment reasons)) (sym (joined_none (λ (own : List Reason). own) [] refl sources)) distinct_none;
   reruns = [];
   reruns_once = λ x. omega arith;

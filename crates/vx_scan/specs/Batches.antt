@@ -50,7 +50,7 @@ reasons_in share = share.reasons
 pub record AsksOver (plans : ScanPlans) (chunks : List SelectedRows) (befores afters : List SourceState) : Type 0 where
   pub shares : List Share
   pub middles : List SourceState
-  pub each : EachSourceBy (λ (share : Share). AsksReached plans chunks share.numbers share.reasons) shares befores middles
+  pub each : EachSourceBy (λ (share : Share). AsksReached (nat_lt 1 (length befores)) plans chunks share.numbers share.reasons) shares befores middles
   pub once_a_chunk : AreDistinct (map chunk_and_segment (flat_map reasons_in shares))
   pub reruns : List ℕ
   pub reruns_once : (x : ℕ) → times x reruns ≤ 1
@@ -81,7 +81,7 @@ pub record ClaimedUpTo (count place : ℕ) (claims : List (List ℕ)) : Type 0 w
 -- were done; with one source nothing is asked again. While the workers ran, no call failed on a source whose worker's last
 -- chunk is before the one that failed.
 pub record AskedForChunks (plans : ScanPlans) (chunks : List SelectedRows) (failure : ChunkError) (claims : List (List ℕ)) (reruns : List ℕ) (befores middles afters : List SourceState) : Type 0 where
-  pub ran : EachSourceBy (RunsSource plans chunks) claims befores middles
+  pub ran : EachSourceBy (RunsSource (nat_lt 1 (length befores)) plans chunks) claims befores middles
   pub again : FirstSource (AskedAgain plans chunks reruns (Some failure)) middles afters
   pub alone : length befores ≡ 1 → (afters ≡ middles) × (reruns ≡ [])
   pub faults : EachSourceBy (FaultsFrom failure.chunk) claims befores middles

@@ -1,6 +1,6 @@
 -- What a scan of a file over the sources that are lent to it gives.
 use Rattle.std.specs.Prelude.{◌≡◌, ℕ, ◌<◌, ◌≤◌, nat_lt, Bool, true, ◌⊎◌, List, [], ◌∷◌, ◌++◌, length, map, take, Some, option_map, IsSomeAnd, Result, IfOk, IfErr}
-use Rattle.std.specs.List.{slice_get, flat_map, AllByRecursion}
+use Rattle.std.specs.List.{slice_get, flat_map, AllByRecursion, AllPairs}
 use Rattle.std.specs.Global.{Vec}
 use Rattle.vx_base.specs.Columns.{ColumnData}
 use Rattle.vx_base.specs.Data.{Datum}
@@ -21,7 +21,7 @@ use Rattle.vx_drive.specs.Asks.{IsLeftClear, KeepsFaults, Lasts}
 use Rattle.vx_drive.specs.Fetched.{AreDistinct}
 use Rattle.vx_drive.specs.Plans.{WhereTold, IsQuiet}
 use Rattle.vx_chunks.specs.Lent.{EachSource, EachSourceBy, FirstSource, SomeSourceBy, WhereAllTell}
-use Rattle.vx_workers.specs.Reasons.{Reason, read_for, leaf_of, chunk_and_segment, taken_by}
+use Rattle.vx_workers.specs.Reasons.{Reason, read_for, chunk_and_segment, taken_by, AreOfOneLeafOnlyBehind}
 use Rattle.vx_workers.specs.Workers.{IsLast}
 use Rattle.vx_execute.specs.Validating.{direct_and_segment, IsDirectAmong}
 use Rattle.vx_scan.specs.Answer.{FileScan, scan_rows, scan_pieces, IsAnswer, ArePieces}
@@ -68,15 +68,26 @@ AreReasonsFor scan [] [] = Unit {0}
 AreReasonsFor scan (reason ∷ reasons) (range ∷ ranges) = IsReasonFor scan reason range × AreReasonsFor scan reasons ranges
 AreReasonsFor scan reasons ranges = ⊥
 
--- The source gained exactly these ranges, and the scan reaches each of them. Each was asked for a reason of its own. On
--- account of each leaf its segment is asked for at most once while the source's worker runs, and so is each segment on
--- account of the values of each outermost dictionary.
-pub record Gains (scan : FileScan) (reasons : List Reason) (before after : SourceState) : Type 0 where
+-- The rows of the piece at that place read an outermost dictionary.
+abbrev pub PieceReadsDictionary : FileScan → ℕ → Type 0
+PieceReadsDictionary scan x = IsSomeAnd (slice_get (scan_pieces scan) x) (ReadsDictionary scan.projection)
+
+-- It may run with values of one that its worker borrows: there are several sources.
+abbrev pub PieceMayBorrow : Bool → FileScan → ℕ → Type 0
+PieceMayBorrow shares scan x = (shares ≡ true) × PieceReadsDictionary scan x
+
+-- The source gained exactly these ranges, and the scan reaches each of them. Each was asked for a reason of its own. While
+-- the source's worker runs, each segment is asked for at most once on account of the values of each outermost dictionary.
+-- And on account of each leaf its segment is, unless the piece for which it was asked for before is one of those that
+-- ended in a fault of rows with values of a dictionary that the worker borrowed. A source that is alone has no such piece.
+pub record Gains (shares : Bool) (scan : FileScan) (reasons : List Reason) (before after : SourceState) : Type 0 where
   pub ranges : List AskedRange
   pub gained : after.asked ≡ option_map (λ asked. asked ++ ranges) before.asked
   pub reached : AllByRecursion (ReachesRange scan) ranges
   pub are_reasons : AreReasonsFor scan reasons ranges
-  pub once_a_leaf : AreDistinct (map leaf_of reasons)
+  pub faulted : List ℕ
+  pub faulted_are : AllByRecursion (PieceMayBorrow shares scan) faulted
+  pub once_a_leaf : AllPairs (AreOfOneLeafOnlyBehind faulted) reasons
   pub once_a_dictionary : AreDistinct (flat_map (dictionary_and_segment scan.projection) reasons)
 
 -- The source gained exactly these ranges again, and the scan reaches each of them: directly for pieces that ran again, each
@@ -97,7 +108,7 @@ pub record GainsAgain (scan : FileScan) (reruns : List ℕ) (before after : Sour
 pub record GainsOver (scan : FileScan) (befores afters : List SourceState) : Type 0 where
   pub reasons : List (List Reason)
   pub middles : List SourceState
-  pub each : EachSourceBy (Gains scan) reasons befores middles
+  pub each : EachSourceBy (Gains (nat_lt 1 (length befores)) scan) reasons befores middles
   pub once_a_chunk : AreDistinct (map chunk_and_segment (flat_map (λ own. own) reasons))
   pub reruns : List ℕ
   pub reruns_once : (x : ℕ) → times x reruns ≤ 1
@@ -153,10 +164,11 @@ CausedByAll scan limit rows error sources before after = CausedIn (WhereAllTell 
 abbrev pub HasAnswer : Leaves → Projection → List ℕ → Type 0
 HasAnswer leaves p rows = (values : List Datum) × IsAnswer leaves p rows values
 
--- The worker of a source ran the pieces with these numbers: what the source gained is for their rows.
-pub record RunsPieces (scan : FileScan) (numbers : List ℕ) (before after : SourceState) : Type 0 where
+-- The worker of a source, alone or one of several, ran the pieces with these numbers: what the source gained is for their
+-- rows.
+pub record RunsPieces (shares : Bool) (scan : FileScan) (numbers : List ℕ) (before after : SourceState) : Type 0 where
   pub reasons : List Reason
-  pub gains : Gains scan reasons before after
+  pub gains : Gains shares scan reasons before after
   pub own : AllByRecursion (λ (reason : Reason). IsAmong reason.chunk numbers) reasons
   pub lasts : Lasts before after
 
@@ -190,10 +202,6 @@ pub record AreUnhindered (scan : FileScan) (rows : List ℕ) : Type 0 where
 abbrev pub PiecesUnhinderedButLast : FileScan → List ℕ → Type 0
 PiecesUnhinderedButLast scan numbers = (x : ℕ) → IsAmong x numbers → IsSomeAnd (slice_get (scan_pieces scan) x) (AreUnhindered scan) ⊎ IsLast x numbers
 
--- The rows of the piece at that place read an outermost dictionary.
-abbrev pub PieceReadsDictionary : FileScan → ℕ → Type 0
-PieceReadsDictionary scan x = IsSomeAnd (slice_get (scan_pieces scan) x) (ReadsDictionary scan.projection)
-
 -- Each of these pieces has an answer, or is the last of them. Where values are shared, it may also lie no lower than that
 -- place, if its rows read an outermost dictionary.
 abbrev pub HaveAnswersButLast : Leaves → FileScan → Bool → ℕ → List ℕ → Type 0
@@ -204,7 +212,7 @@ HaveAnswersButLast leaves scan shares place numbers =
 -- were done; with one source nothing is asked again. While the workers ran, no call failed on a source whose worker's last
 -- piece is before that place.
 pub record GainedForPieces (scan : FileScan) (place : ℕ) (error : ScanError) (claims : List (List ℕ)) (reruns : List ℕ) (befores middles afters : List SourceState) : Type 0 where
-  pub ran : EachSourceBy (RunsPieces scan) claims befores middles
+  pub ran : EachSourceBy (RunsPieces (nat_lt 1 (length befores)) scan) claims befores middles
   pub again : FirstSource (RunsAgain scan reruns error) middles afters
   pub alone : length befores ≡ 1 → (afters ≡ middles) × (reruns ≡ [])
   pub faults : EachSourceBy (FaultsFrom place) claims befores middles

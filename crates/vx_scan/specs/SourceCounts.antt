@@ -1,5 +1,5 @@
 -- How often the sources of a run of chunks are asked for one range, each by itself.
-use Rattle.std.specs.Prelude.{◌≡◌, ℕ, ◌+◌, ◌≤◌, List, length, Some, option_map}
+use Rattle.std.specs.Prelude.{◌≡◌, ℕ, ◌+◌, ◌≤◌, Bool, List, length, Some, option_map}
 use Rattle.std.specs.List.{slice_get}
 use Rattle.vx_base.specs.declared.locations.AskedRange.{AskedRange}
 use Rattle.vx_base.specs.Sources.{SourceState, range_of}
@@ -33,16 +33,16 @@ IsReadOf plans chunks range numbers pair = IsAmong pair.0 numbers × ((way : Way
 abbrev pub IsSharedRead : ScanPlans → List SelectedRows → AskedRange → ℕ × ℕ → Type 0
 IsSharedRead plans chunks range pair = (number : ℕ) × ChunkReads plans chunks range number pair.1 (through pair.0)
 
--- A source is asked for a range at most as often as there are pairs of a chunk that its worker claimed and a segment that
--- reach it directly, and pairs of a take and a segment.
+-- A source, alone or one of several, is asked for a range at most as often as there are pairs of a chunk that its worker
+-- claimed and a segment that reach it directly, and pairs of a take and a segment.
 abbrev pub SourceIsCounted : Type 0
-SourceIsCounted = (plans : ScanPlans) (chunks : List SelectedRows) (numbers : List ℕ) (before after : SourceState) → RunsSource plans chunks numbers before after
+SourceIsCounted = (shares : Bool) (plans : ScanPlans) (chunks : List SelectedRows) (numbers : List ℕ) (before after : SourceState) → RunsSource shares plans chunks numbers before after
     → (range : AskedRange) (direct shared : List (ℕ × ℕ)) → AreAllOf (IsDirectRead plans chunks range numbers) direct → AreAllOf (IsSharedRead plans chunks range) shared
     → asked_times range after ≤ asked_times range before + (length direct + length shared)
 
 -- And it is asked at most as often as there are pairs of a chunk that its worker claimed and a segment, of either way.
 abbrev pub SourceIsCountedByChunks : Type 0
-SourceIsCountedByChunks = (plans : ScanPlans) (chunks : List SelectedRows) (numbers : List ℕ) (before after : SourceState) → RunsSource plans chunks numbers before after
+SourceIsCountedByChunks = (shares : Bool) (plans : ScanPlans) (chunks : List SelectedRows) (numbers : List ℕ) (before after : SourceState) → RunsSource shares plans chunks numbers before after
     → (range : AskedRange) (pairs : List (ℕ × ℕ)) → AreAllOf (IsReadOf plans chunks range numbers) pairs → asked_times range after ≤ asked_times range before + length pairs
 
 -- The first one is asked again at most as often as there are such pairs of chunks that ran again, and pairs of a take.

@@ -3,6 +3,7 @@
 ghost use Rattle.std.specs.Prelude.{◌≡◌, ◌+◌, ◌<◌, ◌≤◌, Some, length, map, IfOk};
 ghost use Rattle.std.specs.List.{AllByRecursion};
 ghost use Rattle.vx_base.specs.Limits.{most_segments};
+ghost use Rattle.vx_base.specs.Masks.{true_count};
 ghost use Rattle.vx_expr.specs.Bound.{IsBoundTo};
 ghost use Rattle.vx_expr.specs.Types.{type_of};
 ghost use Rattle.vx_layout.specs.Trees.{head_of, subtree};
@@ -47,6 +48,16 @@ fn is_met(limit: Option<u64>, count: u64) -> bool
     }
 }
 
+/// How many rows were counted with those of one more chunk. They are counted only where there is a limit.
+fn counted(limit: Option<u64>, count: u64, chunk: &SelectedRows) -> u64
+    ensures { result ≤ count + true_count chunk.now.mask }
+{
+    match limit {
+        Some(_) => count.saturating_add(chunk.mask.true_count()),
+        None => count,
+    }
+}
+
 /// The rows of a range that the selection selects, cut at the multiples of the size, each chunk trimmed to its first
 /// and last selected row. A chunk without a selected row is left out, and so is each behind the one by which they have as
 /// many rows as the limit.
@@ -74,7 +85,7 @@ fn cut_chunks(
             rows,
         };
         if let Some(chunk) = select_rows(alloc, scope, selection)? {
-            count = count.saturating_add(chunk.mask.true_count());
+            count = counted(limit, count, &chunk);
             chunks.push(chunk)?;
         }
     }

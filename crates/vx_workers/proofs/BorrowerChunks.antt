@@ -1,12 +1,12 @@
 -- The pieces of one worker, and its chunks that ran with borrowed values, with one chunk more.
-use Rattle.std.proofs.Common.{◌≡◌, ◌≢◌, ℕ, ◌⊎◌, inl, inr, ⊎_elim, List, [], ◌∷◌, ◌++◌, Some, None, Result, Ok, Err, length, sym, ◌∙◌, ap, subst}
-use Rattle.std.specs.Prelude.{IfErr, IfOk, IsSomeAnd, Option}
+use Rattle.std.proofs.Common.{◌≡◌, ◌≢◌, ℕ, ◌⊎◌, inl, inr, ⊎_elim, true, List, [], ◌∷◌, ◌++◌, Some, None, Result, Ok, Err, length, refl, sym, ◌∙◌, ap, subst}
+use Rattle.std.specs.Prelude.{Bool, IfErr, IfOk, IsSomeAnd, Option}
 use Rattle.std.specs.List.{slice_get, All, AllByRecursion}
 use Rattle.std.specs.Global.{Vec}
 use Rattle.std.proofs.lemmas.List.Elements.{All-nil, All-push}
 use Rattle.vx_rows.specs.SegmentLeaves.{leaves_of}
 use Rattle.vx_plan.specs.Refs.{number_of}
-use Rattle.vx_steps.specs.Kept.{IsKept}
+use Rattle.vx_steps.specs.Kept.{kept_data, IsKept}
 use Rattle.vx_steps.specs.KeptData.{Kept}
 use Rattle.vx_steps.specs.Offers.{IsForPlan, Keeps}
 use Rattle.vx_steps.specs.declared.kept.KeptValue.{KeptValue}
@@ -19,12 +19,12 @@ use Rattle.vx_drive.specs.Plans.{bytes_of, projection_node}
 use Rattle.vx_chunks.specs.declared.outcomes.HandedOn.{HandedOn}
 use Rattle.vx_chunks.specs.declared.outcomes.Ran.{Ran}
 use Rattle.vx_chunks.specs.ChunkRows.{ChunkFaultsAt, ChunkReadsBadCode, IsPiece}
-use Rattle.vx_chunks.specs.Outcomes.{data_of, told_by, told_on, AreAllThere, Causes, GivesPiece, RunsGiven, RunsOn}
+use Rattle.vx_chunks.specs.Outcomes.{data_of, told_by, told_on, AreAllThere, Causes, ChunkAsks, GivesPiece, RunsGiven, RunsOn}
 use Rattle.vx_chunks.proofs.ChunkOutcomes.{there_as}
 use Rattle.vx_chunks.proofs.TakenWholes.{asks_same}
 use Rattle.vx_workers.specs.declared.worker_states.Borrower.{Borrower}
 use Rattle.vx_workers.specs.declared.worker_states.Piece.{Piece}
-use Rattle.vx_workers.specs.Borrowers.{AreBorrowed, IsBorrower, IsBorrowerBy, IsResultBy, RestsOnValues}
+use Rattle.vx_workers.specs.Borrowers.{AreBorrowed, AsksForWholes, FaultsBorrowing, IsAsking, IsBorrower, IsBorrowerBy, IsResultBy, RestsOnValues}
 use Rattle.vx_workers.specs.Unhindered.{IsUnhindered}
 use Rattle.vx_workers.specs.Workers.{HasDtype, HasItsRows, IsPieceOf}
 use Rattle.vx_workers.proofs.Working.{IsHanded, IsSure, told_before}
@@ -138,27 +138,61 @@ result_by plans handed given chunk (Err Stalled) before now after lasts is rests
 result_by plans handed given chunk (Err (BadSegment segment)) before now after lasts is rests gives cause = absurd rests
 result_by plans handed given chunk (Err Memory) before now after lasts is rests gives cause = absurd rests
 
-pub borrower_listed : (plans : ScanPlans) (chunks : List SelectedRows) (number : ℕ) (chunk : SelectedRows) (handed : HandedOn) (borrowed : Vec KeptValue) (all : List Kept) (ran : Ran) (pieces : List Piece) (borrowers : List Borrower) (before now after : SourceState) → slice_get chunks number ≡ Some chunk → Lasts before now → IsHanded plans handed before
-    → ListsSoFar plans chunks pieces borrowers before → borrowed.items ≢ [] → AreBorrowed plans chunk (data_of borrowed.items) → RunsGiven plans chunk handed (data_of borrowed.items) all ran now after → IfErr ran.piece RestsOnValues → IsUnhindered plans chunk → ListsSoFar plans chunks pieces (borrowers ++ record { chunk = number; borrowed = borrowed; result = ran.piece } ∷ []) before
-borrower_listed plans chunks number chunk handed borrowed all ran pieces borrowers before now after here lasts is so_far some are runs rests free =
-    let borrower : Borrower = record { chunk = number; borrowed = borrowed; result = ran.piece } in
+-- the chunk, with what it borrowed and what came of it
+abbrev pub borrower_of : ℕ → Vec KeptValue → Result ColumnData ScanError → Borrower
+borrower_of number borrowed piece = record { chunk = number; borrowed = borrowed; result = piece }
+
+pub borrower_is : (plans : ScanPlans) (chunks : List SelectedRows) (number : ℕ) (chunk : SelectedRows) (handed : HandedOn) (borrowed : Vec KeptValue) (all : List Kept) (ran : Ran) (now after : SourceState) → slice_get chunks number ≡ Some chunk
+    → borrowed.items ≢ [] → AreBorrowed plans chunk (data_of borrowed.items) → RunsGiven plans chunk handed (data_of borrowed.items) all ran now after → IfErr ran.piece RestsOnValues → IsUnhindered plans chunk → IsBorrower plans chunks (borrower_of number borrowed ran.piece)
+borrower_is plans chunks number chunk handed borrowed all ran now after here some are runs rests free =
     let given : List Kept = data_of borrowed.items in
-    let by = result_by plans handed given chunk ran.piece before now after lasts is rests runs.content runs.cause in
     record {
-      content = so_far.content;
-      dtype = so_far.dtype;
-      rows = so_far.rows;
-      lent = All-push (IsBorrower plans chunks) borrowers borrower so_far.lent (record {
-        chunk = chunk;
-        here = here;
-        some = some;
-        borrowed = are;
-        dtype = there_as ran.piece (GivesPiece (told_on plans handed now) plans given chunk) (λ column. column.dtype ≡ (projection_node plans).dtype) (λ column gives. gives.dtype) runs.content;
-        rows = there_as ran.piece (GivesPiece (told_on plans handed now) plans given chunk) (λ column. length column.values ≡ true_count chunk.mask) (λ column gives. gives.count) runs.content;
-        rests = rests;
-        unhindered = free;
-      });
-      lent_by = λ file told.
-          All-push (IsBorrowerBy (bytes_of plans file) plans chunks) borrowers borrower (so_far.lent_by file told)
-          (of_chunk (λ one. IsResultBy (bytes_of plans file) plans given one ran.piece) (slice_get chunks number) chunk here (by file told));
+      chunk = chunk;
+      here = here;
+      some = some;
+      borrowed = are;
+      dtype = there_as ran.piece (GivesPiece (told_on plans handed now) plans given chunk) (λ column. column.dtype ≡ (projection_node plans).dtype) (λ column gives. gives.dtype) runs.content;
+      rows = there_as ran.piece (GivesPiece (told_on plans handed now) plans given chunk) (λ column. length column.values ≡ true_count chunk.mask) (λ column gives. gives.count) runs.content;
+      rests = rests;
+      unhindered = free;
     }
+
+pub borrower_by : (plans : ScanPlans) (chunks : List SelectedRows) (number : ℕ) (chunk : SelectedRows) (handed : HandedOn) (borrowed : Vec KeptValue) (all : List Kept) (ran : Ran) (before now after : SourceState) → slice_get chunks number ≡ Some chunk → Lasts before now → IsHanded plans handed before
+    → RunsGiven plans chunk handed (data_of borrowed.items) all ran now after → IfErr ran.piece RestsOnValues → told_by plans before (λ bytes. IsBorrowerBy bytes plans chunks (borrower_of number borrowed ran.piece))
+borrower_by plans chunks number chunk handed borrowed all ran before now after here lasts is runs rests file told =
+    of_chunk (λ one. IsResultBy (bytes_of plans file) plans (data_of borrowed.items) one ran.piece) (slice_get chunks number) chunk here
+    (result_by plans handed (data_of borrowed.items) chunk ran.piece before now after lasts is rests runs.content runs.cause file told)
+
+pub borrower_listed : (plans : ScanPlans) (chunks : List SelectedRows) (borrower : Borrower) (pieces : List Piece) (borrowers : List Borrower) (before : SourceState) → ListsSoFar plans chunks pieces borrowers before → IsBorrower plans chunks borrower → told_by plans before (λ bytes. IsBorrowerBy bytes plans chunks borrower)
+    → ListsSoFar plans chunks pieces (borrowers ++ borrower ∷ []) before
+borrower_listed plans chunks borrower pieces borrowers before so_far is by = record {
+  content = so_far.content;
+  dtype = so_far.dtype;
+  rows = so_far.rows;
+  lent = All-push (IsBorrower plans chunks) borrowers borrower so_far.lent is;
+  lent_by = λ file told. All-push (IsBorrowerBy (bytes_of plans file) plans chunks) borrowers borrower (so_far.lent_by file told) (by file told);
+}
+
+-- where it is an error, the chunk ended in a fault of rows
+pub faults_borrowing : (shares : Bool) (plans : ScanPlans) (chunks : List SelectedRows) (number : ℕ) (borrowed : Vec KeptValue) (piece : Result ColumnData ScanError) (before : SourceState) → shares ≡ true → IsBorrower plans chunks (borrower_of number borrowed piece)
+    → told_by plans before (λ bytes. IsBorrowerBy bytes plans chunks (borrower_of number borrowed piece)) → IfErr piece (λ error. FaultsBorrowing shares plans chunks before number)
+faults_borrowing shares plans chunks number borrowed (Ok column) before shared is by = tt
+faults_borrowing shares plans chunks number borrowed (Err error) before shared is by = record {
+  shared = shared;
+  borrower = borrower_of number borrowed (Err error);
+  number_is = refl;
+  is = is;
+  error = error;
+  failed = refl;
+  by = by;
+}
+
+-- ---- what a chunk asks for that ran so
+
+first_asks : (plans : ScanPlans) (chosen : SelectedRows) (borrowed : List KeptValue) → borrowed ≢ [] → AllByRecursion (λ (one : Kept). ChunkAsks plans [] chosen one.node) (data_of borrowed) → AsksForWholes plans chosen
+first_asks plans chosen [] some each = absurd (some refl)
+first_asks plans chosen (one ∷ borrowed) some each = ((kept_data one).node, each.0)
+
+pub borrower_asks : (plans : ScanPlans) (chunks : List SelectedRows) (borrower : Borrower) → IsBorrower plans chunks borrower → IsAsking plans chunks borrower.chunk
+borrower_asks plans chunks borrower is =
+    of_chunk (λ chunk. AsksForWholes plans chunk × IsUnhindered plans chunk) (slice_get chunks borrower.chunk) is.chunk is.here (first_asks plans is.chunk borrower.borrowed.items is.some is.borrowed.asked, is.unhindered)

@@ -1,6 +1,7 @@
 -- What the states of all sources gave is what all workers gave together.
-use Rattle.std.proofs.Common.{◌≡◌, ◌≢◌, ℕ, zero, suc, ◌<◌, ◌≤◌, ◌⊎◌, inl, inr, Bool, true, false, List, [], ◌∷◌, Some, None, length, map, refl, sym, ap, ◌∙◌, subst, arith}
-use Rattle.std.specs.Prelude.{Option, IfSome, slice_index_or}
+use Rattle.std.proofs.Common.{◌≡◌, ◌≢◌, ℕ, zero, suc, ◌<◌, ◌≤◌, ◌⊎◌, inl, inr, Bool, true, List, [], ◌∷◌, Some, None, length, map, refl, sym, ap, ◌∙◌, subst, arith}
+use Rattle.std.specs.Prelude.{Option, IfSome, nat_lt, slice_index_or}
+use Rattle.std.proofs.lemmas.Bool.{le-ltb}
 use Rattle.std.specs.List.{All, AllByRecursion, Any, Contains, sum_by}
 use Rattle.std.proofs.lemmas.List.Elements.{All-cons, All-nil}
 use Rattle.std.proofs.lemmas.List.Sums.{sum_by-cons}
@@ -66,7 +67,7 @@ made_of_workers P worker_states kept made all n column is =
 module _ (shares : Bool) (claims : Claims) (plans : ScanPlans) (chunks : List SelectedRows) where
   -- ---- all sources
 
-  each_source : (worker_states : List WorkerState) (befores afters : List SourceState) → Each shares claims plans chunks worker_states befores afters → EachSourceBy (RunsSource plans chunks) (map (λ worker. worker.claimed.items) worker_states) befores afters
+  each_source : (worker_states : List WorkerState) (befores afters : List SourceState) → Each shares claims plans chunks worker_states befores afters → EachSourceBy (RunsSource shares plans chunks) (map (λ worker. worker.claimed.items) worker_states) befores afters
   each_source [] [] [] each = tt
   each_source [] [] (after ∷ afters) each = absurd each
   each_source [] (before ∷ befores) afters each = absurd each
@@ -168,8 +169,8 @@ module _ (shares : Bool) (claims : Claims) (plans : ScanPlans) (chunks : List Se
 
   -- ---- the whole run
 
-  pub joined : (worker_states : List WorkerState) (merged : Joined) (befores afters : List SourceState) → (length befores ≡ 1 → shares ≡ false) → 0 < length worker_states → Each shares claims plans chunks worker_states befores afters → Joins (length chunks) worker_states merged → JoinedAll plans chunks merged befores afters
-  joined worker_states merged befores afters alone some each joins = record {
+  pub joined : (worker_states : List WorkerState) (merged : Joined) (befores afters : List SourceState) → shares ≡ nat_lt 1 (length befores) → 0 < length worker_states → Each shares claims plans chunks worker_states befores afters → Joins (length chunks) worker_states merged → JoinedAll plans chunks merged befores afters
+  joined worker_states merged befores afters are_shared some each joins = record {
     apart = once_apart (length chunks) merged.claimed.items (λ x. let same = over x in let once = joins.once x in omega (arith, same, once));
     whole = λ none. each_whole (length chunks) merged.claimed.items (λ x. over x ∙ whole none x);
     ascend = subst (λ (lists : List (List ℕ)). AllByRecursion Ascend lists) (sym joins.lists) (each_ascend shares claims plans chunks worker_states befores afters each);
@@ -187,7 +188,7 @@ module _ (shares : Bool) (claims : Claims) (plans : ScanPlans) (chunks : List Se
     borrowers = of_workers (λ (worker : WorkerState). worker.borrowers.items) (IsBorrower plans chunks) worker_states merged.borrowers.items joins.given_borrowers (all_by (Worked shares claims plans chunks) (λ worker. All (IsBorrower plans chunks) worker.borrowers.items) (λ worker before after worked. worked.borrowers) worker_states befores afters each);
     typed = made_of_workers (λ n column. (column.dtype ≡ (node_at plans.table n).dtype) × (length column.values ≡ (node_at plans.table n).rows)) worker_states (data_of merged.made.items) joins.made
         (all_by (Worked shares claims plans chunks) (λ worker. AreTyped plans.table (data_of worker.handed.made.items)) (λ worker before after worked. worked.made) worker_states befores afters each);
-    alone = λ one. none_of_workers (λ (worker : WorkerState). worker.borrowers.items) worker_states merged.borrowers.items joins.given_borrowers (all_by (Worked shares claims plans chunks) (λ worker. worker.borrowers.items ≡ []) (λ worker before after worked. worked.alone (alone one)) worker_states befores afters each);
+    alone = λ one. none_of_workers (λ (worker : WorkerState). worker.borrowers.items) worker_states merged.borrowers.items joins.given_borrowers (all_by (Worked shares claims plans chunks) (λ worker. worker.borrowers.items ≡ []) (λ worker before after worked. worked.alone (are_shared ∙ le-ltb 1 (length befores) (omega (arith, one)))) worker_states befores afters each);
     cause = cause_of merged.error refl;
     stops = λ enough. subst (λ (lists : List (List ℕ)). AllByRecursion (RanOrLast merged) lists) (sym joins.lists) (each_stops shares claims plans chunks merged worker_states befores afters each (λ x some.
         let same = ran x worker_states merged joins enough in
@@ -201,7 +202,8 @@ module _ (shares : Bool) (claims : Claims) (plans : ScanPlans) (chunks : List Se
         let one = once_at_most (length chunks) x in
         omega (arith, less, most, once, one)));
     quiet = λ none. all_quiet shares claims plans chunks worker_states befores afters each (at_none none);
-    sources = subst (λ (lists : List (List ℕ)). EachSourceBy (RunsSource plans chunks) lists befores afters) (sym joins.lists) (each_source worker_states befores afters each);
+    sources = subst (λ (lists : List (List ℕ)). EachSourceBy (RunsSource (nat_lt 1 (length befores)) plans chunks) lists befores afters) (sym joins.lists)
+        (subst (λ (several : Bool). EachSourceBy (RunsSource several plans chunks) (map (λ (worker : WorkerState). worker.claimed.items) worker_states) befores afters) are_shared (each_source worker_states befores afters each));
   }
     where
       over : (x : ℕ) → times_over x merged.claimed.items ≡ sum_by (claimed_times x) worker_states

@@ -7,6 +7,7 @@ mod Higher
 mod HinderedChunks
 pub mod JoinedWorkers
 pub mod Joining
+mod LeafPairs
 pub mod NewReasons
 mod RefusedRuns
 pub mod Taken

@@ -1,5 +1,5 @@
 -- The reasons for which a chunk asks, behind those of the chunks that ran before it, whatever whole values it is given.
-use Rattle.std.proofs.Common.{◌≡◌, ◌≢◌, ℕ, zero, suc, ◌+◌, ◌<◌, ◌≤◌, inl, inr, ⊎_elim, true, List, [], ◌∷◌, ◌++◌, Option, Some, None, length, map, refl, sym, ap, ◌∙◌, subst, arith}
+use Rattle.std.proofs.Common.{◌≡◌, ◌≢◌, ℕ, zero, suc, ◌+◌, ◌<◌, ◌≤◌, ◌⊎◌, inl, inr, ⊎_elim, Bool, true, List, [], ◌∷◌, ◌++◌, Option, Some, None, length, map, refl, sym, ap, ◌∙◌, subst, arith}
 use Rattle.std.specs.List.{slice_get, flat_map, All, AllByRecursion}
 use Rattle.std.proofs.lemmas.Grind.{flat_map-append}
 use Rattle.std.proofs.lemmas.List.{map-append}
@@ -32,8 +32,10 @@ use Rattle.vx_chunks.specs.Outcomes.{AreAllThere, ChunkAsks, HandsLeavesRead, Is
 use Rattle.vx_chunks.specs.Ways.{ReadsBy}
 use Rattle.vx_chunks.proofs.TakenWholes.{IsWholeFor, TakesWhole, takes_whole}
 use Rattle.vx_chunks.proofs.Ways.{IsFree, way_of}
-use Rattle.vx_workers.specs.Reasons.{Reason, leaf_of, read_for, segment_of, chunk_and_segment, take_and_segment, IsReasonAmong}
+use Rattle.vx_workers.specs.Borrowers.{FaultsBorrowing}
+use Rattle.vx_workers.specs.Reasons.{Reason, leaf_of, read_for, segment_of, chunk_and_segment, take_and_segment, AreOfOneLeafOnlyBehind, IsReasonAmong}
 use Rattle.vx_workers.specs.Workers.{AsksReached}
+use Rattle.vx_workers.proofs.LeafPairs.{leaves_then}
 use Rattle.vx_workers.proofs.Taken.{distinct_taken, taken_apart}
 use Rattle.vx_workers.proofs.Certifying.{each_weaker}
 use Rattle.vx_base.specs.Columns.{ColumnData}
@@ -181,12 +183,12 @@ pub record IsPast (plans : ScanPlans) (row : ℕ) (handed : List Kept) (leaf : �
   pub reads : RowReads plans.table (number_of plans.projection) at leaf
   pub stays : IsReadAt plans row leaf → IsKept handed leaf
 
--- So it is with the leaf that was asked for.
-abbrev pub IsPastReason : ScanPlans → ℕ → List Kept → Reason → Type 0
-IsPastReason plans row handed reason = IsPast plans row handed reason.leaf
+-- So it is with the leaf that was asked for, unless its chunk is one of those that ended in a fault of rows.
+abbrev pub IsPastReason : ScanPlans → ℕ → List Kept → List ℕ → Reason → Type 0
+IsPastReason plans row handed faulted reason = IsAmong reason.chunk faulted ⊎ IsPast plans row handed reason.leaf
 
-abbrev pub ArePast : ScanPlans → ℕ → List Kept → List Reason → Type 0
-ArePast plans row handed reasons = AllByRecursion (IsPastReason plans row handed) reasons
+abbrev pub ArePast : ScanPlans → ℕ → List Kept → List ℕ → List Reason → Type 0
+ArePast plans row handed faulted reasons = AllByRecursion (IsPastReason plans row handed faulted) reasons
 
 none_kept : (columns : Option ColumnData) (column : ColumnData) → columns ≡ Some column → columns ≡ None → ⊥
 none_kept columns column at none = let both : Some column ≡ None = sym at ∙ none in cc
@@ -269,53 +271,64 @@ earlier plans numbers number given handed chunk later old new among fresh same =
     let at = fresh.at in
     omega (arith, less, place, at, later)
 
--- the new asks of a chunk, behind those of the chunks before
-pub asks_more : (plans : ScanPlans) (chunks : List SelectedRows) (numbers : List ℕ) (row number : ℕ) (chunk : SelectedRows) (made given handed : List Kept) (reasons : List Reason) (before now after : SourceState) → IsGoodTable plans.table → number_of plans.projection < length plans.table → RunsNext plans chunks numbers row number chunk
-    → AsksReached plans chunks numbers reasons before now → HasAsked plans chunk made given → AreTaken plans made reasons → (AreInOrder chunks → LeavesLieTogether (projection_plan plans) → ArePast plans row handed reasons)
-    → (more : AsksOnly (IsWanted plans given handed chunk) plans.locations.items now after) (fresh : NewReasons plans number given handed chunk more.segments) → AsksReached plans chunks (numbers ++ number ∷ []) (reasons ++ fresh.reasons) before after
-asks_more plans chunks numbers row number chunk made given handed reasons before now after good known next asks has taken past more fresh =
+-- a new reason is of another leaf than one that is past
+past_or_faulted : (plans : ScanPlans) (row place : ℕ) (given handed : List Kept) (faulted more : List ℕ) (chunk : SelectedRows) → IsChunkOf plans chunk → row ≤ chunk.scope.rows.start → LeavesLieTogether (projection_plan plans) → ((x : ℕ) → IsAmong x faulted → IsAmong x more)
+    → (old new : Reason) → IsPastReason plans row handed faulted old → IsNewReason plans place given handed chunk new → AreOfOneLeafOnlyBehind more old new
+past_or_faulted plans row place given handed faulted more chunk is behind together wider old new (inl among) fresh same = wider old.chunk among
+past_or_faulted plans row place given handed faulted more chunk is behind together wider old new (inr past) fresh same = absurd (not_again plans row place given handed chunk is behind together old.leaf new past fresh same)
+
+-- the new asks of a chunk, behind those of the chunks before, of which these ended in a fault of rows; so may the chunk
+pub asks_more : (shares : Bool) (plans : ScanPlans) (chunks : List SelectedRows) (numbers : List ℕ) (row number : ℕ) (chunk : SelectedRows) (made given handed : List Kept) (reasons : List Reason) (faulted : List ℕ) (before now after : SourceState) → IsGoodTable plans.table → number_of plans.projection < length plans.table → RunsNext plans chunks numbers row number chunk
+    → (asks : AsksReached shares plans chunks numbers reasons before now) → ((x : ℕ) → IsAmong x asks.faulted → IsAmong x faulted) → AllByRecursion (FaultsBorrowing shares plans chunks before) faulted → HasAsked plans chunk made given → AreTaken plans made reasons
+    → (AreInOrder chunks → LeavesLieTogether (projection_plan plans) → ArePast plans row handed asks.faulted reasons)
+    → (more : AsksOnly (IsWanted plans given handed chunk) plans.locations.items now after) (fresh : NewReasons plans number given handed chunk more.segments) → (all : AsksReached shares plans chunks (numbers ++ number ∷ []) (reasons ++ fresh.reasons) before after) × (all.faulted ≡ faulted)
+asks_more shares plans chunks numbers row number chunk made given handed reasons faulted before now after good known next asks wider faulted_are has taken past more fresh =
     let segments : map segment_of (reasons ++ fresh.reasons) ≡ map segment_of reasons ++ more.segments =
-    map-append segment_of reasons fresh.reasons ∙ ap (λ (ss : List ℕ). map segment_of reasons ++ ss) fresh.segments_are in
-    record {
-      are = all-append (IsReasonAmong plans chunks) reasons fresh.reasons asks.are
-          (each_weaker (IsNewReason plans number given handed chunk) (IsReasonAmong plans chunks) (new_among plans chunks number given handed chunk next.here) fresh.reasons fresh.each);
-      own = all-append (λ (reason : Reason). IsAmong reason.chunk (numbers ++ number ∷ [])) reasons fresh.reasons
-          (each_weaker (λ (reason : Reason). IsAmong reason.chunk numbers) (λ (reason : Reason). IsAmong reason.chunk (numbers ++ number ∷ [])) (λ reason among. among_front reason.chunk numbers (number ∷ []) among) reasons asks.own)
-          (each_weaker (IsNewReason plans number given handed chunk) (λ (reason : Reason). IsAmong reason.chunk (numbers ++ number ∷ [])) (λ reason is. among_last reason.chunk numbers number is.at) fresh.reasons fresh.each);
-      located = subst (All (λ segment. segment < length plans.locations.items)) (sym segments)
-          (All-append (λ segment. segment < length plans.locations.items) (map segment_of reasons) more.segments asks.located more.asks.located);
-      asked = more.asks.asked
-          ∙ (ap (asked_for (map (location_of plans.locations.items) more.segments)) asks.asked
-          ∙ (asked_then (map (location_of plans.locations.items) (map segment_of reasons)) (map (location_of plans.locations.items) more.segments) before.asked
-          ∙ ap (λ (places : List SegmentLocation). asked_for places before.asked)
-          (sym (map-append (location_of plans.locations.items) (map segment_of reasons) more.segments) ∙ ap (map (location_of plans.locations.items)) (sym segments))));
-      once_a_chunk = subst AreDistinct (sym (map-append chunk_and_segment reasons fresh.reasons))
-          (distinct_then (map chunk_and_segment reasons) (map chunk_and_segment fresh.reasons) asks.once_a_chunk
-          (distinct_by (IsNewReason plans number given handed chunk) chunk_and_segment segment_of (λ one two first second same. ap (λ (pair : ℕ × ℕ). pair.1) same) fresh.reasons fresh.each (subst AreDistinct (sym fresh.segments_are) more.asks.apart))
-          (apart_from (λ (reason : Reason). IsAmong reason.chunk numbers) (IsNewReason plans number given handed chunk) chunk_and_segment (earlier plans numbers number given handed chunk next.later) reasons fresh.reasons asks.own fresh.each));
-      once_a_leaf = λ order together.
-          subst AreDistinct (sym (map-append leaf_of reasons fresh.reasons))
-          (distinct_then (map leaf_of reasons) (map leaf_of fresh.reasons) (asks.once_a_leaf order together)
-          (distinct_by (IsNewReason plans number given handed chunk) leaf_of segment_of (same_segment plans number given handed chunk together) fresh.reasons fresh.each (subst AreDistinct (sym fresh.segments_are) more.asks.apart))
-          (apart_from (IsPastReason plans row handed) (IsNewReason plans number given handed chunk) leaf_of
-          (λ one two first second. not_again plans row number given handed chunk next.is (next.behind order) together one.leaf two first second) reasons fresh.reasons (past order together) fresh.each));
-      once_a_take = subst AreDistinct (sym (flat_map-append take_and_segment reasons fresh.reasons))
-          (distinct_then (flat_map take_and_segment reasons) (flat_map take_and_segment fresh.reasons) asks.once_a_take
-          (distinct_taken fresh.reasons (subst AreDistinct (sym fresh.segments_are) more.asks.apart))
-          (taken_apart (IsTaken plans made) (IsNewReason plans number given handed chunk)
-          (no_take_again plans number made given handed chunk good known has) reasons fresh.reasons taken fresh.each));
-    }
+    map-append segment_of reasons fresh.reasons ∙ ap (λ (ss : List ℕ). map segment_of reasons ++ ss) fresh.segments_are in (
+      record {
+        are = all-append (IsReasonAmong plans chunks) reasons fresh.reasons asks.are
+            (each_weaker (IsNewReason plans number given handed chunk) (IsReasonAmong plans chunks) (new_among plans chunks number given handed chunk next.here) fresh.reasons fresh.each);
+        own = all-append (λ (reason : Reason). IsAmong reason.chunk (numbers ++ number ∷ [])) reasons fresh.reasons
+            (each_weaker (λ (reason : Reason). IsAmong reason.chunk numbers) (λ (reason : Reason). IsAmong reason.chunk (numbers ++ number ∷ [])) (λ reason among. among_front reason.chunk numbers (number ∷ []) among) reasons asks.own)
+            (each_weaker (IsNewReason plans number given handed chunk) (λ (reason : Reason). IsAmong reason.chunk (numbers ++ number ∷ [])) (λ reason is. among_last reason.chunk numbers number is.at) fresh.reasons fresh.each);
+        located = subst (All (λ segment. segment < length plans.locations.items)) (sym segments)
+            (All-append (λ segment. segment < length plans.locations.items) (map segment_of reasons) more.segments asks.located more.asks.located);
+        asked = more.asks.asked
+            ∙ (ap (asked_for (map (location_of plans.locations.items) more.segments)) asks.asked
+            ∙ (asked_then (map (location_of plans.locations.items) (map segment_of reasons)) (map (location_of plans.locations.items) more.segments) before.asked
+            ∙ ap (λ (places : List SegmentLocation). asked_for places before.asked)
+            (sym (map-append (location_of plans.locations.items) (map segment_of reasons) more.segments) ∙ ap (map (location_of plans.locations.items)) (sym segments))));
+        once_a_chunk = subst AreDistinct (sym (map-append chunk_and_segment reasons fresh.reasons))
+            (distinct_then (map chunk_and_segment reasons) (map chunk_and_segment fresh.reasons) asks.once_a_chunk
+            (distinct_by (IsNewReason plans number given handed chunk) chunk_and_segment segment_of (λ one two first second same. ap (λ (pair : ℕ × ℕ). pair.1) same) fresh.reasons fresh.each (subst AreDistinct (sym fresh.segments_are) more.asks.apart))
+            (apart_from (λ (reason : Reason). IsAmong reason.chunk numbers) (IsNewReason plans number given handed chunk) chunk_and_segment (earlier plans numbers number given handed chunk next.later) reasons fresh.reasons asks.own fresh.each));
+        faulted = faulted;
+        faulted_are = faulted_are;
+        once_a_leaf = λ order together.
+            leaves_then asks.faulted faulted (IsPastReason plans row handed asks.faulted) (IsNewReason plans number given handed chunk) reasons fresh.reasons wider
+            (past_or_faulted plans row number given handed asks.faulted faulted chunk next.is (next.behind order) together wider) (asks.once_a_leaf order together)
+            (distinct_by (IsNewReason plans number given handed chunk) leaf_of segment_of (same_segment plans number given handed chunk together) fresh.reasons fresh.each (subst AreDistinct (sym fresh.segments_are) more.asks.apart))
+            (past order together) fresh.each;
+        once_a_take = subst AreDistinct (sym (flat_map-append take_and_segment reasons fresh.reasons))
+            (distinct_then (flat_map take_and_segment reasons) (flat_map take_and_segment fresh.reasons) asks.once_a_take
+            (distinct_taken fresh.reasons (subst AreDistinct (sym fresh.segments_are) more.asks.apart))
+            (taken_apart (IsTaken plans made) (IsNewReason plans number given handed chunk)
+            (no_take_again plans number made given handed chunk good known has) reasons fresh.reasons taken fresh.each));
+      },
+      refl,
+    )
 
 -- ---- what comes of the leaves behind one chunk more
 
--- of the leaves that a chunk was handed and of those that it reads, each is handed on that the row behind it reads
-pub record HandsLeaves (plans : ScanPlans) (chunk : SelectedRows) (given handed more : List Kept) : Type 0 where
+-- Of the leaves that a chunk was handed, each is handed on that the row behind it reads; and so is each of those that it
+-- reads, unless it is one of those that ended in a fault of rows.
+pub record HandsLeaves (plans : ScanPlans) (number : ℕ) (chunk : SelectedRows) (faulted : List ℕ) (given handed more : List Kept) : Type 0 where
   pub stay : (leaf : ℕ) → IsReadAt plans (row_behind chunk) leaf → IsKept handed leaf → IsKept more leaf
-  pub there : HandsLeavesRead plans chunk given more
+  pub there : IsAmong number faulted ⊎ HandsLeavesRead plans chunk given more
 
-old_leaf : (plans : ScanPlans) (row : ℕ) (given handed more : List Kept) (chunk : SelectedRows) → IsChunkOf plans chunk → row ≤ chunk.scope.rows.start → LeavesLieTogether (projection_plan plans) → HandsLeaves plans chunk given handed more →
+old_leaf : (plans : ScanPlans) (row number : ℕ) (faulted : List ℕ) (given handed more : List Kept) (chunk : SelectedRows) → IsChunkOf plans chunk → row ≤ chunk.scope.rows.start → LeavesLieTogether (projection_plan plans) → HandsLeaves plans number chunk faulted given handed more →
     (leaf : ℕ) → IsPast plans row handed leaf → IsPast plans chunk.scope.rows.end more leaf
-old_leaf plans row given handed more chunk is behind together hands leaf past =
+old_leaf plans row number faulted given handed more chunk is behind together hands leaf past =
     let low = past.before in
     let forwards = is.forwards in
     record {
@@ -328,19 +341,28 @@ old_leaf plans row given handed more chunk is behind together hands leaf past =
           hands.stay leaf read (past.stays (omega (arith, end, behind, forwards), here));
     }
 
-new_leaf : (plans : ScanPlans) (given handed more : List Kept) (chunk : SelectedRows) → IsChunkOf plans chunk → HandsLeaves plans chunk given handed more → (read : LeafRead) → ChunkVisits (IsLeafRead read) plans given chunk → IsPast plans chunk.scope.rows.end more read.leaf
-new_leaf plans given handed more chunk is hands read visits =
+new_leaf : (plans : ScanPlans) (given more : List Kept) (chunk : SelectedRows) → IsChunkOf plans chunk → HandsLeavesRead plans chunk given more → (read : LeafRead) → ChunkVisits (IsLeafRead read) plans given chunk → IsPast plans chunk.scope.rows.end more read.leaf
+new_leaf plans given more chunk is hands read visits =
     let inside : ReadsInside plans chunk read.leaf = reads_inside plans given chunk read is visits in
     record {
       at = inside.row;
       before = inside.before;
       reads = inside.reads;
-      stays = λ later. hands.there read later visits;
+      stays = λ later. hands read later visits;
     }
 
-pub past_more : (plans : ScanPlans) (chunks : List SelectedRows) (numbers : List ℕ) (row number : ℕ) (chunk : SelectedRows) (given handed more : List Kept) (segments : List ℕ) (reasons : List Reason) → RunsNext plans chunks numbers row number chunk
-    → HandsLeaves plans chunk given handed more → (fresh : NewReasons plans number given handed chunk segments) → AreInOrder chunks → LeavesLieTogether (projection_plan plans) → ArePast plans row handed reasons → ArePast plans chunk.scope.rows.end more (reasons ++ fresh.reasons)
-past_more plans chunks numbers row number chunk given handed more segments reasons next hands fresh order together past =
-    all-append (IsPastReason plans chunk.scope.rows.end more) reasons fresh.reasons
-    (each_weaker (IsPastReason plans row handed) (IsPastReason plans chunk.scope.rows.end more) (λ reason old. old_leaf plans row given handed more chunk next.is (next.behind order) together hands reason.leaf old) reasons past)
-    (each_weaker (IsNewReason plans number given handed chunk) (IsPastReason plans chunk.scope.rows.end more) (λ reason new. new_leaf plans given handed more chunk next.is hands (read_for reason) new.reads) fresh.reasons fresh.each)
+old_past : (plans : ScanPlans) (row number : ℕ) (old faulted : List ℕ) (given handed more : List Kept) (chunk : SelectedRows) → IsChunkOf plans chunk → row ≤ chunk.scope.rows.start → LeavesLieTogether (projection_plan plans) → HandsLeaves plans number chunk faulted given handed more → ((x : ℕ) → IsAmong x old → IsAmong x faulted) →
+    (reason : Reason) → IsPastReason plans row handed old reason → IsPastReason plans chunk.scope.rows.end more faulted reason
+old_past plans row number old faulted given handed more chunk is behind together hands wider reason (inl among) = inl (wider reason.chunk among)
+old_past plans row number old faulted given handed more chunk is behind together hands wider reason (inr past) = inr (old_leaf plans row number faulted given handed more chunk is behind together hands reason.leaf past)
+
+new_past : (plans : ScanPlans) (number : ℕ) (faulted : List ℕ) (given handed more : List Kept) (chunk : SelectedRows) → IsChunkOf plans chunk → IsAmong number faulted ⊎ HandsLeavesRead plans chunk given more → (reason : Reason) → IsNewReason plans number given handed chunk reason → IsPastReason plans chunk.scope.rows.end more faulted reason
+new_past plans number faulted given handed more chunk is (inl among) reason new = inl (subst (λ (x : ℕ). IsAmong x faulted) (sym new.at) among)
+new_past plans number faulted given handed more chunk is (inr hands) reason new = inr (new_leaf plans given more chunk is hands (read_for reason) new.reads)
+
+pub past_more : (plans : ScanPlans) (chunks : List SelectedRows) (numbers : List ℕ) (row number : ℕ) (chunk : SelectedRows) (old faulted : List ℕ) (given handed more : List Kept) (segments : List ℕ) (reasons : List Reason) → RunsNext plans chunks numbers row number chunk
+    → HandsLeaves plans number chunk faulted given handed more → ((x : ℕ) → IsAmong x old → IsAmong x faulted) → (fresh : NewReasons plans number given handed chunk segments) → AreInOrder chunks → LeavesLieTogether (projection_plan plans) → ArePast plans row handed old reasons → ArePast plans chunk.scope.rows.end more faulted (reasons ++ fresh.reasons)
+past_more plans chunks numbers row number chunk old faulted given handed more segments reasons next hands wider fresh order together past =
+    all-append (IsPastReason plans chunk.scope.rows.end more faulted) reasons fresh.reasons
+    (each_weaker (IsPastReason plans row handed old) (IsPastReason plans chunk.scope.rows.end more faulted) (old_past plans row number old faulted given handed more chunk next.is (next.behind order) together hands wider) reasons past)
+    (each_weaker (IsNewReason plans number given handed chunk) (IsPastReason plans chunk.scope.rows.end more faulted) (new_past plans number faulted given handed more chunk next.is hands.there) fresh.reasons fresh.each)

@@ -61,7 +61,6 @@ refused_on plans chosen handed error before after can is clears = record {
       left = no_fault _ plans chosen error is;
       leaves_stay = λ leaf read kept. kept;
       leaves_there = tt;
-      leaves_left = no_fault _ plans chosen error is;
     };
     faults = inl clears.faults;
     lasts = lasts_cleared before after clears;

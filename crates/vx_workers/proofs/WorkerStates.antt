@@ -13,7 +13,7 @@ use Rattle.vx_drive.specs.declared.errors.ScanError.{ScanError}
 use Rattle.vx_drive.specs.declared.plans.ScanPlans.{ScanPlans}
 use Rattle.vx_drive.specs.Plans.{IsChunkOf}
 use Rattle.vx_chunks.specs.declared.outcomes.HandedOn.{HandedOn}
-use Rattle.vx_chunks.specs.Outcomes.{data_of, AreAllThere, IsHandedBy}
+use Rattle.vx_chunks.specs.Outcomes.{data_of, told_by, AreAllThere, IsHandedBy}
 use Rattle.vx_workers.specs.declared.borrowing.Shared.{Shared}
 use Rattle.vx_workers.specs.declared.worker_states.ChunkError.{ChunkError}
 use Rattle.vx_workers.specs.declared.worker_states.WorkerState.{WorkerState}
@@ -22,11 +22,11 @@ use Rattle.vx_workers.specs.declared.worker_states.Piece.{Piece}
 use Rattle.vx_workers.specs.Borrowing.{RecordsOutcome, RunsShared}
 use Rattle.vx_workers.specs.Hindered.{IsRefused}
 use Rattle.vx_workers.specs.Merges.{no_memory}
-use Rattle.vx_workers.specs.Borrowers.{borrower_chunks, RestsOnValues}
+use Rattle.vx_workers.specs.Borrowers.{borrower_chunks, FaultsBorrowing, IsBorrower, IsBorrowerBy, RestsOnValues}
 use Rattle.vx_workers.specs.Unhindered.{IsUnhindered}
 use Rattle.vx_workers.specs.Workers.{numbers_of, AreDone, Ends, Fails, IsFreshWorker, Worked}
 use Rattle.vx_workers.proofs.Higher.{ascend_push}
-use Rattle.vx_workers.proofs.BorrowerChunks.{ListsSoFar, given_stand, had_there, lists_none, borrower_listed, piece_listed, runs_alone, runs_sure, runs_with}
+use Rattle.vx_workers.proofs.BorrowerChunks.{ListsSoFar, given_stand, had_there, lists_none, borrower_by, borrower_is, borrower_listed, borrower_of, faults_borrowing, piece_listed, runs_alone, runs_sure, runs_with}
 use Rattle.vx_workers.proofs.Working.{IsGoodPlans, RanSoFar, fails_now, ran_more, ran_none, source_more, told_before}
 use Rattle.vx_base.specs.Columns.{ColumnData}
 use Rattle.vx_base.specs.Sources.{SourceState}
@@ -39,7 +39,7 @@ pub record Working (shares : Bool) (claims : Claims) (plans : ScanPlans) (chunks
   pub done : AreDone worker.claimed.items (numbers_of worker.pieces.items) (borrower_chunks worker.borrowers.items)
   pub alone : shares ≡ false → worker.borrowers.items ≡ []
   pub error : worker.error ≡ None
-  pub ran : RanSoFar plans chunks worker.claimed.items worker.handed before now
+  pub ran : RanSoFar shares plans chunks worker.claimed.items worker.handed before now
   pub lists : ListsSoFar plans chunks worker.pieces.items worker.borrowers.items before
 
 none_done : (numbers : List ℕ) (pieces : List Piece) (borrowers : List Borrower) → numbers ≡ [] → pieces ≡ [] → borrowers ≡ [] → AreDone numbers (numbers_of pieces) (borrower_chunks borrowers)
@@ -53,7 +53,7 @@ works_none shares claims plans chunks worker source fresh = record {
   done = none_done worker.claimed.items worker.pieces.items worker.borrowers.items fresh.claimed fresh.pieces fresh.borrowers;
   alone = λ off. fresh.borrowers;
   error = fresh.error;
-  ran = ran_none plans chunks worker.claimed.items worker.handed source fresh.leaves fresh.made fresh.claimed;
+  ran = ran_none shares plans chunks worker.claimed.items worker.handed source fresh.leaves fresh.made fresh.claimed;
   lists = lists_none plans chunks worker.pieces.items worker.borrowers.items source fresh.pieces fresh.borrowers;
 }
 
@@ -112,15 +112,23 @@ module _ (shares : Bool) (claims : Claims) (plans : ScanPlans) (chunks : List Se
         done = rw (takes.numbers, pieces, takes.borrowers) (piece_done old.claimed.items old.pieces.items old.borrowers.items (record { chunk = number; column = column }) working.done);
         alone = λ off. takes.borrowers ∙ working.alone off;
         error = takes.error;
-        ran = rw (takes.numbers, takes.handed) (ran_more plans chunks old.claimed.items number chunk old.handed [] runs.runs.all shared.ran before now after good is here later working.ran runs.runs.stand.has_made alone (ok_any RestsOnValues shared.ran.piece column piece_is) (ok_any (λ error. AreAllThere plans runs.runs.all (data_of shared.ran.handed.made.items) chunk) shared.ran.piece column piece_is));
+        ran = rw (takes.numbers, takes.handed) (ran_more shares plans chunks old.claimed.items number chunk old.handed [] runs.runs.all shared.ran before now after good is here later working.ran runs.runs.stand.has_made alone (ok_any RestsOnValues shared.ran.piece column piece_is)
+            (ok_any (λ error. FaultsBorrowing shares plans chunks before number) shared.ran.piece column piece_is) (ok_any (λ error. AreAllThere plans runs.runs.all (data_of shared.ran.handed.made.items) chunk) shared.ran.piece column piece_is));
         lists = rw (pieces, takes.borrowers) (piece_listed plans chunks number chunk old.handed runs.runs.all shared.ran column old.pieces.items old.borrowers.items before now after here working.ran.lasts working.ran.handed_is working.lists alone piece_is (free_piece column piece_is which));
       })
 
+  -- one that is alone borrows nothing
+  are_shared : shared.borrowed.items ≢ [] → (does : Bool) → shares ≡ does → shares ≡ true
+  are_shared some true is = is
+  are_shared some false is = absurd (some (runs.alone is))
+
   borrower_goes : shared.borrowed.items ≢ [] → IfErr shared.ran.piece RestsOnValues → next ≡ record worker { borrowers = next.borrowers } → next.borrowers.items ≡ worker.borrowers.items ++ record { chunk = number; borrowed = shared.borrowed; result = shared.ran.piece } ∷ [] → Working shares claims plans chunks next before after
   borrower_goes some rests same more =
-      let borrower : Borrower = record { chunk = number; borrowed = shared.borrowed; result = shared.ran.piece } in
+      let borrower : Borrower = borrower_of number shared.borrowed shared.ran.piece in
       let given = runs_with plans chunk old.handed (data_of shared.borrowed.items) shared.ran now after runs.borrowed.fit rests runs.runs in
       let borrowers : next.borrowers.items ≡ old.borrowers.items ++ borrower ∷ [] = more ∙ ap (λ (ls : List Borrower). ls ++ borrower ∷ []) takes.borrowers in
+      let lent : IsBorrower plans chunks borrower = borrower_is plans chunks number chunk old.handed shared.borrowed runs.runs.all shared.ran now after here some runs.borrowed given rests (free_borrower some which) in
+      let lent_by : told_by plans before (λ bytes. IsBorrowerBy bytes plans chunks borrower) = borrower_by plans chunks number chunk old.handed shared.borrowed runs.runs.all shared.ran before now after here working.ran.lasts working.ran.handed_is given rests in
       subst (λ (one : WorkerState). Working shares claims plans chunks one before after) (sym same) (record {
         own = takes.own;
         parts = takes.parts;
@@ -128,9 +136,10 @@ module _ (shares : Bool) (claims : Claims) (plans : ScanPlans) (chunks : List Se
         done = rw (takes.numbers, takes.pieces, borrowers) (borrower_done old.claimed.items old.pieces.items old.borrowers.items borrower working.done);
         alone = λ off. absurd (some (runs.alone off));
         error = takes.error;
-        ran = rw (takes.numbers, takes.handed) (ran_more plans chunks old.claimed.items number chunk old.handed (data_of shared.borrowed.items) runs.runs.all shared.ran before now after good is here later working.ran runs.runs.stand.has_made given rests
+        ran = rw (takes.numbers, takes.handed) (ran_more shares plans chunks old.claimed.items number chunk old.handed (data_of shared.borrowed.items) runs.runs.all shared.ran before now after good is here later working.ran runs.runs.stand.has_made given rests
+            (faults_borrowing shares plans chunks number shared.borrowed shared.ran.piece before (are_shared some shares refl) lent lent_by)
             (had_there plans chunk (data_of shared.borrowed.items) runs.runs.all (data_of shared.ran.handed.made.items) shared.ran.piece (given_stand plans chunk old.handed (data_of shared.borrowed.items) shared.ran now after runs.borrowed.fit rests runs.runs) rests (runs.had some)));
-        lists = rw (takes.pieces, borrowers) (borrower_listed plans chunks number chunk old.handed shared.borrowed runs.runs.all shared.ran old.pieces.items old.borrowers.items before now after here working.ran.lasts working.ran.handed_is working.lists some runs.borrowed given rests (free_borrower some which));
+        lists = rw (takes.pieces, borrowers) (borrower_listed plans chunks borrower old.pieces.items old.borrowers.items before working.lists lent lent_by);
       })
 
   -- the worker goes on
@@ -143,7 +152,7 @@ module _ (shares : Bool) (claims : Claims) (plans : ScanPlans) (chunks : List Se
   stopped : (error : ScanError) → (shared.borrowed.items ≡ []) ⊎ (RestsOnValues error → ⊥) → shared.ran.piece ≡ Err error → next ≡ record worker { error = Some (record { chunk = number; error = error }) } → Worked shares claims plans chunks next before after
   stopped error which error_is same =
       let given = runs.runs.runs in
-      let fails : Fails plans chunks (record { chunk = number; error = error }) before after = fails_now plans chunks old.claimed.items number chunk old.handed runs.runs.fitting runs.runs.all shared.ran error before now after here working.ran given error_is (runs_sure plans chunk old.handed shared.borrowed.items shared.ran error now after which runs.runs) in
+      let fails : Fails plans chunks (record { chunk = number; error = error }) before after = fails_now shares plans chunks old.claimed.items number chunk old.handed runs.runs.fitting runs.runs.all shared.ran error before now after here working.ran given error_is (runs_sure plans chunk old.handed shared.borrowed.items shared.ran error now after which runs.runs) in
       subst (λ (one : WorkerState). Worked shares claims plans chunks one before after) (sym same) (record {
         own = takes.own;
         parts = takes.parts;
@@ -157,7 +166,7 @@ module _ (shares : Bool) (claims : Claims) (plans : ScanPlans) (chunks : List Se
         alone = λ off. takes.borrowers ∙ working.alone off;
         made = rw takes.handed given.more.can.made;
         made_by = rw takes.handed (λ file told. (told_before plans old.handed before now (IsHandedBy plans shared.ran.handed) working.ran.lasts working.ran.handed_is given.more.by_file file told).made_are);
-        runs = rw takes.numbers (source_more plans chunks old.claimed.items number chunk old.handed runs.runs.fitting runs.runs.all shared.ran before now after good is here later working.ran runs.runs.stand.has_made given);
+        runs = rw takes.numbers (source_more shares plans chunks old.claimed.items number chunk old.handed runs.runs.fitting runs.runs.all shared.ran before now after good is here later working.ran runs.runs.stand.has_made given);
         faults = fails.faults;
         ends = inl (record {
           earlier = old.claimed.items;

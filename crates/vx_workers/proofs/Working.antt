@@ -1,8 +1,9 @@
 -- The chunks of one worker, one after another: what they did to its source, and what they hand on.
 use Rattle.std.proofs.Common.{◌≡◌, ℕ, ◌<◌, ◌≤◌, ◌⊎◌, inl, inr, List, [], ◌∷◌, ◌++◌, Some, Result, Ok, Err, length, refl, sym, ◌∙◌, subst, arith}
-use Rattle.std.specs.Prelude.{IfErr, IfOk, IfSome}
-use Rattle.std.specs.List.{slice_get}
+use Rattle.std.specs.Prelude.{Bool, IfErr, IfOk}
+use Rattle.std.specs.List.{slice_get, AllByRecursion}
 use Rattle.std.proofs.lemmas.List.Elements.{All-nil}
+use Rattle.vx_rows.specs.Reads.{IsAmong}
 use Rattle.vx_rows.specs.SegmentLeaves.{Bytes, leaves_of}
 use Rattle.vx_plan.specs.Refs.{number_of}
 use Rattle.vx_plan.specs.Tables.{IsGoodTable}
@@ -16,8 +17,7 @@ use Rattle.vx_drive.specs.declared.errors.ScanError.TheVariants.{BadProjection, 
 use Rattle.vx_drive.specs.declared.plans.ScanPlans.{ScanPlans}
 use Rattle.vx_drive.specs.Asks.{IsLeftClear, KeepsFaults, Lasts, TellsFaults}
 use Rattle.vx_drive.specs.Plans.{bytes_of, projection_plan, AreInOrder, IsChunkOf}
-use Rattle.vx_drive.specs.Runs.{row_fault}
-use Rattle.vx_drive.proofs.Distinct.{distinct_none}
+use Rattle.vx_drive.proofs.Distinct.{distinct_none, pairs_none}
 use Rattle.vx_drive.proofs.Lasting.{lasts_same, lasts_then, rose_from}
 use Rattle.vx_drive.proofs.Sessions.{asked_nothing}
 use Rattle.vx_chunks.specs.declared.outcomes.HandedOn.{HandedOn}
@@ -27,8 +27,8 @@ use Rattle.vx_chunks.specs.LeafRows.{LeavesLieTogether}
 use Rattle.vx_chunks.specs.Outcomes.{data_of, told_by, told_on, AreAllThere, CanHandOn, HandsLeavesRead, HandsOnMore, IsHandedBy, Causes, RunsGiven}
 use Rattle.vx_chunks.proofs.ChunkOutcomes.{error_of}
 use Rattle.vx_chunks.proofs.FewerReads.{list_free, segment_free, torn_free}
-use Rattle.vx_workers.specs.Borrowers.{RestsOnValues}
-use Rattle.vx_workers.specs.Reasons.{Reason}
+use Rattle.vx_workers.specs.Borrowers.{FaultsBorrowing, RestsOnValues}
+use Rattle.vx_workers.specs.Reasons.{Reason, AreOfOneLeafOnlyBehind}
 use Rattle.vx_workers.specs.Workers.{AsksReached, Fails, RunsSource}
 use Rattle.vx_workers.proofs.Higher.{ascend_none, ascend_push}
 use Rattle.vx_workers.proofs.NewReasons.{ArePast, AreTaken, HandsLeaves, HasAsked, HasMade, NewReasons, RunsNext, asks_more, lies_behind, new_reasons, past_more, taken_more}
@@ -52,17 +52,17 @@ abbrev pub LieBehind : List SelectedRows → ℕ → ℕ → Type 0
 LieBehind chunks number row = (n : ℕ) (chunk : SelectedRows) → number ≤ n → slice_get chunks n ≡ Some chunk → row ≤ chunk.scope.rows.start
 
 -- What the runs of the chunks with these numbers did to the source, and what the last of them handed on.
-pub record RanSoFar (plans : ScanPlans) (chunks : List SelectedRows) (numbers : List ℕ) (handed : HandedOn) (before now : SourceState) : Type 0 where
+pub record RanSoFar (shares : Bool) (plans : ScanPlans) (chunks : List SelectedRows) (numbers : List ℕ) (handed : HandedOn) (before now : SourceState) : Type 0 where
   pub ascend : Ascend numbers
   pub faults : KeepsFaults before now
   pub can : CanHandOn plans handed
   pub handed_is : IsHanded plans handed before
   pub reasons : List Reason
-  pub asks : AsksReached plans chunks numbers reasons before now
+  pub asks : AsksReached shares plans chunks numbers reasons before now
   -- the row behind the last of them
   pub row : ℕ
-  -- a leaf that was asked for is handed on where later rows read it
-  pub past : AreInOrder chunks → LeavesLieTogether (projection_plan plans) → ArePast plans row (data_of handed.leaves.items) reasons
+  -- a leaf that was asked for is handed on where later rows read it, but for chunks that ended in a fault of rows
+  pub past : AreInOrder chunks → LeavesLieTogether (projection_plan plans) → ArePast plans row (data_of handed.leaves.items) asks.faulted reasons
   -- whole values through which it was asked for are made
   pub taken : AreTaken plans (data_of handed.made.items) reasons
   pub behind : AreInOrder chunks → LieBehind chunks (above numbers) row
@@ -73,8 +73,8 @@ none_apart : AreOfDistinctPlans []
 none_apart p q k l at other same = absurd cc
 
 -- nothing ran yet
-pub ran_none : (plans : ScanPlans) (chunks : List SelectedRows) (numbers : List ℕ) (handed : HandedOn) (source : SourceState) → handed.leaves.items ≡ [] → handed.made.items ≡ [] → numbers ≡ [] → RanSoFar plans chunks numbers handed source source
-ran_none plans chunks numbers handed source no_leaves none_made no_numbers = rw no_numbers (record {
+pub ran_none : (shares : Bool) (plans : ScanPlans) (chunks : List SelectedRows) (numbers : List ℕ) (handed : HandedOn) (source : SourceState) → handed.leaves.items ≡ [] → handed.made.items ≡ [] → numbers ≡ [] → RanSoFar shares plans chunks numbers handed source source
+ran_none shares plans chunks numbers handed source no_leaves none_made no_numbers = rw no_numbers (record {
   ascend = ascend_none;
   faults = refl;
   can = record {
@@ -93,7 +93,9 @@ ran_none plans chunks numbers handed source no_leaves none_made no_numbers = rw 
     located = All-nil (λ segment. segment < length plans.locations.items);
     asked = sym (asked_nothing source.asked);
     once_a_chunk = distinct_none;
-    once_a_leaf = λ order together. distinct_none;
+    faulted = [];
+    faulted_are = tt;
+    once_a_leaf = λ order together. pairs_none (AreOfOneLeafOnlyBehind []);
     once_a_take = distinct_none;
   };
   row = 0;
@@ -116,32 +118,35 @@ faultless piece now after rests (inl same) = same
 faultless (Ok column) now after rests (inr fault) = absurd cc
 faultless (Err error) now after rests (inr fault) = let same : error ≡ ReadFault = cc in absurd (subst RestsOnValues same rests)
 
--- it decoded all leaves that its rows read
-all_read : (P : Type 0) (piece : Result ColumnData ScanError) → IfErr piece RestsOnValues → IfOk piece (λ column. P) → IfErr piece (λ error. IfSome (row_fault error) (λ fault. P)) → P
-all_read P (Ok column) rests there left = there
-all_read P (Err (BadCode take row)) rests there left = left
-all_read P (Err (EvalFault row)) rests there left = left
-all_read P (Err BadProjection) rests there left = absurd rests
-all_read P (Err OffsetOverflow) rests there left = absurd rests
-all_read P (Err OutOfRange) rests there left = absurd rests
-all_read P (Err (Unsupported list)) rests there left = absurd rests
-all_read P (Err (NoLocation segment)) rests there left = absurd rests
-all_read P (Err ReadFault) rests there left = absurd rests
-all_read P (Err Stalled) rests there left = absurd rests
-all_read P (Err (BadSegment segment)) rests there left = absurd rests
-all_read P (Err Memory) rests there left = absurd rests
+-- the chunks that ended in a fault of rows, with the next one, if it did
+abbrev faulted_behind : ℕ → Result ColumnData ScanError → List ℕ → List ℕ
+faulted_behind number (Ok column) faulted = faulted
+faulted_behind number (Err error) faulted = number ∷ faulted
+
+faulted_still : (number : ℕ) (piece : Result ColumnData ScanError) (faulted : List ℕ) (x : ℕ) → IsAmong x faulted → IsAmong x (faulted_behind number piece faulted)
+faulted_still number (Ok column) faulted x among = among
+faulted_still number (Err error) faulted x among = inr among
+
+each_faulted : (P : ℕ → Type 0) (number : ℕ) (piece : Result ColumnData ScanError) (faulted : List ℕ) → IfErr piece (λ error. P number) → AllByRecursion P faulted → AllByRecursion P (faulted_behind number piece faulted)
+each_faulted P number (Ok column) faulted one each = each
+each_faulted P number (Err error) faulted one each = (one, each)
+
+-- unless it did, it decoded all leaves that its rows read
+read_or_faulted : (P : Type 0) (number : ℕ) (piece : Result ColumnData ScanError) (faulted : List ℕ) → IfOk piece (λ column. P) → IsAmong number (faulted_behind number piece faulted) ⊎ P
+read_or_faulted P number (Ok column) faulted there = inr there
+read_or_faulted P number (Err error) faulted there = inl (inl refl)
 
 -- what a chunk hands on of leaves
-hands_leaves : (plans : ScanPlans) (chunk : SelectedRows) (handed : HandedOn) (given all : List Kept) (ran : Ran) (before after : SourceState) → RunsGiven plans chunk handed given all ran before after → IfErr ran.piece RestsOnValues → HandsLeaves plans chunk all (data_of handed.leaves.items) (data_of ran.handed.leaves.items)
-hands_leaves plans chunk handed given all ran before after runs rests = record {
+hands_leaves : (plans : ScanPlans) (number : ℕ) (chunk : SelectedRows) (faulted : List ℕ) (handed : HandedOn) (given all : List Kept) (ran : Ran) (before after : SourceState) → RunsGiven plans chunk handed given all ran before after → HandsLeaves plans number chunk (faulted_behind number ran.piece faulted) all (data_of handed.leaves.items) (data_of ran.handed.leaves.items)
+hands_leaves plans number chunk faulted handed given all ran before after runs = record {
   stay = runs.more.leaves_stay;
-  there = all_read (HandsLeavesRead plans chunk all (data_of ran.handed.leaves.items)) ran.piece rests runs.more.leaves_there runs.more.leaves_left;
+  there = read_or_faulted (HandsLeavesRead plans chunk all (data_of ran.handed.leaves.items)) number ran.piece faulted runs.more.leaves_there;
 }
 
 -- the chunk that was claimed, behind those that ran
-next_chunk : (plans : ScanPlans) (chunks : List SelectedRows) (numbers : List ℕ) (number : ℕ) (chunk : SelectedRows) (handed : HandedOn) (before now : SourceState) → IsChunkOf plans chunk → slice_get chunks number ≡ Some chunk → above numbers ≤ number
-    → (ran : RanSoFar plans chunks numbers handed before now) → RunsNext plans chunks numbers ran.row number chunk
-next_chunk plans chunks numbers number chunk handed before now is here later ran = record {
+next_chunk : (shares : Bool) (plans : ScanPlans) (chunks : List SelectedRows) (numbers : List ℕ) (number : ℕ) (chunk : SelectedRows) (handed : HandedOn) (before now : SourceState) → IsChunkOf plans chunk → slice_get chunks number ≡ Some chunk → above numbers ≤ number
+    → (ran : RanSoFar shares plans chunks numbers handed before now) → RunsNext plans chunks numbers ran.row number chunk
+next_chunk shares plans chunks numbers number chunk handed before now is here later ran = record {
   is = is;
   here = here;
   later = later;
@@ -157,21 +162,29 @@ all_there P (Err error) there had = had
 still_made : (plans : ScanPlans) (chunk : SelectedRows) (handed : HandedOn) (all : List Kept) (ran : Ran) (now : SourceState) → HandsOnMore plans chunk handed all ran now → HasMade plans (data_of handed.made.items) (data_of ran.handed.made.items)
 still_made plans chunk handed all ran now more n known (column, at) = (column, more.stays n column known at)
 
-pub ran_more : (plans : ScanPlans) (chunks : List SelectedRows) (numbers : List ℕ) (number : ℕ) (chunk : SelectedRows) (handed : HandedOn) (given all : List Kept) (ran : Ran) (before now after : SourceState) → IsGoodPlans plans → IsChunkOf plans chunk → slice_get chunks number ≡ Some chunk → above numbers ≤ number
-    → RanSoFar plans chunks numbers handed before now → HasAsked plans chunk (data_of handed.made.items) all → RunsGiven plans chunk handed given all ran now after → IfErr ran.piece RestsOnValues → IfErr ran.piece (λ error. AreAllThere plans all (data_of ran.handed.made.items) chunk)
-    → RanSoFar plans chunks (numbers ++ number ∷ []) ran.handed before after
-ran_more plans chunks numbers number chunk handed given all ran before now after good is here later so_far has runs rests had =
-    let next = next_chunk plans chunks numbers number chunk handed before now is here later so_far in
+pub ran_more : (shares : Bool) (plans : ScanPlans) (chunks : List SelectedRows) (numbers : List ℕ) (number : ℕ) (chunk : SelectedRows) (handed : HandedOn) (given all : List Kept) (ran : Ran) (before now after : SourceState) → IsGoodPlans plans → IsChunkOf plans chunk → slice_get chunks number ≡ Some chunk → above numbers ≤ number
+    → RanSoFar shares plans chunks numbers handed before now → HasAsked plans chunk (data_of handed.made.items) all → RunsGiven plans chunk handed given all ran now after → IfErr ran.piece RestsOnValues → IfErr ran.piece (λ error. FaultsBorrowing shares plans chunks before number)
+    → IfErr ran.piece (λ error. AreAllThere plans all (data_of ran.handed.made.items) chunk) → RanSoFar shares plans chunks (numbers ++ number ∷ []) ran.handed before after
+ran_more shares plans chunks numbers number chunk handed given all ran before now after good is here later so_far has runs rests faults had =
+    let next = next_chunk shares plans chunks numbers number chunk handed before now is here later so_far in
+    let faulted : List ℕ = so_far.asks.faulted in
+    let behind : List ℕ = faulted_behind number ran.piece faulted in
     let fresh : NewReasons plans number all (data_of handed.leaves.items) chunk runs.asks.segments = new_reasons plans number all (data_of handed.leaves.items) chunk runs.asks.segments runs.asks.wanted in
+    let asks : (more : AsksReached shares plans chunks (numbers ++ number ∷ []) (so_far.reasons ++ fresh.reasons) before after) × (more.faulted ≡ behind) =
+    asks_more shares plans chunks numbers so_far.row number chunk (data_of handed.made.items) all (data_of handed.leaves.items) so_far.reasons behind before now after good.good good.known next so_far.asks (faulted_still number ran.piece faulted)
+    (each_faulted (FaultsBorrowing shares plans chunks before) number ran.piece faulted faults so_far.asks.faulted_are) has so_far.taken so_far.past runs.asks fresh in
     record {
       ascend = ascend_push numbers number so_far.ascend later;
       faults = faultless ran.piece now after rests runs.faults ∙ so_far.faults;
       can = runs.more.can;
       handed_is = told_before plans handed before now (IsHandedBy plans ran.handed) so_far.lasts so_far.handed_is runs.more.by_file;
       reasons = so_far.reasons ++ fresh.reasons;
-      asks = asks_more plans chunks numbers so_far.row number chunk (data_of handed.made.items) all (data_of handed.leaves.items) so_far.reasons before now after good.good good.known next so_far.asks has so_far.taken so_far.past runs.asks fresh;
+      asks = asks.0;
       row = chunk.scope.rows.end;
-      past = λ order together. past_more plans chunks numbers so_far.row number chunk all (data_of handed.leaves.items) (data_of ran.handed.leaves.items) runs.asks.segments so_far.reasons next (hands_leaves plans chunk handed given all ran now after runs rests) fresh order together (so_far.past order together);
+      past = λ order together.
+          subst (λ (numbers : List ℕ). ArePast plans chunk.scope.rows.end (data_of ran.handed.leaves.items) numbers (so_far.reasons ++ fresh.reasons)) (sym asks.1)
+          (past_more plans chunks numbers so_far.row number chunk faulted behind all (data_of handed.leaves.items) (data_of ran.handed.leaves.items) runs.asks.segments so_far.reasons next (hands_leaves plans number chunk faulted handed given all ran now after runs)
+          (faulted_still number ran.piece faulted) fresh order together (so_far.past order together));
       taken = taken_more plans number (data_of handed.made.items) all (data_of handed.leaves.items) (data_of ran.handed.made.items) chunk runs.asks.segments so_far.reasons good.good good.known (still_made plans chunk handed all ran now runs.more)
           (all_there (AreAllThere plans all (data_of ran.handed.made.items) chunk) ran.piece runs.more.there had) fresh so_far.taken;
       behind = λ order n other least there. lies_behind 0 chunks number n chunk other order here there (let last = above_push numbers number later in omega (arith, last, least));
@@ -213,9 +226,9 @@ faults_told (Err one) error before now after so_far is (inr fault) =
     let there : one ≡ ReadFault = cc in
     inr (sym here ∙ there)
 
-pub fails_now : (plans : ScanPlans) (chunks : List SelectedRows) (numbers : List ℕ) (number : ℕ) (chunk : SelectedRows) (handed : HandedOn) (given all : List Kept) (ran : Ran) (error : ScanError) (before now after : SourceState) → slice_get chunks number ≡ Some chunk
-    → RanSoFar plans chunks numbers handed before now → RunsGiven plans chunk handed given all ran now after → ran.piece ≡ Err error → IsSure given error → Fails plans chunks (record { chunk = number; error = error }) before after
-fails_now plans chunks numbers number chunk handed given all ran error before now after here so_far runs error_is sure =
+pub fails_now : (shares : Bool) (plans : ScanPlans) (chunks : List SelectedRows) (numbers : List ℕ) (number : ℕ) (chunk : SelectedRows) (handed : HandedOn) (given all : List Kept) (ran : Ran) (error : ScanError) (before now after : SourceState) → slice_get chunks number ≡ Some chunk
+    → RanSoFar shares plans chunks numbers handed before now → RunsGiven plans chunk handed given all ran now after → ran.piece ≡ Err error → IsSure given error → Fails plans chunks (record { chunk = number; error = error }) before after
+fails_now shares plans chunks numbers number chunk handed given all ran error before now after here so_far runs error_is sure =
     let cause : Causes (told_on plans handed now) plans given chunk error now after = error_of (λ error. Causes (told_on plans handed now) plans given chunk error now after) ran.piece error error_is runs.cause in
     record {
       chunk = chunk;
@@ -226,14 +239,15 @@ fails_now plans chunks numbers number chunk handed given all ran error before no
 
 -- ---- the source with one chunk more, whether the worker goes on behind it or not
 
-pub source_more : (plans : ScanPlans) (chunks : List SelectedRows) (numbers : List ℕ) (number : ℕ) (chunk : SelectedRows) (handed : HandedOn) (given all : List Kept) (ran : Ran) (before now after : SourceState) → IsGoodPlans plans → IsChunkOf plans chunk → slice_get chunks number ≡ Some chunk → above numbers ≤ number
-    → RanSoFar plans chunks numbers handed before now → HasAsked plans chunk (data_of handed.made.items) all → RunsGiven plans chunk handed given all ran now after → RunsSource plans chunks (numbers ++ number ∷ []) before after
-source_more plans chunks numbers number chunk handed given all ran before now after good is here later so_far has runs =
-    let next = next_chunk plans chunks numbers number chunk handed before now is here later so_far in
+pub source_more : (shares : Bool) (plans : ScanPlans) (chunks : List SelectedRows) (numbers : List ℕ) (number : ℕ) (chunk : SelectedRows) (handed : HandedOn) (given all : List Kept) (ran : Ran) (before now after : SourceState) → IsGoodPlans plans → IsChunkOf plans chunk → slice_get chunks number ≡ Some chunk → above numbers ≤ number
+    → RanSoFar shares plans chunks numbers handed before now → HasAsked plans chunk (data_of handed.made.items) all → RunsGiven plans chunk handed given all ran now after → RunsSource shares plans chunks (numbers ++ number ∷ []) before after
+source_more shares plans chunks numbers number chunk handed given all ran before now after good is here later so_far has runs =
+    let next = next_chunk shares plans chunks numbers number chunk handed before now is here later so_far in
     let fresh : NewReasons plans number all (data_of handed.leaves.items) chunk runs.asks.segments = new_reasons plans number all (data_of handed.leaves.items) chunk runs.asks.segments runs.asks.wanted in
     record {
       reasons = so_far.reasons ++ fresh.reasons;
-      asks = asks_more plans chunks numbers so_far.row number chunk (data_of handed.made.items) all (data_of handed.leaves.items) so_far.reasons before now after good.good good.known next so_far.asks has so_far.taken so_far.past runs.asks fresh;
+      asks = (asks_more shares plans chunks numbers so_far.row number chunk (data_of handed.made.items) all (data_of handed.leaves.items) so_far.reasons so_far.asks.faulted before now after good.good good.known next so_far.asks (λ x among. among) so_far.asks.faulted_are has so_far.taken
+          so_far.past runs.asks fresh).0;
       lasts = lasts_then before now after so_far.lasts runs.lasts;
       in_flight = inl runs.in_flight;
     }

@@ -1,5 +1,5 @@
 -- Chunks that ran with whole values that their workers borrowed.
-use Rattle.std.specs.Prelude.{◌≡◌, ◌≢◌, ℕ, List, [], length, map, Result, Ok, Err, IfOk, IfErr, IsSomeAnd, Some}
+use Rattle.std.specs.Prelude.{◌≡◌, ◌≢◌, ℕ, Bool, true, List, [], length, map, Result, Ok, Err, IfOk, IfErr, IsSomeAnd, Some}
 use Rattle.std.specs.List.{slice_get, AllByRecursion}
 use Rattle.vx_rows.specs.SegmentLeaves.{Bytes, leaves_of}
 use Rattle.vx_plan.specs.Refs.{number_of}
@@ -11,11 +11,12 @@ use Rattle.vx_drive.specs.declared.errors.ScanError.TheVariants.{BadCode, EvalFa
 use Rattle.vx_drive.specs.declared.plans.ScanPlans.{ScanPlans}
 use Rattle.vx_drive.specs.Plans.{projection_node}
 use Rattle.vx_chunks.specs.ChunkRows.{ChunkFaultsAt, ChunkReadsBadCode, IsPiece}
-use Rattle.vx_chunks.specs.Outcomes.{data_of, ChunkAsks}
+use Rattle.vx_chunks.specs.Outcomes.{data_of, told_by, ChunkAsks}
 use Rattle.vx_workers.specs.declared.worker_states.Borrower.{Borrower}
 use Rattle.vx_workers.specs.Unhindered.{IsUnhindered}
 use Rattle.vx_base.specs.Columns.{ColumnData}
 use Rattle.vx_base.specs.Masks.{true_count}
+use Rattle.vx_base.specs.Sources.{SourceState}
 
 -- ---- what is borrowed
 
@@ -67,3 +68,14 @@ IsResultBy bytes plans given chosen (Err error) = ⊥
 -- so it is of the chunk and the values that it borrowed
 abbrev pub IsBorrowerBy : Bytes → ScanPlans → List SelectedRows → Borrower → Type 0
 IsBorrowerBy bytes plans chunks borrower = IsSomeAnd (slice_get chunks borrower.chunk) (λ chunk. IsResultBy bytes plans (data_of borrower.borrowed.items) chunk borrower.result)
+
+-- With values that its worker borrowed, which is not alone, the chunk of that number ended in a fault of rows, which has its
+-- cause by the file.
+pub record FaultsBorrowing (shares : Bool) (plans : ScanPlans) (chunks : List SelectedRows) (before : SourceState) (number : ℕ) : Type 0 where
+  pub shared : shares ≡ true
+  pub borrower : Borrower
+  pub number_is : borrower.chunk ≡ number
+  pub is : IsBorrower plans chunks borrower
+  pub error : ScanError
+  pub failed : borrower.result ≡ Err error
+  pub by : told_by plans before (λ bytes. IsBorrowerBy bytes plans chunks borrower)

@@ -1,5 +1,5 @@
 -- What all workers give together, once they are joined.
-use Rattle.std.specs.Prelude.{◌≡◌, ◌≢◌, ℕ, ◌+◌, ◌-◌, ◌<◌, ◌≤◌, true, ◌⊎◌, List, [], length, map, Some, None, IfSome}
+use Rattle.std.specs.Prelude.{◌≡◌, ◌≢◌, ℕ, ◌+◌, ◌-◌, ◌<◌, ◌≤◌, nat_lt, true, ◌⊎◌, List, [], length, map, Some, None, IfSome}
 use Rattle.std.specs.List.{All, AllByRecursion, sum_by}
 use Rattle.std.specs.Global.{Vec}
 use Rattle.vx_rows.specs.Reads.{IsAmong}
@@ -108,4 +108,4 @@ pub record JoinedAll (plans : ScanPlans) (chunks : List SelectedRows) (joined : 
   pub faults : EachSourceBy (FaultsWhereNotRan joined) joined.claimed.items befores afters
   pub quiet : joined.error ≡ None → EachSource KeepsFaults befores afters
   -- each source was asked for the chunks that its own worker claimed
-  pub sources : EachSourceBy (RunsSource plans chunks) joined.claimed.items befores afters
+  pub sources : EachSourceBy (RunsSource (nat_lt 1 (length befores)) plans chunks) joined.claimed.items befores afters

@@ -1,7 +1,7 @@
 -- Why a source was asked for a segment.
 use Rattle.std.specs.Prelude.{◌≡◌, ℕ, List, [], ◌∷◌, Some}
 use Rattle.std.specs.List.{slice_get}
-use Rattle.vx_rows.specs.Reads.{Way, directly, through}
+use Rattle.vx_rows.specs.Reads.{Way, IsAmong, directly, through}
 use Rattle.vx_steps.specs.declared.leaf_reads.LeafRead.{LeafRead}
 use Rattle.vx_steps.specs.Rows.{SomeRow}
 use Rattle.vx_splits.specs.declared.selected_rows.SelectedRows.{SelectedRows}
@@ -26,6 +26,10 @@ leaf_of reason = reason.leaf
 
 abbrev pub segment_of : Reason → ℕ
 segment_of reason = reason.segment
+
+-- both are of one leaf only if the first is of one of these chunks
+abbrev pub AreOfOneLeafOnlyBehind : List ℕ → Reason → Reason → Type 0
+AreOfOneLeafOnlyBehind chunks one other = one.leaf ≡ other.leaf → IsAmong one.chunk chunks
 
 -- which segment is asked for, and for which chunk
 abbrev pub chunk_and_segment : Reason → ℕ × ℕ

@@ -1,6 +1,6 @@
 -- What one worker gives.
 use Rattle.std.specs.Prelude.{◌≡◌, ℕ, ◌+◌, ◌⊎◌, Bool, true, false, List, [], ◌∷◌, ◌++◌, length, map, Option, Some, None, IsSomeAnd}
-use Rattle.std.specs.List.{slice_get, flat_map, All, AllByRecursion}
+use Rattle.std.specs.List.{slice_get, flat_map, All, AllByRecursion, AllPairs}
 use Rattle.vx_rows.specs.Derivations.{Leaves}
 use Rattle.vx_rows.specs.Reads.{IsAmong}
 use Rattle.vx_rows.specs.SegmentLeaves.{leaves_of}
@@ -21,8 +21,8 @@ use Rattle.vx_chunks.specs.Outcomes.{data_of, told_by, Causes}
 use Rattle.vx_workers.specs.declared.worker_states.ChunkError.{ChunkError}
 use Rattle.vx_workers.specs.declared.worker_states.WorkerState.{WorkerState}
 use Rattle.vx_workers.specs.declared.worker_states.Piece.{Piece}
-use Rattle.vx_workers.specs.Borrowers.{borrower_chunks, IsBorrower, IsBorrowerBy}
-use Rattle.vx_workers.specs.Reasons.{Reason, leaf_of, segment_of, chunk_and_segment, take_and_segment, IsReasonAmong}
+use Rattle.vx_workers.specs.Borrowers.{borrower_chunks, FaultsBorrowing, IsBorrower, IsBorrowerBy}
+use Rattle.vx_workers.specs.Reasons.{Reason, segment_of, chunk_and_segment, take_and_segment, AreOfOneLeafOnlyBehind, IsReasonAmong}
 use Rattle.vx_workers.specs.Unhindered.{IsUnhindered}
 use Rattle.vx_base.specs.Masks.{Ascend, true_count}
 use Rattle.vx_base.specs.Sources.{SourceState}
@@ -49,20 +49,25 @@ HasItsRows plans chunks piece = IsSomeAnd (slice_get chunks piece.chunk) (λ chu
 
 -- The source was asked for the ranges of these reasons' segments, in this order, and for nothing else; each is the
 -- reason of one of the chunks with these numbers. No chunk has two reasons to ask for one segment, and neither has any of
--- the takes; and where the chunks are in order and the leaves of the plan lie together, no two reasons are of one leaf.
-pub record AsksReached (plans : ScanPlans) (chunks : List SelectedRows) (numbers : List ℕ) (reasons : List Reason) (before after : SourceState) : Type 0 where
+-- the takes. And where the chunks are in order and the leaves of the plan lie together, no two reasons are of one leaf,
+-- unless the chunk of the first ended in a fault of rows with values that the worker borrowed: of a chunk that did, not
+-- all that was asked for needs to have come. A worker that is alone has no such chunk.
+pub record AsksReached (shares : Bool) (plans : ScanPlans) (chunks : List SelectedRows) (numbers : List ℕ) (reasons : List Reason) (before after : SourceState) : Type 0 where
   pub are : AllByRecursion (IsReasonAmong plans chunks) reasons
   pub own : AllByRecursion (λ (reason : Reason). IsAmong reason.chunk numbers) reasons
   pub located : AllLocated plans.locations.items (map segment_of reasons)
   pub asked : after.asked ≡ asked_for (map (location_of plans.locations.items) (map segment_of reasons)) before.asked
   pub once_a_chunk : AreDistinct (map chunk_and_segment reasons)
-  pub once_a_leaf : AreInOrder chunks → LeavesLieTogether (projection_plan plans) → AreDistinct (map leaf_of reasons)
+  pub faulted : List ℕ
+  pub faulted_are : AllByRecursion (FaultsBorrowing shares plans chunks before) faulted
+  pub once_a_leaf : AreInOrder chunks → LeavesLieTogether (projection_plan plans) → AllPairs (AreOfOneLeafOnlyBehind faulted) reasons
   pub once_a_take : AreDistinct (flat_map take_and_segment reasons)
 
--- What the worker of a source did to it: each ask is for a chunk that it claimed.
-pub record RunsSource (plans : ScanPlans) (chunks : List SelectedRows) (numbers : List ℕ) (before after : SourceState) : Type 0 where
+-- What the worker of a source, which shares whole values with others or is alone, did to it: each ask is for a chunk that
+-- it claimed.
+pub record RunsSource (shares : Bool) (plans : ScanPlans) (chunks : List SelectedRows) (numbers : List ℕ) (before after : SourceState) : Type 0 where
   pub reasons : List Reason
-  pub asks : AsksReached plans chunks numbers reasons before after
+  pub asks : AsksReached shares plans chunks numbers reasons before after
   pub lasts : Lasts before after
   pub in_flight : IsLeftClear before after
 
@@ -135,6 +140,6 @@ pub record Worked (shares : Bool) (claims : Claims) (plans : ScanPlans) (chunks 
   -- the whole values that it made are whole by the file
   pub made : AreTyped plans.table (data_of worker.handed.made.items)
   pub made_by : told_by plans before (λ bytes. AreMade plans.table plans.row_offset (data_of worker.handed.made.items) (leaves_of bytes))
-  pub runs : RunsSource plans chunks worker.claimed.items before after
+  pub runs : RunsSource shares plans chunks worker.claimed.items before after
   pub faults : KeepsFaults before after ⊎ IsSomeAnd worker.error (λ error. error.error ≡ ReadFault)
   pub ends : Ends plans chunks worker.error worker.claimed.items (numbers_of worker.pieces.items) (borrower_chunks worker.borrowers.items) (was_told worker.seat) before after

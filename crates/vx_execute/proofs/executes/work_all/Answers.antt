@@ -1,6 +1,5 @@
-use Rattle.std.proofs.Common.{◌≡◌, ◌∙◌, ℕ, Bool, List, length, map, subst, arith}
+use Rattle.std.proofs.Common.{◌≡◌, ◌∙◌, ℕ, Bool, List, length, map, sym, ap, subst, arith}
 use Rattle.std.specs.Prelude.{nat_lt}
-use Rattle.std.proofs.lemmas.Bool.{le-ltb}
 use Rattle.std.proofs.lemmas.List.{length-map}
 use Rattle.vx_claims.specs.Claims.{IsSeatOf, parts}
 use Rattle.vx_workers.specs.declared.worker_states.WorkerState.{WorkerState}
@@ -38,6 +37,6 @@ returns g c =
     let many : length worker_states ≡ length c.args.sources.now = as_many_by (Worked shares c.args.opened.claims c.args.plans.now c.args.chunks.now) worker_states befores afters c.run-worker_states.ensures ∙ mapped in
     let some = c.requires.some in
     joined shares c.args.opened.claims c.args.plans.now c.args.chunks.now worker_states c.join_workers.result befores afters
-    (λ one. le-ltb 1 (length c.args.sources.now) (omega (arith, mapped, one)))
+    (ap (nat_lt 1) (sym mapped))
     (omega (arith, many, some)) c.run-worker_states.ensures
     (subst (λ (n : ℕ). Joins n worker_states c.join_workers.result) c.requires.opened.chunks c.join_workers.ensures)

@@ -26,10 +26,8 @@ loop-left-preserved-in-Continue-branch-3 c =
     let made = c.in_ok-chunk.ensures {u = tt} in
     let trimmed : IsTrimmed c.args.selection.now (record { file_ordinal = 0; rows = rows }) c.in-Some.chunk = subst (λ (o : Option SelectedRows). IfSome o (λ chunk. IsTrimmed c.args.selection.now (record { file_ordinal = 0; rows = rows }) chunk)) c.in-Some.is made.trimmed in
     let some : selected_rows c.args.selection.now rows.start rows.end ≡ [] → ⊥ = λ empty. not_none c.in_ok-chunk.field-0 c.in-Some.chunk c.in-Some.is (made.none.1 empty) in
-    let counted = c.true_count.ensures in
-    let added = c.saturating_add-count.ensures in
-    let more : ℕ = c.saturating_add-count.result in
-    let less : more ≤ c.loop-left.count + true_count c.in-Some.chunk.mask = omega (arith, counted, added) in (
+    let more : ℕ = c.counted-count.result in
+    let less : more ≤ c.loop-left.count + true_count c.in-Some.chunk.mask = c.counted-count.ensures in (
       subst (Cutting c.args.selection.now c.args.size c.args.rows.start end rows.end more) (sym (c.in_ok-push.ensures {u = tt}).items)
           (cut_more c.args.selection.now c.args.size c.args.rows.start end c.loop-left.left.start c.loop-left.count rows c.loop-left.chunks.items c.in-Some.chunk more c.loop-left.invariant.0 is trimmed some less),
       c.loop-left.invariant.1,
