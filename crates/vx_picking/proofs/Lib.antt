@@ -1,0 +1,3 @@
+pub mod SelectedRows
+pub mod PickedValues
+pub mod MaskRanges
