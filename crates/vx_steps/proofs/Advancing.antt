@@ -6,6 +6,7 @@ use Rattle.std.proofs.lemmas.List.{length-take}
 use Rattle.std.proofs.lemmas.List.Sums.{sum_by-remove, sum_by-set}
 use Rattle.std.proofs.lemmas.Option.{get_or_from_slice_get, slice_get_within}
 use Rattle.vx_base.specs.Columns.{ColumnData}
+use Rattle.vx_picking.specs.Rows.{SelectsSome}
 use Rattle.vx_plan.specs.Nodes.{Node}
 use Rattle.vx_steps.specs.declared.jobs.ActiveSplit.{ActiveSplit}
 use Rattle.vx_steps.specs.declared.jobs.Job.{Job}
@@ -23,7 +24,6 @@ use Rattle.vx_steps.specs.Needs.{Among, AreAmong}
 use Rattle.vx_steps.specs.Pieces.{read_of}
 use Rattle.vx_steps.specs.ReadTable.{bytes_of, HandsOut, KeepsStored, StandsAt}
 use Rattle.vx_steps.specs.ReadTableData.{ReadsData, Wanted}
-use Rattle.vx_steps.specs.Rows.{SelectsSome}
 use Rattle.vx_steps.specs.Running.{IsActive, IsRunning, IsSound}
 use Rattle.vx_steps.specs.Standings.{left_of, none_given, numbers_from, split_left, standing_of, SplitLeft, Standing}
 use Rattle.vx_steps.specs.Steps.{row_count, rows_left, work_left, AreHandedOut, GivesOutput, GoesOn, HandsRead, HasCame, HoldsAll, IsDone, IsHandedOut, IsHeldUpAt, IsLeftAt, IsWaiting, TakesTurn}

@@ -1,5 +1,6 @@
 -- Which whole values selected rows ask for where nothing is handed in, part by part.
 use Rattle.std.proofs.Common.{◌≡◌, ℕ, ◌<◌, ⊎_elim, Bool, List, [], ◌∷◌, length, sym, subst}
+use Rattle.vx_picking.specs.Rows.{SelectsSome}
 use Rattle.vx_plan.specs.declared.parts.Part.{Part}
 use Rattle.vx_plan.specs.declared.shapes.Shape.{Shape}
 use Rattle.vx_plan.specs.Nodes.{Node}
@@ -8,7 +9,6 @@ use Rattle.vx_plan.specs.Shapes.{HasShape}
 use Rattle.vx_plan.specs.Tables.{IsGoodTable}
 use Rattle.vx_steps.specs.Asked.{AreAskedPlans, AreSame}
 use Rattle.vx_steps.specs.Needs.{Adds, Among}
-use Rattle.vx_steps.specs.Rows.{SelectsSome}
 use Rattle.vx_steps.specs.Wholes.{Asks, AsksNone}
 use Rattle.vx_steps.proofs.EachOnce.{among_is, is_among}
 use Rattle.vx_steps.proofs.PartsAsking.{asked_parts, parts_asked, PartAsks, PartsAsk}

@@ -10,6 +10,7 @@ use Rattle.vx_rows.specs.Derivations.{Derivation, packed, Leaves, derived}
 use Rattle.vx_rows.specs.Given.{GivenValues, AreCertified, EachCertified}
 use Rattle.vx_rows.specs.Heads.{Head}
 use Rattle.vx_rows.proofs.Givens.{certified}
+use Rattle.vx_picking.specs.Rows.{rows_of, AreOf}
 use Rattle.vx_plan.specs.declared.nodes.PlanKind.{PlanKind}
 use Rattle.vx_plan.specs.declared.nodes.PlanKind.TheVariants as kinds
 use Rattle.vx_plan.specs.FittingRows.{HasFittingRows, HaveFittingRows, FieldsHaveRows, ValidityHasRows}
@@ -28,7 +29,6 @@ use Rattle.vx_steps.specs.GivenLaws.{AreServed}
 use Rattle.vx_steps.specs.Held.{AreMade}
 use Rattle.vx_steps.specs.KeptData.{Kept}
 use Rattle.vx_steps.specs.Kept.{kept_at, values_of, whole_of}
-use Rattle.vx_steps.specs.Rows.{rows_of, AreOf}
 use Rattle.vx_steps.proofs.WholeRows.{each_at}
 use Rattle.vx_steps.proofs.Shaping.{given_known}
 use Rattle.vx_steps.proofs.Standing.{IsOfTable, stands_of_table}

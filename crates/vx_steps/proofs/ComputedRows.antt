@@ -4,6 +4,9 @@ use Rattle.std.specs.Prelude.{slice_range, IsSomeAnd, IfOk, IfErr, IfSome, Match
 use Rattle.std.specs.List.{slice_get, range_with_len}
 use Rattle.std.proofs.lemmas.Int.{ints}
 use Rattle.std.proofs.lemmas.List.{length-replicate}
+use Rattle.vx_picking.specs.RowFaults.{root_meaning, IsPastCode, IsRowAt}
+use Rattle.vx_picking.specs.Rows.{rows_of, SelectsNone, SelectsSome}
+use Rattle.vx_picking.proofs.SelectedRows.{map_same, picked_rows, row_bit, rows_all, rows_none, then_rows, value_row}
 use Rattle.vx_plan.specs.Kinds.{coding_of}
 use Rattle.vx_base.specs.ColumnCalls.{natural}
 use Rattle.vx_base.specs.Columns.{ColumnData}
@@ -34,11 +37,9 @@ use Rattle.vx_steps.specs.Given.{Handed, given_for, handed_by, row_value, values
 use Rattle.vx_steps.specs.Held.{Held, AreTyped, IsBy, IsHeld, alone, handed_in}
 use Rattle.vx_steps.specs.KeptData.{Kept}
 use Rattle.vx_steps.specs.Kept.{kept_at, values_of, whole_of}
-use Rattle.vx_steps.specs.RowFaults.{root_meaning, IsCodeFault, IsEvalFault, IsPastCode, IsRowAt}
-use Rattle.vx_steps.specs.Rows.{rows_of, SelectsNone, SelectsSome}
+use Rattle.vx_steps.specs.RowFaults.{IsCodeFault, IsEvalFault}
 use Rattle.vx_steps.specs.Visits.{Test, Visits, SomeVisit, HasBadCode, HasEvalFault, IsListRead}
 use Rattle.vx_steps.proofs.Premises.{is_by_for}
-use Rattle.vx_steps.proofs.SelectedRows.{map_same, picked_rows, row_bit, rows_all, rows_none, then_rows, value_row}
 use Rattle.vx_steps.proofs.Shaping.{head_of, IsEvalPlan, IsLeafPlan, IsSharePlan, IsTakePlan, IsZonedPlan}
 use Rattle.vx_steps.proofs.WholeRows.{each_at, each_same, row_below, same_below}
 use Rattle.vx_steps.proofs.FreeVisits.{IsNoPlace}

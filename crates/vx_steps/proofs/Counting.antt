@@ -19,11 +19,12 @@ use Rattle.vx_plan.specs.Rules.{node_at}
 use Rattle.vx_plan.specs.Shapes.{HasShape, ShapeOf, zoned_kind}
 use Rattle.vx_plan.proofs.Collecting.{shape_there}
 use Rattle.vx_steps.specs.declared.open_segments.OpenSegments.{OpenSegments}
+use Rattle.vx_steps.specs.Counts.{count_in}
 use Rattle.vx_steps.specs.Jobs.{KeepsColumns}
 use Rattle.vx_steps.specs.Kept.{kept_at, IsKept}
 use Rattle.vx_steps.specs.KeptData.{Kept}
 use Rattle.vx_steps.specs.Needs.{Among}
-use Rattle.vx_steps.specs.OpenSegments.{open_count, AddsOne, AreCounted, AreCountedTo, AtMost, HasOneAtMost, IsLeafOver, IsOpenLeaf, TakesOne}
+use Rattle.vx_steps.specs.OpenSegments.{AddsOne, AreCounted, AreCountedTo, AtMost, HasOneAtMost, IsLeafOver, IsOpenLeaf, TakesOne}
 use Rattle.vx_steps.specs.Releasing.{IsSpent}
 use Rattle.vx_steps.proofs.Decoding.{one_segment}
 use Rattle.vx_steps.proofs.Releasing.{none_before, not_kept}
@@ -110,24 +111,24 @@ counted_more nodes leaves i segment old new known here adds are = record {
   counted = λ s. counted_at s (segment == s) refl;
 }
   where
-    count_then : (s : ℕ) (b : Bool) → (segment == s) ≡ b → open_count new s ≡ unwrap_or (if b then Some (open_count old segment + 1) else get nat_cmp old s) 0
-    count_then s b e = ap (λ (o : Option ℕ). unwrap_or o 0) (adds s) ∙ ap (λ (t : Bool). unwrap_or (if t then Some (open_count old segment + 1) else get nat_cmp old s) 0) e
+    count_then : (s : ℕ) (b : Bool) → (segment == s) ≡ b → count_in new s ≡ unwrap_or (if b then Some (count_in old segment + 1) else get nat_cmp old s) 0
+    count_then s b e = ap (λ (o : Option ℕ). unwrap_or o 0) (adds s) ∙ ap (λ (t : Bool). unwrap_or (if t then Some (count_in old segment + 1) else get nat_cmp old s) 0) e
 
-    bounded_at : (s : ℕ) (b : Bool) → (segment == s) ≡ b → open_count new s ≤ i + 1
+    bounded_at : (s : ℕ) (b : Bool) → (segment == s) ≡ b → count_in new s ≤ i + 1
     bounded_at s true e = let is = count_then s true e in let most = are.bounded segment in omega arith
     bounded_at s false e = let is = count_then s false e in let most = are.bounded s in omega arith
 
-    counted_at : (s : ℕ) (b : Bool) → (segment == s) ≡ b → AtMost (open_count new s) (λ n. (n < i + 1) × IsOpenLeaf nodes leaves s n)
+    counted_at : (s : ℕ) (b : Bool) → (segment == s) ≡ b → AtMost (count_in new s) (λ n. (n < i + 1) × IsOpenLeaf nodes leaves s n)
     counted_at s true e =
         let most = are.counted segment in
-        let is : open_count new s ≡ open_count old segment + 1 = count_then s true e in
-        let length_is : length (i ∷ most.0) ≤ open_count old segment + 1 = let fits = most.1 in omega arith in
+        let is : count_in new s ≡ count_in old segment + 1 = count_then s true e in
+        let length_is : length (i ∷ most.0) ≤ count_in old segment + 1 = let fits = most.1 in omega arith in
         let same : s ≡ segment = sym (together segment s e) in
         let P : ℕ → Type 0 = λ k. length (i ∷ most.0) ≤ k in
         (i ∷ most.0, subst P (sym is) length_is, λ n free. ⊎_elim (λ (before : n < i). inr (most.2 n (before, subst (λ (k : ℕ). IsOpenLeaf nodes leaves k n) same free.1))) (λ (here : n ≡ i). inl (sym here)) (up_to n i free.0))
     counted_at s false e =
         let most = are.counted s in
-        let is : open_count new s ≡ open_count old s = count_then s false e in
+        let is : count_in new s ≡ count_in old s = count_then s false e in
         let P : ℕ → Type 0 = λ k. length most.0 ≤ k in
         (most.0, subst P (sym is) most.1, λ n free. ⊎_elim (λ (before : n < i). most.2 n (before, free.1)) (λ (is_i : n ≡ i). let leaf : IsLeafOver nodes s n = free.1.0 in absurd (apart segment s e (one_segment nodes i segment s known here (subst (IsLeafOver nodes s) is_i leaf)))) (up_to n i free.0))
 

@@ -13,13 +13,13 @@ use Rattle.vx_base.specs.Masks.{true_count}
 use Rattle.vx_base.specs.Slots.{truth_in}
 use Rattle.vx_expr.specs.Types.{on_both}
 use Rattle.vx_expr.specs.Packs.{struct_row}
+use Rattle.vx_picking.specs.Rows.{rows_of, AreOf}
+use Rattle.vx_picking.proofs.SelectedRows.{count_of_rows, rows_count}
 use Rattle.vx_plan.specs.Kinds.{has_validity_of, HasKind, IsPack}
 use Rattle.vx_plan.specs.PlanRows.{plan_derivations}
 use Rattle.vx_plan.specs.Tables.{IsGoodTable}
 use Rattle.vx_rows.specs.Given.{each_with_given}
-use Rattle.vx_steps.specs.Rows.{rows_of, AreOf}
 use Rattle.vx_steps.specs.Structs.{field_parts, front_parts, last_part, structs_at, truths_of, validity_part, HaveTypes}
-use Rattle.vx_steps.proofs.SelectedRows.{count_of_rows, rows_count}
 use Rattle.vx_base.specs.Columns.{ColumnData}
 use Rattle.vx_plan.specs.Plans.{Plan, plan_at, plans_from, field_plans, front_plans, last_plan, last_validity, pack_plan}
 use Rattle.vx_plan.specs.Rules.{field_count, node_at, nodes_at, IsValidityType, ValidityFits}

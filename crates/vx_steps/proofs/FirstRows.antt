@@ -3,6 +3,7 @@ use Rattle.std.proofs.Common.{◌≡◌, ℕ, ◌+◌, ◌-◌, ◌<◌, ◌≤�
 use Rattle.std.specs.Prelude.{slice_range}
 use Rattle.std.specs.List.{slice_get}
 use Rattle.std.proofs.lemmas.Bool.{cases_lt}
+use Rattle.vx_picking.specs.Rows.{SelectsSome, SomeRow}
 use Rattle.vx_plan.specs.Nodes.{Node}
 use Rattle.vx_plan.specs.Plans.{Plan, plan_at}
 use Rattle.vx_plan.specs.Refs.{number_of}
@@ -20,7 +21,6 @@ use Rattle.vx_steps.specs.KeptData.{Kept}
 use Rattle.vx_steps.specs.Kept.{IsKept}
 use Rattle.vx_steps.specs.Needs.{Among}
 use Rattle.vx_steps.specs.Pieces.{piece_of, AreKeptFor, ArePassed, ArePlaced, Covers, Direct}
-use Rattle.vx_steps.specs.Rows.{SelectsSome, SomeRow}
 use Rattle.vx_steps.specs.Running.{AreDecoded}
 use Rattle.vx_steps.specs.Turns.{AreLeavesKept}
 use Rattle.vx_steps.specs.Visits.{Visits, HasBadCode, HasEvalFault, IsLeafRead, IsListRead, IsWholeRead}

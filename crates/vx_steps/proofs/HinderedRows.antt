@@ -12,8 +12,7 @@ use Rattle.vx_plan.specs.declared.chunks.Chunk.{Chunk}
 use Rattle.vx_steps.specs.declared.hindrances.Hindrance.{Hindrance}
 use Rattle.vx_steps.specs.declared.hindrances.Hindrance.TheVariants as hindrances
 use Rattle.vx_plan.specs.Chunks.{IsChunk}
-use Rattle.vx_steps.specs.Hindrances.{AreHindered, IsHindrance, IsOne}
-use Rattle.vx_steps.specs.Rows.{IsRun}
+use Rattle.vx_steps.specs.Hindrances.{AreHindered, IsHindrance, IsOne, IsRun}
 use Rattle.vx_steps.specs.Visits.{SomeVisit, Visits}
 use Rattle.vx_steps.proofs.ChunkRows.{chunk_down, chunk_up, IsConcatPlan}
 use Rattle.vx_steps.proofs.Selecting.{only_right}

@@ -9,7 +9,7 @@ use Rattle.vx_plan.specs.Refs.{number_of}
 use Rattle.vx_steps.specs.declared.kept.KeptValue.{KeptValue}
 use Rattle.vx_steps.specs.declared.places.PlaceTable.{PlaceTable}
 use Rattle.vx_steps.specs.KeptData.{Kept}
-use Rattle.vx_steps.specs.Kept.{kept_at, kept_data, IsPlace}
+use Rattle.vx_steps.specs.Kept.{kept_at, kept_data, AreIndexed, IsPlace}
 use Rattle.vx_steps.specs.Places.{place_in, KeepsPlaces}
 use Rattle.vx_steps.proofs.Keeping.{step_new, kept_new, kept_old, got_old, place_old, is_place_other, places_more, same_got}
 
@@ -145,6 +145,14 @@ index_more old new xs i x inside is absent placed put n =
 pub on_err : {A E : Type 0} (r : Result A E) (P : Type 0) → P → OnErr r P
 on_err (Ok a) P p = tt
 on_err (Err e) P p = p
+
+none_taken : (kept : List Kept) (n : ℕ) → kept_at (take zero kept) n ≡ None
+none_taken [] n = refl
+none_taken (k ∷ kept) n = refl
+
+-- none are indexed yet
+pub indexed_none : (places : PlaceTable) (kept : List Kept) → ((n : ℕ) → place_in places n ≡ None) → AreIndexed places 0 kept
+indexed_none places kept none = record { inside = omega arith; placed = λ n. subst (IsPlace (take 0 kept) n) (sym (none n)) (none_taken kept n) }
 
 pub places_unchanged : (old new : PlaceTable) (kept : List Kept) → KeepsPlaces old new → ((n : ℕ) → IsPlace kept n (place_in old n)) → (n : ℕ) → IsPlace kept n (place_in new n)
 places_unchanged old new kept same placed n =

@@ -1,3 +1,4 @@
+pub mod AddedNeeds
 pub mod Advancing
 pub mod Agreeing
 pub mod AllReads
@@ -17,6 +18,7 @@ pub mod Counting
 pub mod Decoding
 pub mod Delivering
 pub mod EachOnce
+pub mod Ending
 pub mod Fields
 pub mod Finishing
 pub mod FirstRows
@@ -37,7 +39,6 @@ pub mod LeavingRows
 pub mod LetGo
 pub mod LettingAllGo
 pub mod LettingGo
-pub mod MaskRanges
 pub mod MissingBytes
 pub mod Needing
 pub mod NewScans
@@ -52,8 +53,8 @@ pub mod Parts
 pub mod PartsAsking
 pub mod PassedNeeds
 pub mod Passing
-pub mod PickedValues
 pub mod PieceRows
+pub mod PlacedAsking
 pub mod PlacedVisits
 pub mod Placing
 pub mod Premises
@@ -64,7 +65,7 @@ pub mod Releasing
 pub mod Remaining
 pub mod Replacing
 pub mod RestServed
-pub mod SelectedRows
+pub mod SegmentRuns
 pub mod Selecting
 pub mod SettingApart
 pub mod Settling
@@ -81,6 +82,9 @@ pub mod StoredLeaves
 pub mod StoredPlaces
 pub mod Storing
 pub mod Structures
+pub mod TableMarks
+pub mod TablePlaces
+pub mod Tables
 pub mod Tallies
 pub mod TriedRows
 pub mod TriedSplits
@@ -97,3 +101,5 @@ pub mod WholeCauses
 pub mod WholeFaults
 pub mod WholeMaking
 pub mod WholeRows
+pub use Rattle.vx_picking.proofs.MaskRanges
+pub use Rattle.vx_picking.proofs.SelectedRows

@@ -6,6 +6,8 @@ use Rattle.std.proofs.lemmas.Bool.{cases_lt, eqb-true}
 use Rattle.std.proofs.lemmas.Option.{slice_get_within, same_Some}
 use Rattle.vx_base.specs.Masks.{true_count}
 use Rattle.vx_masks.proofs.Places.{false_first}
+use Rattle.vx_picking.specs.Rows.{SomeRow}
+use Rattle.vx_picking.proofs.SelectedRows.{true_first}
 use Rattle.vx_plan.specs.Nodes.{Node}
 use Rattle.vx_plan.specs.Plans.{Plan, plan_at}
 use Rattle.vx_steps.specs.declared.jobs.ActiveSplit.{ActiveSplit}
@@ -20,7 +22,6 @@ use Rattle.vx_steps.specs.LaterReads.{SplitRead, SegmentReadFrom}
 use Rattle.vx_steps.specs.Needed.{open_reads, still_reads, AreReadsOfSplits, IsLacked, IsNeededBy, KeepsNeeded, LeafIsAhead, LeafIsNeeded, SegmentIsAhead}
 use Rattle.vx_steps.specs.Needs.{Among}
 use Rattle.vx_steps.specs.Pieces.{piece_of, read_of, ArePlaced, Covers, Direct, IsPlaced, ReadsDirectly, ReadsInside}
-use Rattle.vx_steps.specs.Rows.{SomeRow}
 use Rattle.vx_steps.specs.Running.{IsActive, IsStarted}
 use Rattle.vx_steps.specs.Standings.{left_of, none_given, numbers_from, split_left, standing_of, SplitLeft, Standing}
 use Rattle.vx_steps.specs.Steps.{IsReadByRest}
@@ -32,7 +33,6 @@ use Rattle.vx_steps.proofs.AllReads.{all_of_one, one_of_all}
 use Rattle.vx_steps.proofs.PieceRows.{among_at, visits_apart}
 use Rattle.vx_steps.proofs.PlacedVisits.{visit_mapped}
 use Rattle.vx_steps.proofs.Releasing.{not_kept}
-use Rattle.vx_steps.proofs.SelectedRows.{true_first}
 use Rattle.vx_steps.proofs.Selecting.{among_back, among_front, among_split, got_dropped, got_range, range_got}
 
 -- ---- lists

@@ -9,6 +9,7 @@ use Rattle.vx_rows.specs.Given.{GivenValues}
 use Rattle.vx_rows.specs.Reads.{directly, through, Read, reads_of, reads_of_each, AnyOf, IsCodeOf}
 use Rattle.vx_rows.specs.Heads.{Head}
 use Rattle.vx_rows.proofs.ReadRows.{any_either, each_lies_through}
+use Rattle.vx_picking.specs.Rows.{SomeRow}
 use Rattle.vx_plan.specs.declared.nodes.PlanKind.{PlanKind}
 use Rattle.vx_plan.specs.declared.nodes.PlanKind.TheVariants as kinds
 use Rattle.vx_plan.specs.Nodes.{Node, absent}
@@ -24,7 +25,6 @@ use Rattle.vx_steps.specs.Below.{HasNoShare, IsSharePlan}
 use Rattle.vx_steps.specs.Given.{Handed, given_for}
 use Rattle.vx_steps.specs.KeptData.{Kept}
 use Rattle.vx_steps.specs.Laws.{ReadsTake, IsValuesOf}
-use Rattle.vx_steps.specs.Rows.{SomeRow}
 use Rattle.vx_steps.specs.Visits.{Test, Visits, VisitsIn, VisitsField, VisitsValidity, IsWholeRead}
 use Rattle.vx_steps.specs.Wholes.{AreThere, IsThere}
 use Rattle.vx_steps.proofs.PlacedVisits.{Implies, IsPlaced, is_placed, visit_mapped}

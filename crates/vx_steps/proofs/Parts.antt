@@ -5,6 +5,7 @@ use Rattle.std.specs.List.{slice_get}
 use Rattle.std.proofs.lemmas.Bool.{cases_lt}
 use Rattle.std.proofs.lemmas.List.Elements.{All-head, All-tail}
 use Rattle.std.proofs.lemmas.Option.{slice_get_within}
+use Rattle.vx_picking.specs.Rows.{SomeRow, SelectsSome}
 use Rattle.vx_plan.specs.declared.parts.Part.{Part}
 use Rattle.vx_plan.specs.declared.parts.Part.TheVariants as parts
 use Rattle.vx_plan.specs.declared.shapes.Shape.{Shape}
@@ -22,7 +23,6 @@ use Rattle.vx_steps.specs.Given.{Handed, handed_by}
 use Rattle.vx_steps.specs.KeptData.{Kept}
 use Rattle.vx_steps.specs.Needs.{Adds, IsUnderWhole}
 use Rattle.vx_steps.specs.PartVisits.{PartVisits, PartsVisit}
-use Rattle.vx_steps.specs.Rows.{SomeRow, SelectsSome}
 use Rattle.vx_steps.specs.Visits.{Test, Visits, VisitsIn, SomeVisit, IsLeafRead}
 use Rattle.vx_steps.proofs.ChunkRows.{concat_plan_at}
 use Rattle.vx_steps.proofs.Indexing.{take_all}

@@ -1,6 +1,7 @@
 -- Which whole values selected rows of a plan ask for: those that are parts of it, and what the rows of its parts do.
 use Rattle.std.proofs.Common.{◌≡◌, ℕ, zero, suc, ◌+◌, ◌-◌, ◌<◌, ◌⊎◌, inl, inr, ⊎_elim, min, Bool, List, [], ◌∷◌, ◌++◌, Option, Some, None, length, map, refl, sym, ap, ◌∙◌, subst}
 use Rattle.std.specs.Prelude.{slice_range, nat_lt}
+use Rattle.vx_picking.specs.Rows.{SelectsSome}
 use Rattle.vx_plan.specs.declared.parts.Part.{Part}
 use Rattle.vx_plan.specs.declared.parts.Part.TheVariants as parts
 use Rattle.vx_plan.specs.declared.shapes.Shape.{Shape}
@@ -16,7 +17,6 @@ use Rattle.vx_plan.proofs.Parting.{chunks_left, fields_left, leaf_left, lists_le
 use Rattle.vx_steps.specs.Given.{handed_by}
 use Rattle.vx_steps.specs.KeptData.{Kept}
 use Rattle.vx_steps.specs.PartVisits.{PartVisits, PartsVisit}
-use Rattle.vx_steps.specs.Rows.{SelectsSome}
 use Rattle.vx_steps.specs.Visits.{Test, Visits, VisitsIn, VisitsField, VisitsValidity, SomeVisit, IsWholeRead}
 use Rattle.vx_steps.specs.Wholes.{Asks, IsWholeOf}
 use Rattle.vx_steps.proofs.Parts.{parts_down, parts_either, parts_up, SomeOwn}

@@ -8,6 +8,8 @@ use Rattle.std.proofs.lemmas.Option.{slice_get-get_or, slice_get_within}
 use Rattle.std.proofs.lemmas.List.{length-take, map-append, take-append-drop}
 use Rattle.vx_base.specs.Columns.{ColumnData}
 use Rattle.vx_base.specs.Data.{Datum}
+use Rattle.vx_picking.specs.Rows.{rows_of, AreOf, SelectsSome}
+use Rattle.vx_picking.proofs.SelectedRows.{rows_append, rows_none}
 use Rattle.vx_plan.specs.Nodes.{Node}
 use Rattle.vx_plan.specs.Plans.{Plan, Plans, PlanValidity, no_plans, plan, all_valid, valid_as, no_plan, plan_head, plan_at, concat_plan, eval_plan, filter_plan, pack_plan, take_plan, share_plan, list_plan, row_idx_plan, scan_plan, zoned_plan}
 use Rattle.vx_plan.specs.Refs.{number_of}
@@ -30,12 +32,10 @@ use Rattle.vx_steps.specs.Needs.{Among}
 use Rattle.vx_steps.specs.Turns.{ReadsFor}
 use Rattle.vx_steps.specs.Wants.{AreNeeds}
 use Rattle.vx_steps.specs.Pieces.{joined, read_of, AreInOrder, AreKeptBefore, AreKeptFor, ArePassed, ArePieces, ArePlaced, Covers, Direct, FailsRows, GivesRows, IsGivenTo, IsNextNeed, IsNextRow, IsPlaced, Piece}
-use Rattle.vx_steps.specs.Rows.{rows_of, AreOf, SelectsSome}
 use Rattle.vx_steps.specs.Visits.{Test, Visits, VisitsIn, VisitsField, VisitsValidity, SomeVisit, HasBadCode, HasEvalFault, IsLeafRead, IsListRead}
 use Rattle.vx_steps.specs.Wholes.{AreReadyInside, Inside, KeepsValues}
 use Rattle.vx_steps.proofs.Parts.{all_rows_taken}
 use Rattle.vx_steps.proofs.PlacedVisits.{visit_mapped}
-use Rattle.vx_steps.proofs.SelectedRows.{rows_append, rows_none}
 use Rattle.vx_steps.proofs.Selecting.{got_range, range_got}
 use Rattle.vx_steps.proofs.WholeFaults.{inside, inside_is}
 use Rattle.vx_steps.proofs.WholeMaking.{computed_by, holding}

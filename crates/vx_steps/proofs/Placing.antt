@@ -3,6 +3,7 @@
 use Rattle.std.proofs.Common.{◌≡◌, ℕ, zero, suc, ◌+◌, ◌-◌, ◌<◌, ◌≤◌, ◌⊎◌, inl, inr, ⊎_elim, Bool, true, false, List, [], ◌∷◌, ◌++◌, Some, None, length, map, get_or, take, refl, sym, ap, ◌∙◌, subst, arith, append_assoc}
 use Rattle.std.specs.Prelude.{slice_range}
 use Rattle.std.specs.List.{slice_get}
+use Rattle.vx_picking.specs.Rows.{SelectsNone}
 use Rattle.vx_plan.specs.declared.parts.ChildRows.{ChildRows}
 use Rattle.vx_plan.specs.declared.parts.Part.{Part}
 use Rattle.vx_plan.specs.declared.parts.Part.TheVariants as parts
@@ -30,7 +31,7 @@ use Rattle.vx_steps.proofs.FreeVisits.{freed, hands_none, leaf_becomes}
 use Rattle.vx_steps.proofs.Parts.{all_rows_taken, leaf_alone, parts_down, parts_up, SomeOwn}
 use Rattle.vx_steps.proofs.PartsAsking.{none_inside}
 use Rattle.vx_steps.proofs.Selecting.{among_back, among_front, among_split, got_range, range_got}
-use Rattle.vx_steps.proofs.Shaping.{head_of, IsLeafPlan}
+use Rattle.vx_steps.proofs.Shaping.{head_of, leaf_plan, IsLeafPlan}
 use Rattle.vx_steps.proofs.Visiting.{NoGap}
 use Rattle.vx_steps.proofs.WholeFaults.{inside}
 
@@ -272,6 +273,22 @@ leaf_placed nodes given n segment start bits base ends known has over are old = 
 
     none : (read : LeafRead) (row : ℕ) → Visits (Inside (IsLeafRead read)) (handed_by nodes (Some given)) (scan_plan (head_of nodes n) segment (coding_of (node_at nodes n).kind)) row → ⊥
     none read row v = v
+
+-- the same of what is the old with that need behind it
+pub ends_placed : (nodes : List Node) (given : List Kept) (n segment start : ℕ) (bits : List Bool) (base : ℕ) (ends : Ends) → AreEnds bits ends → (old new : List PlacedRead) → new ≡ old ++ record { leaf = n; segment = segment; from = base + ends.first; last = base + ends.last } ∷ [] → n < length nodes → HasShape nodes n (shapes.Leaf segment) → AddsPlaced nodes given n start bits base old new
+ends_placed nodes given n segment start bits base ends are old new is known has =
+    let F : List PlacedRead → Type 0 = AddsPlaced nodes given n start bits base old in
+    subst F (sym is) (leaf_placed nodes given n segment start bits base ends known has (leaf_plan nodes n segment known has) are old)
+
+-- no row is selected
+pub none_placed : (nodes : List Node) (given : List Kept) (n start : ℕ) (bits : List Bool) (base : ℕ) → SelectsNone bits → (old : List PlacedRead) → AddsPlaced nodes given n start bits base old old
+none_placed nodes given n start bits base none old = record {
+  only = λ need h. inl h;
+  kept = λ need h. h;
+  direct = λ read place chosen v. absurd (none place chosen);
+  inside = λ read place chosen v. absurd (none place chosen);
+  leaves = λ h. h;
+}
 
 -- all rows of a mask
 pub all_placed : (nodes : List Node) (given : List Kept) (n start : ℕ) (bits : List Bool) (base from to : ℕ) → from ≡ 0 → to ≡ length bits → (old new : List PlacedRead) → AddsPlaced nodes given n start bits base old new → AddsPlaced nodes given n start (slice_range bits from to) (base + from) old new

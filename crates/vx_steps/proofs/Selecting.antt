@@ -2,6 +2,7 @@
 use Rattle.std.proofs.Common.{◌≡◌, ℕ, zero, suc, ◌+◌, ◌-◌, ◌<◌, ◌⊎◌, inl, inr, ⊎_elim, Bool, true, false, List, [], ◌∷◌, ◌++◌, Option, Some, None, take, drop, replicate, refl, sym, ap, ◌∙◌, subst, arith}
 use Rattle.std.specs.Prelude.{slice_range}
 use Rattle.std.specs.List.{slice_get}
+use Rattle.vx_picking.specs.Rows.{SelectsSome}
 use Rattle.vx_plan.specs.Kinds.{coding_of}
 use Rattle.vx_base.specs.Columns.{ColumnData}
 use Rattle.vx_plan.specs.Nodes.{Node}
@@ -12,7 +13,6 @@ use Rattle.vx_steps.specs.Given.{Handed, values_for, given_for, handed_by}
 use Rattle.vx_steps.specs.KeptData.{Kept}
 use Rattle.vx_steps.specs.Kept.{kept_at, whole_of, values_of}
 use Rattle.vx_steps.specs.Needs.{Among, Adds, NoneGiven, IsUnderWhole}
-use Rattle.vx_steps.specs.Rows.{SelectsSome}
 use Rattle.vx_steps.specs.Visits.{Visits, VisitsField, VisitsValidity, SomeVisit, IsLeafRead}
 use Rattle.vx_steps.proofs.Shaping.{head_of, IsLeafPlan}
 

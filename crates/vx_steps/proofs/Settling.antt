@@ -1,10 +1,10 @@
 -- Once its needs are passed, a split whose rows were given goes on, and is active no more where none of them is left.
-use Rattle.std.proofs.Common.{◌≡◌, Global, Vec, ℕ, zero, suc, ◌<◌, ◌≤◌, ◌⊎◌, inl, inr, ⊎_elim, true, false, List, [], ◌∷◌, Some, None, ◌+◌, Bool, length, map, drop, get_or, refl, sym, ap, ◌∙◌, subst, arith}
+use Rattle.std.proofs.Common.{◌≡◌, Global, Vec, ℕ, zero, suc, ◌<◌, ◌≤◌, ◌⊎◌, inl, inr, ⊎_elim, true, false, List, [], ◌∷◌, Some, None, ◌+◌, Bool, length, map, drop, refl, sym, ap, ◌∙◌, subst, arith}
 use Rattle.std.specs.List.{remove, slice_get}
 use Rattle.std.specs.Option.{option_map}
 use Rattle.std.proofs.lemmas.Bool.{cases_eq}
 use Rattle.std.proofs.lemmas.List.{length-map}
-use Rattle.std.proofs.lemmas.Option.{same_Some, slice_get-get_or, slice_get-map, slice_get_within}
+use Rattle.std.proofs.lemmas.Option.{same_Some, slice_get-map, slice_get_within}
 use Rattle.vx_plan.specs.Nodes.{Node}
 use Rattle.vx_plan.specs.Plans.{plan_at}
 use Rattle.vx_steps.specs.declared.jobs.ActiveSplit.{ActiveSplit}
@@ -56,7 +56,7 @@ among_removed (z ∷ xs) zero y x at (inr more) = inl (subst (λ (ys : List _). 
 among_removed (z ∷ xs) (suc i) y x at (inl e) = inl (inl e)
 among_removed (z ∷ xs) (suc i) y x at (inr more) = ⊎_elim (λ (a : Among x (remove xs i)). inl (inr a)) (λ (e : y ≡ x). inr e) (among_removed xs i y x at more)
 
-map_removed : {X Y : Type 0} (f : X → Y) (xs : List X) (i : ℕ) → map f (remove xs i) ≡ remove (map f xs) i
+pub map_removed : {X Y : Type 0} (f : X → Y) (xs : List X) (i : ℕ) → map f (remove xs i) ≡ remove (map f xs) i
 map_removed f [] zero = refl
 map_removed f [] (suc i) = refl
 map_removed f (x ∷ xs) zero = ap (map f) (none_dropped xs) ∙ sym (none_dropped (map f xs))
@@ -66,9 +66,6 @@ got_mapped : {X Y : Type 0} (f : X → Y) (xs : List X) (i : ℕ) (y : Y) → sl
 got_mapped f [] i y at = absurd cc
 got_mapped f (x ∷ xs) zero y at = (x, refl, same_Some (f x) y at)
 got_mapped f (x ∷ xs) (suc i) y at = got_mapped f xs i y at
-
-pub got_at : {X : Type 0} (xs : List X) (i : ℕ) (x : X) → i < length xs → x ≡ get_or xs i x → slice_get xs i ≡ Some x
-got_at xs i x inside is = slice_get-get_or xs i x inside ∙ ap Some (sym is)
 
 nothing : {X : Type 0} (xs : List X) → ((x : X) → Among x xs → ⊥) → xs ≡ []
 nothing [] none = refl
@@ -136,6 +133,16 @@ need_before nodes job split need done begun past (inr i) =
     let first : need.from ≡ 0 = i.0 in
     omega arith
 
+-- each leaf is kept that a split needs of which no row is left
+pub needs_kept : (nodes : List Node) (job : Job) (place : ℕ) (progress : Progress) (active : ActiveSplit) (split : Split) → slice_get progress.active.items place ≡ Some active → slice_get job.splits.items active.split ≡ Some split → length split.mask ≤ active.at.done → IsPassing nodes job place progress →
+    (need : PlacedRead) → Among need active.needs.items → kept_at progress.store.columns.all need.leaf ≡ None → ⊥
+needs_kept nodes job place progress active split at split_at past is need among none =
+    let started = is.this active at in
+    let behind : length started.split.mask ≤ active.at.done = subst (λ (s : Split). length s.mask ≤ active.at.done) (sym (split_is nodes job progress active split split_at started)) past in
+    let i = among_at active.needs.items need among in
+    let early : need.from < active.at.done = need_before nodes job started.split need active.at.done (is.begun active at) behind (started.placed.only need among) in
+    not_kept progress.store.columns.all need.leaf none (started.decoded i.0 need (started.given.passed i.0 need i.2 early) i.2)
+
 -- A split of which no row is left has no open need, and each leaf that it needs is kept.
 record IsOver (nodes : List Node) (job : Job) (progress : Progress) (active : ActiveSplit) : Type 0 where
   pub rest : active.rest ≡ []
@@ -150,10 +157,7 @@ over nodes job place progress active split at split_at past is passed = record {
       let inside = need_within nodes job started.split need (started.placed.only need own.0) in
       let all : length started.split.mask ≤ active.at.done = behind in
       absurd (omega arith));
-  kept = λ need among none.
-      let i = among_at active.needs.items need among in
-      let early : need.from < active.at.done = need_before nodes job started.split need active.at.done (is.begun active at) behind (started.placed.only need among) in
-      not_kept progress.store.columns.all need.leaf none (started.decoded i.0 need (started.given.passed i.0 need i.2 early) i.2);
+  kept = needs_kept nodes job place progress active split at split_at past is;
   none = λ other read other_at reads. no_row (Visits (IsLeafRead read) (handed_by nodes (Some job.given)) (plan_at nodes job.plan)) other (same_Some split other (sym split_at ∙ other_at)) (left_row (Visits (IsLeafRead read) (handed_by nodes (Some job.given)) (plan_at nodes job.plan)) other.rows.start other.mask active.at.done reads);
 }
   where

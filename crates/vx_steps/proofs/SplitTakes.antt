@@ -5,6 +5,7 @@ use Rattle.std.specs.List.{slice_get, remove}
 use Rattle.std.proofs.lemmas.Bool.{eqb-true}
 use Rattle.vx_base.specs.Columns.{ColumnData}
 use Rattle.vx_base.specs.Masks.{true_count}
+use Rattle.vx_picking.proofs.SelectedRows.{true_first}
 use Rattle.vx_plan.specs.Nodes.{Node}
 use Rattle.vx_plan.specs.Plans.{plan_at}
 use Rattle.vx_plan.specs.Tables.{IsGoodTable}
@@ -28,7 +29,6 @@ use Rattle.vx_steps.specs.TakeLaws.{HasWhole, HasTakes, EachHasTakes, Ends, Goes
 use Rattle.vx_steps.specs.Turns.{FailsInWholes}
 use Rattle.vx_steps.specs.Wholes.{AreThere, IsThere}
 use Rattle.vx_steps.proofs.OutermostTakes.{take_there}
-use Rattle.vx_steps.proofs.SelectedRows.{true_first}
 use Rattle.vx_steps.proofs.Standing.{fault_outside}
 use Rattle.vx_masks.proofs.Places.{false_first}
 

@@ -5,6 +5,7 @@ use Rattle.std.proofs.lemmas.Bool.{cases_lt}
 use Rattle.std.proofs.lemmas.List.{map-append}
 use Rattle.std.proofs.lemmas.Option.{slice_get_within}
 use Rattle.vx_base.specs.Masks.{true_count}
+use Rattle.vx_picking.proofs.SelectedRows.{count_none}
 use Rattle.vx_plan.specs.Nodes.{Node}
 use Rattle.vx_steps.specs.declared.jobs.ActiveSplit.{ActiveSplit}
 use Rattle.vx_steps.specs.declared.jobs.Job.{Job}
@@ -38,18 +39,10 @@ use Rattle.vx_steps.specs.Wants.{Grows, IsAsked, IsNeeded}
 use Rattle.vx_steps.proofs.AllReads.{all_pushed}
 use Rattle.vx_steps.proofs.Arriving.{none_grow}
 use Rattle.vx_steps.proofs.Needing.{among_pushed, asked_grows}
-use Rattle.vx_steps.proofs.PieceRows.{needs_are}
+use Rattle.vx_steps.proofs.PieceRows.{need_of, needs_are}
 use Rattle.vx_steps.proofs.Releasing.{leaf_among, served_stored}
-use Rattle.vx_steps.proofs.SelectedRows.{count_none}
 use Rattle.vx_steps.proofs.Selecting.{among_back, among_front}
 use Rattle.vx_steps.proofs.Tallies.{at_key}
-
-need_of : (read : LeafRead) (needs : List PlacedRead) → Among read (map read_of needs) → (need : PlacedRead) × Among need needs × (read_of need ≡ read)
-need_of read [] none = absurd none
-need_of read (need ∷ needs) (inl e) = (need, inl refl, e)
-need_of read (need ∷ needs) (inr h) =
-    let r = need_of read needs h in
-    (r.0, inr r.1, r.2)
 
 -- ---- a split that has been started is active
 
@@ -79,7 +72,7 @@ active_started nodes job leaves wanted wholes split active at some is asked = re
       kept = λ place need less there late. absurd (none_next place less);
       passed = λ place need there early. absurd (none_early need.from early);
       first = λ not. is.done;
-      there = λ made. absurd (not_made made);
+      there = λ made number asks. absurd (is.made made number asks);
     };
     decoded = λ place need less there. absurd (none_next place less);
   };
@@ -95,9 +88,6 @@ active_started nodes job leaves wanted wholes split active at some is asked = re
 
     none_early : (from : ℕ) → from < active.at.done → ⊥
     none_early from early = omega (arith, early, is.done)
-
-    not_made : active.at.made ≡ true → ⊥
-    not_made made = let both : true ≡ false = sym made ∙ is.made in cc
 
 active_grows : (nodes : List Node) (job : Job) (leaves : LeavesData) (old new : List Wanted) (wholes : Wholes) (active : ActiveSplit) → Grows old new → IsActive nodes job leaves old wholes active → IsActive nodes job leaves new wholes active
 active_grows nodes job leaves old new wholes active grows is =

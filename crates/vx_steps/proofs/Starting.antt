@@ -1,9 +1,10 @@
 -- Which splits are left when one is started, and what is wanted for it.
-use Rattle.std.proofs.Common.{◌≡◌, ℕ, zero, suc, ◌+◌, ◌<◌, ◌≤◌, ◌==◌, max, Bool, true, false, ◌⊎◌, inl, inr, ⊎_elim, List, [], ◌∷◌, ◌++◌, map, drop, Some, length, get_or, refl, sym, ap, ◌∙◌, subst, arith, add-one}
+use Rattle.std.proofs.Common.{◌≡◌, ℕ, suc, ◌+◌, ◌<◌, ◌≤◌, ◌==◌, max, Bool, true, false, ◌⊎◌, inl, inr, ⊎_elim, List, [], ◌∷◌, ◌++◌, map, drop, Some, length, get_or, refl, sym, ap, ◌∙◌, subst, arith, add-one}
 use Rattle.std.specs.Prelude.{if◌then◌else◌}
 use Rattle.std.specs.List.{slice_get}
 use Rattle.std.proofs.Math.Seq.{drop-cons}
 use Rattle.std.proofs.lemmas.List.{length-map}
+use Rattle.std.proofs.lemmas.Option.{slice_get-get_or}
 use Rattle.vx_base.specs.Masks.{true_count}
 use Rattle.vx_plan.specs.Nodes.{Node}
 use Rattle.vx_steps.specs.declared.jobs.ActiveSplit.{ActiveSplit}
@@ -23,9 +24,7 @@ use Rattle.vx_steps.specs.Turns.{ReadsFor}
 use Rattle.vx_steps.specs.Wants.{AreNeeds, IsAsked, IsNeeded}
 
 pub got_at : {X : Type 0} (xs : List X) (i : ℕ) (x : X) → i < length xs → x ≡ get_or xs i x → slice_get xs i ≡ Some x
-got_at [] i x h is = absurd (omega arith)
-got_at (y ∷ xs) zero x h is = ap Some (sym is)
-got_at (y ∷ xs) (suc i) x h is = got_at xs i x (omega arith) is
+got_at xs i x inside is = slice_get-get_or xs i x inside ∙ ap Some (sym is)
 
 -- ---- the splits that are left
 

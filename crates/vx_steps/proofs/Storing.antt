@@ -1,8 +1,7 @@
 -- Stored columns of leaves, of which those of marked plans are gone.
-use Rattle.std.proofs.Common.{◌≡◌, Bor, ℕ, zero, suc, ◌<◌, ◌≤◌, ◌==◌, Bool, true, false, List, [], ◌∷◌, ◌++◌, map, take, get_or, Option, Some, None, Result, Ok, Err, Global, Vec, length, refl, sym, ap, ◌∙◌, subst, arith}
+use Rattle.std.proofs.Common.{◌≡◌, Bor, ℕ, zero, suc, ◌<◌, ◌==◌, Bool, true, false, List, [], ◌∷◌, ◌++◌, map, take, get_or, Option, Some, None, Result, Ok, Err, Global, Vec, length, refl, sym, ap, ◌∙◌, subst, arith}
 use Rattle.std.specs.Prelude.{if◌then◌else◌, MatchResult}
 use Rattle.std.specs.Bool.{MatchBool}
-use Rattle.std.specs.List.{slice_index_or}
 use Rattle.std.specs.Option.{is_some, option_copied}
 use Rattle.vx_base.specs.Columns.{ColumnData}
 use Rattle.vx_plan.specs.Refs.{number_of}
@@ -14,6 +13,7 @@ use Rattle.vx_steps.specs.KeptData.{Kept}
 use Rattle.vx_steps.specs.Kept.{kept_at, kept_data, ArePlaces, IsKept, ReplacesOnly}
 use Rattle.vx_steps.specs.LeafColumns.{seen_data, unmarked, AreStored, Forgets, StandFor, StoresLeaves}
 use Rattle.vx_steps.specs.LeavesData.{LeavesData}
+use Rattle.vx_steps.specs.NumberTable.{IsReached, KeepsReach}
 use Rattle.vx_steps.specs.PlanMarks.{is_marked, HasRoom, KeepsMarks, Marks}
 use Rattle.vx_steps.proofs.Indexing.{got_data, take_one}
 use Rattle.vx_steps.proofs.Keeping.{kept_new, kept_old}
@@ -223,43 +223,41 @@ replaced_kept node (k ∷ old) (l ∷ new) n only none =
 pub room_forgotten : (node : ℕ) (old new : PlanMarks) (stored after : List Kept) → Marks node old new → ReplacesOnly node stored after → HasRoom old stored → HasRoom new after
 room_forgotten node old new stored after marks only room n column at =
     let before = found (kept_at stored n) (λ none. some_none (kept_at after n) column at (replaced_kept node stored after n only none)) in
-    omega (arith, room n before.0 before.1, marks.wide)
+    marks.wide n (room n before.0 before.1)
 
 -- ---- one more column
 
-room_one : (gone : PlanMarks) (k : Kept) (n : ℕ) (column : ColumnData) (b : Bool) → (k.node == n) ≡ b → k.node < length gone.marks.items → (if k.node == n then Some k.column else None) ≡ Some column → n < length gone.marks.items
+room_one : (gone : PlanMarks) (k : Kept) (n : ℕ) (column : ColumnData) (b : Bool) → (k.node == n) ≡ b → IsReached gone.numbers k.node → (if k.node == n then Some k.column else None) ≡ Some column → IsReached gone.numbers n
 room_one gone k n column true here inside is =
     let same : k.node ≡ n = grind arith in
-    subst (λ (m : ℕ). m < length gone.marks.items) same inside
+    subst (IsReached gone.numbers) same inside
 room_one gone k n column false apart inside is = absurd (some_none (if k.node == n then Some k.column else None) column is (ap (λ (c : Bool). if c then Some k.column else None) apart))
 
-pub room_last : (gone : PlanMarks) (stored : List Kept) (k : Kept) → HasRoom gone stored → k.node < length gone.marks.items → HasRoom gone (stored ++ k ∷ [])
+pub room_last : (gone : PlanMarks) (stored : List Kept) (k : Kept) → HasRoom gone stored → IsReached gone.numbers k.node → HasRoom gone (stored ++ k ∷ [])
 room_last gone stored k room inside n column at = by (kept_at stored n) refl
   where
-    by : (o : Option ColumnData) → kept_at stored n ≡ o → n < length gone.marks.items
+    by : (o : Option ColumnData) → kept_at stored n ≡ o → IsReached gone.numbers n
     by (Some other) e = room n other e
     by None e = room_one gone k n column (k.node == n) refl inside (sym (kept_new stored (k ∷ []) n e) ∙ at)
 
-pub room_kept : (old new : PlanMarks) (stored : List Kept) → length old.marks.items ≤ length new.marks.items → HasRoom old stored → HasRoom new stored
-room_kept old new stored wide room n column at =
-    let inside = room n column at in
-    omega (arith, inside, wide)
+pub room_kept : (old new : PlanMarks) (stored : List Kept) → KeepsReach old.numbers new.numbers → HasRoom old stored → HasRoom new stored
+room_kept old new stored wide room n column at = wide n (room n column at)
 
 -- there is room for none
 pub room_none : (gone : PlanMarks) (kept : List Kept) → HasRoom gone (take zero kept)
 room_none gone [] n column at = absurd cc
 room_none gone (k ∷ kept) n column at = absurd cc
 
-pub room_reached : (old new : PlanMarks) (xs : List KeptValue) (place : ℕ) (x : KeptValue) → place < length xs → x ≡ get_or xs place x → KeepsMarks old new → number_of x.node < length new.marks.items → HasRoom old (take place (map kept_data xs)) → HasRoom new (take (suc place) (map kept_data xs))
+pub room_reached : (old new : PlanMarks) (xs : List KeptValue) (place : ℕ) (x : KeptValue) → place < length xs → x ≡ get_or xs place x → KeepsMarks old new → IsReached new.numbers (number_of x.node) → HasRoom old (take place (map kept_data xs)) → HasRoom new (take (suc place) (map kept_data xs))
 room_reached old new xs place x inside is keeps there room =
     let R : List Kept → Type 0 = λ kept. HasRoom new kept in
     subst R (sym (take_one (map kept_data xs) place (kept_data x) (got_data xs place x inside is))) (room_last new (take place (map kept_data xs)) (kept_data x) (room_kept old new (take place (map kept_data xs)) keeps.wide room) there)
 
 pub marks_none : (gone : PlanMarks) → KeepsMarks gone gone
-marks_none gone = record { same = λ n. refl; wide = omega arith }
+marks_none gone = record { same = λ n. refl; wide = λ n reached. reached }
 
 pub marks_then : (old mid new : PlanMarks) → KeepsMarks old mid → KeepsMarks mid new → KeepsMarks old new
-marks_then old mid new first second = record { same = λ n. second.same n ∙ first.same n; wide = omega (arith, first.wide, second.wide) }
+marks_then old mid new first second = record { same = λ n. second.same n ∙ first.same n; wide = λ n reached. second.wide n (first.wide n reached) }
 
 -- ---- what is stored after each call
 
@@ -291,7 +289,7 @@ none_front kept more n none = by (kept_at kept n) refl
     by None e = e
     by (Some column) e = absurd (some_none (kept_at (kept ++ more) n) column (kept_old kept more n column e) none)
 
-pub stores_last : (gone : PlanMarks) (all kept : List Kept) (ready : Bool) (k : Kept) → k.node < length gone.marks.items → StoresLeaves gone all kept ready → StoresLeaves gone (all ++ k ∷ []) (kept ++ k ∷ []) ready
+pub stores_last : (gone : PlanMarks) (all kept : List Kept) (ready : Bool) (k : Kept) → IsReached gone.numbers k.node → StoresLeaves gone all kept ready → StoresLeaves gone (all ++ k ∷ []) (kept ++ k ∷ []) ready
 stores_last gone all kept ready k inside is = record {
   stored = stored_last gone all kept k is.stored;
   seen = λ n none. is.seen n (none_front all (k ∷ []) n none);
@@ -324,13 +322,6 @@ forgets_none gone all kept ready node is none = record { all = refl; here = λ n
 
 -- ---- what was handed in
 
-no_bits : (n : ℕ) → slice_index_or [] n false ≡ false
-no_bits zero = refl
-no_bits (suc n) = refl
-
-no_marks : (gone : PlanMarks) → gone.marks.items ≡ [] → (n : ℕ) → is_marked gone n ≡ false
-no_marks gone none n = ap (λ (bits : List Bool). slice_index_or bits n false) none ∙ no_bits n
-
 append_none : (kept : List Kept) → kept ++ [] ≡ kept
 append_none [] = refl
 append_none (k ∷ kept) = ap (λ (ks : List Kept). k ∷ ks) (append_none kept)
@@ -339,12 +330,9 @@ append_none (k ∷ kept) = ap (λ (ks : List Kept). k ∷ ks) (append_none kept)
 pub all_handed : (handed : List Kept) (decoded : List SeenColumn) → decoded ≡ [] → handed ++ map seen_data decoded ≡ handed
 all_handed handed decoded none = ap (λ (seen : List SeenColumn). handed ++ map seen_data seen) none ∙ append_none handed
 
-pub stores_new : (gone : PlanMarks) (handed kept : List Kept) (decoded : List SeenColumn) → gone.marks.items ≡ [] → decoded ≡ [] → kept ≡ handed → StoresLeaves gone (handed ++ map seen_data decoded) kept false
+pub stores_new : (gone : PlanMarks) (handed kept : List Kept) (decoded : List SeenColumn) → ((n : ℕ) → is_marked gone n ≡ false) → decoded ≡ [] → kept ≡ handed → StoresLeaves gone (handed ++ map seen_data decoded) kept false
 stores_new gone handed kept decoded none first is =
-    subst (λ (all : List Kept). StoresLeaves gone all kept false) (sym (all_handed handed decoded first)) (subst (λ (ks : List Kept). StoresLeaves gone handed ks false) (sym is) (stores_handed gone handed (no_marks gone none)))
-
-pub here_new : (gone : PlanMarks) (kept : List Kept) → gone.marks.items ≡ [] → unmarked gone kept ≡ kept
-here_new gone kept none = none_marked gone kept (no_marks gone none)
+    subst (λ (all : List Kept). StoresLeaves gone all kept false) (sym (all_handed handed decoded first)) (subst (λ (ks : List Kept). StoresLeaves gone handed ks false) (sym is) (stores_handed gone handed none))
 
 -- ---- what is found of a stored column
 
@@ -367,7 +355,7 @@ some_there (Some column) o e some none = some_none o column.now (sym e) none
 pub leaves_same : (a b : LeavesData) → a.all ≡ b.all → a.here ≡ b.here → a.ready ≡ b.ready → a ≡ b
 leaves_same a b all here ready = λ i. record { all = all i; here = here i; ready = ready i }
 
-pub room_for : (gone : PlanMarks) (kept : List Kept) (node : ℕ) → (kept_at kept node ≡ None → ⊥) → HasRoom gone kept → node < length gone.marks.items
+pub room_for : (gone : PlanMarks) (kept : List Kept) (node : ℕ) → (kept_at kept node ≡ None → ⊥) → HasRoom gone kept → IsReached gone.numbers node
 room_for gone kept node there room =
     let is = found (kept_at kept node) there in
     room node is.0 is.1

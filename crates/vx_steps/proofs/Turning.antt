@@ -1,5 +1,5 @@
 -- What a refusal of a split comes to, from what refuses it.
-use Rattle.std.proofs.Common.{◌≡◌, ℕ, ◌⊎◌, inl, inr, ⊎_elim, List, map}
+use Rattle.std.proofs.Common.{◌≡◌, ℕ, ◌⊎◌, inl, inr, List, map}
 use Rattle.vx_plan.specs.Nodes.{Node}
 use Rattle.vx_rows.specs.SegmentLeaves.{Bytes}
 use Rattle.vx_steps.specs.declared.errors.StepError.{StepError}
@@ -18,7 +18,6 @@ use Rattle.vx_steps.specs.Tries.{IsTornAt, LeavesFirst, Refuses}
 use Rattle.vx_steps.specs.Turns.{AreLeavesKept, FailsInWholes, HasNeedCause, HasRowCause, IsRefusal, LeavesWholes}
 use Rattle.vx_steps.specs.Wholes.{AreThere}
 use Rattle.vx_steps.proofs.NextNeeds.{got_read}
-use Rattle.vx_steps.proofs.Premises.{unless_by}
 use Rattle.vx_steps.proofs.Releasing.{got_among}
 
 -- a torn leaf is the cause of a refusal, which leaves nothing
@@ -64,16 +63,3 @@ first_leaves nodes job split wanted leaves made new (Unsupported list) fails = o
 first_leaves nodes job split wanted leaves made new (BadCode take row) fails = other (FirstFail nodes job split wanted leaves made new (BadCode take row)) (BadCode take row) (λ e. cc) fails
 first_leaves nodes job split wanted leaves made new (EvalFault row) fails = other (FirstFail nodes job split wanted leaves made new (EvalFault row)) (EvalFault row) (λ e. cc) fails
 first_leaves nodes job split wanted leaves made new Memory fails = tt
-
-fails_before : (nodes : List Node) (job : Job) (split : Split) (wanted mid_wanted : List Wanted) (leaves mid_leaves made mid_made : List Kept) (after : Wholes) (error : StepError) → ((outside : Bytes) → IsOf nodes job.offset wanted leaves made outside → IsOf nodes job.offset mid_wanted mid_leaves mid_made outside) →
-    AreThere nodes job.given after job.plan split.rows.start split.mask ⊎ FailsInWholes nodes job split mid_wanted mid_leaves mid_made error → AreThere nodes job.given after job.plan split.rows.start split.mask ⊎ FailsInWholes nodes job split wanted leaves made error
-fails_before nodes job split wanted mid_wanted leaves mid_leaves made mid_made after error keeps left =
-    ⊎_elim (λ (there : AreThere nodes job.given after job.plan split.rows.start split.mask). inl there) (λ (fails : FailsInWholes nodes job split mid_wanted mid_leaves mid_made error). inr (λ outside is. fails outside (unless_by error (IsOf nodes job.offset wanted leaves made outside) (IsOf nodes job.offset mid_wanted mid_leaves mid_made outside) (keeps outside) is))) left
-
-pub leaves_before : (nodes : List Node) (job : Job) (split : Split) (wanted mid_wanted : List Wanted) (leaves mid_leaves made mid_made : List Kept) (after : Wholes) (error : StepError) → ((outside : Bytes) → IsOf nodes job.offset wanted leaves made outside → IsOf nodes job.offset mid_wanted mid_leaves mid_made outside) →
-    LeavesWholes nodes job split mid_wanted mid_leaves mid_made after error → LeavesWholes nodes job split wanted leaves made after error
-leaves_before nodes job split wanted mid_wanted leaves mid_leaves made mid_made after (BadSegment segment) keeps left = tt
-leaves_before nodes job split wanted mid_wanted leaves mid_leaves made mid_made after (Unsupported list) keeps left = fails_before nodes job split wanted mid_wanted leaves mid_leaves made mid_made after (Unsupported list) keeps left
-leaves_before nodes job split wanted mid_wanted leaves mid_leaves made mid_made after (BadCode take row) keeps left = fails_before nodes job split wanted mid_wanted leaves mid_leaves made mid_made after (BadCode take row) keeps left
-leaves_before nodes job split wanted mid_wanted leaves mid_leaves made mid_made after (EvalFault row) keeps left = fails_before nodes job split wanted mid_wanted leaves mid_leaves made mid_made after (EvalFault row) keeps left
-leaves_before nodes job split wanted mid_wanted leaves mid_leaves made mid_made after Memory keeps left = tt

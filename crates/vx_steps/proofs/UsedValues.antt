@@ -9,6 +9,7 @@ use Rattle.vx_base.specs.Data.{Datum}
 use Rattle.vx_rows.specs.Derivations.{Derivation, packed, looked_up, worked_out, read_whole, Derivations, each_row, Leaves, derived}
 use Rattle.vx_rows.specs.Given.{GivenValues, values_with, share_with, with_given, each_with_given}
 use Rattle.vx_rows.specs.Heads.{Head}
+use Rattle.vx_picking.specs.Rows.{rows_of, AreOf}
 use Rattle.vx_plan.specs.declared.nodes.PlanKind.{PlanKind}
 use Rattle.vx_plan.specs.declared.nodes.PlanKind.TheVariants as kinds
 use Rattle.vx_plan.specs.Nodes.{Node, absent}
@@ -25,7 +26,6 @@ use Rattle.vx_steps.specs.Jobs.{KeepsWholes}
 use Rattle.vx_steps.specs.KeptData.{Kept}
 use Rattle.vx_steps.specs.Kept.{kept_at, values_of, whole_of}
 use Rattle.vx_steps.specs.Laws.{row_with}
-use Rattle.vx_steps.specs.Rows.{rows_of, AreOf}
 use Rattle.vx_steps.specs.Visits.{Test, Visits, VisitsIn, VisitsField, VisitsValidity, IsWholeRead}
 use Rattle.vx_steps.specs.Wholes.{IsThere, UsesGiven}
 use Rattle.vx_steps.proofs.OutermostTakes.{IsTakeNode, IsTakeOver, take_gap, take_placed, take_whole}

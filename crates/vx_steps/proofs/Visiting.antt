@@ -1,13 +1,13 @@
 -- Visits of a plan's selected rows and of its children's, whatever is tested.
 use Rattle.std.proofs.Common.{◌≡◌, ℕ, zero, suc, ◌<◌, ◌⊎◌, inl, inr, ⊎_elim, Bool, true, false, List, [], ◌∷◌, Option, Some, map, sym, subst}
 use Rattle.std.specs.List.{slice_get}
+use Rattle.vx_picking.specs.Rows.{SelectsSome}
 use Rattle.vx_plan.specs.Nodes.{Node}
 use Rattle.vx_plan.specs.Plans.{Plan, plan_head, plan_at, plans_from, field_plans, last_validity, plan_gap, front_plans, last_plan, filter_plan}
 use Rattle.vx_plan.specs.Rules.{node_at}
 use Rattle.vx_steps.specs.Given.{Handed, handed_by}
 use Rattle.vx_steps.specs.KeptData.{Kept}
 use Rattle.vx_steps.specs.Needs.{NoneGiven}
-use Rattle.vx_steps.specs.Rows.{SelectsSome}
 use Rattle.vx_steps.specs.Visits.{Test, Visits, VisitsField, VisitsValidity, SomeVisit, SomeWholeVisit}
 use Rattle.vx_steps.proofs.ComputedRows.{VisitsUp}
 use Rattle.vx_steps.proofs.Selecting.{given_none}

@@ -1,5 +1,6 @@
 -- Which whole values selected rows ask for: they are there, and no others were added.
 use Rattle.std.proofs.Common.{◌≡◌, ℕ, ◌<◌, ◌⊎◌, inl, inr, ⊎_elim, Bool, List, [], ◌∷◌, ◌++◌, Some, length, sym, ap, ◌∙◌, subst, append_assoc}
+use Rattle.vx_picking.specs.Rows.{SelectsSome}
 use Rattle.vx_plan.specs.declared.parts.Part.{Part}
 use Rattle.vx_plan.specs.declared.shapes.Shape.{Shape}
 use Rattle.vx_plan.specs.Nodes.{Node}
@@ -11,7 +12,6 @@ use Rattle.vx_steps.specs.declared.wholes.Wholes.{Wholes}
 use Rattle.vx_steps.specs.Given.{handed_by}
 use Rattle.vx_steps.specs.KeptData.{Kept}
 use Rattle.vx_steps.specs.Kept.{IsKept}
-use Rattle.vx_steps.specs.Rows.{SelectsSome}
 use Rattle.vx_steps.specs.Visits.{IsWholeRead}
 use Rattle.vx_steps.specs.Wholes.{AddsAsked, AddsOnly, Asks, AsksNone, AreThere, IsThere, KeepsValues, UsesGiven}
 use Rattle.vx_steps.proofs.Decoding.{adds_then}

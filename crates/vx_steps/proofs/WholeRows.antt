@@ -6,11 +6,11 @@ use Rattle.vx_base.specs.Data.{Datum}
 use Rattle.vx_expr.specs.Types.{on_both}
 use Rattle.vx_rows.specs.Derivations.{Derivation, Leaves, one_more, each_row, derived, derived_each}
 use Rattle.vx_rows.proofs.Givens.{none_given as none_given_is}
+use Rattle.vx_picking.specs.Rows.{rows_of}
+use Rattle.vx_picking.proofs.SelectedRows.{rows_same}
 use Rattle.vx_plan.specs.Plans.{Plan}
 use Rattle.vx_plan.specs.PlanRows.{plan_derivation}
 use Rattle.vx_steps.specs.Given.{row_value}
-use Rattle.vx_steps.specs.Rows.{rows_of}
-use Rattle.vx_steps.proofs.SelectedRows.{rows_same}
 
 -- ---- masks
 

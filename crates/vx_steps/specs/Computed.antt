@@ -3,6 +3,7 @@ use Rattle.std.specs.Prelude.{◌≡◌, ℕ, Bool, List, [], ◌∷◌, Option,
 use Rattle.std.specs.List.{flat_map, sum_by, AllByRecursion}
 use Rattle.vx_base.specs.Columns.{ColumnData}
 use Rattle.vx_base.specs.Masks.{true_count}
+use Rattle.vx_picking.specs.Rows.{rows_of, AreOf}
 use Rattle.vx_plan.specs.Plans.{Plan, plan_at}
 use Rattle.vx_plan.specs.Refs.{number_of}
 use Rattle.vx_plan.specs.Rules.{node_at}
@@ -14,7 +15,6 @@ use Rattle.vx_steps.specs.Given.{Handed, row_value, whole_value}
 use Rattle.vx_steps.specs.Held.{Held, IsBy, handed_in}
 use Rattle.vx_steps.specs.KeptData.{Kept}
 use Rattle.vx_steps.specs.Kept.{kept_at, IsKept}
-use Rattle.vx_steps.specs.Rows.{rows_of, AreOf}
 use Rattle.vx_steps.specs.Visits.{SomeVisit, SomeWholeVisit, IsLeafRead, IsListRead, HasBadCode, HasEvalFault}
 
 -- the whole values that are there for a plan: handed in, or else made

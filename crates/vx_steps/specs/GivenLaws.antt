@@ -3,6 +3,7 @@ use Rattle.std.specs.Prelude.{◌≡◌, ℕ, ◌+◌, ◌<◌, ◌≤◌, Bool,
 use Rattle.std.specs.List.{slice_get}
 use Rattle.vx_base.specs.Data.{Datum}
 use Rattle.vx_rows.specs.Derivations.{Leaves}
+use Rattle.vx_picking.specs.Rows.{rows_of, AreOf}
 use Rattle.vx_plan.specs.Nodes.{Node}
 use Rattle.vx_plan.specs.Plans.{plan_at}
 use Rattle.vx_plan.specs.PlanRows.{plan_value}
@@ -15,7 +16,6 @@ use Rattle.vx_steps.specs.Held.{AreMade}
 use Rattle.vx_steps.specs.Jobs.{KeepsWholes}
 use Rattle.vx_steps.specs.KeptData.{Kept}
 use Rattle.vx_steps.specs.Laws.{row_with}
-use Rattle.vx_steps.specs.Rows.{rows_of, AreOf}
 use Rattle.vx_steps.specs.Wholes.{AreThere, UsesGiven}
 
 -- only values that were handed in were used, and all that the selected rows of a plan ask for are there

@@ -1,5 +1,6 @@
 -- What keeps rows of a plan from having a column, whatever bytes come.
-use Rattle.std.specs.Prelude.{◌≡◌, ℕ, ◌+◌, ◌<◌, ◌≤◌, List, Option, Some, None}
+use Rattle.std.specs.Prelude.{◌≡◌, ℕ, ◌+◌, ◌<◌, ◌≤◌, Bool, List, Option, Some, None}
+use Rattle.std.specs.List.{slice_get}
 use Rattle.vx_plan.specs.Nodes.{Node}
 use Rattle.vx_plan.specs.Plans.{list_plan, scan_plan, plan_at}
 use Rattle.vx_steps.specs.declared.hindrances.Hindrance.{Hindrance}
@@ -25,6 +26,10 @@ IsHindrance places x handed p row = ⊥
 -- it hinders one of so many rows of the plan, counted from the start on
 abbrev pub AreHindered : ℕ → List Node → ℕ → ℕ → ℕ → Hindrance → Type 0
 AreHindered places nodes n start count x = (place : ℕ) × (place < count) × Visits (IsHindrance places x) None (plan_at nodes n) (start + place)
+
+-- the rows from the first one up to the end are all selected, or none of them is
+abbrev pub IsRun : List Bool → ℕ → ℕ → Type 0
+IsRun bits first end = (row : ℕ) → first ≤ row → row < end → slice_get bits row ≡ slice_get bits first
 
 -- one that is so, or none where none is
 abbrev pub IsOne : {X : Type 0} → (X → Type 0) → Option X → Type 0

@@ -1,10 +1,9 @@
 -- Up to which split leaves and segments are read.
 use Rattle.std.specs.Prelude.{◌≡◌, ℕ, Bool, ◌+◌, ◌≤◌, ◌==◌, if◌then◌else◌, max, List, [], ◌∷◌}
-use Rattle.std.specs.Option.{unwrap_or}
-use Rattle.std.specs.BTreeMap.{BTreeMap, get}
-use Rattle.std.specs.Ordering.{nat_cmp}
+use Rattle.std.specs.BTreeMap.{BTreeMap}
 use Rattle.vx_steps.specs.declared.leaf_reads.LeafRead.{LeafRead}
 use Rattle.vx_steps.specs.declared.later_reads.LaterReads.{LaterReads}
+use Rattle.vx_steps.specs.Counts.{count_in}
 use Rattle.vx_steps.specs.Needs.{Among}
 use Rattle.vx_steps.specs.NumberTable.{number_in}
 
@@ -25,14 +24,10 @@ leaf_until leaf reads = until_by (λ (read : SplitRead). read.read.leaf == leaf)
 abbrev pub segment_until : ℕ → List SplitRead → ℕ
 segment_until segment reads = until_by (λ (read : SplitRead). read.read.segment == segment) reads
 
--- the number that is noted of the key, 0 where none is
-abbrev pub until_in : BTreeMap ℕ ℕ → ℕ → ℕ
-until_in until key = unwrap_or (get nat_cmp until key) 0
-
 -- What is noted is so by these reads.
 pub record IsNotedOf (later : LaterReads) (reads : List SplitRead) : Type 0 where
   pub leaves : (leaf : ℕ) → number_in later.leaves leaf ≡ leaf_until leaf reads
-  pub segments : (segment : ℕ) → until_in later.segments segment ≡ segment_until segment reads
+  pub segments : (segment : ℕ) → count_in later.segments segment ≡ segment_until segment reads
 
 -- a split of that number or a later one reads the leaf
 abbrev pub LeafReadFrom : ℕ → ℕ → List SplitRead → Type 0
@@ -54,8 +49,8 @@ KeepsNotes old new = (reads : List SplitRead) → IsNotedOf old reads → IsNote
 
 -- the number of the key reaches behind the split, and each other key's is what it was
 abbrev pub Reaches : ℕ → ℕ → BTreeMap ℕ ℕ → BTreeMap ℕ ℕ → Type 0
-Reaches key split old new = (k : ℕ) → until_in new k ≡ (if key == k then max (until_in old k) (split + 1) else until_in old k)
+Reaches key split old new = (k : ℕ) → count_in new k ≡ (if key == k then max (count_in old k) (split + 1) else count_in old k)
 
 -- each key has the number that it had
 abbrev pub KeepsNumbers : BTreeMap ℕ ℕ → BTreeMap ℕ ℕ → Type 0
-KeepsNumbers old new = (k : ℕ) → until_in new k ≡ until_in old k
+KeepsNumbers old new = (k : ℕ) → count_in new k ≡ count_in old k

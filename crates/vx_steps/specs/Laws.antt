@@ -6,6 +6,7 @@ use Rattle.vx_expr.specs.Rows.{no_bound}
 use Rattle.vx_rows.specs.Derivations.{Derivation, nothing, of_leaf, list_row, given, packed, valid_where, looked_up, worked_out, read_whole, Derivations, no_more, also, Leaves, derived}
 use Rattle.vx_rows.specs.Given.{GivenValues, with_given}
 use Rattle.vx_rows.specs.Reads.{directly, Found, a_code, a_list_row, Read, reads_of, Finds, FindsBy, IsIn, IsCodeOf, IsBadCode}
+use Rattle.vx_picking.specs.Rows.{SomeRow}
 use Rattle.vx_plan.specs.FittingRows.{HasFittingRows}
 use Rattle.vx_plan.specs.Kinds.{HasKind, IsShare}
 use Rattle.vx_plan.specs.Laws.{IsReadBy}
@@ -24,7 +25,6 @@ use Rattle.vx_steps.specs.Computed.{HasCause}
 use Rattle.vx_steps.specs.Given.{Handed, values_for, given_for, handed_by}
 use Rattle.vx_steps.specs.Held.{AreTyped}
 use Rattle.vx_steps.specs.KeptData.{Kept}
-use Rattle.vx_steps.specs.Rows.{SomeRow}
 use Rattle.vx_steps.specs.Visits.{Visits, SomeVisit, IsLeafRead, IsListRead, IsWholeRead, HasBadCode, HasEvalFault}
 use Rattle.vx_steps.specs.Wholes.{AreThere, IsThere, HasInsideCause}
 

@@ -4,6 +4,7 @@ pub mod Below
 pub mod ByHand
 pub mod CauseLaws
 pub mod Computed
+pub mod Counts
 pub mod Delivered
 pub mod Given
 pub mod GivenLaws
@@ -37,10 +38,10 @@ pub mod ReadTable
 pub mod ReadTableData
 pub mod Releasing
 pub mod RowFaults
-pub mod Rows
 pub mod Running
 pub mod ScanData
 pub mod ScanLaws
+pub mod SegmentRuns
 pub mod Splits
 pub mod Standings
 pub mod Steps
@@ -52,3 +53,4 @@ pub mod Turns
 pub mod Visits
 pub mod Wants
 pub mod Wholes
+pub use Rattle.vx_picking.specs.Rows

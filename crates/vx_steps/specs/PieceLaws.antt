@@ -1,9 +1,9 @@
 -- What the pieces in which the rows of a split are given come to together.
 use Rattle.std.specs.Prelude.{ℕ, List, Option}
 use Rattle.vx_base.specs.Data.{Datum}
+use Rattle.vx_picking.specs.Rows.{rows_of, AreOf}
 use Rattle.vx_steps.specs.declared.splits.Split.{Split}
 use Rattle.vx_steps.specs.Pieces.{joined, ArePieces, Piece}
-use Rattle.vx_steps.specs.Rows.{rows_of, AreOf}
 
 -- The pieces of a split, from its first row on, joined are the values of its selected rows, in their order.
 abbrev pub PiecesJoin : Type 0

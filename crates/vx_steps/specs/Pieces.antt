@@ -4,6 +4,7 @@ use Rattle.std.specs.List.{slice_get}
 use Rattle.vx_base.specs.Columns.{ColumnData}
 use Rattle.vx_base.specs.Data.{Datum}
 use Rattle.vx_base.specs.Masks.{true_count}
+use Rattle.vx_picking.specs.Rows.{rows_of, AreOf, SelectsNone, SelectsSome}
 use Rattle.vx_plan.specs.Nodes.{Node}
 use Rattle.vx_plan.specs.Plans.{plan_at}
 use Rattle.vx_plan.specs.Rules.{node_at}
@@ -23,7 +24,6 @@ use Rattle.vx_steps.specs.Kept.{kept_at, IsKept}
 use Rattle.vx_steps.specs.Needs.{Among}
 use Rattle.vx_steps.specs.ReadTable.{bytes_of}
 use Rattle.vx_steps.specs.ReadTableData.{Wanted}
-use Rattle.vx_steps.specs.Rows.{rows_of, AreOf, SelectsNone, SelectsSome}
 use Rattle.vx_steps.specs.Turns.{ReadsFor}
 use Rattle.vx_steps.specs.Visits.{Test, Visits, IsLeafRead}
 use Rattle.vx_steps.specs.Wholes.{AreThere, Inside}

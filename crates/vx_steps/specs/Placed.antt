@@ -11,6 +11,7 @@ use Rattle.vx_steps.specs.KeptData.{Kept}
 use Rattle.vx_steps.specs.Needs.{Among, IsUnderWhole}
 use Rattle.vx_steps.specs.Pieces.{read_of, Covers, ReadsDirectly, ReadsInside}
 use Rattle.vx_steps.specs.Visits.{IsLeafRead}
+use Rattle.vx_steps.specs.Wholes.{Asks}
 
 -- the first and the last selected row
 pub record AreEnds (bits : List Bool) (ends : Ends) : Type 0 where
@@ -32,6 +33,10 @@ abbrev pub IsPlacedAt : List Node → List Kept → ℕ → ℕ → List Bool �
 IsPlacedAt nodes given n start bits base need =
     (IsDirectAt nodes given n start bits base (read_of need) need.from × IsDirectAt nodes given n start bits base (read_of need) need.last)
     ⊎ ((need.from ≡ 0) × IsInsideAt nodes given n start bits base (read_of need) need.last)
+
+-- the selected rows of the plan ask for no whole values
+abbrev pub AskForNone : List Node → List Kept → ℕ → ℕ → List Bool → Type 0
+AskForNone nodes given n start bits = (number : ℕ) → Asks nodes given n start bits number → ⊥
 
 -- each need is of a leaf of the table, which names the segment
 abbrev pub AreOfLeaves : List Node → List PlacedRead → Type 0

@@ -1,11 +1,15 @@
 -- Which place a table has for a plan.
-use Rattle.std.specs.Prelude.{◌≡◌, ℕ, ◌==◌, if◌then◌else◌, Option, None}
-use Rattle.std.specs.List.{slice_index_or}
+use Rattle.std.specs.Prelude.{◌≡◌, ℕ, ◌-◌, ◌==◌, if◌then◌else◌, Option, Some, None}
 use Rattle.vx_steps.specs.declared.places.PlaceTable.{PlaceTable}
+use Rattle.vx_steps.specs.NumberTable.{number_in}
+
+-- the place that is one less than the number, and none where the number is 0
+abbrev pub place_before : ℕ → Option ℕ
+place_before number = if number == 0 then None else Some (number - 1)
 
 -- the place of the plan of that number, if it has one
-abbrev pub place_in : PlaceTable → ℕ → Option ℕ
-place_in table n = slice_index_or table.places.items n None
+unfoldable pub place_in : PlaceTable → ℕ → Option ℕ
+place_in table n = place_before (number_in table.numbers n)
 
 -- each plan has the place that it had
 abbrev pub KeepsPlaces : PlaceTable → PlaceTable → Type 0

@@ -11,9 +11,13 @@ use Rattle.vx_steps.specs.ReadTableData.{Wanted, Stored, ReadsData}
 abbrev pub StandsAt : List Wanted → ℕ → ℕ → Type 0
 StandsAt wanted segment place = IsSomeAnd (slice_get wanted place) (λ w. w.segment ≡ segment)
 
+-- each wanted segment is found at its place
+abbrev pub AreFound : BTreeMap ℕ ℕ → List Wanted → Type 0
+AreFound places wanted = (place : ℕ) (w : Wanted) → slice_get wanted place ≡ Some w → get nat_cmp places w.segment ≡ Some place
+
 -- the place of each wanted segment, and of no other
 pub record AreReads (places : BTreeMap ℕ ℕ) (wanted : List Wanted) (handed : ℕ) : Type 0 where
-  pub placed : (place : ℕ) (w : Wanted) → slice_get wanted place ≡ Some w → get nat_cmp places w.segment ≡ Some place
+  pub placed : AreFound places wanted
   pub stands : (segment place : ℕ) → get nat_cmp places segment ≡ Some place → StandsAt wanted segment place
   pub handed_inside : handed ≤ length wanted
   pub not_yet : (place : ℕ) (w : Wanted) → handed ≤ place → slice_get wanted place ≡ Some w → w.bytes ≡ None

@@ -2,6 +2,7 @@
 use Rattle.std.specs.Prelude.{◌≡◌, ℕ, ◌<◌, ◌≤◌, ◌⊎◌, false, true, List, [], length, map, slice_range, slice_set, Some, None}
 use Rattle.std.specs.List.{slice_get, remove, AllByRecursion}
 use Rattle.vx_base.specs.Columns.{ColumnData}
+use Rattle.vx_picking.specs.Rows.{SelectsSome}
 use Rattle.vx_plan.specs.Nodes.{Node}
 use Rattle.vx_plan.specs.Rules.{node_at}
 use Rattle.vx_steps.specs.declared.jobs.ActiveSplit.{ActiveSplit}
@@ -21,10 +22,10 @@ use Rattle.vx_steps.specs.StillRead.{SegmentIsRead}
 use Rattle.vx_steps.specs.Needs.{Among, AreLeaves}
 use Rattle.vx_steps.specs.OpenSegments.{AreCounted}
 use Rattle.vx_steps.specs.Pieces.{piece_of, read_of, AreInOrder, ArePlaced, IsGivenTo, IsNextRow}
+use Rattle.vx_steps.specs.Placed.{AskForNone}
 use Rattle.vx_steps.specs.ReadTable.{bytes_of, IsGone}
 use Rattle.vx_steps.specs.ReadTableData.{Wanted}
 use Rattle.vx_steps.specs.Releasing.{ServesAll}
-use Rattle.vx_steps.specs.Rows.{SelectsSome}
 use Rattle.vx_steps.specs.Splits.{IsInside}
 use Rattle.vx_steps.specs.Standings.{split_left, standing_of}
 use Rattle.vx_steps.specs.Steps.{HasCame, IsHeldUpAt, IsReadByRest, IsSplitOutput}
@@ -36,7 +37,8 @@ use Rattle.vx_steps.specs.Wholes.{AreThere, UsesGiven}
 abbrev pub AreDecoded : List Kept → List PlacedRead → ℕ → Type 0
 AreDecoded leaves needs next = (place : ℕ) (need : PlacedRead) → place < next → slice_get needs place ≡ Some need → IsKept leaves need.leaf
 
--- A split has just been started: it has the needs of its split, all of them open, and no row was given.
+-- A split has just been started: it has the needs of its split, all of them open, and no row was given. Whole values count as
+-- made only where none are asked for.
 pub record IsStarting (nodes : List Node) (job : Job) (split : Split) (active : ActiveSplit) : Type 0 where
   pub placed : ArePlaced nodes job.given job.plan split.rows.start split.mask active.needs.items
   pub order : AreInOrder active.needs.items
@@ -44,7 +46,7 @@ pub record IsStarting (nodes : List Node) (job : Job) (split : Split) (active : 
   pub row : IsNextRow split.mask 0 active.at.row
   pub done : active.at.done ≡ 0
   pub next : active.at.next ≡ 0
-  pub made : active.at.made ≡ false
+  pub made : active.at.made ≡ true → AskForNone nodes job.given job.plan split.rows.start split.mask
   pub rest : AreOpen active.needs.items active.rest 0
 
 -- A split that was started has the needs of its split, each of which is kept or asked for.
@@ -131,6 +133,11 @@ pub record ArePassedAt (place : ℕ) (progress : Progress) : Type 0 where
 -- no split is left to be started, and one alone is active
 abbrev pub IsLast : Job → Progress → Type 0
 IsLast job progress = (progress.next ≡ length job.splits.items) × (length progress.active.items ≡ 1)
+
+-- All rows are given: no split is left to be started, and no row of the one that alone is active.
+pub record IsEnded (job : Job) (place : ℕ) (progress : Progress) : Type 0 where
+  pub last : IsLast job progress
+  pub given : (active : ActiveSplit) (split : Split) → slice_get progress.active.items place ≡ Some active → slice_get job.splits.items active.split ≡ Some split → length split.mask ≤ active.at.done
 
 -- Rows of the active split at the place were given, from those that were on, up to the next selected one, if any is left: the
 -- column is theirs. The whole values that the split asks for are there, and the leaves that these rows read are kept.

@@ -2,6 +2,7 @@
 use Rattle.std.specs.Prelude.{◌≡◌, ℕ, ◌+◌, ◌-◌, ◌^◌, ◌<◌, ◌≤◌, ◌⊎◌, true, List, [], ◌∷◌, length, slice_range, slice_set, Option, Some, None, Result, Ok}
 use Rattle.std.specs.List.{slice_get, remove, sum_by}
 use Rattle.vx_base.specs.Columns.{ColumnData}
+use Rattle.vx_picking.specs.Rows.{SelectsSome, SomeRow}
 use Rattle.vx_plan.specs.Nodes.{Node}
 use Rattle.vx_rows.specs.SegmentLeaves.{Bytes}
 use Rattle.vx_steps.specs.declared.errors.StepError.{StepError}
@@ -23,7 +24,6 @@ use Rattle.vx_steps.specs.OpenSegments.{IsLeafOver}
 use Rattle.vx_steps.specs.ReadTable.{IsGone, StandsAt}
 use Rattle.vx_steps.specs.ReadTableData.{Wanted, ReadsData}
 use Rattle.vx_steps.specs.Pieces.{piece_of, IsNextRow, IsStillRead, ReadsDirectly, ReadsInside}
-use Rattle.vx_steps.specs.Rows.{SelectsSome, SomeRow}
 use Rattle.vx_steps.specs.Standings.{left_of, SplitLeft, Standing}
 use Rattle.vx_steps.specs.Turns.{AreLeavesKept, FailsInWholes, HasRowCause, IsOutput, LeavesWholes, ReadsFor}
 use Rattle.vx_steps.specs.Wholes.{AreThere}

@@ -2,6 +2,7 @@
 use Rattle.std.specs.Prelude.{◌≡◌, ℕ, ◌<◌, ◌⊎◌, List, [], ◌∷◌, length, Some, Result, Ok, Err, map}
 use Rattle.std.specs.List.{slice_get}
 use Rattle.vx_base.specs.Columns.{ColumnData}
+use Rattle.vx_picking.specs.Rows.{SomeRow}
 use Rattle.vx_plan.specs.Nodes.{Node}
 use Rattle.vx_plan.specs.Plans.{plan_at}
 use Rattle.vx_plan.specs.Tables.{IsGoodTable}
@@ -19,7 +20,6 @@ use Rattle.vx_steps.specs.Standings.{left_of, Standing}
 use Rattle.vx_steps.specs.Kept.{IsKept}
 use Rattle.vx_steps.specs.Laws.{IsValuesOf, ReadsTake}
 use Rattle.vx_steps.specs.Needs.{Among}
-use Rattle.vx_steps.specs.Rows.{SomeRow}
 use Rattle.vx_steps.specs.Steps.{IsDone, IsSplitOutput, IsStepRefusal, LeavesSplit, TakesTurn}
 
 -- the whole values of the number were used or made

@@ -2,6 +2,7 @@
 use Rattle.std.specs.Prelude.{◌≡◌, ℕ, ◌+◌, ◌<◌, ◌≤◌, ◌⊎◌, Bool, false, List, length, map, slice_range, Some}
 use Rattle.std.specs.List.{slice_get}
 use Rattle.vx_base.specs.Columns.{ColumnData}
+use Rattle.vx_picking.specs.Rows.{SelectsSome}
 use Rattle.vx_plan.specs.Nodes.{Node}
 use Rattle.vx_plan.specs.Rules.{node_at}
 use Rattle.vx_steps.specs.declared.errors.StepError.{StepError}
@@ -23,7 +24,6 @@ use Rattle.vx_steps.specs.Pieces.{piece_of, read_of, AreInOrder, ArePlaced, IsGi
 use Rattle.vx_steps.specs.ReadTable.{KeepsGone}
 use Rattle.vx_steps.specs.ReadTableData.{ReadsData, Wanted}
 use Rattle.vx_rows.specs.SegmentLeaves.{Bytes}
-use Rattle.vx_steps.specs.Rows.{SelectsSome}
 use Rattle.vx_steps.specs.Releasing.{IsServed, LetsSpentGo}
 use Rattle.vx_steps.specs.Turns.{AreLeavesKept, FailsInWholes, HasRowCause, IsOutput, IsRefusal, LeavesWholes}
 use Rattle.vx_steps.specs.Wants.{IsNeededLeaf}

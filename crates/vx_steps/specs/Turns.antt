@@ -2,6 +2,7 @@
 use Rattle.std.specs.Prelude.{◌≡◌, ◌⊎◌, List, length, Some}
 use Rattle.vx_base.specs.Columns.{ColumnData}
 use Rattle.vx_base.specs.Masks.{true_count}
+use Rattle.vx_picking.specs.Rows.{rows_of, AreOf}
 use Rattle.vx_plan.specs.Nodes.{Node}
 use Rattle.vx_plan.specs.Plans.{plan_at}
 use Rattle.vx_plan.specs.Rules.{node_at}
@@ -18,7 +19,6 @@ use Rattle.vx_steps.specs.Given.{handed_by, row_value}
 use Rattle.vx_steps.specs.Kept.{IsKept}
 use Rattle.vx_steps.specs.KeptData.{Kept}
 use Rattle.vx_steps.specs.ReadTableData.{Wanted}
-use Rattle.vx_steps.specs.Rows.{rows_of, AreOf}
 use Rattle.vx_steps.specs.Wants.{ReadsLeaf}
 use Rattle.vx_steps.specs.Wholes.{AreThere, HasInsideCause}
 

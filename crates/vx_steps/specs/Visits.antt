@@ -7,10 +7,10 @@ use Rattle.vx_expr.specs.Meaning.{meaning}
 use Rattle.vx_expr.specs.Rows.{no_bound}
 use Rattle.vx_rows.specs.Derivations.{Leaves}
 use Rattle.vx_rows.specs.Reads.{IsPlaceAmong}
+use Rattle.vx_picking.specs.Rows.{SomeRow}
 use Rattle.vx_plan.specs.Plans.{Plan, no_plan, concat_plan, eval_plan, filter_plan, pack_plan, take_plan, share_plan, list_plan, row_idx_plan, scan_plan, zoned_plan, Plans, no_plans, plan, PlanValidity, all_valid, valid_as, plan_head}
 use Rattle.vx_steps.specs.declared.leaf_reads.LeafRead.{LeafRead}
 use Rattle.vx_steps.specs.Given.{Handed, values_for, row_value}
-use Rattle.vx_steps.specs.Rows.{SomeRow}
 
 abbrev pub Test : Type 1
 Test = Handed → Plan → ℕ → Type 0

@@ -4,6 +4,7 @@ ghost use Rattle.std.specs.Prelude.{◌≡◌, ◌∷◌, [], false, map, None, 
 ghost use Rattle.vx_base.specs.ColumnCalls.{natural};
 ghost use Rattle.vx_base.specs.Data.{item, no_items, null, structure, truth};
 ghost use Rattle.vx_rows.specs.ByHand.{handed_for, leaves_in, naturals};
+ghost use Rattle.vx_picking.specs.Rows.{rows_of};
 ghost use Rattle.vx_plan.specs.declared.nodes.PlanKind.TheVariants.{Filter, Share, Take};
 ghost use Rattle.vx_plan.specs.WorkedPlans.{looked_up_in, three_flats};
 ghost use Rattle.vx_steps.specs.ByHand.{held_of, kept_of, numbers_in, split_of, stored_of, truths_in, wanted_of};
@@ -14,7 +15,6 @@ ghost use Rattle.vx_steps.specs.Standings.{numbers_from};
 ghost use Rattle.vx_steps.specs.Kept.{kept_at};
 ghost use Rattle.vx_steps.specs.Leavings.{behind_all, behind_split};
 ghost use Rattle.vx_steps.specs.ReadTable.{bytes_of, held_bytes};
-ghost use Rattle.vx_steps.specs.Rows.{rows_of};
 ghost use Rattle.vx_steps.specs.Structs.{structs_at};
 
 /// Splits that select no row have a number, and are never done. The rows of a split are those of the plan. The row

@@ -2,19 +2,20 @@
 
 ghost use Rattle.std.specs.Prelude.{◌≡◌, ◌+◌, ◌<◌, ◌≤◌, [], length, IfErr, IfOk};
 ghost use Rattle.vx_base.specs.Masks.{true_count};
+ghost use Rattle.vx_picking.specs.Rows.{SelectsSome};
 ghost use Rattle.vx_plan.specs.declared.shapes.Shape.TheVariants.{RowNumbers};
 ghost use Rattle.vx_plan.specs.Rules.{node_at};
 ghost use Rattle.vx_plan.specs.Shapes.{HasShape};
 ghost use Rattle.vx_steps.specs.declared.errors.StepError.TheVariants.{Memory};
 ghost use Rattle.vx_steps.specs.Computed.{AreReady, Computes};
 ghost use Rattle.vx_steps.specs.Held.{held, IsHeld, IsLeaf};
-ghost use Rattle.vx_steps.specs.Rows.{SelectsSome};
 
 use crate::computing::Sources;
 use crate::errors::StepError;
-use crate::picking::{numbered, picked};
+use crate::picking::numbered;
 use std::alloc::Global;
 use vx_base::{Column, Mask};
+use vx_picking::picked;
 use vx_plan::{PlanRef, PlanTable};
 
 /// No row of a plan.

@@ -6,6 +6,7 @@ ghost use Rattle.std.specs.List.{All, AllByRecursion};
 ghost use Rattle.std.specs.Option.{option_copied};
 ghost use Rattle.vx_base.specs.ColumnCalls.{IsFitting};
 ghost use Rattle.vx_base.specs.Masks.{true_count};
+ghost use Rattle.vx_picking.specs.Rows.{SelectsSome};
 ghost use Rattle.vx_plan.specs.declared.shapes.Shape.TheVariants.{Chunks, Fields, LookUp, Over, Shared};
 ghost use Rattle.vx_plan.specs.Kinds.{HasKind, IsPack};
 ghost use Rattle.vx_plan.specs.Rules.{node_at};
@@ -13,16 +14,16 @@ ghost use Rattle.vx_plan.specs.Shapes.{HasShape};
 ghost use Rattle.vx_plan.specs.Tables.{IsGoodTable};
 ghost use Rattle.vx_steps.specs.Computed.{whole_in, AreChunkParts, AreParts, AreReady, AreReadyWhole, Computes, ComputesWhole};
 ghost use Rattle.vx_steps.specs.Held.{held, IsHeld, IsLeafColumn};
-ghost use Rattle.vx_steps.specs.Rows.{SelectsSome};
 
 use crate::childless::{leaf_of, no_rows, numbers_of};
 use crate::errors::StepError;
 use crate::kept::KeptColumns;
 use crate::leaf_columns::LeafColumns;
-use crate::picking::{joined, looked_up, picked, picked_range, selects_none, structs, worked_out};
+use crate::picking::{joined, looked_up, picked_range, selects_none, structs, worked_out};
 use std::alloc::Global;
 use std::ops::Range;
 use vx_base::{Column, Mask};
+use vx_picking::picked;
 use vx_plan::{PlanRef, PlanTable, Shape, chunk_at};
 
 /// What columns are computed from: the plans, the columns of their leaves, the whole values that were handed in, which

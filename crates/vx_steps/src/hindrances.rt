@@ -9,8 +9,7 @@ ghost use Rattle.vx_plan.specs.Refs.{number_of};
 ghost use Rattle.vx_plan.specs.Rules.{node_at};
 ghost use Rattle.vx_plan.specs.Shapes.{HasShape};
 ghost use Rattle.vx_plan.specs.Tables.{IsGoodTable};
-ghost use Rattle.vx_steps.specs.Hindrances.{AreHindered, IsHindrance, IsOne};
-ghost use Rattle.vx_steps.specs.Rows.{IsRun};
+ghost use Rattle.vx_steps.specs.Hindrances.{AreHindered, IsHindrance, IsOne, IsRun};
 ghost use Rattle.vx_steps.specs.Visits.{SomeVisit};
 
 use vx_base::Mask;

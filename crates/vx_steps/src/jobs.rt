@@ -4,6 +4,7 @@ ghost use Rattle.std.specs.Prelude.{◌≡◌, ℕ, [], List, true, false, Some,
 ghost use Rattle.std.specs.Bool.{MatchBool};
 ghost use Rattle.vx_steps.specs.Jobs.{IsUnstarted};
 ghost use Rattle.vx_plan.specs.Nodes.{Node};
+ghost use Rattle.vx_steps.specs.HeldData.{KeepsRoom};
 ghost use Rattle.vx_steps.specs.LaterReads.{IsNotedOf};
 ghost use Rattle.vx_steps.specs.OpenSegments.{AreCounted};
 ghost use Rattle.vx_steps.specs.Places.{place_in};
@@ -146,6 +147,7 @@ impl Progress {
     pub(crate) fn let_all_go(&mut self)
         ensures reads { LetsAllGo self.old.reads self.new.reads }
         ensures held { self.new.needed.held.held ≡ [] }
+        ensures room { KeepsRoom self.old.needed.held self.new.needed.held }
         ensures same { self.new ≡ record self.old { reads = self.new.reads; needed = record self.old.needed { held = self.new.needed.held } } }
     {
         self.reads.let_all_go();

@@ -1,11 +1,10 @@
 //! Up to which of the splits each leaf is read, and each segment.
 
-ghost use Rattle.std.specs.Prelude.{◌≡◌, ◌+◌, ◌<◌, ◌^◌, ◌==◌, ℕ, List, [], if◌then◌else◌, Some, OnOk, OnErr};
+ghost use Rattle.std.specs.Prelude.{◌+◌, ◌<◌, ◌^◌, List, [], OnOk, OnErr};
 ghost use Rattle.std.specs.Bool.{MatchBool};
-ghost use Rattle.std.specs.BTreeMap.{get};
-ghost use Rattle.std.specs.Ordering.{nat_cmp};
-ghost use Rattle.vx_steps.specs.LaterReads.{until_in, SplitRead, IsNotedOf, KeepsNotes, KeepsNumbers, LeafReadFrom, NotesOneMore, Reaches, SegmentReadFrom};
+ghost use Rattle.vx_steps.specs.LaterReads.{SplitRead, IsNotedOf, KeepsNotes, KeepsNumbers, LeafReadFrom, NotesOneMore, Reaches, SegmentReadFrom};
 
+use crate::counts::{count_of, put_count};
 use crate::number_table::NumberTable;
 use std::alloc::{AllocError, Global};
 use std::collections::BTreeMap;
@@ -17,33 +16,14 @@ pub(crate) struct LaterReads {
     segments: BTreeMap<u32, u64>,
 }
 
-/// The number of a key, 0 where it has none.
-fn until_of(until: &BTreeMap<u32, u64>, key: u32) -> u64
-    ensures { result ≡ until_in until.now key }
-{
-    match until.get(&key) {
-        Some(number) => *number,
-        None => 0,
-    }
-}
-
-/// Sets the number of a key. Where memory is wanting, all is as before.
-fn put_until(until: &mut BTreeMap<u32, u64>, key: u32, number: u64) -> Result<(), AllocError>
-    ensures put { OnOk result ((k : ℕ) → get nat_cmp until.new k ≡ (if key == k then Some number else get nat_cmp until.old k)) }
-    ensures as_before { OnErr result ((k : ℕ) → get nat_cmp until.new k ≡ get nat_cmp until.old k) }
-{
-    until.insert(key, number)?;
-    Ok(())
-}
-
 /// The key is read by the split. Where memory is wanting, all is as before.
 fn reach(until: &mut BTreeMap<u32, u64>, key: u32, split: u64) -> Result<(), AllocError>
     requires { split + 1 < 2 ^ 64 }
     ensures reached { OnOk result (Reaches key split until.old until.new) }
     ensures as_before { OnErr result (KeepsNumbers until.old until.new) }
 {
-    let number = until_of(until, key).max(split + 1);
-    put_until(until, key, number)
+    let number = count_of(until, key).max(split + 1);
+    put_count(until, key, number)
 }
 
 impl LaterReads {
@@ -82,6 +62,6 @@ impl LaterReads {
     pub(crate) fn segment_read_from(&self, segment: u32, next: usize) -> bool
         ensures { (reads : List SplitRead) → IsNotedOf self.now reads → MatchBool result (SegmentReadFrom segment next reads) (SegmentReadFrom segment next reads → ⊥) }
     {
-        (next as u64) < until_of(&self.segments, segment)
+        (next as u64) < count_of(&self.segments, segment)
     }
 }

@@ -13,7 +13,7 @@ use crate::plan_marks::PlanMarks;
 use std::alloc::{AllocError, Global};
 use std::marker::Model;
 use std::snapshot::Snapshot;
-use vx_base::{Column, DType, Nullability};
+use vx_base::Column;
 use vx_plan::PlanRef;
 
 /// The column of a leaf as it was seen, which only clauses remember.
@@ -172,7 +172,7 @@ impl LeafColumns {
         }
         self.gone.mark(node);
         // A column of no rows takes no memory.
-        let empty = Column::empty(alloc, DType::Bool(Nullability::NonNullable));
+        let empty = Column::from_numbers(alloc, Vec::new(alloc));
         if let Ok(column) = empty {
             self.kept.replace(node, column);
         }

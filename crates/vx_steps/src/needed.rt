@@ -15,6 +15,7 @@ use crate::held_segments::HeldSegments;
 use crate::later_reads::LaterReads;
 use crate::leavings::Sieve;
 use crate::placed_reads::PlacedRead;
+use crate::segment_runs::names_at;
 use crate::still_read::StillRead;
 use std::alloc::{AllocError, Global};
 
@@ -80,7 +81,10 @@ pub(crate) fn make_room(needs: &[PlacedRead], held: &mut HeldSegments) -> Result
     ensures held { held.new.held ≡ held.old.held }
 {
     for place in 0..needs.len() {
-        held.make_room(needs[place].segment)?;
+        let segment = needs[place].segment;
+        if !names_at(needs, place + 1, segment) {
+            held.make_room(segment)?;
+        }
     }
     Ok(())
 }

@@ -1,14 +1,10 @@
 //! The needs of a started split of which rows are left, in the order of their last rows.
 
-ghost use Rattle.std.specs.Prelude.{◌≡◌, ◌≤◌, ◌++◌, List, length, map, take, IfOk, MatchOption, OnErr, OnOk};
+ghost use Rattle.std.specs.Prelude.{◌≡◌, IfOk, MatchOption, OnOk};
 ghost use Rattle.std.specs.List.Sorted.{IsNonDecreasingBy, IsPermutation};
-ghost use Rattle.vx_steps.specs.declared.leaf_reads.LeafRead.{LeafRead};
 ghost use Rattle.vx_steps.specs.OpenNeeds.{EndBehind, Passes};
-ghost use Rattle.vx_steps.specs.Pieces.{read_of};
-ghost use Rattle.vx_steps.specs.StillRead.{IsTallyOf, KeepsTallies};
 
 use crate::placed_reads::PlacedRead;
-use crate::still_read::StillRead;
 use std::alloc::{AllocError, Global};
 use std::marker::Model;
 
@@ -42,32 +38,6 @@ fn sort_by_last(needs: &mut Vec<PlacedRead>) -> Result<(), AllocError>
         Ok(()) => Ok(()),
         Err(error) => Err(error),
     }
-}
-
-/// Takes the first so many of the needs from the tallies.
-fn take_first(needs: &[PlacedRead], count: usize, still: &mut StillRead)
-    requires { count ≤ length needs.now }
-    ensures { (reads : List LeafRead) → IsTallyOf still.old (reads ++ map read_of (take count needs.now)) → IsTallyOf still.new reads }
-{
-    for place in (0..count).rev() {
-        let need = needs[place];
-        still.take(need.leaf, need.segment);
-    }
-}
-
-/// Adds the needs to the tallies. Where memory is wanting, these are as before.
-pub(crate) fn add_needs(needs: &[PlacedRead], still: &mut StillRead) -> Result<(), AllocError>
-    ensures added { OnOk result ((reads : List LeafRead) → IsTallyOf still.old reads → IsTallyOf still.new (reads ++ map read_of needs.now)) }
-    ensures as_before { OnErr result (KeepsTallies still.old still.new) }
-{
-    for place in 0..needs.len() {
-        let need = needs[place];
-        if still.add(need.leaf, need.segment).is_err() {
-            take_first(needs, place, still);
-            return Err(AllocError);
-        }
-    }
-    Ok(())
 }
 
 impl OpenNeeds {

@@ -1,12 +1,12 @@
 //! Which segments of a plan table still have a leaf over them whose column is not kept.
 
-ghost use Rattle.std.specs.Prelude.{◌≡◌, ◌+◌, ◌^◌, ◌<◌, ◌==◌, ℕ, List, length, true, if◌then◌else◌, IfOk, OnOk, OnErr, Some};
-ghost use Rattle.std.specs.BTreeMap.{get};
-ghost use Rattle.std.specs.Ordering.{nat_cmp};
+ghost use Rattle.std.specs.Prelude.{◌≡◌, ◌+◌, ◌^◌, ◌<◌, List, length, true, IfOk, OnOk};
 ghost use Rattle.vx_plan.specs.Nodes.{Node};
+ghost use Rattle.vx_steps.specs.Counts.{count_in};
 ghost use Rattle.vx_steps.specs.KeptData.{Kept};
-ghost use Rattle.vx_steps.specs.OpenSegments.{open_count, AddsOne, AreCounted, AreCountedTo, HasOneAtMost, TakesOne};
+ghost use Rattle.vx_steps.specs.OpenSegments.{AddsOne, AreCounted, AreCountedTo, HasOneAtMost, TakesOne};
 
+use crate::counts::{count_of, put_count};
 use crate::leaf_columns::LeafColumns;
 use std::alloc::{AllocError, Global};
 use std::collections::BTreeMap;
@@ -20,25 +20,13 @@ pub(crate) struct OpenSegments {
     found: bool,
 }
 
-/// Sets the count of a segment. Where memory is wanting, all is as before.
-fn set_count(left: &mut BTreeMap<u32, u64>, segment: u32, count: u64) -> Result<(), AllocError>
-    ensures set { OnOk result ((s : ℕ) → get nat_cmp left.new s ≡ (if segment == s then Some count else get nat_cmp left.old s)) }
-    ensures as_before { OnErr result ((s : ℕ) → get nat_cmp left.new s ≡ get nat_cmp left.old s) }
-{
-    left.insert(segment, count)?;
-    Ok(())
-}
-
 /// Counts one more leaf over the segment.
 fn add_one(left: &mut BTreeMap<u32, u64>, segment: u32) -> Result<(), AllocError>
-    requires { open_count left.old segment < 2 ^ 32 }
+    requires { count_in left.old segment < 2 ^ 32 }
     ensures { OnOk result (AddsOne segment left.old left.new) }
 {
-    let before = match left.get(&segment) {
-        Some(count) => *count,
-        None => 0,
-    };
-    set_count(left, segment, before + 1)
+    let before = count_of(left, segment);
+    put_count(left, segment, before + 1)
 }
 
 /// Counts the next plan of the table, if that is a leaf whose column is not kept.
@@ -123,7 +111,7 @@ impl OpenSegments {
             return true;
         }
         // The segment has a count, so that this takes no memory.
-        let _set = set_count(&mut self.left, segment, count - 1);
+        let _put = put_count(&mut self.left, segment, count - 1);
         false
     }
 }

@@ -1,27 +1,28 @@
-//! Columns of selected rows: those of a whole column, values at codes, structs of parts, an expression over its root,
-//! and the numbers of the rows.
+//! Columns of the selected rows of a plan: those of a range of a mask, values at codes, structs of parts, an expression
+//! over its root, and the numbers of the rows.
 
-ghost use Rattle.std.specs.Prelude.{◌≡◌, ◌+◌, ◌-◌, ◌<◌, ◌≤◌, ◌^◌, ℕ, length, map, replicate, slice_range, Some, true, IfOk, IfErr, IsSomeAnd, IsTrue, MatchOption};
+ghost use Rattle.std.specs.Prelude.{◌≡◌, ◌+◌, ◌-◌, ◌<◌, ◌≤◌, ◌^◌, length, map, slice_range, Some, true, IfOk, IfErr, IsTrue};
 ghost use Rattle.std.specs.Bool.{MatchBool};
-ghost use Rattle.std.specs.List.{flat_map, slice_get, All, AllByRecursion};
+ghost use Rattle.std.specs.List.{flat_map, All, AllByRecursion};
 ghost use Rattle.vx_base.specs.Fits.{nullability_of};
-ghost use Rattle.vx_base.specs.ColumnCalls.{natural, nullable_where, IsCodeBelow, IsUnsigned};
+ghost use Rattle.vx_base.specs.ColumnCalls.{natural, nullable_where, IsUnsigned};
 ghost use Rattle.vx_base.specs.Masks.{chosen, true_count};
-ghost use Rattle.vx_arrays.specs.Cells.{cell_datum};
 ghost use Rattle.vx_expr.specs.Bound.{IsBoundTo};
 ghost use Rattle.vx_expr.specs.Types.{row_number_type};
+ghost use Rattle.vx_picking.specs.RowFaults.{root_meaning};
+ghost use Rattle.vx_picking.specs.Rows.{rows_of, SelectsNone, SelectsSome};
 ghost use Rattle.vx_plan.specs.Kinds.{has_validity_of, HasKind, IsPack};
 ghost use Rattle.vx_plan.specs.Rules.{node_at};
 ghost use Rattle.vx_rows.specs.Derivations.{look_up};
-ghost use Rattle.vx_steps.specs.RowFaults.{IsCodeFault, IsEvalFault, IsPastCode, root_meaning};
-ghost use Rattle.vx_steps.specs.Rows.{rows_of, SelectsNone, SelectsSome};
+ghost use Rattle.vx_steps.specs.RowFaults.{IsCodeFault, IsEvalFault};
 ghost use Rattle.vx_steps.specs.Structs.{field_parts, front_parts, last_part, structs_at, truths_of, validity_part, HaveTypes, LastIsBool};
 
 use crate::errors::StepError;
 use std::alloc::{AllocError, Global};
 use std::ops::Range;
-use vx_base::{Cell, Column, Mask};
-use vx_expr::{ApplyError, BoundExpression, apply};
+use vx_base::{Column, Mask};
+use vx_expr::{ApplyError, BoundExpression};
+use vx_picking::{LookUpError, picked};
 use vx_plan::{PlanRef, PlanTable};
 
 /// Whether no row is selected.
@@ -29,27 +30,6 @@ pub(crate) fn selects_none(mask: &Mask) -> bool
     ensures { MatchBool result (SelectsNone mask.now) (SelectsSome mask.now) }
 {
     mask.first().is_none()
-}
-
-/// The selected rows of a column, from the first row of their range on. Where these are all rows of a column that shares
-/// them, none is copied.
-pub(crate) fn picked(
-    alloc: Global,
-    column: &Column,
-    start: u64,
-    mask: &Mask,
-) -> Result<Column, AllocError>
-    requires { start + length mask.now ≤ length column.now.values }
-    ensures dtype { IfOk result (λ picked. picked.dtype ≡ column.now.dtype) }
-    ensures values { IfOk result (λ picked. picked.values ≡ chosen mask.now (slice_range column.now.values start (start + length mask.now))) }
-{
-    let _rows = column.len();
-    let rows = start..start + mask.len();
-    if mask.all_true() {
-        column.slice(alloc, rows)
-    } else {
-        column.filter_range(alloc, rows, mask)
-    }
 }
 
 /// The rows of a column that a range of a mask selects, from the first row of that range on. Where the whole mask is
@@ -77,48 +57,6 @@ pub(crate) fn picked_range(
     let _rows = column.len();
     let end = start + (range.end - range.start);
     column.slice(alloc, start..end)
-}
-
-/// The selected row at a place among the selected rows.
-fn selected_row(start: u64, mask: &Mask, place: u64) -> u64
-    requires { start + length mask.now < 2 ^ 64 }
-    ensures { (row : ℕ) → slice_get (rows_of start mask.now) place ≡ Some row → result ≡ row }
-{
-    let mut left = place;
-    for row in 0..mask.len() {
-        if mask.value(row) {
-            if left == 0 {
-                return start + row;
-            }
-            left -= 1;
-        }
-    }
-    start
-}
-
-/// Whether a code is a number that is none of so many values.
-fn is_past(code: &Cell<'_>, count: u64) -> bool
-    ensures { MatchBool result (IsPastCode count (cell_datum code.now)) (IsCodeBelow count (cell_datum code.now)) }
-{
-    match code {
-        Cell::Int(number) => *number >= i128::from(count),
-        Cell::Null => false,
-        Cell::Bool(_) => false,
-        Cell::Text(_) => false,
-        Cell::Struct(..) => false,
-    }
-}
-
-/// The place of the first code that is none of so many values.
-fn first_past(codes: &Column, count: u64) -> Option<u64>
-    ensures { MatchOption result (AllByRecursion (IsCodeBelow count) codes.now.values) (λ place. IsSomeAnd (slice_get codes.now.values place) (IsPastCode count)) }
-{
-    for place in 0..codes.len() {
-        if is_past(&codes.cell(place), count) {
-            return Some(place);
-        }
-    }
-    None
 }
 
 /// The columns one after another, as rows of the plan.
@@ -152,24 +90,14 @@ pub(crate) fn looked_up(
     ensures values { IfOk result (λ column. map (look_up values.now.values) codes.now.values ≡ map Some column.values) }
     ensures fault { IfErr result (IsCodeFault plan (length values.now.values) codes.now.values start mask.now) }
 {
-    let _rows = codes.len();
-    if let Some(place) = first_past(codes, values.len()) {
-        return Err(StepError::BadCode {
+    match vx_picking::looked_up(alloc, codes, values, start, mask) {
+        Ok(column) => Ok(column),
+        Err(LookUpError::BadCode(row)) => Err(StepError::BadCode {
             node: PlanRef(plan),
-            row: selected_row(start, mask, place),
-        });
+            row,
+        }),
+        Err(LookUpError::Memory) => Err(StepError::Memory),
     }
-    Ok(Column::look_up(alloc, codes, values)?)
-}
-
-/// A column of zeros, which stands for numbers of rows that nothing looks at.
-fn zeros(alloc: Global, rows: u64) -> Result<Column, AllocError>
-    ensures dtype { IfOk result (λ column. column.dtype ≡ row_number_type) }
-    ensures values { IfOk result (λ column. column.values ≡ replicate rows (natural 0)) }
-{
-    let mut numbers = Vec::new(alloc);
-    numbers.resize(rows as usize, 0)?;
-    Column::from_numbers(alloc, numbers)
 }
 
 /// An expression over the values of its root; a fault names the first row at which it is one.
@@ -186,14 +114,9 @@ pub(crate) fn worked_out(
     ensures values { IfOk result (λ column. map (root_meaning root.now.dtype expression.now.term) root.now.values ≡ map Some column.values) }
     ensures fault { IfErr result (IsEvalFault root.now.dtype expression.now.term root.now.values start mask.now) }
 {
-    let numbers = zeros(alloc, root.len())?;
-    let made = apply(alloc, expression, root, &numbers);
-    drop(numbers);
-    match made {
+    match vx_picking::worked_out(alloc, expression, root, start, mask) {
         Ok(column) => Ok(column),
-        Err(ApplyError::EvalFault(place)) => {
-            Err(StepError::EvalFault(selected_row(start, mask, place)))
-        }
+        Err(ApplyError::EvalFault(row)) => Err(StepError::EvalFault(row)),
         Err(ApplyError::Memory) => Err(StepError::Memory),
     }
 }

@@ -73,7 +73,7 @@ pub(crate) fn ready_rows(needs: &[PlacedRead], rows: u64, next: usize) -> u64
 }
 
 /// How far the rows of a split are given: in front of which place; which selected row is the next; how many needs, from the
-/// first one on, are known to be kept; and whether the whole values that the split asks for were made.
+/// first one on, are known to be kept; and whether the whole values that the split asks for were made, or it asks for none.
 #[derive(Clone, Copy)]
 pub(crate) struct GivenRows {
     pub(crate) done: u64,
@@ -83,12 +83,12 @@ pub(crate) struct GivenRows {
 }
 
 impl GivenRows {
-    /// No row of the mask was given.
-    pub(crate) fn none(mask: &Mask) -> GivenRows
+    /// No row of the mask was given, and no whole values were made: none have to be, unless the split asks for some.
+    pub(crate) fn none(mask: &Mask, asks: bool) -> GivenRows
         ensures row { IsNextRow mask.now 0 result.row }
         ensures done { result.done ≡ 0 }
         ensures next { result.next ≡ 0 }
-        ensures made { result.made ≡ false }
+        ensures made { result.made ≡ true → asks ≡ false }
     {
         let row = match mask.first() {
             Some(row) => row,
@@ -98,7 +98,7 @@ impl GivenRows {
             done: 0,
             row,
             next: 0,
-            made: false,
+            made: !asks,
         }
     }
 }

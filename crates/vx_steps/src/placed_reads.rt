@@ -1,12 +1,17 @@
 //! The leaves that the selected rows of a split read, each with the places of the first and of the last row that read it.
 
-ghost use Rattle.std.specs.Prelude.{◌≡◌, ◌+◌, ◌-◌, ◌<◌, ◌≤◌, ◌^◌, [], ◌∷◌, ◌++◌, length, map, slice_range, IfOk, MatchOption, OnOk};
+ghost use Rattle.std.specs.Prelude.{◌≡◌, ◌+◌, ◌-◌, ◌<◌, ◌≤◌, ◌^◌, List, [], ◌∷◌, ◌++◌, length, map, slice_range, false, true, IfOk, IsTrue, MatchOption, OnOk};
+ghost use Rattle.std.specs.List.{All};
 ghost use Rattle.std.specs.List.Sorted.{IsNonDecreasingBy, IsPermutation};
+ghost use Rattle.vx_picking.specs.Rows.{SelectsNone};
+ghost use Rattle.vx_plan.specs.declared.shapes.Shape.TheVariants.{Leaf};
+ghost use Rattle.vx_plan.specs.Nodes.{Node};
 ghost use Rattle.vx_plan.specs.Rules.{node_at};
+ghost use Rattle.vx_plan.specs.Shapes.{HasShape};
+ghost use Rattle.vx_steps.specs.KeptData.{Kept};
 ghost use Rattle.vx_steps.specs.Needs.{AreLeaves};
 ghost use Rattle.vx_steps.specs.Pieces.{read_of, AreInOrder, ArePlaced};
-ghost use Rattle.vx_steps.specs.Placed.{up_to, AddsPlaced, AddsUnder, AreEnds};
-ghost use Rattle.vx_steps.specs.Rows.{SelectsNone};
+ghost use Rattle.vx_steps.specs.Placed.{up_to, AddsPlaced, AddsUnder, AreEnds, AskForNone};
 
 use crate::kept::KeptColumns;
 use crate::leaf_reads::{LeafRead, add_whole_reads};
@@ -22,6 +27,13 @@ pub(crate) struct PlacedRead {
     pub(crate) segment: u32,
     pub(crate) from: u64,
     pub(crate) last: u64,
+}
+
+/// What selected rows need: the leaves that they read, and whether they may ask for whole values.
+#[derive(Drop)]
+pub(crate) struct PlacedNeeds {
+    pub(crate) needs: Vec<PlacedRead>,
+    pub(crate) asks: bool,
 }
 
 /// The places of the first and of the last selected row.
@@ -45,6 +57,38 @@ fn ends_of(mask: &Mask) -> Option<Ends>
     }
 }
 
+/// The places of the first and of the last selected row of a range, counted from its first row, where there is one. A mask
+/// is made of the range only where this isn't seen without: not where each row of the mask is known to be selected, and
+/// not for one row or for all of them.
+fn ends_in(
+    alloc: Global,
+    mask: &Mask,
+    selects_all: bool,
+    from: u64,
+    to: u64,
+) -> Result<Option<Ends>, AllocError>
+    requires all { IsTrue selects_all → All (λ bit. bit ≡ true) mask.now }
+    requires forwards { from ≤ to }
+    requires inside { to ≤ length mask.now }
+    ensures { IfOk result (λ ends. MatchOption ends (SelectsNone (slice_range mask.now from to)) (AreEnds (slice_range mask.now from to))) }
+{
+    if selects_all && from < to {
+        let last = to - from - 1;
+        return Ok(Some(Ends { first: 0, last }));
+    }
+    if to - from == 1 {
+        if mask.value(from) {
+            return Ok(Some(Ends { first: 0, last: 0 }));
+        }
+        return Ok(None);
+    }
+    if from == 0 && to == mask.len() {
+        return Ok(ends_of(mask));
+    }
+    let some = mask.slice(alloc, from..to)?;
+    Ok(ends_of(&some))
+}
+
 /// Adds a leaf that rows from the one place to the other read.
 fn add_need(
     leaf: u32,
@@ -64,7 +108,40 @@ fn add_need(
     Ok(())
 }
 
-/// Adds the leaves that the selected rows of a plan read. Its first row stands at a place behind the base.
+/// Adds a leaf that scans the segment, if the mask selects one of these rows of it.
+fn add_leaf_rows(
+    alloc: Global,
+    segment: u32,
+    rows: ChildRows,
+    mask: &Mask,
+    selects_all: bool,
+    base: u64,
+    needs: &mut Vec<PlacedRead>,
+) -> Result<(), AllocError>
+    requires all { IsTrue selects_all → All (λ bit. bit ≡ true) mask.now }
+    requires forwards { rows.from ≤ rows.to }
+    requires asked { rows.to ≤ length mask.now }
+    requires base { base + length mask.now < 2 ^ 64 }
+    ensures { OnOk result ((nodes : List Node) (given : List Kept) → rows.child < length nodes → HasShape nodes rows.child (Leaf segment) → AddsPlaced nodes given rows.child rows.start (slice_range mask.now rows.from rows.to) (base + rows.from) needs.old.items needs.new.items) }
+{
+    let behind = base + rows.from;
+    match ends_in(alloc, mask, selects_all, rows.from, rows.to) {
+        Ok(Some(ends)) => {
+            add_need(
+                rows.child,
+                segment,
+                behind + ends.first,
+                behind + ends.last,
+                needs,
+            )
+        }
+        Ok(None) => Ok(()),
+        Err(error) => Err(error),
+    }
+}
+
+/// Adds the leaves that the selected rows of a plan read, and notes whether these ask for whole values. Its first row
+/// stands at a place behind the base.
 #[cycle(placed_reads)]
 pub(crate) fn add_placed(
     alloc: Global,
@@ -73,13 +150,17 @@ pub(crate) fn add_placed(
     plan: u32,
     start: u64,
     mask: &Mask,
+    selects_all: bool,
     base: u64,
     needs: &mut Vec<PlacedRead>,
+    asks: &mut bool,
 ) -> Result<(), AllocError>
     requires known { plan < length table.now }
+    requires all { IsTrue selects_all → All (λ bit. bit ≡ true) mask.now }
     requires inside { start + length mask.now ≤ (node_at table.now plan).rows }
     requires base { base + length mask.now < 2 ^ 64 }
-    ensures { OnOk result (AddsPlaced table.now given.now plan start mask.now base needs.old.items needs.new.items) }
+    ensures added { OnOk result (AddsPlaced table.now given.now plan start mask.now base needs.old.items needs.new.items) }
+    ensures asks { OnOk result (asks.new ≡ false → (asks.old ≡ false) × AskForNone table.now given.now plan start mask.now) }
 {
     let ends = match ends_of(mask) {
         Some(ends) => ends,
@@ -91,9 +172,20 @@ pub(crate) fn add_placed(
     let mut place = PartPlace::first();
     while let Some(next) = table.next_part(PlanRef(plan), start, mask.len(), place) {
         match next.part {
-            Part::Rows(rows) => add_placed_rows(alloc, table, given, rows, mask, base, needs)?,
+            Part::Rows(rows) => add_placed_rows(
+                alloc,
+                table,
+                given,
+                rows,
+                mask,
+                selects_all,
+                base,
+                needs,
+                asks,
+            )?,
             Part::Whole(whole, child) => {
-                add_under(alloc, table, given, whole, child, base + ends.last, needs)?
+                add_under(alloc, table, given, whole, child, base + ends.last, needs)?;
+                *asks = true;
             }
         }
         place = next.behind;
@@ -101,7 +193,8 @@ pub(crate) fn add_placed(
     Ok(())
 }
 
-/// Adds the leaves that rows of a child read which the mask selects at their places.
+/// Adds the leaves that rows of a child read which the mask selects at their places. No mask is made for the rows of a leaf
+/// that are all selected.
 #[cycle(placed_reads)]
 fn add_placed_rows(
     alloc: Global,
@@ -109,25 +202,42 @@ fn add_placed_rows(
     given: &KeptColumns,
     rows: ChildRows,
     mask: &Mask,
+    selects_all: bool,
     base: u64,
     needs: &mut Vec<PlacedRead>,
+    asks: &mut bool,
 ) -> Result<(), AllocError>
     requires known { rows.child < length table.now }
+    requires all { IsTrue selects_all → All (λ bit. bit ≡ true) mask.now }
     requires forwards { rows.from ≤ rows.to }
     requires asked { rows.to ≤ length mask.now }
     requires inside { rows.start + (rows.to - rows.from) ≤ (node_at table.now rows.child).rows }
     requires base { base + length mask.now < 2 ^ 64 }
-    ensures { OnOk result (AddsPlaced table.now given.now rows.child rows.start (slice_range mask.now rows.from rows.to) (base + rows.from) needs.old.items needs.new.items) }
+    ensures added { OnOk result (AddsPlaced table.now given.now rows.child rows.start (slice_range mask.now rows.from rows.to) (base + rows.from) needs.old.items needs.new.items) }
+    ensures asks { OnOk result (asks.new ≡ false → (asks.old ≡ false) × AskForNone table.now given.now rows.child rows.start (slice_range mask.now rows.from rows.to)) }
 {
+    if let Shape::Leaf(segment) = table.shape(PlanRef(rows.child)) {
+        return add_leaf_rows(alloc, segment, rows, mask, selects_all, base, needs);
+    }
     if rows.from == 0 && rows.to == mask.len() {
         return add_placed(
-            alloc, table, given, rows.child, rows.start, mask, base, needs,
+            alloc,
+            table,
+            given,
+            rows.child,
+            rows.start,
+            mask,
+            selects_all,
+            base,
+            needs,
+            asks,
         );
     }
     let some = mask.slice(alloc, rows.from..rows.to)?;
+    let all = some.all_true();
     let behind = base + rows.from;
     add_placed(
-        alloc, table, given, rows.child, rows.start, &some, behind, needs,
+        alloc, table, given, rows.child, rows.start, &some, all, behind, needs, asks,
     )
 }
 
@@ -172,6 +282,43 @@ fn sort_placed(needs: &mut Vec<PlacedRead>) -> Result<(), AllocError>
     }
 }
 
+/// The leaves that the selected rows of a plan read, in the order of the first rows that wait for them, and whether these
+/// rows ask for whole values.
+pub(crate) fn needs_of(
+    alloc: Global,
+    table: &PlanTable,
+    given: &KeptColumns,
+    plan: u32,
+    start: u64,
+    mask: &Mask,
+) -> Result<PlacedNeeds, AllocError>
+    requires known { plan < length table.now }
+    requires inside { start + length mask.now ≤ (node_at table.now plan).rows }
+    ensures placed { IfOk result (λ found. ArePlaced table.now given.now plan start mask.now found.needs.items) }
+    ensures order { IfOk result (λ found. AreInOrder found.needs.items) }
+    ensures leaves { IfOk result (λ found. AreLeaves table.now (map read_of found.needs.items)) }
+    ensures asks { IfOk result (λ found. found.asks ≡ false → AskForNone table.now given.now plan start mask.now) }
+{
+    table.numbers_fit(PlanRef(plan));
+    let selects_all = mask.all_true();
+    let mut asks = false;
+    let mut needs = Vec::new(alloc);
+    add_placed(
+        alloc,
+        table,
+        given,
+        plan,
+        start,
+        mask,
+        selects_all,
+        0,
+        &mut needs,
+        &mut asks,
+    )?;
+    sort_placed(&mut needs)?;
+    Ok(PlacedNeeds { needs, asks })
+}
+
 /// The leaves that the selected rows of a plan read, in the order of the first rows that wait for them.
 pub(crate) fn placed_of(
     alloc: Global,
@@ -187,9 +334,8 @@ pub(crate) fn placed_of(
     ensures order { IfOk result (λ needs. AreInOrder needs.items) }
     ensures leaves { IfOk result (λ needs. AreLeaves table.now (map read_of needs.items)) }
 {
-    table.numbers_fit(PlanRef(plan));
-    let mut needs = Vec::new(alloc);
-    add_placed(alloc, table, given, plan, start, mask, 0, &mut needs)?;
-    sort_placed(&mut needs)?;
-    Ok(needs)
+    match needs_of(alloc, table, given, plan, start, mask) {
+        Ok(found) => Ok(found.needs),
+        Err(error) => Err(error),
+    }
 }

@@ -1,23 +1,24 @@
 //! Where the column of each plan stands among kept ones: a table by the numbers of plans.
 
-ghost use Rattle.std.specs.Prelude.{◌≡◌, ◌<◌, [], Some, None, OnErr, OnOk, length};
+ghost use Rattle.std.specs.Prelude.{◌≡◌, ℕ, Some, None, OnErr, OnOk};
 ghost use Rattle.vx_steps.specs.Places.{place_in, KeepsPlaces, SetsPlace};
 
+use crate::number_table::NumberTable;
 use std::alloc::{AllocError, Global};
 
-/// The place of each plan that has one, by the plan's number. It reaches as far as a plan had one.
+/// The place of each plan that has one, by the plan's number. What stands in the table is one more than the place.
 #[derive(Drop)]
 pub(crate) struct PlaceTable {
-    places: Vec<Option<usize>>,
+    numbers: NumberTable,
 }
 
 impl PlaceTable {
     /// No places. It takes no memory.
     pub(crate) fn new(alloc: Global) -> PlaceTable
-        ensures { result.places.items ≡ [] }
+        ensures { (n : ℕ) → place_in result n ≡ None }
     {
         PlaceTable {
-            places: Vec::new(alloc),
+            numbers: NumberTable::new(alloc),
         }
     }
 
@@ -25,24 +26,11 @@ impl PlaceTable {
     pub(crate) fn get(&self, plan: u32) -> Option<usize>
         ensures { result ≡ place_in self.now plan }
     {
-        let plan = plan as usize;
-        if plan < self.places.len() {
-            self.places[plan]
-        } else {
-            None
+        let number = self.numbers.get(plan);
+        if number == 0 {
+            return None;
         }
-    }
-
-    /// Reaches as far as the plan.
-    fn reach(&mut self, plan: u32) -> Result<(), AllocError>
-        ensures there { OnOk result (plan < length self.new.places.items) }
-        ensures kept { KeepsPlaces self.old self.new }
-    {
-        let plan = plan as usize;
-        if plan < self.places.len() {
-            return Ok(());
-        }
-        self.places.resize(plan + 1, None)
+        Some((number - 1) as usize)
     }
 
     /// Gives the plan a place.
@@ -50,8 +38,13 @@ impl PlaceTable {
         ensures put { OnOk result (SetsPlace plan (Some place) self.old self.new) }
         ensures as_before { OnErr result (KeepsPlaces self.old self.new) }
     {
-        self.reach(plan)?;
-        self.places[plan as usize] = Some(place);
+        // Columns at so many places that their number doesn't fit never come together.
+        let number = match (place as u64).checked_add(1) {
+            Some(number) => number,
+            None => return Err(AllocError),
+        };
+        self.numbers.reach(plan)?;
+        self.numbers.put(plan, number);
         Ok(())
     }
 
@@ -59,9 +52,8 @@ impl PlaceTable {
     pub(crate) fn remove(&mut self, plan: u32)
         ensures { SetsPlace plan None self.old self.new }
     {
-        let plan = plan as usize;
-        if plan < self.places.len() {
-            self.places[plan] = None;
+        if self.numbers.get(plan) > 0 {
+            self.numbers.put(plan, 0);
         }
     }
 }

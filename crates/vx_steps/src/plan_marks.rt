@@ -1,23 +1,26 @@
 //! Marks of plans: a table by the numbers of plans.
 
-ghost use Rattle.std.specs.Prelude.{◌≡◌, ◌<◌, [], length, OnOk};
+ghost use Rattle.std.specs.Prelude.{◌≡◌, ℕ, false, OnOk};
+ghost use Rattle.vx_steps.specs.NumberTable.{IsReached};
 ghost use Rattle.vx_steps.specs.PlanMarks.{is_marked, KeepsMarks, Marks};
 
+use crate::number_table::NumberTable;
 use std::alloc::{AllocError, Global};
 
-/// Which plans are marked, by their numbers. It reaches as far as there is room for a mark.
+/// Which plans are marked, by their numbers: those that have a 1 in the table. A plan that is reached has room for a
+/// mark.
 #[derive(Drop)]
 pub(crate) struct PlanMarks {
-    marks: Vec<bool>,
+    numbers: NumberTable,
 }
 
 impl PlanMarks {
     /// No marks. It takes no memory.
     pub(crate) fn new(alloc: Global) -> PlanMarks
-        ensures { result.marks.items ≡ [] }
+        ensures { (n : ℕ) → is_marked result n ≡ false }
     {
         PlanMarks {
-            marks: Vec::new(alloc),
+            numbers: NumberTable::new(alloc),
         }
     }
 
@@ -25,31 +28,22 @@ impl PlanMarks {
     pub(crate) fn get(&self, plan: u32) -> bool
         ensures { result ≡ is_marked self.now plan }
     {
-        let plan = plan as usize;
-        if plan < self.marks.len() {
-            self.marks[plan]
-        } else {
-            false
-        }
+        self.numbers.get(plan) == 1
     }
 
     /// Makes room for the mark of a plan.
     pub(crate) fn reach(&mut self, plan: u32) -> Result<(), AllocError>
-        ensures there { OnOk result (plan < length self.new.marks.items) }
+        ensures there { OnOk result (IsReached self.new.numbers plan) }
         ensures kept { KeepsMarks self.old self.new }
     {
-        let plan = plan as usize;
-        if plan < self.marks.len() {
-            return Ok(());
-        }
-        self.marks.resize(plan + 1, false)
+        self.numbers.reach(plan)
     }
 
     /// Marks a plan for whose mark there is room. It takes no memory.
     pub(crate) fn mark(&mut self, plan: u32)
-        requires { plan < length self.old.marks.items }
+        requires { IsReached self.old.numbers plan }
         ensures { Marks plan self.old self.new }
     {
-        self.marks[plan as usize] = true;
+        self.numbers.put(plan, 1);
     }
 }

@@ -2,9 +2,11 @@
 
 ghost use Rattle.std.specs.Prelude.{◌≡◌, ◌+◌, ◌<◌, ◌≤◌, length, Some, None, true, IfOk, IfErr, IfSome, OnOk};
 ghost use Rattle.std.specs.Bool.{MatchBool};
+ghost use Rattle.std.specs.List.{slice_get};
+ghost use Rattle.vx_steps.specs.declared.jobs.ActiveSplit.{ActiveSplit};
 ghost use Rattle.vx_steps.specs.Jobs.{active_of, AddsLeaves, CanStart, KeepsBound, KeepsColumns, KeepsTold, KeepsWholesFor, OnlyKeeps, Starts, WantsFor};
 ghost use Rattle.vx_steps.specs.Needs.{AreAmong};
-ghost use Rattle.vx_steps.specs.Running.{IsActiveOutput, IsHeldAt, IsLast, IsGoing, IsPassing, IsRunning, IsSound, Settles};
+ghost use Rattle.vx_steps.specs.Running.{IsActiveOutput, IsEnded, IsHeldAt, IsLast, IsGoing, IsPassing, IsRunning, IsSound, Settles};
 ghost use Rattle.vx_steps.specs.Standings.{standing_of};
 ghost use Rattle.vx_steps.specs.Steps.{active_in, tried_in, GivesOutput, HoldsAll, IsStepRefusal, TakesTurn};
 ghost use Rattle.vx_steps.specs.Wants.{Grows};
@@ -12,7 +14,7 @@ ghost use Rattle.vx_steps.specs.Wants.{Grows};
 use crate::errors::StepError;
 use crate::handed_leaves::{hold_handed, note_later, set_apart, set_apart_handed};
 use crate::jobs::{Job, Progress, make_ready};
-use crate::letting_go::pass_needs;
+use crate::letting_go::{end, pass_needs};
 use crate::reads::ReadRequest;
 use crate::turns::{finish_split, start_split};
 use std::alloc::{AllocError, Global};
@@ -165,8 +167,22 @@ fn finish_at(
     )
 }
 
+/// Whether all rows are given: no split is left to be started, and none of the rows of the one that alone is active.
+fn is_ended(job: &Job, place: usize, progress: &Progress) -> bool
+    requires place { place < length progress.now.active.items }
+    requires known { (active : ActiveSplit) → slice_get progress.now.active.items place ≡ Some active → active.split < length job.now.splits.items }
+    ensures { result ≡ true → IsEnded job.now place progress.now }
+{
+    if !is_last(job, progress) {
+        return false;
+    }
+    let active = &progress.active[place];
+    let split = &job.splits[active.split];
+    split.mask.len() <= active.at.done
+}
+
 /// Passes the needs of the active split at the place, rows of which were given, and gives its number. Where none of its rows
-/// is left it is active no more.
+/// is left it is active no more; where no row is left at all, all is let go at once.
 fn settle(
     alloc: Global,
     table: &PlanTable,
@@ -181,10 +197,16 @@ fn settle(
     ensures running { IsRunning table.now job.now progress.new }
     ensures settles { Settles job.now place result progress.old progress.new }
 {
+    if is_ended(job, place, progress) {
+        let number = progress.active[place].split;
+        end(alloc, progress);
+        return number;
+    }
     pass_needs(alloc, table, job, place, progress);
     let active = &progress.active[place];
     let number = active.split;
-    if active.at.done < job.splits[number].mask.len() {
+    let split = &job.splits[number];
+    if active.at.done < split.mask.len() {
         return number;
     }
     drop(progress.active.remove(place));

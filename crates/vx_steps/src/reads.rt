@@ -1,10 +1,12 @@
 //! The reads of a scan: which segments it wants, which of them it has handed out, and what came.
 
-ghost use Rattle.std.specs.Prelude.{◌≡◌, ◌⊎◌, ◌-◌, ◌^◌, [], length, min, Some, None, OnOk, OnErr, MatchOption};
+ghost use Rattle.std.specs.Prelude.{◌≡◌, ◌⊎◌, ◌-◌, ◌^◌, [], length, map, min, Some, None, OnOk, OnErr, MatchOption};
 ghost use Rattle.std.specs.Bool.{MatchBool};
+ghost use Rattle.std.specs.BTreeMap.{get};
 ghost use Rattle.std.specs.Option.{is_some};
-ghost use Rattle.vx_steps.specs.ReadTable.{IsWanted, HandsOut, IsGone, IsNamed, IsOutstanding, DeliversOf, KeepsStored, LetsAllGo, LetsGo, Passes, bytes_of, held_bytes};
-ghost use Rattle.vx_steps.specs.ReadTableData.{bytes_in, count_held, is_gone};
+ghost use Rattle.std.specs.Ordering.{nat_cmp};
+ghost use Rattle.vx_steps.specs.ReadTable.{AreFound, IsWanted, HandsOut, IsGone, IsNamed, IsOutstanding, DeliversOf, KeepsStored, LetsAllGo, LetsGo, Passes, bytes_of, held_bytes};
+ghost use Rattle.vx_steps.specs.ReadTableData.{bytes_in, count_held, is_gone, wanted_data};
 
 use std::alloc::{AllocError, Global};
 use std::collections::BTreeMap;
@@ -79,13 +81,14 @@ pub(crate) struct WantedSegment {
 /// The segments that a scan wants, each once, in the order in which they are handed out. A read's number
 /// is its segment's place. The bytes of a segment are let go when the last leaf over it is decoded, and, once the last
 /// split is the only active one, when its last need that names the segment is passed: `passed` counts the needs whose
-/// columns are there.
+/// columns are there. `recent` is the place that was looked for last.
 #[derive(Drop)]
 pub(crate) struct ReadTable {
     wanted: Vec<WantedSegment>,
     handed: usize,
     places: BTreeMap<u32, usize>,
     passed: usize,
+    recent: usize,
 }
 
 impl Model for ReadTable {
@@ -102,6 +105,23 @@ impl Model for ReadTable {
     ghost invariant = { λ a. AreReads a.places (map wanted_data a.wanted.items) a.handed };
 }
 
+/// The place of a segment, where it is wanted. The recent place is tried first: of needs beside each other most name one
+/// segment.
+fn place_of(
+    wanted: &Vec<WantedSegment>,
+    places: &BTreeMap<u32, usize>,
+    recent: usize,
+    segment: u32,
+) -> Option<usize>
+    requires { AreFound places.now (map wanted_data wanted.now.items) }
+    ensures { result ≡ get nat_cmp places.now segment }
+{
+    if recent < wanted.len() && wanted[recent].segment == segment {
+        return Some(recent);
+    }
+    places.get(&segment).copied()
+}
+
 impl ReadTable {
     /// No reads. It takes no memory.
     pub(crate) fn new(alloc: Global) -> ReadTable
@@ -115,6 +135,7 @@ impl ReadTable {
             handed: 0,
             places: BTreeMap::new(alloc),
             passed: 0,
+            recent: 0,
         }
     }
 
@@ -133,8 +154,8 @@ impl ReadTable {
         ensures named { OnOk result (IsNamed self.new.stored segment need) }
         ensures stored { KeepsStored self.old self.new }
     {
-        if let Some(found) = self.places.get(&segment) {
-            let place = *found;
+        if let Some(place) = place_of(&self.wanted, &self.places, self.recent, segment) {
+            self.recent = place;
             if self.wanted[place].last < need {
                 self.wanted[place].last = need;
             }
@@ -150,6 +171,7 @@ impl ReadTable {
             self.wanted.pop();
             return Err(AllocError);
         }
+        self.recent = place;
         Ok(())
     }
 
@@ -189,8 +211,8 @@ impl ReadTable {
     pub(crate) fn bytes(&self, segment: u32) -> Option<&[u8]>
         ensures { MatchOption result ((bytes_of self.now.wanted segment ≡ None) ⊎ IsGone self.now.stored segment) (λ bytes. bytes_of self.now.wanted segment ≡ Some bytes.now) }
     {
-        match self.places.get(&segment) {
-            Some(place) => match &self.wanted[*place].bytes {
+        match place_of(&self.wanted, &self.places, self.recent, segment) {
+            Some(place) => match &self.wanted[place].bytes {
                 SegmentBytes::NotYet => None,
                 SegmentBytes::Came(bytes) => Some(bytes.as_slice()),
                 SegmentBytes::LetGo(_) => None,
@@ -212,8 +234,8 @@ impl ReadTable {
         ensures { Passes segment count self.old self.new }
     {
         self.passed = count;
-        if let Some(found) = self.places.get(&segment) {
-            let place = *found;
+        if let Some(place) = place_of(&self.wanted, &self.places, self.recent, segment) {
+            self.recent = place;
             if self.wanted[place].last < count {
                 self.wanted[place].bytes.let_go();
             }
@@ -224,8 +246,7 @@ impl ReadTable {
     pub(crate) fn let_go(&mut self, segment: u32)
         ensures { LetsGo segment self.old self.new }
     {
-        if let Some(found) = self.places.get(&segment) {
-            let place = *found;
+        if let Some(place) = place_of(&self.wanted, &self.places, self.recent, segment) {
             self.wanted[place].bytes.let_go();
         }
     }

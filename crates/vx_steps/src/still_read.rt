@@ -1,13 +1,15 @@
 //! How many of the reads that rows still need are of each leaf, and how many of them name each segment.
 
-ghost use Rattle.std.specs.Prelude.{◌≡◌, ◌==◌, ℕ, List, [], if◌then◌else◌, Some, None, OnOk, OnErr};
+ghost use Rattle.std.specs.Prelude.{◌≡◌, List, ◌++◌, [], map, OnOk};
 ghost use Rattle.std.specs.Bool.{MatchBool};
-ghost use Rattle.std.specs.BTreeMap.{get};
-ghost use Rattle.std.specs.Ordering.{nat_cmp};
 ghost use Rattle.vx_steps.specs.declared.leaf_reads.LeafRead.{LeafRead};
-ghost use Rattle.vx_steps.specs.StillRead.{count_in, CountsOneLess, CountsOneMore, IsTallyOf, KeepsCounts, KeepsTallies, LeafIsRead, SegmentIsRead, TalliesOneLess, TalliesOneMore};
+ghost use Rattle.vx_steps.specs.Pieces.{read_of};
+ghost use Rattle.vx_steps.specs.StillRead.{CountsLeaf, CountsLeaves, CountsMore, CountsOneLess, CountsSegments, IsTallyOf, LeafIsRead, SegmentIsRead, TalliesOneLess};
 
+use crate::counts::{count_of, put_count};
 use crate::number_table::NumberTable;
+use crate::placed_reads::PlacedRead;
+use crate::segment_runs::names_at;
 use std::alloc::{AllocError, Global};
 use std::collections::BTreeMap;
 
@@ -18,47 +20,70 @@ pub(crate) struct StillRead {
     segments: BTreeMap<u32, u64>,
 }
 
-/// Sets the count of a key. Where memory is wanting, all is as before; a key that has a count needs none.
-fn put_count(counts: &mut BTreeMap<u32, u64>, key: u32, count: u64) -> Result<(), AllocError>
-    ensures put { OnOk result ((k : ℕ) → get nat_cmp counts.new k ≡ (if key == k then Some count else get nat_cmp counts.old k)) }
-    ensures as_before { OnErr result ((k : ℕ) → get nat_cmp counts.new k ≡ get nat_cmp counts.old k) }
-    ensures wanting { OnErr result (get nat_cmp counts.old key ≡ None) }
+/// Counts a leaf once more. So many that their number doesn't fit never come together, since each takes memory.
+fn count_leaf(leaf: u32, leaves: &mut NumberTable) -> Result<(), AllocError>
+    ensures { OnOk result (CountsLeaf leaf leaves.old leaves.new) }
 {
-    counts.insert(key, count)?;
+    let count = match leaves.get(leaf).checked_add(1) {
+        Some(count) => count,
+        None => return Err(AllocError),
+    };
+    leaves.reach(leaf)?;
+    leaves.put(leaf, count);
     Ok(())
 }
 
-/// How often a key was counted.
-fn count_of(counts: &BTreeMap<u32, u64>, key: u32) -> u64
-    ensures { result ≡ count_in counts.now key }
+/// Counts the leaves of the needs.
+fn count_leaves(needs: &[PlacedRead], leaves: &mut NumberTable) -> Result<(), AllocError>
+    ensures { OnOk result (CountsLeaves (map read_of needs.now) leaves.old leaves.new) }
 {
-    match counts.get(&key) {
-        Some(count) => *count,
-        None => 0,
+    for place in 0..needs.len() {
+        count_leaf(needs[place].leaf, leaves)?;
     }
+    Ok(())
 }
 
-/// Counts a key once more. So many that their number doesn't fit never come together, since each takes memory.
-fn add_one(counts: &mut BTreeMap<u32, u64>, key: u32) -> Result<(), AllocError>
-    ensures added { OnOk result (CountsOneMore key counts.old counts.new) }
-    ensures as_before { OnErr result (KeepsCounts counts.old counts.new) }
+/// Counts a key so many times more.
+fn add_count(counts: &mut BTreeMap<u32, u64>, key: u32, more: u64) -> Result<(), AllocError>
+    ensures { OnOk result (CountsMore key more counts.old counts.new) }
 {
-    match count_of(counts, key).checked_add(1) {
+    match count_of(counts, key).checked_add(more) {
         Some(count) => put_count(counts, key, count),
         None => Err(AllocError),
     }
+}
+
+/// Counts the segments of the needs: those beside each other that name one are counted together.
+fn count_segments(needs: &[PlacedRead], counts: &mut BTreeMap<u32, u64>) -> Result<(), AllocError>
+    ensures { OnOk result (CountsSegments (map read_of needs.now) counts.old counts.new) }
+{
+    let mut run: u64 = 0;
+    for place in 0..needs.len() {
+        let segment = needs[place].segment;
+        run += 1;
+        if !names_at(needs, place + 1, segment) {
+            add_count(counts, segment, run)?;
+            run = 0;
+        }
+    }
+    Ok(())
 }
 
 /// Counts a key once less, where it was counted. It takes no memory.
 fn take_one(counts: &mut BTreeMap<u32, u64>, key: u32)
     ensures { CountsOneLess key counts.old counts.new }
 {
-    let count = match counts.get(&key) {
-        Some(count) => *count,
-        None => return,
-    };
-    // The key has a count, so that this takes no memory.
-    let _put = put_count(counts, key, count.saturating_sub(1));
+    if let Some(count) = counts.get_mut(&key) {
+        *count = count.saturating_sub(1);
+    }
+}
+
+/// Adds the needs to the tallies.
+pub(crate) fn add_needs(needs: &[PlacedRead], still: &mut StillRead) -> Result<(), AllocError>
+    ensures added { OnOk result ((reads : List LeafRead) → IsTallyOf still.old reads → IsTallyOf still.new (reads ++ map read_of needs.now)) }
+{
+    count_leaves(needs, &mut still.leaves)?;
+    count_segments(needs, &mut still.segments)
 }
 
 impl StillRead {
@@ -70,21 +95,6 @@ impl StillRead {
             leaves: NumberTable::new(alloc),
             segments: BTreeMap::new(alloc),
         }
-    }
-
-    /// One more read, of the leaf, which names the segment. Where memory is wanting, all is as before.
-    pub(crate) fn add(&mut self, leaf: u32, segment: u32) -> Result<(), AllocError>
-        ensures added { OnOk result (TalliesOneMore (record { leaf = leaf; segment = segment }) self.old self.new) }
-        ensures as_before { OnErr result (KeepsTallies self.old self.new) }
-    {
-        let count = match self.leaves.get(leaf).checked_add(1) {
-            Some(count) => count,
-            None => return Err(AllocError),
-        };
-        self.leaves.reach(leaf)?;
-        add_one(&mut self.segments, segment)?;
-        self.leaves.put(leaf, count);
-        Ok(())
     }
 
     /// One of the reads is gone. It takes no memory.

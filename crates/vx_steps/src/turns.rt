@@ -27,12 +27,13 @@ use crate::leaf_stores::LeafStore;
 use crate::leaves::decode_needs;
 use crate::needed::{Needed, make_room};
 use crate::needs::want_needs;
-use crate::open_needs::{OpenNeeds, add_needs};
+use crate::open_needs::OpenNeeds;
 use crate::open_segments::OpenSegments;
 use crate::pieces::{GivenRows, next_rows};
-use crate::placed_reads::{PlacedRead, placed_of};
+use crate::placed_reads::{PlacedNeeds, PlacedRead, needs_of};
 use crate::reads::ReadTable;
 use crate::splits::Split;
+use crate::still_read::add_needs;
 use crate::wholes::{Grounds, Wholes};
 use std::alloc::{AllocError, Global};
 use vx_base::Column;
@@ -67,7 +68,7 @@ pub(crate) fn start_split(
     ensures needed { needed.new ≡ record needed.old { still = needed.new.still; held = needed.new.held } }
     ensures held { needed.new.held.held ≡ needed.old.held.held }
 {
-    let needs = placed_of(
+    let found = needs_of(
         alloc,
         table,
         &job.given,
@@ -75,6 +76,7 @@ pub(crate) fn start_split(
         split.rows.start,
         &split.mask,
     )?;
+    let PlacedNeeds { needs, asks } = found;
     make_room(&needs, &mut needed.held)?;
     want_needs(&needs, handed, reads)?;
     let rest = OpenNeeds::of(alloc, &needs)?;
@@ -82,7 +84,7 @@ pub(crate) fn start_split(
     Ok(ActiveSplit {
         split: number,
         needs,
-        at: GivenRows::none(&split.mask),
+        at: GivenRows::none(&split.mask, asks),
         rest,
     })
 }

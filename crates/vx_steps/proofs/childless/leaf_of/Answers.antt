@@ -1,10 +1,10 @@
 use Rattle.std.proofs.Common.{arith, ◌≡◌, Some, None, length, sym, ap, ◌∙◌}
 use Rattle.vx_base.specs.Columns.{ColumnData}
+use Rattle.vx_picking.proofs.SelectedRows.{picked_count}
 use Rattle.vx_plan.specs.Rules.{node_at}
 use Rattle.vx_steps.specs.Held.{held}
 use Rattle.vx_steps.proofs.ComputedRows.{leaf_computed}
 use Rattle.vx_steps.proofs.Readying.{ready_leaf}
-use Rattle.vx_steps.proofs.SelectedRows.{picked_count}
 use Rattle.vx_steps.proofs.Shaping.{leaf_plan}
 use Rattle.vx_steps.proofs.childless.leaf_of.Goals as goal
 

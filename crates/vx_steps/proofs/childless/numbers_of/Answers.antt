@@ -1,10 +1,10 @@
 use Rattle.std.proofs.Common.{◌+◌, length, sym, ap, ◌∙◌}
 use Rattle.std.proofs.lemmas.List.{length-map}
 use Rattle.vx_base.specs.ColumnCalls.{natural}
+use Rattle.vx_picking.specs.Rows.{rows_of}
+use Rattle.vx_picking.proofs.SelectedRows.{rows_count}
 use Rattle.vx_steps.specs.Held.{held}
-use Rattle.vx_steps.specs.Rows.{rows_of}
 use Rattle.vx_steps.proofs.ComputedRows.{numbers_computed}
-use Rattle.vx_steps.proofs.SelectedRows.{rows_count}
 use Rattle.vx_steps.proofs.Shaping.{numbers_law, numbers_type}
 use Rattle.vx_steps.proofs.childless.numbers_of.Goals as goal
 

@@ -7,6 +7,8 @@ use Rattle.std.proofs.lemmas.List.Concat.{length-flat_map}
 use Rattle.std.proofs.lemmas.List.Sums.{sum_by_push}
 use Rattle.std.specs.Prelude.{slice_range, IfOk}
 use Rattle.vx_base.specs.Data.{DataType}
+use Rattle.vx_picking.proofs.MaskRanges.{all_pushed, count_more, length_between}
+use Rattle.vx_picking.proofs.SelectedRows.{count_none, picked_count}
 use Rattle.vx_plan.specs.Plans.{plan_at, plan_head}
 use Rattle.vx_base.specs.ColumnCalls.{nullable_where, IsFitting, IsUnsigned}
 use Rattle.vx_base.specs.Fits.{nullability_of}
@@ -23,9 +25,7 @@ use Rattle.vx_steps.specs.Held.{alone, held}
 use Rattle.vx_steps.proofs.ChunkRows.{chunk_dtype, concat_plan_at}
 use Rattle.vx_steps.proofs.ComputedChunks.{chunk_failed, chunk_values}
 use Rattle.vx_steps.proofs.ComputedRows.{codes_failed, empty_computed, eval_computed, eval_failed, leaf_computed, same_computed, share_computed, share_made, share_there, shared_failed, take_computed, values_failed, whole_computed, whole_made, whole_memory, whole_there, whole_typed, zoned_computed}
-use Rattle.vx_steps.proofs.MaskRanges.{all_pushed, count_more, length_between}
 use Rattle.vx_steps.proofs.Readying.{nothing_given, ready_chunk, ready_field, ready_same, ready_shared, ready_values, ready_whole, ready_zoned}
-use Rattle.vx_steps.proofs.SelectedRows.{count_none, picked_count}
 use Rattle.vx_steps.proofs.Shaping.{eval_at, leaf_plan, over_plan, pack_plan_at, same_law, same_plan, share_plan_at, take_plan_at, zoned_law, zoned_like_plan}
 use Rattle.vx_steps.proofs.computing.+computing.Goals as goal
 

@@ -1,4 +1,4 @@
-use Rattle.vx_steps.specs.Rows.{IsRun}
+use Rattle.vx_steps.specs.Hindrances.{IsRun}
 use Rattle.vx_steps.proofs.hindrances.run_end.Given as goal
 
 abbrev pub invariant-loop-end : goal.invariant-loop-end

@@ -1,8 +1,9 @@
-use Rattle.std.proofs.Common.{◌<◌, List, add-one, arith, length, map, sym, subst}
+use Rattle.std.proofs.Common.{List, add-one, arith, map, sym, subst}
 use Rattle.vx_plan.specs.Refs.{number_of}
 use Rattle.vx_steps.specs.declared.kept.KeptValue.{KeptValue}
 use Rattle.vx_steps.specs.Kept.{kept_data}
 use Rattle.vx_steps.specs.KeptData.{Kept}
+use Rattle.vx_steps.specs.NumberTable.{IsReached}
 use Rattle.vx_steps.specs.PlanMarks.{HasRoom}
 use Rattle.vx_steps.proofs.Indexing.{all_taken}
 use Rattle.vx_steps.proofs.Storing.{marks_none, marks_then, room_none, room_reached}
@@ -14,7 +15,7 @@ loop-place-init c = record { room = room_none c.args.gone.now (map kept_data c.a
 pub loop-place-preserved : goal.loop-place-preserved
 loop-place-preserved c =
     let x = c.index-columns-place.result in
-    let T : KeptValue → Type 0 = λ v. number_of v.node < length c.reach.new.self.marks.items in
+    let T : KeptValue → Type 0 = λ v. IsReached c.reach.new.self.numbers (number_of v.node) in
     let there : T x = subst T (sym c.index-columns-place.is) c.in_ok-reach.ensures.there in
     record {
       room = rw add-one (room_reached c.loop-place.gone c.reach.new.self c.args.columns.now c.loop-place.place x c.loop-place-test.true c.index-columns-place.is c.in_ok-reach.ensures.kept there c.loop-place.invariant.room);

@@ -4,7 +4,7 @@ use Rattle.vx_steps.specs.declared.jobs.ActiveSplit.{ActiveSplit}
 use Rattle.vx_steps.specs.LettingGo.{LetsGoUnneeded}
 use Rattle.vx_steps.proofs.LettingGo.{pass_standing, pass_turn}
 use Rattle.vx_steps.proofs.PassedNeeds.{actives_same, fewer_open, passed_same, passed_to, passing_same, sound_same, standing_same, with_rest}
-use Rattle.vx_steps.proofs.Settling.{got_at}
+use Rattle.vx_steps.proofs.Starting.{got_at}
 use Rattle.vx_steps.proofs.letting_go.pass_next.Goals as goal
 
 pub returns-in-Some-clause-sound : goal.returns-in-Some-clause-sound

@@ -1,5 +1,5 @@
 use Rattle.std.proofs.Common.{arith}
-use Rattle.vx_steps.proofs.PickedValues.{number_true, number_false, numbers_all}
+use Rattle.vx_picking.proofs.PickedValues.{number_true, number_false, numbers_all}
 use Rattle.vx_steps.proofs.picking.numbered.Goals.{then-value+in_ok-push, else-value}
 use Rattle.vx_steps.proofs.picking.numbered.Goals as goal
 

@@ -1,5 +1,5 @@
 use Rattle.std.proofs.Common.{◌≡◌, ◌+◌, ◌++◌, drop, map}
-use Rattle.vx_steps.specs.Rows.{rows_of}
+use Rattle.vx_picking.specs.Rows.{rows_of}
 use Rattle.vx_steps.proofs.picking.numbered.Given as goal
 
 abbrev pub invariant-loop-row : goal.invariant-loop-row

@@ -1,7 +1,7 @@
 use Rattle.std.proofs.Common.{rules, arith, ◌≡◌, ◌+◌, ◌-◌, ◌≤◌, Bool, List, length, sym}
 use Rattle.std.specs.Prelude.{slice_range, IsTrue}
-use Rattle.vx_steps.proofs.MaskRanges.{all_between, length_between}
-use Rattle.vx_steps.proofs.PickedValues.{picked_all}
+use Rattle.vx_picking.proofs.MaskRanges.{all_between, length_between}
+use Rattle.vx_picking.proofs.PickedValues.{picked_all}
 use Rattle.vx_steps.proofs.picking.picked_range.Goals as goal
 
 pub returns-clause-values : goal.returns-clause-values

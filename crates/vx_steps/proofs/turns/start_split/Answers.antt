@@ -8,16 +8,16 @@ use Rattle.vx_steps.proofs.turns.start_split.Goals as goal
 
 pub returns-clause-starting : goal.returns-clause-starting
 returns-clause-starting c =
-    let needs = c.in_ok-needs.needs.items in
+    let needs = c.in_ok-found.found.needs.items in
     let permutes = rw c.deref-3.ensures.value at c.in_ok-rest.ensures in
     record {
-      placed = c.in_ok-needs.ensures.placed;
-      order = c.in_ok-needs.ensures.order;
-      are_leaves = c.in_ok-needs.ensures.leaves;
+      placed = c.in_ok-found.ensures.placed;
+      order = c.in_ok-found.ensures.order;
+      are_leaves = c.in_ok-found.ensures.leaves;
       row = c.none.ensures.row;
       done = c.none.ensures.done;
       next = c.none.ensures.next;
-      made = c.none.ensures.made;
+      made = λ made. c.in_ok-found.ensures.asks (c.none.ensures.made made);
       rest = open_first needs c.in_ok-rest.rest permutes;
     }
 
@@ -35,7 +35,7 @@ returns-clause-room c = rw c.deref.ensures.value at c.in_ok-make_room.ensures.ro
 
 pub returns-clause-tallies : goal.returns-clause-tallies
 returns-clause-tallies c = λ before tally.
-    let needs = c.in_ok-needs.needs.items in
+    let needs = c.in_ok-found.found.needs.items in
     let rest = c.in_ok-rest.rest in
     let permutes = rw c.deref-3.ensures.value at c.in_ok-rest.ensures in
     let added = rw c.deref-4.ensures.value at c.in_ok-add_needs.ensures.added in

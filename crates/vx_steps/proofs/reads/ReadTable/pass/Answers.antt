@@ -10,32 +10,32 @@ use Rattle.vx_steps.proofs.reads.ReadTable.pass.Goals as goal
 
 pub index-requires : goal.index-requires
 index-requires c =
-    let inside : c.in-Some.found.now < length c.self.inside.wanted.items = place_inside c.self.inside.places c.self.inside.wanted.items c.self.inside.handed c.self.invariant c.args.segment c.in-Some.found.now (sym c.in-Some.ensures.value) in
+    let inside : c.in-Some.place < length c.self.inside.wanted.items = place_inside c.self.inside.places c.self.inside.wanted.items c.self.inside.handed c.self.invariant c.args.segment c.in-Some.place (sym c.in-Some.ensures) in
     grind (arith, common_steps)
 
 pub index_mut-requires : goal.index_mut-requires
 index_mut-requires c =
-    let inside : c.in-Some.found.now < length c.self.inside.wanted.items = place_inside c.self.inside.places c.self.inside.wanted.items c.self.inside.handed c.self.invariant c.args.segment c.in-Some.found.now (sym c.in-Some.ensures.value) in
+    let inside : c.in-Some.place < length c.self.inside.wanted.items = place_inside c.self.inside.places c.self.inside.wanted.items c.self.inside.handed c.self.invariant c.args.segment c.in-Some.place (sym c.in-Some.ensures) in
     grind (arith, common_steps)
 
 pub invariant_of-self : goal.invariant_of-self
 invariant_of-self c =
     let ws = c.self.inside.wanted.items in
-    let place = c.in-Some.found.now in
+    let place = c.in-Some.place in
     let w = c.index_mut.result.now in
     let v : WantedSegment = record { segment = w.segment; bytes = c.let_go.new.self; last = w.last } in
-    let inside : place < length ws = place_inside c.self.inside.places ws c.self.inside.handed c.self.invariant c.args.segment place (sym c.in-Some.ensures.value) in
+    let inside : place < length ws = place_inside c.self.inside.places ws c.self.inside.handed c.self.invariant c.args.segment place (sym c.in-Some.ensures) in
     let P : List Wanted → Type 0 = λ wanted. AreReads c.self.inside.places wanted c.self.inside.handed in
     subst P (sym (same_set wanted_data ws place v w (item_at ws place w inside c.index_mut.ensures.value) (ap (λ (b : Option (List ℕ)). record { segment = w.segment; bytes = b }) c.let_go.ensures.bytes))) c.self.invariant
 
 pub returns-then-index-count : goal.returns-then-index-count
 returns-then-index-count c =
     let ws = c.self.inside.wanted.items in
-    let place = c.in-Some.found.now in
+    let place = c.in-Some.place in
     let w = c.index_mut.result.now in
     let u = c.index.result.now in
     let v : WantedSegment = record { segment = w.segment; bytes = c.let_go.new.self; last = w.last } in
-    let inside : place < length ws = place_inside c.self.inside.places ws c.self.inside.handed c.self.invariant c.args.segment place (sym c.in-Some.ensures.value) in
+    let inside : place < length ws = place_inside c.self.inside.places ws c.self.inside.handed c.self.invariant c.args.segment place (sym c.in-Some.ensures) in
     let at = item_at ws place w inside c.index_mut.ensures.value in
     let before : slice_get ws place ≡ Some u = item_at ws place u inside c.index.ensures in
     let G : WantedSegment → Type 0 = λ x. x.last < c.args.count in
@@ -43,7 +43,7 @@ returns-then-index-count c =
     let less : u.last < c.args.count = omega arith in
     let fewer : w.last < c.args.count = subst G same less in
     let own : w.last ≤ w.last = omega arith in
-    let is : w.segment ≡ c.args.segment = stands_is (map wanted_data ws) c.args.segment place (wanted_data w) (wanted_at ws place w inside c.index_mut.ensures.value) (c.self.invariant.stands c.args.segment place (sym c.in-Some.ensures.value)) in
+    let is : w.segment ≡ c.args.segment = stands_is (map wanted_data ws) c.args.segment place (wanted_data w) (wanted_at ws place w inside c.index_mut.ensures.value) (c.self.invariant.stands c.args.segment place (sym c.in-Some.ensures)) in
     rw (← c.self.view_is) (record {
       wanted = same_set wanted_data ws place v w at (ap (λ (b : Option (List ℕ)). record { segment = w.segment; bytes = b }) c.let_go.ensures.bytes);
       handed = refl;

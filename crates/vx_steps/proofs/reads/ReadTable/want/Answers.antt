@@ -12,52 +12,52 @@ use Rattle.vx_steps.proofs.Keeping.{got_new}
 
 pub index-requires : goal.index-requires
 index-requires c =
-    let inside : c.in-Some.found.now < length c.self.inside.wanted.items = place_inside c.self.inside.places c.self.inside.wanted.items c.self.inside.handed c.self.invariant c.args.segment c.in-Some.found.now (sym c.in-Some.ensures.value) in
+    let inside : c.in-Some.place < length c.self.inside.wanted.items = place_inside c.self.inside.places c.self.inside.wanted.items c.self.inside.handed c.self.invariant c.args.segment c.in-Some.place (sym c.in-Some.ensures) in
     grind (arith, common_steps)
 
 pub index_mut-requires : goal.index_mut-requires
 index_mut-requires c =
-    let inside : c.in-Some.found.now < length c.self.inside.wanted.items = place_inside c.self.inside.places c.self.inside.wanted.items c.self.inside.handed c.self.invariant c.args.segment c.in-Some.found.now (sym c.in-Some.ensures.value) in
+    let inside : c.in-Some.place < length c.self.inside.wanted.items = place_inside c.self.inside.places c.self.inside.wanted.items c.self.inside.handed c.self.invariant c.args.segment c.in-Some.place (sym c.in-Some.ensures) in
     grind (arith, common_steps)
 
 pub invariant_of-self : goal.invariant_of-self
 invariant_of-self c =
     let ws = c.self.inside.wanted.items in
-    let place = c.in-Some.found.now in
+    let place = c.in-Some.place in
     let w = c.index_mut.result.now in
     let v : WantedSegment = record { segment = w.segment; bytes = w.bytes; last = c.args.need } in
-    let inside : place < length ws = place_inside c.self.inside.places ws c.self.inside.handed c.self.invariant c.args.segment place (sym c.in-Some.ensures.value) in
+    let inside : place < length ws = place_inside c.self.inside.places ws c.self.inside.handed c.self.invariant c.args.segment place (sym c.in-Some.ensures) in
     let P : List Wanted → Type 0 = λ wanted. AreReads c.self.inside.places wanted c.self.inside.handed in
     subst P (sym (same_set wanted_data ws place v w (item_at ws place w inside c.index_mut.ensures.value) refl)) c.self.invariant
 
 pub returns-then-index-need-clause-wanted : goal.returns-then-index-need-clause-wanted
 returns-then-index-need-clause-wanted c =
     let ws = c.self.inside.wanted.items in
-    let place = c.in-Some.found.now in
+    let place = c.in-Some.place in
     let w = c.index_mut.result.now in
     let v : WantedSegment = record { segment = w.segment; bytes = w.bytes; last = c.args.need } in
-    let inside : place < length ws = place_inside c.self.inside.places ws c.self.inside.handed c.self.invariant c.args.segment place (sym c.in-Some.ensures.value) in
-    rw (← c.self.view_is) (inl ((place, c.self.invariant.stands c.args.segment place (sym c.in-Some.ensures.value)), same_set wanted_data ws place v w (item_at ws place w inside c.index_mut.ensures.value) refl))
+    let inside : place < length ws = place_inside c.self.inside.places ws c.self.inside.handed c.self.invariant c.args.segment place (sym c.in-Some.ensures) in
+    rw (← c.self.view_is) (inl ((place, c.self.invariant.stands c.args.segment place (sym c.in-Some.ensures)), same_set wanted_data ws place v w (item_at ws place w inside c.index_mut.ensures.value) refl))
 
 pub returns-then-index-need-clause-named : goal.returns-then-index-need-clause-named
 returns-then-index-need-clause-named c =
     let ws = c.self.inside.wanted.items in
-    let place = c.in-Some.found.now in
+    let place = c.in-Some.place in
     let w = c.index_mut.result.now in
     let v : WantedSegment = record { segment = w.segment; bytes = w.bytes; last = c.args.need } in
-    let inside : place < length ws = place_inside c.self.inside.places ws c.self.inside.handed c.self.invariant c.args.segment place (sym c.in-Some.ensures.value) in
-    let is : w.segment ≡ c.args.segment = stands_is (map wanted_data ws) c.args.segment place (wanted_data w) (wanted_at ws place w inside c.index_mut.ensures.value) (c.self.invariant.stands c.args.segment place (sym c.in-Some.ensures.value)) in
+    let inside : place < length ws = place_inside c.self.inside.places ws c.self.inside.handed c.self.invariant c.args.segment place (sym c.in-Some.ensures) in
+    let is : w.segment ≡ c.args.segment = stands_is (map wanted_data ws) c.args.segment place (wanted_data w) (wanted_at ws place w inside c.index_mut.ensures.value) (c.self.invariant.stands c.args.segment place (sym c.in-Some.ensures)) in
     let own : c.args.need ≤ c.args.need = omega arith in
     (place, stored_data v, stored_set ws place v w (item_at ws place w inside c.index_mut.ensures.value), is, own)
 
 pub returns-then-index-need-clause-stored : goal.returns-then-index-need-clause-stored
 returns-then-index-need-clause-stored c =
     let ws = c.self.inside.wanted.items in
-    let place = c.in-Some.found.now in
+    let place = c.in-Some.place in
     let w = c.index_mut.result.now in
     let u = c.index.result.now in
     let v : WantedSegment = record { segment = w.segment; bytes = w.bytes; last = c.args.need } in
-    let inside : place < length ws = place_inside c.self.inside.places ws c.self.inside.handed c.self.invariant c.args.segment place (sym c.in-Some.ensures.value) in
+    let inside : place < length ws = place_inside c.self.inside.places ws c.self.inside.handed c.self.invariant c.args.segment place (sym c.in-Some.ensures) in
     let at = item_at ws place w inside c.index_mut.ensures.value in
     let before : slice_get ws place ≡ Some u = item_at ws place u inside c.index.ensures in
     let G : WantedSegment → Type 0 = λ x. x.last ≤ c.args.need in
@@ -71,20 +71,20 @@ returns-then-index-need-clause-stored c =
     })
 
 pub returns-else-index-need-clause-wanted : goal.returns-else-index-need-clause-wanted
-returns-else-index-need-clause-wanted c = rw (← c.self.view_is) (inl ((c.in-Some.found.now, c.self.invariant.stands c.args.segment c.in-Some.found.now (sym c.in-Some.ensures.value)), refl))
+returns-else-index-need-clause-wanted c = rw (← c.self.view_is) (inl ((c.in-Some.place, c.self.invariant.stands c.args.segment c.in-Some.place (sym c.in-Some.ensures)), refl))
 
 pub returns-else-index-need-clause-named : goal.returns-else-index-need-clause-named
 returns-else-index-need-clause-named c =
     let ws = c.self.inside.wanted.items in
-    let place = c.in-Some.found.now in
+    let place = c.in-Some.place in
     let w = c.index.result.now in
-    let inside : place < length ws = place_inside c.self.inside.places ws c.self.inside.handed c.self.invariant c.args.segment place (sym c.in-Some.ensures.value) in
-    let is : w.segment ≡ c.args.segment = stands_is (map wanted_data ws) c.args.segment place (wanted_data w) (wanted_at ws place w inside c.index.ensures) (c.self.invariant.stands c.args.segment place (sym c.in-Some.ensures.value)) in
+    let inside : place < length ws = place_inside c.self.inside.places ws c.self.inside.handed c.self.invariant c.args.segment place (sym c.in-Some.ensures) in
+    let is : w.segment ≡ c.args.segment = stands_is (map wanted_data ws) c.args.segment place (wanted_data w) (wanted_at ws place w inside c.index.ensures) (c.self.invariant.stands c.args.segment place (sym c.in-Some.ensures)) in
     let less : c.args.need ≤ w.last = omega arith in
-    rw (← c.self.view_is) (place, stored_data w, stored_at ws place w inside c.index.ensures, is, less)
+    (place, stored_data w, stored_at ws place w inside c.index.ensures, is, less)
 
-pub invariant_of-self-else-is_err : goal.invariant_of-self-else-is_err
-invariant_of-self-else-is_err c =
+pub invariant_of-self-2 : goal.invariant_of-self-2
+invariant_of-self-2 c =
     let wanted = map wanted_data c.self.inside.wanted.items in
     let put : (n : ℕ) → get nat_cmp c.insert.new.self n ≡ cond (c.args.segment == n) (Some (length wanted)) (get nat_cmp c.self.inside.places n) = λ n. grind (arith, common_steps) in
     let none : get nat_cmp c.self.inside.places c.args.segment ≡ None = grind (arith, common_steps) in

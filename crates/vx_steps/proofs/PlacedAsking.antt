@@ -1,0 +1,53 @@
+-- Whether the rows whose reads are placed ask for whole values, part by part.
+use Rattle.std.proofs.Common.{◌≡◌, ℕ, ◌<◌, inl, inr, Bool, List, [], ◌∷◌, Some, length, ap, ◌∙◌, subst}
+use Rattle.std.specs.Prelude.{slice_range}
+use Rattle.vx_picking.specs.Rows.{SelectsNone}
+use Rattle.vx_plan.specs.declared.parts.ChildRows.{ChildRows}
+use Rattle.vx_plan.specs.declared.parts.Part.{Part}
+use Rattle.vx_plan.specs.declared.parts.Part.TheVariants as parts
+use Rattle.vx_plan.specs.declared.shapes.Shape.{Shape}
+use Rattle.vx_plan.specs.declared.shapes.Shape.TheVariants as shapes
+use Rattle.vx_plan.specs.Kinds.{coding_of}
+use Rattle.vx_plan.specs.Nodes.{Node}
+use Rattle.vx_plan.specs.Parts.{parts_of}
+use Rattle.vx_plan.specs.Plans.{scan_plan}
+use Rattle.vx_plan.specs.Rules.{node_at}
+use Rattle.vx_plan.specs.Shapes.{HasShape}
+use Rattle.vx_plan.specs.Tables.{IsGoodTable}
+use Rattle.vx_steps.specs.declared.placed_reads.Ends.{Ends}
+use Rattle.vx_steps.specs.Given.{handed_by}
+use Rattle.vx_steps.specs.KeptData.{Kept}
+use Rattle.vx_steps.specs.Placed.{AreEnds, AskForNone}
+use Rattle.vx_steps.specs.Visits.{IsWholeRead}
+use Rattle.vx_steps.proofs.Parts.{all_rows_taken}
+use Rattle.vx_steps.proofs.PartsAsking.{asked_parts, PartsAsk}
+use Rattle.vx_steps.proofs.Shaping.{head_of, leaf_plan}
+use Rattle.vx_steps.proofs.Visiting.{RowVisits}
+
+-- what all parts ask for, those that are left ask for
+abbrev pub AsksLeft : List Node → List Kept → List Bool → List Part → List Part → Type 0
+AsksLeft nodes given bits all left = (number : ℕ) → PartsAsk nodes given bits all number → PartsAsk nodes given bits left number
+
+-- one part more, whose rows ask for none
+pub rows_ask_none : (nodes : List Node) (given : List Kept) (bits : List Bool) (all left behind : List Part) (part : Part) (rows : ChildRows) → left ≡ part ∷ behind → part ≡ parts.Rows rows → AskForNone nodes given rows.child rows.start (slice_range bits rows.from rows.to) → AsksLeft nodes given bits all left → AsksLeft nodes given bits all behind
+rows_ask_none nodes given bits all left behind part rows e same none far number asks = rest (subst (λ (ps : List Part). PartsAsk nodes given bits ps number) (e ∙ ap (λ (p : Part). p ∷ behind) same) (far number asks))
+  where
+    rest : PartsAsk nodes given bits (parts.Rows rows ∷ behind) number → PartsAsk nodes given bits behind number
+    rest (inl one) = absurd (none number one)
+    rest (inr more) = more
+
+-- all parts were gone through
+pub all_ask_none : (nodes : List Node) → IsGoodTable nodes → (given : List Kept) (n : ℕ) → n < length nodes → (shape : Shape) → HasShape nodes n shape → (start : ℕ) (bits : List Bool) (ends : Ends) → AreEnds bits ends → (left : List Part) → left ≡ [] → AsksLeft nodes given bits (parts_of nodes n start (length bits)) left → AskForNone nodes given n start bits
+all_ask_none nodes good given n known shape has start bits ends are left e far number asks = subst (λ (ps : List Part). PartsAsk nodes given bits ps number) e (far number (asked_parts nodes good given n known shape has start bits (ends.first, are.first) number asks))
+
+pub leaf_asks_none : (nodes : List Node) (given : List Kept) (n segment start : ℕ) (bits : List Bool) → n < length nodes → HasShape nodes n (shapes.Leaf segment) → AskForNone nodes given n start bits
+leaf_asks_none nodes given n segment start bits known has number asks =
+    let visit : RowVisits (IsWholeRead number) (handed_by nodes (Some given)) start bits (scan_plan (head_of nodes n) segment (coding_of (node_at nodes n).kind)) = subst (RowVisits (IsWholeRead number) (handed_by nodes (Some given)) start bits) (leaf_plan nodes n segment known has).law asks in
+    visit.2
+
+pub none_ask_none : (nodes : List Node) (given : List Kept) (n start : ℕ) (bits : List Bool) → SelectsNone bits → AskForNone nodes given n start bits
+none_ask_none nodes given n start bits none number asks = none asks.0 asks.1
+
+-- the range of all rows
+pub all_rows_ask_none : (nodes : List Node) (given : List Kept) (n start : ℕ) (bits : List Bool) (from to : ℕ) → from ≡ 0 → to ≡ length bits → AskForNone nodes given n start bits → AskForNone nodes given n start (slice_range bits from to)
+all_rows_ask_none nodes given n start bits from to first last none = subst (AskForNone nodes given n start) (all_rows_taken bits from to first last) none
