@@ -1,1 +1,11 @@
-pub mod Limits
+pub mod Evaluations
+pub mod Turns
+pub mod States
+pub mod ReadErrors
+pub mod Reading
+pub mod Opening
+pub mod ReaderData
+pub mod Readers
+pub mod ChunkEnds
+pub mod Begun
+pub mod WholeReads

@@ -1,8 +1,33 @@
-//! Readers of a layout, row by row.
+//! Readers of a layout: its rows by the nodes of its tree, from segments that are read as they are needed.
 //!
-//! - Where the rows of a read are split: [`SplitBy`].
+//! - Where the rows of a read are split: [`SplitBy`], over what a reader registers, [`RegistersSplits`], of a
+//!   [`SplitRange`] in [`RowSplits`]; [`FieldMask`], [`SplitError`].
+//! - The reader of a layout, by the kind of its root: [`Reader`], with [`FlatReader`], [`ChunkedReader`] and
+//!   [`DictReader`], each over a [`NodeReader`]; what each of them does: [`LayoutReader`]; which layouts have one: [`check`], [`OpenError`].
+//! - The states of evaluations, and what a poll of one gives: [`ColumnState`], [`MaskState`], [`Progress`]; why it gives no answer:
+//!   [`ReaderError`].
+//! - A state read to its end: [`read_range`]; all rows of a reader, cut where they are split: [`read_rows`]; [`ReadRowsError`].
 #![tactic(auto)]
 
-mod split_rules;
+mod ends;
+mod evaluations;
+mod filterings;
+mod layout_readers;
+mod node_readers;
+mod progress;
+mod reader_traits;
+mod readers;
+mod reading;
+mod states;
+mod whole_reads;
 
-pub use split_rules::SplitBy;
+pub use layout_readers::{ChunkedReader, DictReader, FlatReader, Reader};
+pub use node_readers::NodeReader;
+pub use progress::Progress;
+pub use reader_traits::LayoutReader;
+pub use readers::{OpenError, check};
+pub use reading::{ReadRowsError, read_range};
+pub use states::{ColumnState, MaskState};
+pub use vx_reads::ReaderError;
+pub use vx_split_rules::{FieldMask, RegistersSplits, RowSplits, SplitBy, SplitError, SplitRange};
+pub use whole_reads::read_rows;

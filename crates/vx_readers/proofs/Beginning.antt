@@ -1,0 +1,16 @@
+-- An evaluation begins with the reads that its rows need, none of which was asked for.
+use Rattle.std.proofs.Common.{◌≡◌, ℕ, List, [], ◌++◌, ap, ◌∙◌}
+use Rattle.vx_reads.specs.Fresh.{AreFresh}
+use Rattle.vx_reads.specs.Reads.{segments_of}
+use Rattle.vx_reads.proofs.Freshness.{fresh_bytes, fresh_in_flight}
+use Rattle.vx_readers.specs.Evaluations.{needed_by, Begins, Evaluation}
+
+pub fresh_segments : (e : Evaluation) (needs now old : List ℕ) → AreFresh needs e.reads → needs ≡ now → now ≡ old ++ needed_by e → old ≡ [] → segments_of e.reads ≡ needed_by e
+fresh_segments e needs now old fresh same added none = fresh.segments ∙ same ∙ added ∙ ap (λ (xs : List ℕ). xs ++ needed_by e) none
+
+pub begins : (e : Evaluation) (needs now old : List ℕ) → AreFresh needs e.reads → needs ≡ now → now ≡ old ++ needed_by e → old ≡ [] → Begins e
+begins e needs now old fresh same added none = record {
+  segments = fresh_segments e needs now old fresh same added none;
+  in_flight = λ flights. fresh_in_flight e.locations e.reads flights fresh.fresh;
+  bytes = λ bytes. fresh_bytes bytes e.reads fresh.fresh;
+}

@@ -1,0 +1,10 @@
+pub mod Answering
+pub mod Beginning
+pub mod Cutting
+pub mod EndsInside
+pub mod KeptAnswers
+pub mod Openings
+pub mod ReadingOn
+pub mod RowsRead
+pub mod Turning
+pub mod WholeReading

@@ -1,0 +1,76 @@
+-- What a poll of a state gives.
+use Rattle.std.specs.Prelude.{◌≡◌, ℕ, Bool, List, Result, Ok, Err, length}
+use Rattle.vx_base.specs.declared.locations.SegmentLocation.{SegmentLocation}
+use Rattle.vx_base.specs.Columns.{ColumnData}
+use Rattle.vx_base.specs.Data.{Datum}
+use Rattle.vx_base.specs.Masks.{true_count}
+use Rattle.vx_base.specs.Sources.{SourceState}
+use Rattle.vx_rows.specs.SegmentLeaves.{Bytes}
+use Rattle.vx_reads.specs.declared.errors.ReaderError.{ReaderError}
+use Rattle.vx_reads.specs.Projected.{AreProjected, ProjectionCause}
+use Rattle.vx_layout.specs.Trees.{subtree}
+use Rattle.vx_reads.specs.Filtered.{FilterCause, IsFiltered}
+use Rattle.vx_reads.specs.Readable.{tree_head}
+use Rattle.vx_reads.specs.Reads.{AreInFlight}
+use Rattle.vx_readers.specs.declared.states.ColumnState.{ColumnState}
+use Rattle.vx_readers.specs.declared.states.MaskState.{MaskState}
+use Rattle.vx_readers.specs.declared.states.Masking.{Masking}
+use Rattle.vx_readers.specs.declared.states.Masking.TheVariants.{Known, Filters}
+use Rattle.vx_readers.specs.declared.progress.Progress.{Progress}
+use Rattle.vx_readers.specs.declared.progress.Progress.TheVariants.{Ready, Pending}
+use Rattle.vx_readers.specs.Evaluations.{rows_by, Evaluation, IsPending, IsReady, IsRefused}
+
+-- these are what the expression is worth at the selected rows
+abbrev pub IsProjection : Evaluation → List Datum → Bytes → Type 0
+IsProjection e values bytes = AreProjected bytes (rows_by e) (tree_head e.nodes e.node).dtype e.expression.term e.start e.mask values
+
+-- why they are not
+abbrev pub ProjectionFault : Evaluation → ReaderError → Bytes → Type 0
+ProjectionFault e error bytes = ProjectionCause bytes (rows_by e) (tree_head e.nodes e.node).dtype e.expression.term e.start e.mask error
+
+-- the mask's rows at which the expression is true
+abbrev pub IsKept : Evaluation → List Bool → Bytes → Type 0
+IsKept e kept bytes = IsFiltered bytes (rows_by e) (tree_head e.nodes e.node).dtype e.expression.term e.start e.mask kept
+
+-- why there are none
+abbrev pub FilterFault : Evaluation → ReaderError → Bytes → Type 0
+FilterFault e error bytes = FilterCause bytes (tree_head e.nodes e.node).dtype e.expression.term (subtree e.nodes e.node) e.start e.start e.mask error
+
+-- The column of what the expression is worth at the selected rows, as many as these are whatever the source tells, the state as it goes on, or why there is none.
+abbrev pub ColumnPollGives : Result (Progress ColumnData ColumnState) ReaderError → Evaluation → SourceState → SourceState → Type 0
+ColumnPollGives (Ok (Ready column)) e before after = IsReady e before after (IsProjection e column.values) × (column.dtype ≡ e.expression.dtype) × (length column.values ≡ true_count e.mask)
+ColumnPollGives (Ok (Pending next)) e before after = IsPending e next.evaluation before after
+ColumnPollGives (Err error) e before after = IsRefused e error before after (ProjectionFault e error)
+
+-- The mask's rows at which the expression is true, the evaluation as it goes on, or why there are none.
+abbrev pub FilterPollGives : Result (Progress (List Bool) Evaluation) ReaderError → Evaluation → SourceState → SourceState → Type 0
+FilterPollGives (Ok (Ready kept)) e before after = IsReady e before after (IsKept e kept) × (length kept ≡ length e.mask)
+FilterPollGives (Ok (Pending next)) e before after = IsPending e next before after
+FilterPollGives (Err error) e before after = IsRefused e error before after (FilterFault e error)
+
+-- ---- a mask that is known, or filtered
+
+-- it is this mask
+abbrev pub IsMask : List Bool → Masking → Type 0
+IsMask mask (Known kept) = kept ≡ mask
+IsMask mask (Filters e) = ⊥
+
+-- the reads that were started and have not ended are in flight at the source
+abbrev pub IsStarted : Masking → List (ℕ × SegmentLocation) → Type 0
+IsStarted (Known mask) in_flight = Unit {0}
+IsStarted (Filters e) in_flight = AreInFlight e.locations e.reads in_flight
+
+-- the filter goes on
+abbrev pub FilterWaits : Evaluation → Masking → SourceState → SourceState → Type 0
+FilterWaits e (Known mask) before after = ⊥
+FilterWaits e (Filters next) before after = IsPending e next before after
+
+abbrev pub FilterGives : Result (Progress (List Bool) MaskState) ReaderError → Evaluation → SourceState → SourceState → Type 0
+FilterGives (Ok (Ready kept)) e before after = IsReady e before after (IsKept e kept) × (length kept ≡ length e.mask)
+FilterGives (Ok (Pending next)) e before after = FilterWaits e next.masking before after
+FilterGives (Err error) e before after = IsRefused e error before after (FilterFault e error)
+
+-- A mask that is known is there at once, and the source stays as it was.
+abbrev pub MaskPollGives : Result (Progress (List Bool) MaskState) ReaderError → Masking → SourceState → SourceState → Type 0
+MaskPollGives result (Known mask) before after = (result ≡ Ok (Ready mask)) × (after ≡ before)
+MaskPollGives result (Filters e) before after = FilterGives result e before after

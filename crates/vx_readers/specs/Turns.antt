@@ -1,0 +1,13 @@
+-- What a turn of the reads of an evaluation gives.
+use Rattle.std.specs.Prelude.{Result, Ok, Err}
+use Rattle.vx_base.specs.Sources.{SourceState}
+use Rattle.vx_reads.specs.declared.errors.ReaderError.{ReaderError}
+use Rattle.vx_reads.specs.Reads.{Stops}
+use Rattle.vx_readers.specs.declared.evaluations.Turn.{Turn}
+use Rattle.vx_readers.specs.declared.evaluations.Turn.TheVariants.{Came, Waits}
+use Rattle.vx_readers.specs.Evaluations.{Evaluation, HasAll, IsPending}
+
+abbrev pub TurnGives : Result Turn ReaderError → Evaluation → SourceState → SourceState → Type 0
+TurnGives (Ok (Came next)) e before after = HasAll e next before after
+TurnGives (Ok (Waits next)) e before after = IsPending e next before after
+TurnGives (Err error) e before after = Stops e.locations error e.reads before after

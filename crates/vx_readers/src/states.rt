@@ -1,0 +1,84 @@
+//! States of evaluations, and their polls.
+
+ghost use Rattle.vx_reads.specs.Reads.{AreInFlight};
+ghost use Rattle.vx_readers.specs.States.{ColumnPollGives, IsMask, IsStarted, MaskPollGives};
+
+use crate::evaluations::{Evaluating, Turn};
+use crate::filterings::Filtering;
+use crate::progress::Progress;
+use vx_base::{Column, Mask, SegmentSource};
+use vx_reads::ReaderError;
+
+/// An expression that is projected over selected rows.
+#[derive(Drop)]
+pub struct ColumnState<'a> {
+    pub(crate) evaluation: Evaluating<'a>,
+}
+
+impl<'a> ColumnState<'a> {
+    /// Asks for the reads that were not asked for yet, and polls those in flight once each. The answer comes once all
+    /// of them have come; after an error the other reads stay in flight.
+    pub fn poll<S: SegmentSource>(
+        self,
+        source: &mut S,
+    ) -> Result<Progress<Column, ColumnState<'a>>, ReaderError>
+        requires { AreInFlight self.evaluation.locations self.evaluation.reads (S.state source.old).in_flight }
+        ensures { ColumnPollGives result self.entry.evaluation (S.state source.old) (S.state source.new) }
+    {
+        match self.evaluation.turn(source) {
+            Ok(Turn::Waits(evaluation)) => Ok(Progress::Pending(ColumnState { evaluation })),
+            Ok(Turn::Came(evaluation)) => match evaluation.column() {
+                Ok(column) => Ok(Progress::Ready(column)),
+                Err(error) => Err(error),
+            },
+            Err(error) => Err(error),
+        }
+    }
+}
+
+/// A mask over rows: one that is known, or what a filter makes of one.
+#[derive(Drop)]
+pub enum Masking<'a> {
+    /// The mask.
+    Known(Mask),
+    /// An expression, at whose rows the mask is kept where it is true.
+    Filters(Filtering<'a>),
+}
+
+/// A mask that is filtered.
+#[derive(Drop)]
+pub struct MaskState<'a> {
+    pub(crate) masking: Masking<'a>,
+}
+
+impl<'a> MaskState<'a> {
+    /// A mask that is known: it reads nothing.
+    pub(crate) fn known(mask: Mask) -> MaskState<'a>
+        ensures { IsMask mask result.masking }
+    {
+        MaskState {
+            masking: Masking::Known(mask),
+        }
+    }
+
+    /// Asks for the reads that were not asked for yet, and polls those in flight once each. The answer comes once all
+    /// of them have come; after an error the other reads stay in flight.
+    pub fn poll<S: SegmentSource>(
+        self,
+        source: &mut S,
+    ) -> Result<Progress<Mask, MaskState<'a>>, ReaderError>
+        requires { IsStarted self.masking (S.state source.old).in_flight }
+        ensures { MaskPollGives result self.entry.masking (S.state source.old) (S.state source.new) }
+    {
+        match self.masking {
+            Masking::Known(mask) => Ok(Progress::Ready(mask)),
+            Masking::Filters(filtering) => match filtering.poll(source) {
+                Ok(Progress::Ready(kept)) => Ok(Progress::Ready(kept)),
+                Ok(Progress::Pending(next)) => Ok(Progress::Pending(MaskState {
+                    masking: Masking::Filters(next),
+                })),
+                Err(error) => Err(error),
+            },
+        }
+    }
+}

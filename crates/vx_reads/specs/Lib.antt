@@ -1,0 +1,13 @@
+pub mod Reads
+pub mod Fresh
+pub mod Came
+pub mod Errors
+pub mod Readable
+pub mod Needed
+pub mod Computed
+pub mod Projected
+pub mod Truths
+pub mod FilterFaults
+pub mod Filtered
+pub mod MaskRows
+pub mod Laws

@@ -1,0 +1,33 @@
+-- Which segments the selected rows of a range need, in the order in which they are read.
+use Rattle.std.specs.Prelude.{ℕ, ◌-◌, Bool, true, if◌then◌else◌, List, [], ◌∷◌, ◌++◌, take, drop, replicate}
+use Rattle.vx_layout.specs.Trees.{Tree, missing, leaf, chunks, fields, dict, lists, zoned, Forest, no_trees, tree, head_of}
+use Rattle.vx_picking.specs.Rows.{selects_some}
+
+-- a leaf is read whole, unless the range is empty
+abbrev pub needed_of_leaf : ℕ → List Bool → List ℕ
+needed_of_leaf segment [] = []
+needed_of_leaf segment (bit ∷ bits) = segment ∷ []
+
+-- A chunk of which no row is selected is skipped. A dictionary needs what its codes need, and all rows of its values,
+-- where some row is selected.
+abbrev mutual
+  pub needed : Tree → ℕ → List Bool → List ℕ
+  needed (missing head) start bits = []
+  needed (leaf head segment coding) start bits = needed_of_leaf segment bits
+  needed (chunks head forest) start bits = needed_in forest start bits
+  needed (fields head forest validity) start bits = []
+  needed (dict head values codes) start bits =
+      if selects_some bits then needed codes start bits ++ needed values 0 (replicate (head_of values).rows true) else []
+  needed (lists head elements offsets validity) start bits = []
+  needed (zoned head zones content table) start bits = needed content start bits
+
+  -- of trees one after another
+  pub needed_in : Forest → ℕ → List Bool → List ℕ
+  needed_in no_trees start bits = []
+  needed_in (tree first rest) start bits =
+      (if selects_some (take ((head_of first).rows - start) bits) then needed first start (take ((head_of first).rows - start) bits) else [])
+      ++ needed_in rest (start - (head_of first).rows) (drop ((head_of first).rows - start) bits)
+
+-- of a tree, where some row is selected
+abbrev pub needed_of_range : Tree → ℕ → List Bool → List ℕ
+needed_of_range t start bits = if selects_some bits then needed t start bits else []

@@ -1,0 +1,311 @@
+//! The column of the selected rows of a node, from the bytes of the segments that they need.
+
+ghost use Rattle.std.specs.Prelude.{◌≡◌, ◌+◌, ◌-◌, ◌<◌, ◌≤◌, ℕ, List, Some, length, drop, replicate, slice_range, true, All, IfErr, IfOk, IsSome, IsTrue, OnOk};
+ghost use Rattle.vx_base.specs.Masks.{true_count};
+ghost use Rattle.vx_layout.specs.Kept.{all};
+ghost use Rattle.vx_layout.specs.Rows.{derivation, derivation_in};
+ghost use Rattle.vx_layout.specs.Trees.{subtree};
+ghost use Rattle.vx_rows.specs.SegmentLeaves.{Bytes};
+ghost use Rattle.vx_reads.specs.Computed.{AddsRows, AreRowsBy, Fails, IsLeafBy, IsLeafFault};
+ghost use Rattle.vx_reads.specs.Came.{first_bytes, Begin};
+ghost use Rattle.vx_reads.specs.Needed.{needed, needed_in, needed_of_range};
+ghost use Rattle.vx_reads.specs.Readable.{tree_head, trees_of, AreReadable, IsChunked, IsDict, IsLeafNode};
+ghost use Rattle.vx_reads.specs.Errors.{IsOfBytes};
+ghost use Rattle.vx_picking.specs.Rows.{selects_some};
+
+use crate::errors::ReaderError;
+use crate::faults::look_up_fault;
+use crate::needs::rows_here;
+use crate::parts::{NodeParts, dtype_at, empty_at, rows_at};
+use crate::reads::{ReadState, SegmentRead};
+use std::alloc::Global;
+use std::ops::Range;
+use vx_base::{Coding, Column, DecodeError, Mask, decode_as};
+use vx_layout::LayoutTree;
+use vx_picking::{looked_up, picked, selects_some};
+
+/// The bytes of the next read, which came.
+pub(crate) fn take_bytes<'a>(reads: &'a [SegmentRead], next: &mut usize) -> &'a [u8]
+    requires { IsSome (first_bytes (drop next.old reads.now)) }
+    ensures bytes { first_bytes (drop next.old reads.now) ≡ Some result.now }
+    ensures passed { next.new ≡ next.old + 1 }
+{
+    let place = *next;
+    match &reads[place].state {
+        ReadState::Came(bytes) => {
+            *next = place + 1;
+            bytes.as_slice()
+        }
+        _ => unreachable!(),
+    }
+}
+
+/// Whether each row of the column is selected.
+fn selects_all(column: &Column, mask: &Mask) -> bool
+    ensures rows { IsTrue result → length column.now.values ≡ length mask.now }
+    ensures all { IsTrue result → All (λ bit. bit ≡ true) mask.now }
+{
+    column.len() == mask.len() && mask.all_true()
+}
+
+/// The selected rows of a leaf, whose segment has these bytes. Where these are all of its rows none is copied.
+fn leaf_column(
+    alloc: Global,
+    tree: &LayoutTree,
+    node: u32,
+    segment: u32,
+    coding: Coding,
+    start: u64,
+    mask: &Mask,
+    bytes: &[u8],
+) -> Result<Column, ReaderError>
+    requires known { node < length tree.now }
+    requires leaf { IsLeafNode tree.now node segment coding }
+    requires inside { start + length mask.now ≤ (tree_head tree.now node).rows }
+    requires some { 0 < length mask.now }
+    ensures dtype { IfOk result (λ column. column.dtype ≡ (tree_head tree.now node).dtype) }
+    ensures rows { IfOk result (λ column. length column.values ≡ true_count mask.now) }
+    ensures values { IfOk result (λ column. IsLeafBy (tree_head tree.now node) segment coding bytes.now start mask.now column.values) }
+    ensures cause { IfErr result (IsLeafFault (tree_head tree.now node) segment coding bytes.now start (length mask.now)) }
+    ensures own { IfErr result IsOfBytes }
+{
+    if !selects_some(mask) {
+        return Ok(empty_at(alloc, tree, node)?);
+    }
+    match decode_as(
+        alloc,
+        dtype_at(tree, node),
+        coding,
+        rows_at(tree, node),
+        bytes,
+    ) {
+        Ok(column) => {
+            if selects_all(&column, mask) {
+                return Ok(column);
+            }
+            let _rows = column.len();
+            let made = picked(alloc, &column, start, mask);
+            drop(column);
+            let made = made?;
+            Ok(made)
+        }
+        Err(DecodeError::BadSegment) => Err(ReaderError::BadSegment(segment)),
+        Err(DecodeError::Memory) => Err(ReaderError::Memory),
+    }
+}
+
+/// The selected rows of a node. `next` is the place of the first read that is theirs.
+#[cycle(columns)]
+pub(crate) fn column_of(
+    alloc: Global,
+    tree: &LayoutTree,
+    node: u32,
+    start: u64,
+    mask: &Mask,
+    reads: &[SegmentRead],
+    next: &mut usize,
+) -> Result<Column, ReaderError>
+    requires known { node < length tree.now }
+    requires readable { AreReadable tree.now }
+    requires inside { start + length mask.now ≤ (tree_head tree.now node).rows }
+    requires ready { Begin (needed (subtree tree.now node) start mask.now) (drop next.old reads.now) }
+    ensures dtype { IfOk result (λ column. column.dtype ≡ (tree_head tree.now node).dtype) }
+    ensures rows { IfOk result (λ column. length column.values ≡ true_count mask.now) }
+    ensures values { IfOk result (λ column. AreRowsBy reads.now (derivation (subtree tree.now node) all) start mask.now column.values) }
+    ensures cause { IfErr result (Fails reads.now (derivation (subtree tree.now node) all) start (length mask.now)) }
+    ensures own { IfErr result IsOfBytes }
+    ensures passed { OnOk result (next.new ≡ next.old + length (needed (subtree tree.now node) start mask.now)) }
+{
+    match NodeParts::of(tree, node) {
+        NodeParts::Leaf { segment, coding } => {
+            if mask.len() == 0 {
+                return Ok(empty_at(alloc, tree, node)?);
+            }
+            let bytes = take_bytes(reads, next);
+            leaf_column(alloc, tree, node, segment, coding, start, mask, bytes)
+        }
+        NodeParts::Chunks { chunks } => {
+            chunks_column(alloc, tree, node, chunks, start, mask, reads, next)
+        }
+        NodeParts::Dict { codes, values } => {
+            dict_column(alloc, tree, node, codes, values, start, mask, reads, next)
+        }
+    }
+}
+
+/// The selected rows of chunks, those of each behind those of the one before it.
+#[cycle(columns)]
+fn chunks_column(
+    alloc: Global,
+    tree: &LayoutTree,
+    node: u32,
+    chunks: &[u32],
+    start: u64,
+    mask: &Mask,
+    reads: &[SegmentRead],
+    next: &mut usize,
+) -> Result<Column, ReaderError>
+    requires known { node < length tree.now }
+    requires readable { AreReadable tree.now }
+    requires chunked { IsChunked tree.now node chunks.now }
+    requires inside { start + length mask.now ≤ (tree_head tree.now node).rows }
+    requires ready { Begin (needed_in (trees_of tree.now chunks.now) start mask.now) (drop next.old reads.now) }
+    ensures dtype { IfOk result (λ column. column.dtype ≡ (tree_head tree.now node).dtype) }
+    ensures rows { IfOk result (λ column. length column.values ≡ true_count mask.now) }
+    ensures values { IfOk result (λ column. AreRowsBy reads.now (derivation_in (trees_of tree.now chunks.now) all) start mask.now column.values) }
+    ensures cause { IfErr result (Fails reads.now (derivation_in (trees_of tree.now chunks.now) all) start (length mask.now)) }
+    ensures own { IfErr result IsOfBytes }
+    ensures passed { OnOk result (next.new ≡ next.old + length (needed_in (trees_of tree.now chunks.now) start mask.now)) }
+{
+    let mut parts = Vec::new(alloc);
+    let mut row = start;
+    let mut done = 0;
+    for chunk in chunks {
+        let rows = rows_at(tree, *chunk);
+        let here = rows_here(rows, row, done, mask.len());
+        let end = here.end;
+        match add_range(
+            alloc, tree, *chunk, row, mask, here, reads, next, &mut parts,
+        ) {
+            Ok(()) => {}
+            Err(error) => return Err(error),
+        }
+        done = end;
+        row = row.saturating_sub(rows);
+    }
+    let dtype = dtype_at(tree, node).copy(alloc)?;
+    Ok(Column::concat(alloc, dtype, parts)?)
+}
+
+/// Adds the column of the rows that a range of the mask selects, where there are any.
+#[cycle(columns)]
+fn add_range(
+    alloc: Global,
+    tree: &LayoutTree,
+    node: u32,
+    start: u64,
+    mask: &Mask,
+    range: Range<u64>,
+    reads: &[SegmentRead],
+    next: &mut usize,
+    parts: &mut Vec<Column>,
+) -> Result<(), ReaderError>
+    requires known { node < length tree.now }
+    requires readable { AreReadable tree.now }
+    requires forwards { range.start ≤ range.end }
+    requires masked { range.end ≤ length mask.now }
+    requires inside { range.start < range.end → start + (range.end - range.start) ≤ (tree_head tree.now node).rows }
+    requires ready { Begin (needed_of_range (subtree tree.now node) start (slice_range mask.now range.start range.end)) (drop next.old reads.now) }
+    ensures added { OnOk result (AddsRows reads.now (tree_head tree.now node).dtype (derivation (subtree tree.now node) all) start (slice_range mask.now range.start range.end) parts.old.items parts.new.items) }
+    ensures cause { IfErr result (Fails reads.now (derivation (subtree tree.now node) all) start (range.end - range.start)) }
+    ensures own { IfErr result IsOfBytes }
+    ensures passed { OnOk result (next.new ≡ next.old + length (needed_of_range (subtree tree.now node) start (slice_range mask.now range.start range.end))) }
+{
+    if range.start == range.end {
+        return Ok(());
+    }
+    let some = mask.slice(alloc, range)?;
+    if !selects_some(&some) {
+        return Ok(());
+    }
+    match column_of(alloc, tree, node, start, &some, reads, next) {
+        Ok(part) => {
+            parts.push(part)?;
+            Ok(())
+        }
+        Err(error) => Err(error),
+    }
+}
+
+/// The codes of the selected rows of a dictionary, and all of its values.
+#[derive(Drop)]
+pub(crate) struct DictParts {
+    pub(crate) codes: Column,
+    pub(crate) values: Column,
+}
+
+/// The codes of the selected rows of a dictionary, of which there is one, and its values.
+#[cycle(columns)]
+pub(crate) fn dict_parts(
+    alloc: Global,
+    tree: &LayoutTree,
+    node: u32,
+    codes: u32,
+    values: u32,
+    start: u64,
+    mask: &Mask,
+    reads: &[SegmentRead],
+    next: &mut usize,
+) -> Result<DictParts, ReaderError>
+    requires known { node < length tree.now }
+    requires readable { AreReadable tree.now }
+    requires dict { IsDict tree.now node codes values }
+    requires inside { start + length mask.now ≤ (tree_head tree.now node).rows }
+    requires some { selects_some mask.now ≡ true }
+    requires ready { Begin (needed (subtree tree.now node) start mask.now) (drop next.old reads.now) }
+    ensures codes_dtype { IfOk result (λ parts. parts.codes.dtype ≡ (tree_head tree.now codes).dtype) }
+    ensures codes_count { IfOk result (λ parts. length parts.codes.values ≡ true_count mask.now) }
+    ensures values_dtype { IfOk result (λ parts. parts.values.dtype ≡ (tree_head tree.now values).dtype) }
+    ensures values_count { IfOk result (λ parts. length parts.values.values ≡ (tree_head tree.now values).rows) }
+    ensures codes { IfOk result (λ parts. AreRowsBy reads.now (derivation (subtree tree.now codes) all) start mask.now parts.codes.values) }
+    ensures values { IfOk result (λ parts. AreRowsBy reads.now (derivation (subtree tree.now values) all) 0 (replicate (tree_head tree.now values).rows true) parts.values.values) }
+    ensures cause { IfErr result (Fails reads.now (derivation (subtree tree.now node) all) start (length mask.now)) }
+    ensures own { IfErr result IsOfBytes }
+    ensures passed { OnOk result (next.new ≡ next.old + length (needed (subtree tree.now node) start mask.now)) }
+{
+    let codes = match column_of(alloc, tree, codes, start, mask, reads, next) {
+        Ok(codes) => codes,
+        Err(error) => return Err(error),
+    };
+    let all = Mask::new_true(alloc, rows_at(tree, values))?;
+    match column_of(alloc, tree, values, 0, &all, reads, next) {
+        Ok(values) => Ok(DictParts { codes, values }),
+        Err(error) => {
+            drop(codes);
+            Err(error)
+        }
+    }
+}
+
+/// The values at the codes of the selected rows of a dictionary.
+#[cycle(columns)]
+fn dict_column(
+    alloc: Global,
+    tree: &LayoutTree,
+    node: u32,
+    codes: u32,
+    values: u32,
+    start: u64,
+    mask: &Mask,
+    reads: &[SegmentRead],
+    next: &mut usize,
+) -> Result<Column, ReaderError>
+    requires known { node < length tree.now }
+    requires readable { AreReadable tree.now }
+    requires dict { IsDict tree.now node codes values }
+    requires inside { start + length mask.now ≤ (tree_head tree.now node).rows }
+    requires ready { Begin (needed (subtree tree.now node) start mask.now) (drop next.old reads.now) }
+    ensures dtype { IfOk result (λ column. column.dtype ≡ (tree_head tree.now node).dtype) }
+    ensures rows { IfOk result (λ column. length column.values ≡ true_count mask.now) }
+    ensures values { IfOk result (λ column. AreRowsBy reads.now (derivation (subtree tree.now node) all) start mask.now column.values) }
+    ensures cause { IfErr result (Fails reads.now (derivation (subtree tree.now node) all) start (length mask.now)) }
+    ensures own { IfErr result IsOfBytes }
+    ensures passed { OnOk result (next.new ≡ next.old + length (needed (subtree tree.now node) start mask.now)) }
+{
+    if !selects_some(mask) {
+        return Ok(empty_at(alloc, tree, node)?);
+    }
+    // The contract of `rows_at` says that the rows are so few that their numbers fit.
+    let _rows = rows_at(tree, node);
+    match dict_parts(alloc, tree, node, codes, values, start, mask, reads, next) {
+        Ok(parts) => {
+            let made = looked_up(alloc, &parts.codes, &parts.values, start, mask);
+            drop(parts);
+            match made {
+                Ok(column) => Ok(column),
+                Err(error) => Err(look_up_fault(node, error)),
+            }
+        }
+        Err(error) => Err(error),
+    }
+}

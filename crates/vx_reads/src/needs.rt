@@ -1,0 +1,118 @@
+//! Which segments the selected rows of a range need.
+
+ghost use Rattle.std.specs.Prelude.{◌≡◌, ◌+◌, ◌-◌, ◌<◌, ◌≤◌, ◌++◌, length, slice_range, All, IfOk};
+ghost use Rattle.vx_layout.specs.Shape.{IsLater};
+ghost use Rattle.vx_layout.specs.Trees.{subtree};
+ghost use Rattle.vx_reads.specs.Needed.{needed, needed_in, needed_of_range};
+ghost use Rattle.vx_reads.specs.Readable.{trees_of, AreReadable};
+
+use crate::parts::{NodeParts, rows_at};
+use std::alloc::{AllocError, Global};
+use std::ops::Range;
+use vx_base::Mask;
+use vx_layout::LayoutTree;
+use vx_picking::selects_some;
+
+/// Adds the segments that the selected rows of a node need, from the first row of their range on.
+#[cycle(needs)]
+pub fn add_needs(
+    alloc: Global,
+    tree: &LayoutTree,
+    node: u32,
+    start: u64,
+    mask: &Mask,
+    needs: &mut Vec<u32>,
+) -> Result<(), AllocError>
+    requires known { node < length tree.now }
+    requires readable { AreReadable tree.now }
+    ensures { IfOk result (λ _. needs.new.items ≡ needs.old.items ++ needed (subtree tree.now node) start mask.now) }
+{
+    match NodeParts::of(tree, node) {
+        NodeParts::Leaf { segment, coding: _ } => {
+            if mask.len() != 0 {
+                needs.push(segment)?;
+            }
+            Ok(())
+        }
+        NodeParts::Chunks { chunks } => add_chunk_needs(
+            alloc, tree, chunks, node, start, mask, needs,
+        ),
+        NodeParts::Dict { codes, values } => {
+            if !selects_some(mask) {
+                return Ok(());
+            }
+            add_needs(alloc, tree, codes, start, mask, needs)?;
+            let all = Mask::new_true(alloc, rows_at(tree, values))?;
+            add_needs(alloc, tree, values, 0, &all, needs)
+        }
+    }
+}
+
+/// The rows of a range that a chunk has: those before its end, which lies so many rows behind the first one.
+pub(crate) fn rows_here(rows: u64, start: u64, done: u64, len: u64) -> Range<u64>
+    requires { done ≤ len }
+    ensures start { result.start ≡ done }
+    ensures forwards { result.start ≤ result.end }
+    ensures inside { result.end ≤ len }
+    ensures end { result.end ≤ done + (rows - start) }
+    ensures whole { result.end < len → result.end ≡ done + (rows - start) }
+{
+    let here = rows.saturating_sub(start).min(len - done);
+    done..done + here
+}
+
+/// Adds the segments that the selected rows of each chunk need.
+#[cycle(needs)]
+fn add_chunk_needs(
+    alloc: Global,
+    tree: &LayoutTree,
+    chunks: &[u32],
+    node: u32,
+    start: u64,
+    mask: &Mask,
+    needs: &mut Vec<u32>,
+) -> Result<(), AllocError>
+    requires known { node < length tree.now }
+    requires readable { AreReadable tree.now }
+    requires later { All (IsLater tree.now node) chunks.now }
+    ensures { IfOk result (λ _. needs.new.items ≡ needs.old.items ++ needed_in (trees_of tree.now chunks.now) start mask.now) }
+{
+    let mut row = start;
+    let mut done = 0;
+    for chunk in chunks {
+        let rows = rows_at(tree, *chunk);
+        let here = rows_here(rows, row, done, mask.len());
+        let end = here.end;
+        add_range_needs(alloc, tree, *chunk, row, mask, here, needs)?;
+        done = end;
+        row = row.saturating_sub(rows);
+    }
+    Ok(())
+}
+
+/// Adds the segments that the selected rows of a range of the mask need, where there are any.
+#[cycle(needs)]
+fn add_range_needs(
+    alloc: Global,
+    tree: &LayoutTree,
+    node: u32,
+    start: u64,
+    mask: &Mask,
+    range: Range<u64>,
+    needs: &mut Vec<u32>,
+) -> Result<(), AllocError>
+    requires known { node < length tree.now }
+    requires readable { AreReadable tree.now }
+    requires forwards { range.start ≤ range.end }
+    requires masked { range.end ≤ length mask.now }
+    ensures { IfOk result (λ _. needs.new.items ≡ needs.old.items ++ needed_of_range (subtree tree.now node) start (slice_range mask.now range.start range.end)) }
+{
+    if range.start == range.end {
+        return Ok(());
+    }
+    let some = mask.slice(alloc, range)?;
+    if !selects_some(&some) {
+        return Ok(());
+    }
+    add_needs(alloc, tree, node, start, &some, needs)
+}
