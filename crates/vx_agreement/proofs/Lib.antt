@@ -1,0 +1,2 @@
+pub mod PlainTrees
+pub mod ReadAnswers
