@@ -1,0 +1,26 @@
+//! Cases of layout readers: reads a command a line, and prints the line with its answer.
+//!
+//! A line that is empty or begins with `# ` is printed as it is. The commands stand in `README.md`.
+#![tactic(auto)]
+
+mod answers;
+mod commands;
+mod evaluations;
+mod files;
+mod filters;
+mod readers;
+mod rows;
+mod rules;
+mod running;
+mod turns;
+
+use commands::write_lines;
+use std::io;
+
+fn main(rt: HostRuntime) -> io::Result<()> {
+    let alloc = rt.alloc();
+    let lines = io::read_to_string(alloc, rt.reader())?;
+    let mut out = String::new(alloc);
+    let _all = write_lines(alloc, lines.as_str(), &mut out);
+    print!(rt; "{out}")
+}
