@@ -9,7 +9,7 @@ use Rattle.vx_base.specs.Streams.{ReadState, WriteState}
 use Rattle.vx_base.specs.declared.outside.StreamError.{StreamError}
 use Rattle.vx_base.specs.declared.outside.StreamError.TheVariants as stream
 use Rattle.scan_commands.specs.declared.endings.Ending.{Ending}
-use Rattle.scan_commands.specs.declared.endings.Ending.TheVariants.{Done, RequestTooLarge, BadRequest, BadLayout, BadProjection, ScanFailed, WriteFault, RequestFault, OutOfMemory}
+use Rattle.scan_commands.specs.declared.endings.Ending.TheVariants.{Done, RequestTooLarge, BadRequest, BadLayout, BadProjection, ScanFailed, NotReadable, ReadFailed, WriteFault, RequestFault, OutOfMemory}
 use Rattle.scan_commands.specs.LentRequests.{EndsAtOnce}
 use Rattle.scan_commands.specs.LentStreams.{LentStreams, ReadsRequest}
 use Rattle.scan_commands.specs.Endings.{status_of, writing_ending}
@@ -29,6 +29,8 @@ draws_at_once RequestFault before after ends = ends
 draws_at_once OutOfMemory before after ends = inl ends
 draws_at_once Done before after ends = absurd ends
 draws_at_once (ScanFailed error) before after ends = absurd ends
+draws_at_once NotReadable before after ends = absurd ends
+draws_at_once (ReadFailed error) before after ends = absurd ends
 draws_at_once WriteFault before after ends = absurd ends
 
 -- there is no memory for the text
@@ -61,6 +63,8 @@ draws_well (BadLayout node rule) bytes before after told draws few asked is requ
 draws_well BadProjection bytes before after told draws few asked is request sink =
     absurd (has_good_projection bytes asked draws.error is (told_bytes (λ b. HasBadProjection b draws.error) bytes before.request after.request told draws.reads))
 draws_well (ScanFailed error) bytes before after told draws few asked is request sink = absurd draws
+draws_well NotReadable bytes before after told draws few asked is request sink = absurd draws
+draws_well (ReadFailed error) bytes before after told draws few asked is request sink = absurd draws
 draws_well WriteFault bytes before after told draws few asked is request sink = absurd (sink draws.rose)
 draws_well RequestFault bytes before after told draws few asked is request sink = absurd (request draws.rose)
 

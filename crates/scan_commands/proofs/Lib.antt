@@ -1,6 +1,9 @@
 pub mod Demonstrating
 pub mod Drawing
 pub mod LentRequests
+pub mod ReadEnds
+pub mod ReadValid
+pub mod Reading
 pub mod Running
 pub mod Scanning
 pub mod Serving

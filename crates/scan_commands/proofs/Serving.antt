@@ -24,7 +24,7 @@ use Rattle.scan_request.proofs.OneRequest.{same_request, projection_is_bound, ha
 use Rattle.scan_output.specs.RowWriting.{batch_lines}
 use Rattle.scan_output.specs.Writing.{WritingGives}
 use Rattle.scan_commands.specs.declared.endings.Ending.{Ending}
-use Rattle.scan_commands.specs.declared.endings.Ending.TheVariants.{Done, RequestTooLarge, BadRequest, BadLayout, BadProjection, ScanFailed, WriteFault, RequestFault, OutOfMemory}
+use Rattle.scan_commands.specs.declared.endings.Ending.TheVariants.{Done, RequestTooLarge, BadRequest, BadLayout, BadProjection, ScanFailed, NotReadable, ReadFailed, WriteFault, RequestFault, OutOfMemory}
 use Rattle.scan_commands.specs.LentRequests.{EndsAtOnce}
 use Rattle.scan_commands.specs.LentStreams.{ReadsBytes, ReadsRequest}
 use Rattle.scan_commands.specs.Endings.{scan_ending, status_of, writing_ending}
@@ -156,6 +156,8 @@ ends_at_once limit RequestFault old new sink sources ends = (ends, refl)
 ends_at_once limit OutOfMemory old new sink sources ends = inl (ends, refl)
 ends_at_once limit Done old new sink sources ends = absurd ends
 ends_at_once limit (ScanFailed error) old new sink sources ends = absurd ends
+ends_at_once limit NotReadable old new sink sources ends = absurd ends
+ends_at_once limit (ReadFailed error) old new sink sources ends = absurd ends
 ends_at_once limit WriteFault old new sink sources ends = absurd ends
 
 pub scan_fails : (limit : ℕ) → (ending : Ending) (error : ScanError) (asked : Asked) (old new : ReadState) (sink : WriteState) (befores afters : List SourceState) → ending ≡ scan_ending error → ReadsRequest asked old new → ScanGives limit (scan_of asked) (Err error) befores afters
@@ -224,6 +226,8 @@ ends_well limit (BadLayout node rule) bytes file before after told file_told end
 ends_well limit BadProjection bytes file before after told file_told ends valid request quiet sink =
     absurd (has_good_projection bytes valid.1.0 ends.0.error valid.1.1 (told_bytes (λ b. HasBadProjection b ends.0.error) bytes before.request after.request told ends.0.reads))
 ends_well limit (ScanFailed error) bytes file before after told file_told ends valid request quiet sink = absurd (lacking_invalid limit error bytes file before after told file_told ends valid quiet)
+ends_well limit NotReadable bytes file before after told file_told ends valid request quiet sink = absurd ends
+ends_well limit (ReadFailed error) bytes file before after told file_told ends valid request quiet sink = absurd ends
 ends_well limit WriteFault bytes file before after told file_told ends valid request quiet sink = absurd (sink ends.rose)
 ends_well limit RequestFault bytes file before after told file_told ends valid request quiet sink = absurd (request ends.0.rose)
 

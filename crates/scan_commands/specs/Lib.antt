@@ -4,6 +4,9 @@ pub mod Endings
 pub mod LentRequests
 pub mod LentStreams
 pub mod PlanRuns
+pub mod ReadRequests
+pub mod ReadRuns
+pub mod Reads
 pub mod Runs
 pub mod Scans
 pub mod Statuses

@@ -5,7 +5,7 @@ use Rattle.vx_scan.specs.PlanTexts.{projection_of, IsPlanText}
 use Rattle.scan_request.specs.RequestForms.{Asked, IsRequest}
 use Rattle.scan_output.specs.Writing.{WritesFront}
 use Rattle.scan_commands.specs.declared.endings.Ending.{Ending}
-use Rattle.scan_commands.specs.declared.endings.Ending.TheVariants.{Done, RequestTooLarge, BadRequest, BadLayout, BadProjection, ScanFailed, WriteFault, RequestFault, OutOfMemory}
+use Rattle.scan_commands.specs.declared.endings.Ending.TheVariants.{Done, RequestTooLarge, BadRequest, BadLayout, BadProjection, ScanFailed, NotReadable, ReadFailed, WriteFault, RequestFault, OutOfMemory}
 use Rattle.scan_commands.specs.LentStreams.{LentStreams, ReadsRequest, IsTooLarge, IsBadRequest, IsBadLayout, IsBadProjection, FailsToRead, RunsOutAtOnce}
 use Rattle.scan_commands.specs.Endings.{status_of}
 use Rattle.scan_input.specs.Reading.{most_bytes, ReadsPieces}
@@ -52,6 +52,8 @@ Draws BadRequest before after = IsBadRequest before after
 Draws (BadLayout node rule) before after = IsBadLayout node rule before after
 Draws BadProjection before after = IsBadProjection before after
 Draws (ScanFailed error) before after = ⊥
+Draws NotReadable before after = ⊥
+Draws (ReadFailed error) before after = ⊥
 Draws WriteFault before after = FailsToDraw before after
 Draws RequestFault before after = FailsToRead before after
 Draws OutOfMemory before after = LacksDrawing before after

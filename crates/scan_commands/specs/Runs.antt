@@ -1,4 +1,4 @@
--- What a run of the program promises, by its ending. Promises on content speak of what is told: the request's bytes,
+-- What a run that scans promises, by its ending. Promises on content speak of what is told: the request's bytes,
 -- the file, the ranges asked and the bytes written.
 use Rattle.std.specs.Prelude.{◌≡◌, ◌≢◌, ℕ, ◌≤◌, ◌⊎◌, ◌++◌, List, length, take, IfSome, option_map}
 use Rattle.vx_base.specs.Sources.{SourceState, Rose}
@@ -14,7 +14,7 @@ use Rattle.vx_scan.specs.declared.errors.ScanError.{ScanError}
 use Rattle.vx_scan.specs.declared.errors.ScanError.TheVariants.{OutOfRange, OffsetOverflow, Memory}
 use Rattle.scan_request.specs.RequestForms.{Asked, IsRequest}
 use Rattle.scan_commands.specs.declared.endings.Ending.{Ending}
-use Rattle.scan_commands.specs.declared.endings.Ending.TheVariants.{Done, RequestTooLarge, BadRequest, BadLayout, BadProjection, ScanFailed, WriteFault, RequestFault, OutOfMemory}
+use Rattle.scan_commands.specs.declared.endings.Ending.TheVariants.{Done, RequestTooLarge, BadRequest, BadLayout, BadProjection, ScanFailed, NotReadable, ReadFailed, WriteFault, RequestFault, OutOfMemory}
 use Rattle.scan_commands.specs.LentStreams.{LentStreams, ReadsRequest, IsTooLarge, IsBadRequest, IsBadLayout, IsBadProjection, FailsToRead, RunsOutAtOnce}
 use Rattle.scan_commands.specs.Endings.{status_of}
 use Rattle.scan_input.specs.Reading.{most_bytes, ReadsPieces}
@@ -126,6 +126,8 @@ Ends limit BadRequest before after = EndsUnasked IsBadRequest before after
 Ends limit (BadLayout node rule) before after = EndsUnasked (IsBadLayout node rule) before after
 Ends limit BadProjection before after = EndsUnasked IsBadProjection before after
 Ends limit (ScanFailed error) before after = ScanFails limit error before after
+Ends limit NotReadable before after = ⊥
+Ends limit (ReadFailed error) before after = ⊥
 Ends limit WriteFault before after = FailsToWrite before after
 Ends limit RequestFault before after = EndsUnasked FailsToRead before after
 Ends limit OutOfMemory before after = RunsOut before after

@@ -9,10 +9,6 @@ done_status = 0
 abbrev pub usage_status : ℕ
 usage_status = 2
 
--- the words ask for what the program doesn't do
-abbrev pub not_yet_status : ℕ
-not_yet_status = 3
-
 -- the request's bytes are no request
 abbrev pub bad_request_status : ℕ
 bad_request_status = 10
@@ -87,7 +83,6 @@ abbrev pub text_of_status : ℕ → List ℕ
 text_of_status status =
     if status == done_status then codes "ok" else (
     if status == usage_status then codes "usage" else (
-    if status == not_yet_status then codes "not yet" else (
     if status == bad_request_status then codes "bad request" else (
     if status == bad_layout_status then codes "bad layout" else (
     if status == bad_projection_status then codes "bad projection" else (
@@ -104,4 +99,4 @@ text_of_status status =
     if status == request_fault_status then codes "request fault" else (
     if status == request_too_large_status then codes "request too large" else (
     if status == not_readable_status then codes "not readable by layout readers" else (
-    if status == memory_status then codes "out of memory" else codes "unknown status")))))))))))))))))))
+    if status == memory_status then codes "out of memory" else codes "unknown status"))))))))))))))))))

@@ -1,16 +1,17 @@
 //! How a run ends, and with which status.
 
 ghost use Rattle.std.specs.Prelude.{◌≡◌};
-ghost use Rattle.scan_commands.specs.Endings.{reading_ending, refused_ending, scan_ending, scan_status as status_of_scan, status_of, writing_ending};
+ghost use Rattle.scan_commands.specs.Endings.{read_ending, read_status as status_of_read, reader_status as status_of_reader, reading_ending, refused_ending, scan_ending, scan_status as status_of_scan, status_of, writing_ending};
 
 use crate::statuses::{
     BAD_CODE, BAD_LAYOUT, BAD_PROJECTION, BAD_REQUEST, BAD_SEGMENT, DONE, EXPRESSION_FAULT,
-    LISTS_UNSUPPORTED, NO_LOCATION, OUT_OF_MEMORY, READ_FAULT, REQUEST_FAULT, REQUEST_TOO_LARGE,
-    ROW_OFFSET_OVERFLOW, ROW_OUT_OF_RANGE, STALLED, WRITE_FAULT,
+    LISTS_UNSUPPORTED, NO_LOCATION, NOT_READABLE, OUT_OF_MEMORY, READ_FAULT, REQUEST_FAULT,
+    REQUEST_TOO_LARGE, ROW_OFFSET_OVERFLOW, ROW_OUT_OF_RANGE, STALLED, USAGE, WRITE_FAULT,
 };
 use scan_input::ReadingError;
 use scan_request::RequestError;
 use vx_base::StreamError;
+use vx_readers::{ReadRowsError, ReaderError};
 use vx_scan::ScanError;
 
 /// How a run ends.
@@ -28,6 +29,10 @@ pub(crate) enum Ending {
     BadProjection,
     /// The scan failed.
     ScanFailed(ScanError),
+    /// The layout's readers don't answer the request.
+    NotReadable,
+    /// The read failed.
+    ReadFailed(ReadRowsError),
     /// A write failed.
     WriteFault,
     /// A read of the request failed.
@@ -55,6 +60,32 @@ fn scan_status(error: ScanError) -> u8
     }
 }
 
+/// The status of a reader that gave no rows.
+fn reader_status(error: ReaderError) -> u8
+    ensures { result ≡ status_of_reader error }
+{
+    match error {
+        ReaderError::ReadFault => READ_FAULT,
+        ReaderError::BadSegment(_) => BAD_SEGMENT,
+        ReaderError::BadCode { .. } => BAD_CODE,
+        ReaderError::EvalFault(_) => EXPRESSION_FAULT,
+        ReaderError::NoLocation(_) => NO_LOCATION,
+        ReaderError::Memory => OUT_OF_MEMORY,
+    }
+}
+
+/// The status of a read that failed. No run reads by a rule of no rows, since no words ask for one.
+fn read_status(error: ReadRowsError) -> u8
+    ensures { result ≡ status_of_read error }
+{
+    match error {
+        ReadRowsError::Reader(error) => reader_status(error),
+        ReadRowsError::Stalled => STALLED,
+        ReadRowsError::ZeroSize => USAGE,
+        ReadRowsError::Memory => OUT_OF_MEMORY,
+    }
+}
+
 impl Ending {
     /// The status that the run ends with.
     pub(crate) fn status(self) -> u8
@@ -67,6 +98,8 @@ impl Ending {
             Ending::BadLayout { .. } => BAD_LAYOUT,
             Ending::BadProjection => BAD_PROJECTION,
             Ending::ScanFailed(error) => scan_status(error),
+            Ending::NotReadable => NOT_READABLE,
+            Ending::ReadFailed(error) => read_status(error),
             Ending::WriteFault => WRITE_FAULT,
             Ending::RequestFault => REQUEST_FAULT,
             Ending::OutOfMemory => OUT_OF_MEMORY,
@@ -107,6 +140,16 @@ pub(crate) fn of_scan(error: ScanError) -> Ending
     match error {
         ScanError::Memory => Ending::OutOfMemory,
         error => Ending::ScanFailed(error),
+    }
+}
+
+/// How a run ends whose read failed.
+pub(crate) fn of_read(error: ReadRowsError) -> Ending
+    ensures { result ≡ read_ending error }
+{
+    match error {
+        ReadRowsError::Memory => Ending::OutOfMemory,
+        error => Ending::ReadFailed(error),
     }
 }
 

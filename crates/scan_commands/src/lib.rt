@@ -1,6 +1,6 @@
 //! The commands of the program: words, a request, sources of segments and a sink go in, a status comes out.
 //!
-//! - [`run`] runs the words of a command line: it scans, draws a plan or runs the demo. It carries the theorem of each.
+//! - [`run`] runs the words of a command line: it scans, reads, draws a plan or runs the demo. It carries the theorem of each.
 //! - [`row_text`] writes a value as JSON, [`append_column_lines`] and [`append_row_lines`] a line for each row of a
 //!   column or of a range of its rows.
 //! - The statuses from [`DONE`] to [`OUT_OF_MEMORY`], and the text of each, [`status_text`].
@@ -19,6 +19,8 @@ mod endings;
 mod lent_requests;
 mod numbers;
 mod plan_runs;
+mod read_runs;
+mod reads;
 mod runs;
 mod scan_runs;
 mod scans;
@@ -36,7 +38,7 @@ pub use scan_request::{
 };
 pub use statuses::{
     BAD_CODE, BAD_LAYOUT, BAD_PROJECTION, BAD_REQUEST, BAD_SEGMENT, DONE, EXPRESSION_FAULT,
-    LISTS_UNSUPPORTED, NO_LOCATION, NOT_READABLE, NOT_YET, OUT_OF_MEMORY, READ_FAULT,
-    REQUEST_FAULT, REQUEST_TOO_LARGE, ROW_OFFSET_OVERFLOW, ROW_OUT_OF_RANGE, STALLED, USAGE,
-    WRITE_FAULT, status_text,
+    LISTS_UNSUPPORTED, NO_LOCATION, NOT_READABLE, OUT_OF_MEMORY, READ_FAULT, REQUEST_FAULT,
+    REQUEST_TOO_LARGE, ROW_OFFSET_OVERFLOW, ROW_OUT_OF_RANGE, STALLED, USAGE, WRITE_FAULT,
+    status_text,
 };

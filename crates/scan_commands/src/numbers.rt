@@ -7,13 +7,12 @@ ghost use Rattle.scan_demo.specs.DemoRows as demo;
 ghost use Rattle.scan_words.specs.Limits as words;
 ghost use Rattle.scan_request.specs.JsonForms.{most_items};
 ghost use Rattle.scan_input.specs.Reading.{most_bytes, most_piece};
-ghost use Rattle.scan_commands.specs.Statuses.{done_status, usage_status, not_yet_status, bad_request_status, bad_layout_status, bad_projection_status, row_out_of_range_status, row_offset_overflow_status, lists_unsupported_status, no_location_status, bad_segment_status, bad_code_status, expression_fault_status, read_fault_status, stalled_status, write_fault_status, request_fault_status, request_too_large_status, not_readable_status, memory_status};
+ghost use Rattle.scan_commands.specs.Statuses.{done_status, usage_status, bad_request_status, bad_layout_status, bad_projection_status, row_out_of_range_status, row_offset_overflow_status, lists_unsupported_status, no_location_status, bad_segment_status, bad_code_status, expression_fault_status, read_fault_status, stalled_status, write_fault_status, request_fault_status, request_too_large_status, not_readable_status, memory_status};
 
 use crate::statuses::{
     BAD_CODE, BAD_LAYOUT, BAD_PROJECTION, BAD_REQUEST, BAD_SEGMENT, DONE, EXPRESSION_FAULT,
-    LISTS_UNSUPPORTED, NO_LOCATION, NOT_READABLE, NOT_YET, OUT_OF_MEMORY, READ_FAULT,
-    REQUEST_FAULT, REQUEST_TOO_LARGE, ROW_OFFSET_OVERFLOW, ROW_OUT_OF_RANGE, STALLED, USAGE,
-    WRITE_FAULT,
+    LISTS_UNSUPPORTED, NO_LOCATION, NOT_READABLE, OUT_OF_MEMORY, READ_FAULT, REQUEST_FAULT,
+    REQUEST_TOO_LARGE, ROW_OFFSET_OVERFLOW, ROW_OUT_OF_RANGE, STALLED, USAGE, WRITE_FAULT,
 };
 use scan_input::{MOST_BYTES, PIECE_BYTES};
 use scan_request::MOST_ITEMS;
@@ -22,7 +21,6 @@ use scan_request::MOST_ITEMS;
 pub fn numbers_are_promised()
     ensures done { DONE ≡ done_status }
     ensures usage { USAGE ≡ usage_status }
-    ensures not_yet { NOT_YET ≡ not_yet_status }
     ensures bad_request { BAD_REQUEST ≡ bad_request_status }
     ensures bad_layout { BAD_LAYOUT ≡ bad_layout_status }
     ensures bad_projection { BAD_PROJECTION ≡ bad_projection_status }

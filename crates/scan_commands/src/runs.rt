@@ -4,25 +4,30 @@ ghost use Rattle.std.specs.Prelude.{◌≡◌, ◌<◌, ◌≤◌, length, map, 
 ghost use Rattle.scan_words.specs.Bounds.{IsWithinBounds};
 ghost use Rattle.scan_words.specs.Limits.{most_workers};
 ghost use Rattle.scan_words.specs.Words.{command_of};
-ghost use Rattle.scan_commands.specs.Commanded.{have_sources, workers_of, Obeys, Runs, ScansBy};
+ghost use Rattle.vx_split_rules.specs.Rules.{IsZeroSize};
+ghost use Rattle.scan_commands.specs.Commanded.{have_sources, workers_of, Obeys, ReadsFirst, Runs, ScansBy};
 
 use crate::demo_runs::demonstrate;
 use crate::plan_runs::draw;
+use crate::read_runs::read;
 use crate::scan_runs::serve;
-use crate::statuses::{NOT_YET, OUT_OF_MEMORY, USAGE};
+use crate::statuses::{OUT_OF_MEMORY, USAGE};
 use scan_words::{Command, WordsError, words_of};
+use std::alloc::Global;
 use std::sync::Wait;
 use std::thread::Threads;
 use vx_base::{SegmentSource, Sink, Source};
+use vx_split_rules::SplitBy;
 
 /// How many workers a scan has where no number is said.
 const DEFAULT_WORKERS: usize = 4;
 
 /// Runs the words of a command line. `scan` reads the request, scans the sources for its rows by a worker for each of the
-/// first so many, and writes a line for each; `tree` writes the plan of a request; `demo` writes the summary of a made
-/// file; `read` isn't done yet ([`NOT_YET`]). The answer is a status of docs/ANSWERS.md: [`USAGE`] for words of no
-/// command, and for a scan by more workers than there are sources. Output is written only once all of it is known but for
-/// the writing, so that a fault before writes nothing; a fault while writing leaves a front of it.
+/// first so many, and writes a line for each; `read` reads the rows by the layout's readers, from the first source; `tree`
+/// writes the plan of a request; `demo` writes the summary of a made file. The answer is a status of docs/ANSWERS.md:
+/// [`USAGE`] for words of no command, and for a scan by more workers than there are sources. Output is written only once
+/// all of it is known but for the writing, so that a fault before writes nothing; a fault while writing leaves a front of
+/// it.
 pub fn run<R: AllocGlobal + Threads + Wait + Sync, Q: Source, S: SegmentSource + Send, K: Sink>(
     rt: &R,
     words: &[String],
@@ -65,7 +70,9 @@ fn obey<R: AllocGlobal + Threads + Wait + Sync, Q: Source, S: SegmentSource + Se
             let workers = worker_count(sources.len(), *workers);
             scan_by(rt, workers, *idle, request, sources, out)
         }
-        Command::Read { .. } => NOT_YET,
+        Command::Read { split, idle, .. } => {
+            read_by(rt.alloc(), split, *idle, request, sources, out)
+        }
         Command::Tree { .. } => draw(rt.alloc(), request, out).status(),
         Command::Demo { number } => demonstrate(rt, *number, out).status(),
     }
@@ -112,4 +119,23 @@ fn scan_by<R: AllocGlobal + Threads + Wait + Sync, Q: Source, S: SegmentSource +
 {
     let (own, _others) = sources.split_at_mut(workers);
     serve(rt, idle_limit, request, own, out).status()
+}
+
+/// Reads the rows of the request from the first source, and leaves the others alone.
+fn read_by<Q: Source, S: SegmentSource, K: Sink>(
+    alloc: Global,
+    split: &SplitBy,
+    idle_limit: u64,
+    request: &mut Q,
+    sources: &mut [S],
+    out: &mut K,
+) -> u8
+    requires limit { 0 < idle_limit }
+    requires sized { IsZeroSize split.now → ⊥ }
+    requires some { 0 < length sources.old }
+    ensures { ReadsFirst idle_limit result
+        (record { request = Q.state request.old; sources = map S.state sources.old; sink = K.state out.old })
+        (record { request = Q.state request.new; sources = map S.state sources.new; sink = K.state out.new }) }
+{
+    read(alloc, split, idle_limit, request, &mut sources[0], out).status()
 }

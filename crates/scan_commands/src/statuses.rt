@@ -7,8 +7,6 @@ ghost use Rattle.scan_commands.specs.Statuses.{text_of_status};
 pub const DONE: u8 = 0;
 /// The words are not those of a command.
 pub const USAGE: u8 = 2;
-/// The words ask for what the program doesn't do.
-pub const NOT_YET: u8 = 3;
 /// The request's bytes are no request.
 pub const BAD_REQUEST: u8 = 10;
 /// The request's layout breaks a rule.
@@ -51,7 +49,6 @@ pub fn status_text(status: u8) -> &'static str
     match status {
         DONE => "ok",
         USAGE => "usage",
-        NOT_YET => "not yet",
         BAD_REQUEST => "bad request",
         BAD_LAYOUT => "bad layout",
         BAD_PROJECTION => "bad projection",

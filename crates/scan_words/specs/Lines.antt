@@ -3,7 +3,7 @@ use Rattle.std.specs.Prelude.{◌≡◌, ◌==◌, ℕ, false, true, if◌then�
 use Rattle.clap.specs.Words.{Text}
 use Rattle.scan_words.specs.declared.commands.Command.{Command}
 use Rattle.scan_words.specs.declared.commands.Command.TheVariants.{Scan, Read, Tree, Demo}
-use Rattle.vx_readers.specs.declared.split_rules.SplitBy.TheVariants.{Layout, LayoutSubSplitting, RowCount}
+use Rattle.vx_split_rules.specs.declared.split_rules.SplitBy.TheVariants.{Layout, LayoutSubSplitting, RowCount}
 use Rattle.scan_words.specs.Words.{command_of}
 
 abbrev pub with_first : ℕ → List Text → List Text

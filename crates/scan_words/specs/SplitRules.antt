@@ -2,8 +2,8 @@
 use Rattle.std.specs.Prelude.{ℕ, Bool, if◌then◌else◌, codes, length, take, drop, List, Option, Some, None, option_map}
 use Rattle.std.specs.Str.{bytes_eq}
 use Rattle.scan_words.specs.Numbers.{number_between}
-use Rattle.vx_readers.specs.declared.split_rules.SplitBy.{SplitBy}
-use Rattle.vx_readers.specs.declared.split_rules.SplitBy.TheVariants.{Layout, LayoutSubSplitting, RowCount}
+use Rattle.vx_split_rules.specs.declared.split_rules.SplitBy.{SplitBy}
+use Rattle.vx_split_rules.specs.declared.split_rules.SplitBy.TheVariants.{Layout, LayoutSubSplitting, RowCount}
 
 -- a number of rows or of idle polls: it has 64 bits, and is not 0
 abbrev pub size : List ℕ → Option ℕ

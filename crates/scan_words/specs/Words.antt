@@ -5,9 +5,9 @@ use Rattle.std.specs.Str.{bytes_eq}
 use Rattle.clap.specs.Words.{Row, Text, first_of}
 use Rattle.scan_words.specs.declared.commands.Command.{Command}
 use Rattle.scan_words.specs.declared.commands.Command.TheVariants.{Scan, Read, Tree, Demo}
-use Rattle.vx_readers.specs.Limits.{default_max_rows}
-use Rattle.vx_readers.specs.declared.split_rules.SplitBy.{SplitBy}
-use Rattle.vx_readers.specs.declared.split_rules.SplitBy.TheVariants.{LayoutSubSplitting}
+use Rattle.vx_split_rules.specs.Limits.{default_max_rows}
+use Rattle.vx_split_rules.specs.declared.split_rules.SplitBy.{SplitBy}
+use Rattle.vx_split_rules.specs.declared.split_rules.SplitBy.TheVariants.{LayoutSubSplitting}
 use Rattle.scan_words.specs.Grammar.{demo_app, parse_rows, read_app, scan_app, tree_app}
 use Rattle.scan_words.specs.Limits.{default_idle, most_demo_rows, most_workers}
 use Rattle.scan_words.specs.Numbers.{number_between}

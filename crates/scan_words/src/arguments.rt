@@ -2,6 +2,7 @@
 
 ghost use Rattle.std.specs.Prelude.{◌≡◌, ◌<◌, IfOk, IfSome, option_map};
 ghost use Rattle.clap.specs.Words.{first_of};
+ghost use Rattle.vx_split_rules.specs.Rules.{IsZeroSize};
 ghost use Rattle.scan_words.specs.Answers.{Answers};
 ghost use Rattle.scan_words.specs.Bounds.{IsWithinBounds, LiesBetween};
 ghost use Rattle.scan_words.specs.Grammar.{rows_in};
@@ -13,7 +14,7 @@ use crate::numbers::number_between;
 use crate::split_rules::split_rule;
 use clap::ArgMatches;
 use std::alloc::Global;
-use vx_readers::SplitBy;
+use vx_split_rules::SplitBy;
 use vx_types::Text;
 
 /// The most workers that a scan has.
@@ -113,15 +114,19 @@ fn idle_in(matches: &ArgMatches<'_>) -> Result<u64, WordsError>
     number_between(1, u64::MAX, text).ok_or(WordsError::Usage)
 }
 
-/// The split rule, or the default where none is said.
+/// The split rule, or the default where none is said. It has some rows.
 #[tactic(auto, unfolding(crate::specs::Words::split_choice))]
 fn split_in(matches: &ArgMatches<'_>) -> Result<SplitBy, WordsError>
-    ensures { Answers (split_choice (rows_in matches.now)) result }
+    ensures choice { Answers (split_choice (rows_in matches.now)) result }
+    ensures sized { IfOk result (λ split. IsZeroSize split → ⊥) }
 {
     let Some(text) = text_in(matches, "split") else {
         return Ok(SplitBy::default());
     };
-    split_rule(text).ok_or(WordsError::Usage)
+    match split_rule(text) {
+        Some(rule) => Ok(rule),
+        None => Err(WordsError::Usage),
+    }
 }
 
 /// The text of a positional argument, which has to be there.

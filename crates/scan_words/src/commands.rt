@@ -5,7 +5,7 @@ ghost use Rattle.scan_words.specs.declared.commands.WordsError.TheVariants.{Memo
 
 use std::alloc::{AllocError, AllocFailed};
 use thiserror::Error;
-use vx_readers::SplitBy;
+use vx_split_rules::SplitBy;
 use vx_types::Text;
 
 /// What the words ask of the program.
