@@ -4,8 +4,9 @@
     python3 bench/run.py PROGRAM [--before PROGRAM] [--seed N] [--runs N] [--only NAME ..]
 
 PROGRAM is the built program, crates/scan_cli/out/scan_cli after a run or a check. The script makes its
-data from the seed into bench/data/, builds plain.rs there by rustc, checks each output of both against its
-own, and then runs both in turns with their output thrown away. Times are processor seconds, user and system.
+data from the seed into bench/data/, builds plain.rs there by rustc, checks each output against its own, and then
+runs all in turns with their output thrown away: `scan` with one worker, the plain program, and `read`, whose time
+stands beside that of `scan`. Times are processor seconds, user and system.
 """
 import argparse
 import array
@@ -43,6 +44,9 @@ DATA_SETS = {
 COMPARED = [
     ("first_quarter", "chunks_128", 4.2), ("one_flat", "ten_flat", 10.5), ("chunks_128", "ten_chunks", 10.5),
     ("runs_plain", "runs_coded", 0.8)]
+# The data set whose root is no column, so that the layout's readers don't read it; how many times as long as `scan` `read`
+# should take at the most for the others.
+NOT_READ, READ_MOST = "struct_50", 1.5
 # How many rows a run has, and how many a flat in runs; at least how many times as many bytes the plain segments have.
 RUN_ROWS, FLAT_ROWS, LEAST_SAVED = 1000, 65536, 50
 
@@ -223,9 +227,10 @@ def measure(programs, name, most_runs):
     """The best seconds of the proved program, after a line is printed."""
     values, rows, runs, most = DATA_SETS[name]
     words = [path_of(values + ".seg"), path_of(name + ".json")]
-    right = {one: command + words for one, command in programs.items() if is_right(command + words, name, values)}
-    for one in ("proved", "plain"):
-        if one not in right:
+    asked = {one: command + words for one, command in programs.items() if one != "read" or name != NOT_READ}
+    right = {one: arguments for one, arguments in asked.items() if is_right(arguments, name, values)}
+    for one in asked:
+        if one not in right and one != "before":
             sys.exit("%s: the %s program gives another output than the wanted one" % (name, one))
     times, peaks = {one: [] for one in right}, {one: 0 for one in right}
     for _ in range(min(runs, most_runs)):
@@ -238,6 +243,10 @@ def measure(programs, name, most_runs):
     print("%-14s %8.4f %8.4f %8.4f %8.4f %7.2f %7.2f %5s %9.1f %9.1f %9.1f" % (
         name, best["proved"], median["proved"], best["plain"], median["plain"], *ratios, most or "",
         peaks["proved"] / 1e6, peaks["plain"] / 1e6, peaks["proved"] / rows), flush=True)
+    if "read" in right:
+        ratios = [seconds["read"] / seconds["proved"] for seconds in (best, median)]
+        line = "%-14s %8.4f %8.4f %17s %7.2f %7.2f %5s %9.1f   of scan's time"
+        print(line % ("  read", best["read"], median["read"], "", *ratios, READ_MOST, peaks["read"] / 1e6), flush=True)
     if "before" in right:
         ratios = [seconds["proved"] / seconds["before"] for seconds in (best, median)]
         line = "%-14s %8.4f %8.4f %17s %7.2f %7.2f"
@@ -259,7 +268,9 @@ def main():
         return
     # In a process of its own: a child's peak memory counts from the size of the one that starts it.
     subprocess.check_call([sys.executable, __file__, options.program, "--seed", str(options.seed), "--make"])
-    programs = {"proved": [options.program, "scan", "--workers", "1"], "plain": [build_plain()]}
+    programs = {
+        "proved": [options.program, "scan", "--workers", "1"], "plain": [build_plain()],
+        "read": [options.program, "read"]}
     if options.before:
         programs["before"] = [options.before, "scan", "--workers", "1"]
     print("%-14s %17s %17s %21s %19s %9s" % ("", "proved, seconds", "plain, seconds", "ratio", "peak MB", "proved"))
