@@ -202,8 +202,8 @@ impl BoundExpression {
         &self.expr
     }
 
-    /// The dtype of the root. It takes no memory.
-    pub(crate) fn root_dtype(&self) -> &DType
+    /// The dtype of the values that the expression is over. It takes no memory.
+    pub fn root_dtype(&self) -> &DType
         ensures { data_type result.now ≡ self.now.root }
     {
         &self.root
