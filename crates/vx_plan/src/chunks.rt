@@ -1,12 +1,14 @@
 //! Which child of a concat holds a row.
 
-ghost use Rattle.std.specs.Prelude.{◌+◌, ◌<◌, length, IsTrue};
+ghost use Rattle.std.specs.Prelude.{◌≡◌, ◌+◌, ◌<◌, length, IsTrue, Some, slice_get};
 ghost use Rattle.vx_plan.specs.declared.shapes.Shape.TheVariants.{Chunks};
+ghost use Rattle.vx_plan.specs.Nodes.{node_data};
 ghost use Rattle.vx_plan.specs.Rules.{node_at};
 ghost use Rattle.vx_plan.specs.Shapes.{HasShape};
 ghost use Rattle.vx_plan.specs.Chunks.{IsChunk, HoldsPlace};
 
 use crate::children::PlanRef;
+use crate::nodes::PlanNode;
 use crate::tables::PlanTable;
 
 /// A child of a concat, its rows among those of the concat, and the place of the child behind it.
@@ -67,20 +69,32 @@ pub fn chunk_at(table: &PlanTable, plan: u32, row: u64, tried: usize) -> Chunk
     requires inside { row < (node_at table.now plan).rows }
     ensures { IsChunk table.now plan row result }
 {
-    match table.as_concat(PlanRef(plan)) {
-        Some(concat) => {
-            let offsets = concat.row_offsets(table);
-            let place = place_near(offsets, tried, row);
-            let child = table.child_required(PlanRef(plan), place);
-            let start = offsets[place];
-            let end = start + table.row_count(child);
-            Chunk {
-                child: child.0,
-                start,
-                end,
-                next: place + 1,
-            }
-        }
-        None => unreachable!(),
+    chunk_in(table, plan, table.node(plan), row, tried)
+}
+
+/// The same, where the node of the concat is at hand.
+pub(crate) fn chunk_in(
+    table: &PlanTable,
+    plan: u32,
+    node: &PlanNode,
+    row: u64,
+    tried: usize,
+) -> Chunk
+    requires known { plan < length table.now }
+    requires here { slice_get table.now plan ≡ Some (node_data node.now) }
+    requires concat { HasShape table.now plan Chunks }
+    requires inside { row < (node_at table.now plan).rows }
+    ensures { IsChunk table.now plan row result }
+{
+    let offsets = node.row_offsets.as_slice();
+    let place = place_near(offsets, tried, row);
+    let child = node.children.at(place);
+    let start = offsets[place];
+    let end = start + table.row_count(PlanRef(child));
+    Chunk {
+        child,
+        start,
+        end,
+        next: place + 1,
     }
 }

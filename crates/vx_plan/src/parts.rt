@@ -1,14 +1,16 @@
 //! The parts of rows of a plan: the children that they are read through, one after another.
 
-ghost use Rattle.std.specs.Prelude.{◌≡◌, ◌+◌, ◌<◌, ◌≤◌, [], ◌∷◌, length, map, None, MatchOption, slice_get};
+ghost use Rattle.std.specs.Prelude.{◌≡◌, ◌+◌, ◌<◌, ◌≤◌, [], ◌∷◌, length, map, None, MatchOption, Some, slice_get};
 ghost use Rattle.vx_plan.specs.declared.shapes.Shape.TheVariants.{Chunks};
+ghost use Rattle.vx_plan.specs.Nodes.{node_data};
 ghost use Rattle.vx_plan.specs.Parts.{first_place, parts_left, same_rows, IsNextPart, IsPicked};
 ghost use Rattle.vx_plan.specs.Refs.{number_of};
 ghost use Rattle.vx_plan.specs.Rules.{node_at};
 ghost use Rattle.vx_plan.specs.Shapes.{HasShape};
 
 use crate::children::PlanRef;
-use crate::chunks::chunk_at;
+use crate::chunks::chunk_in;
+use crate::nodes::{PlanKind, PlanNode};
 use crate::shapes::Shape;
 use crate::tables::PlanTable;
 
@@ -121,15 +123,17 @@ fn next_field(
     })
 }
 
-/// The rows of the next child of a concat that holds one of them, found by a search in the offsets.
+/// The rows of the next child of a concat that holds one of them, found by a search in the offsets of its node.
 fn next_chunk(
     table: &PlanTable,
     plan: PlanRef,
+    node: &PlanNode,
     start: u64,
     count: u64,
     at: PartPlace,
 ) -> Option<NextPart>
     requires known { number_of plan < length table.now }
+    requires here { slice_get table.now (number_of plan) ≡ Some (node_data node.now) }
     requires concat { HasShape table.now (number_of plan) Chunks }
     requires inside { start + count ≤ (node_at table.now (number_of plan)).rows }
     ensures { MatchOption result (parts_left table.now (number_of plan) start count at ≡ []) (IsNextPart table.now (number_of plan) start count at) }
@@ -139,7 +143,7 @@ fn next_chunk(
     }
     table.numbers_fit(plan);
     let row = start + at.done;
-    let chunk = chunk_at(table, plan.0, row, at.place);
+    let chunk = chunk_in(table, plan.0, node, row, at.place);
     let here = (chunk.end - row).min(count - at.done);
     let to = at.done + here;
     Some(NextPart {
@@ -156,8 +160,41 @@ fn next_chunk(
     })
 }
 
+/// The next part of so many rows of a plan of any shape, and None behind the last one.
+fn next_by_shape(
+    table: &PlanTable,
+    plan: PlanRef,
+    start: u64,
+    count: u64,
+    at: PartPlace,
+) -> Option<NextPart>
+    requires known { number_of plan < length table.now }
+    requires inside { start + count ≤ (node_at table.now (number_of plan)).rows }
+    ensures { MatchOption result (parts_left table.now (number_of plan) start count at ≡ []) (IsNextPart table.now (number_of plan) start count at) }
+{
+    match table.shape(plan) {
+        Shape::Same(child) => only(rows_of(child, start, count), at),
+        Shape::Over(child) => only(rows_of(child, start, count), at),
+        Shape::Zoned(content, _) => only(rows_of(content, start, count), at),
+        Shape::Chunks => next_chunk(table, plan, table.node(plan.0), start, count, at),
+        Shape::Fields(_) => next_field(table, plan, start, count, at),
+        Shape::LookUp(codes, values) => {
+            one_of(
+                rows_of(codes, start, count),
+                Part::Whole(values, values),
+                at,
+            )
+        }
+        Shape::Shared(child) => only(Part::Whole(plan.0, child), at),
+        Shape::Leaf(_) => None,
+        Shape::Lists => None,
+        Shape::RowNumbers => None,
+    }
+}
+
 impl PlanTable {
-    /// The next part of so many rows of a plan, and None behind the last one. It takes no memory.
+    /// The next part of so many rows of a plan, and None behind the last one. It takes no memory. The node of a concat,
+    /// which may have many parts, is looked up once.
     pub fn next_part(
         &self,
         plan: PlanRef,
@@ -169,23 +206,10 @@ impl PlanTable {
         requires inside { start + count ≤ (node_at self.now (number_of plan)).rows }
         ensures { MatchOption result (parts_left self.now (number_of plan) start count at ≡ []) (IsNextPart self.now (number_of plan) start count at) }
     {
-        match self.shape(plan) {
-            Shape::Same(child) => only(rows_of(child, start, count), at),
-            Shape::Over(child) => only(rows_of(child, start, count), at),
-            Shape::Zoned(content, _) => only(rows_of(content, start, count), at),
-            Shape::Chunks => next_chunk(self, plan, start, count, at),
-            Shape::Fields(_) => next_field(self, plan, start, count, at),
-            Shape::LookUp(codes, values) => {
-                one_of(
-                    rows_of(codes, start, count),
-                    Part::Whole(values, values),
-                    at,
-                )
-            }
-            Shape::Shared(child) => only(Part::Whole(plan.0, child), at),
-            Shape::Leaf(_) => None,
-            Shape::Lists => None,
-            Shape::RowNumbers => None,
+        let node = self.node(plan.0);
+        match node.kind {
+            PlanKind::Concat => next_chunk(self, plan, node, start, count, at),
+            _ => next_by_shape(self, plan, start, count, at),
         }
     }
 }
