@@ -1,23 +1,17 @@
 -- Once all rows were given, all is let go: no row is left that needs anything.
-use Rattle.std.proofs.Common.{◌≡◌, ℕ, zero, suc, ◌<◌, ◌≤◌, ◌==◌, inr, Bool, true, false, List, [], ◌∷◌, Option, Some, None, length, map, refl, sym, ap, ◌∙◌, subst, arith}
-use Rattle.std.specs.Prelude.{if◌then◌else◌}
+use Rattle.std.proofs.Common.{◌≡◌, ℕ, zero, suc, ◌<◌, ◌≤◌, inr, List, [], ◌∷◌, Option, Some, None, length, map, refl, sym, ap, ◌∙◌, subst, arith}
 use Rattle.std.specs.List.{remove, slice_get}
-use Rattle.std.specs.Option.{is_some}
-use Rattle.std.proofs.lemmas.Bool.{eqb-true}
 use Rattle.std.proofs.lemmas.Option.{same_Some, slice_get_within}
 use Rattle.vx_plan.specs.Nodes.{Node}
 use Rattle.vx_steps.specs.declared.jobs.ActiveSplit.{ActiveSplit}
 use Rattle.vx_steps.specs.declared.jobs.Job.{Job}
 use Rattle.vx_steps.specs.declared.jobs.Progress.{Progress}
-use Rattle.vx_steps.specs.declared.leavings.Sieve.{Sieve}
 use Rattle.vx_steps.specs.declared.splits.Split.{Split}
 use Rattle.vx_steps.specs.Held.{AreTyped}
-use Rattle.vx_steps.specs.Kept.{kept_at, IsKept}
+use Rattle.vx_steps.specs.Kept.{IsKept}
 use Rattle.vx_steps.specs.KeptData.{Kept}
-use Rattle.vx_steps.specs.LeafColumns.{Forgets}
-use Rattle.vx_steps.specs.LeavesData.{LeavesData}
 use Rattle.vx_steps.specs.Leavings.{IsReadBehind}
-use Rattle.vx_steps.specs.LettingGo.{Ends, ForgetsApart}
+use Rattle.vx_steps.specs.LettingGo.{Ends}
 use Rattle.vx_steps.specs.Needed.{still_reads, IsLacked, KeepsNeeded}
 use Rattle.vx_steps.specs.Needs.{Among}
 use Rattle.vx_steps.specs.OpenSegments.{AreCounted}
@@ -31,27 +25,6 @@ use Rattle.vx_steps.specs.Wants.{IsAsked}
 use Rattle.vx_steps.proofs.Beginning.{none_among, none_left}
 use Rattle.vx_steps.proofs.Releasing.{among_at, got_among}
 use Rattle.vx_steps.proofs.Settling.{map_removed, needs_kept, not_both}
-
--- ---- which leaves are forgotten
-
-none_there : (o : Option ℕ) → is_some o ≡ true → o ≡ None → ⊥
-none_there None some none = absurd cc
-none_there (Some place) some none = cc
-
-pub forgets_none : (apart : Sieve) (leaves : LeavesData) → ForgetsApart apart leaves leaves
-forgets_none apart leaves = record { all = refl; ready = refl; stays = λ leaf none. refl }
-
--- one more that stands in the index
-pub forgets_next : (apart : Sieve) (first old new : LeavesData) (leaf : ℕ) → is_some (place_in apart.places leaf) ≡ true → Forgets leaf old new → ForgetsApart apart first old → ForgetsApart apart first new
-forgets_next apart first old new leaf there forgets before = record {
-  all = forgets.all ∙ before.all;
-  ready = forgets.ready ∙ before.ready;
-  stays = λ n none. other n none (leaf == n) refl ∙ before.stays n none;
-}
-  where
-    other : (n : ℕ) → place_in apart.places n ≡ None → (b : Bool) → (leaf == n) ≡ b → kept_at new.here n ≡ kept_at old.here n
-    other n none true e = absurd (none_there (place_in apart.places leaf) there (ap (place_in apart.places) (eqb-true leaf n e) ∙ none))
-    other n none false e = forgets.here n ∙ ap (λ (b : Bool). if b then None else kept_at old.here n) e
 
 -- a leaf that the row behind the splits reads doesn't stand there
 not_apart : (nodes : List Node) (job : Job) (old : Progress) → KeepsNeeded nodes job old → (n : ℕ) → IsReadBehind nodes job n → place_in old.needed.apart.places n ≡ None

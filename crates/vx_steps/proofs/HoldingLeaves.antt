@@ -1,9 +1,7 @@
 -- What is true of a scan stays so when a leaf that was handed in is held, or forgotten.
-use Rattle.std.proofs.Common.{◌≡◌, ℕ, zero, suc, ◌<◌, ◌≤◌, ◌==◌, ◌⊎◌, inl, inr, ⊎_elim, Global, Vec, Bool, true, false, List, [], ◌∷◌, Some, None, length, map, refl, sym, ap, ◌∙◌, subst, arith}
-use Rattle.std.specs.Prelude.{if◌then◌else◌, option_map}
-use Rattle.std.specs.List.{slice_get}
+use Rattle.std.proofs.Common.{◌≡◌, ℕ, ◌<◌, ◌≤◌, ◌==◌, ◌⊎◌, inl, inr, ⊎_elim, Global, Vec, Bool, true, false, List, [], ◌∷◌, Some, None, length, map, refl, sym, ap, ◌∙◌, subst, arith}
+use Rattle.std.specs.Prelude.{if◌then◌else◌}
 use Rattle.std.proofs.lemmas.Bool.{cases_lt, eqb-true}
-use Rattle.std.proofs.lemmas.Option.{same_Some}
 use Rattle.vx_plan.specs.Nodes.{Node}
 use Rattle.vx_steps.specs.declared.jobs.ActiveSplit.{ActiveSplit}
 use Rattle.vx_steps.specs.declared.jobs.Job.{Job}
@@ -38,7 +36,6 @@ use Rattle.vx_steps.specs.StillRead.{LeafIsRead}
 use Rattle.vx_steps.proofs.AllReads.{all_of_one, one_of_all}
 use Rattle.vx_steps.proofs.OpenReads.{actives_open, among_mapped, later_needed, leaf_ahead, mapped_from, needed_by, noted_reads, open_needed}
 use Rattle.vx_steps.proofs.PieceRows.{at_among}
-use Rattle.vx_steps.proofs.Tallies.{at_key}
 
 -- ---- what is lost of columns
 
@@ -314,18 +311,3 @@ looked_next nodes job first old new leaf segment over kept does is =
         wholes = is.keeps.wholes;
       };
     })
-
--- the plan of the column at a place has one
-pub kept_there : (kept : List Kept) (place n : ℕ) → option_map (λ k. k.node) (slice_get kept place) ≡ Some n → IsKept kept n
-kept_there [] place n at = absurd cc
-kept_there (k ∷ kept) place n at = by place at (k.node == n) refl (λ rest more. kept_there kept rest n more)
-  where
-    by : (place : ℕ) → option_map (λ (x : Kept). x.node) (slice_get (k ∷ kept) place) ≡ Some n → (b : Bool) → (k.node == n) ≡ b → ((rest : ℕ) → option_map (λ (x : Kept). x.node) (slice_get kept rest) ≡ Some n → IsKept kept n) → IsKept (k ∷ kept) n
-    by place at true e rest = (k.column, ap (λ (b : Bool). if b then Some k.column else kept_at kept n) e)
-    by zero at false e rest =
-        let same : k.node ≡ n = same_Some k.node n at in
-        let both : true ≡ false = sym (at_key k.node n same) ∙ e in
-        absurd cc
-    by (suc place) at false e rest =
-        let r = rest place at in
-        (r.0, ap (λ (b : Bool). if b then Some k.column else kept_at kept n) e ∙ r.1)

@@ -55,7 +55,7 @@ not_at (y ∷ xs) zero x n h is apart none =
     subst P (sym (take_none xs)) (ap (λ (v : KeptValue). kept_at (kept_data v ∷ []) n) (sym is) ∙ ap (λ (b : Bool). if b then Some x.column else None) e)
 not_at (y ∷ xs) (suc i) x n h is apart none = step_new ((number_of y.node) == n) y.column (kept_at (map kept_data (take i xs)) n) (kept_at (map kept_data (take (suc i) xs)) n) None (λ e. not_at xs i x n (omega arith) is apart e) none
 
-length_data : (xs : List KeptValue) → length (map kept_data xs) ≡ length xs
+pub length_data : (xs : List KeptValue) → length (map kept_data xs) ≡ length xs
 length_data [] = refl
 length_data (x ∷ xs) = ap suc (length_data xs)
 

@@ -17,6 +17,7 @@ pub mod ComputedRows
 pub mod Counting
 pub mod Decoding
 pub mod Delivering
+pub mod Dropping
 pub mod EachOnce
 pub mod Ending
 pub mod Fields
@@ -79,7 +80,6 @@ pub mod StartedNeeds
 pub mod Starting
 pub mod StartingAll
 pub mod StoredLeaves
-pub mod StoredPlaces
 pub mod Storing
 pub mod Structures
 pub mod TableMarks

@@ -1,5 +1,5 @@
 -- Whether the rows whose reads are placed ask for whole values, part by part.
-use Rattle.std.proofs.Common.{◌≡◌, ℕ, ◌<◌, inl, inr, Bool, List, [], ◌∷◌, Some, length, ap, ◌∙◌, subst}
+use Rattle.std.proofs.Common.{◌≡◌, ℕ, ◌<◌, inl, inr, ⊎_elim, Bool, List, [], ◌∷◌, Some, length, ap, ◌∙◌, subst}
 use Rattle.std.specs.Prelude.{slice_range}
 use Rattle.vx_picking.specs.Rows.{SelectsNone}
 use Rattle.vx_plan.specs.declared.parts.ChildRows.{ChildRows}
@@ -10,18 +10,19 @@ use Rattle.vx_plan.specs.declared.shapes.Shape.TheVariants as shapes
 use Rattle.vx_plan.specs.Kinds.{coding_of}
 use Rattle.vx_plan.specs.Nodes.{Node}
 use Rattle.vx_plan.specs.Parts.{parts_of}
-use Rattle.vx_plan.specs.Plans.{scan_plan}
+use Rattle.vx_plan.specs.Plans.{filter_plan, plan_at, scan_plan}
 use Rattle.vx_plan.specs.Rules.{node_at}
 use Rattle.vx_plan.specs.Shapes.{HasShape}
 use Rattle.vx_plan.specs.Tables.{IsGoodTable}
+use Rattle.vx_steps.specs.declared.leaf_reads.LeafRead.{LeafRead}
 use Rattle.vx_steps.specs.declared.placed_reads.Ends.{Ends}
 use Rattle.vx_steps.specs.Given.{handed_by}
 use Rattle.vx_steps.specs.KeptData.{Kept}
-use Rattle.vx_steps.specs.Placed.{AreEnds, AskForNone}
+use Rattle.vx_steps.specs.Placed.{AreEnds, AskForNone, IsLeafUnder}
 use Rattle.vx_steps.specs.Visits.{IsWholeRead}
 use Rattle.vx_steps.proofs.Parts.{all_rows_taken}
 use Rattle.vx_steps.proofs.PartsAsking.{asked_parts, PartsAsk}
-use Rattle.vx_steps.proofs.Shaping.{head_of, leaf_plan}
+use Rattle.vx_steps.proofs.Shaping.{head_of, leaf_plan, same_law}
 use Rattle.vx_steps.proofs.Visiting.{RowVisits}
 
 -- what all parts ask for, those that are left ask for
@@ -44,6 +45,20 @@ pub leaf_asks_none : (nodes : List Node) (given : List Kept) (n segment start : 
 leaf_asks_none nodes given n segment start bits known has number asks =
     let visit : RowVisits (IsWholeRead number) (handed_by nodes (Some given)) start bits (scan_plan (head_of nodes n) segment (coding_of (node_at nodes n).kind)) = subst (RowVisits (IsWholeRead number) (handed_by nodes (Some given)) start bits) (leaf_plan nodes n segment known has).law asks in
     visit.2
+
+-- a filter over a plan whose rows ask for none
+same_asks_none : (nodes : List Node) (given : List Kept) (n child start : ℕ) (bits : List Bool) → n < length nodes → HasShape nodes n (shapes.Same child) → AskForNone nodes given child start bits → AskForNone nodes given n start bits
+same_asks_none nodes given n child start bits known has none number asks = below (subst (RowVisits (IsWholeRead number) (handed_by nodes (Some given)) start bits) (same_law nodes n child known has) asks)
+  where
+    below : RowVisits (IsWholeRead number) (handed_by nodes (Some given)) start bits (filter_plan (head_of nodes n) (plan_at nodes child)) → ⊥
+    below (place, at, inl own) = own
+    below (place, at, inr v) = none number (place, at, v)
+
+pub leaf_under_asks_none : (nodes : List Node) (given : List Kept) (n : ℕ) (leaf : LeafRead) (start : ℕ) (bits : List Bool) → n < length nodes → IsLeafUnder nodes n leaf → AskForNone nodes given n start bits
+leaf_under_asks_none nodes given n leaf start bits known under =
+    let F : ℕ → Type 0 = λ k. AskForNone nodes given k start bits in
+    let none : AskForNone nodes given leaf.leaf start bits = leaf_asks_none nodes given leaf.leaf leaf.segment start bits under.0 under.1 in
+    ⊎_elim (λ (e : leaf.leaf ≡ n). subst F e none) (λ (has : HasShape nodes n (shapes.Same leaf.leaf)). same_asks_none nodes given n leaf.leaf start bits known has none) under.2
 
 pub none_ask_none : (nodes : List Node) (given : List Kept) (n start : ℕ) (bits : List Bool) → SelectsNone bits → AskForNone nodes given n start bits
 none_ask_none nodes given n start bits none number asks = none asks.0 asks.1

@@ -1,7 +1,7 @@
 -- The leaves that the selected rows of a plan read, by the places of the first and of the last row that read them, part by
 -- part.
-use Rattle.std.proofs.Common.{◌≡◌, ℕ, zero, suc, ◌+◌, ◌-◌, ◌<◌, ◌≤◌, ◌⊎◌, inl, inr, ⊎_elim, Bool, true, false, List, [], ◌∷◌, ◌++◌, Some, None, length, map, get_or, take, refl, sym, ap, ◌∙◌, subst, arith, append_assoc}
-use Rattle.std.specs.Prelude.{slice_range}
+use Rattle.std.proofs.Common.{◌≡◌, ℕ, zero, suc, ◌+◌, ◌-◌, ◌<◌, ◌≤◌, ◌⊎◌, inl, inr, ⊎_elim, Bool, true, false, List, [], ◌∷◌, ◌++◌, Option, Some, None, length, map, get_or, take, refl, sym, ap, ◌∙◌, subst, arith, append_assoc}
+use Rattle.std.specs.Prelude.{slice_range, IfSome}
 use Rattle.std.specs.List.{slice_get}
 use Rattle.vx_picking.specs.Rows.{SelectsNone}
 use Rattle.vx_plan.specs.declared.parts.ChildRows.{ChildRows}
@@ -12,26 +12,27 @@ use Rattle.vx_plan.specs.declared.shapes.Shape.TheVariants as shapes
 use Rattle.vx_plan.specs.Nodes.{Node}
 use Rattle.vx_plan.specs.Parts.{parts_of}
 use Rattle.vx_plan.specs.Kinds.{coding_of}
-use Rattle.vx_plan.specs.Plans.{Plan, plan_at, scan_plan}
+use Rattle.vx_plan.specs.Plans.{Plan, filter_plan, plan_at, scan_plan}
 use Rattle.vx_plan.specs.Rules.{node_at}
 use Rattle.vx_plan.specs.Shapes.{HasShape}
 use Rattle.vx_plan.specs.Tables.{IsGoodTable}
+use Rattle.vx_rows.specs.Heads.{Head}
 use Rattle.vx_steps.specs.declared.leaf_reads.LeafRead.{LeafRead}
 use Rattle.vx_steps.specs.declared.placed_reads.Ends.{Ends}
 use Rattle.vx_steps.specs.declared.placed_reads.PlacedRead.{PlacedRead}
-use Rattle.vx_steps.specs.Given.{handed_by}
+use Rattle.vx_steps.specs.Given.{Handed, handed_by}
 use Rattle.vx_steps.specs.KeptData.{Kept}
 use Rattle.vx_steps.specs.Needs.{Adds, Among, AreLeaves, IsUnderWhole}
 use Rattle.vx_steps.specs.PartVisits.{PartVisits, PartsVisit}
 use Rattle.vx_steps.specs.Pieces.{read_of, Covers, Direct, ReadsDirectly}
-use Rattle.vx_steps.specs.Placed.{up_to, AddsPlaced, AddsUnder, AreEnds, AreOfLeaves, IsDirectAt, IsInsideAt, IsPlacedAt}
+use Rattle.vx_steps.specs.Placed.{up_to, AddsPlaced, AddsUnder, AreEnds, AreOfLeaves, IsDirectAt, IsInsideAt, IsLeafUnder, IsPlacedAt}
 use Rattle.vx_steps.specs.Visits.{Test, Visits, IsLeafRead, IsWholeRead}
 use Rattle.vx_steps.specs.Wholes.{Inside}
 use Rattle.vx_steps.proofs.FreeVisits.{freed, hands_none, leaf_becomes}
 use Rattle.vx_steps.proofs.Parts.{all_rows_taken, leaf_alone, parts_down, parts_up, SomeOwn}
 use Rattle.vx_steps.proofs.PartsAsking.{none_inside}
 use Rattle.vx_steps.proofs.Selecting.{among_back, among_front, among_split, got_range, range_got}
-use Rattle.vx_steps.proofs.Shaping.{head_of, leaf_plan, IsLeafPlan}
+use Rattle.vx_steps.proofs.Shaping.{head_of, leaf_plan, same_law, same_plan, IsLeafPlan}
 use Rattle.vx_steps.proofs.Visiting.{NoGap}
 use Rattle.vx_steps.proofs.WholeFaults.{inside}
 
@@ -275,10 +276,62 @@ leaf_placed nodes given n segment start bits base ends known has over are old = 
     none read row v = v
 
 -- the same of what is the old with that need behind it
-pub ends_placed : (nodes : List Node) (given : List Kept) (n segment start : ℕ) (bits : List Bool) (base : ℕ) (ends : Ends) → AreEnds bits ends → (old new : List PlacedRead) → new ≡ old ++ record { leaf = n; segment = segment; from = base + ends.first; last = base + ends.last } ∷ [] → n < length nodes → HasShape nodes n (shapes.Leaf segment) → AddsPlaced nodes given n start bits base old new
+ends_placed : (nodes : List Node) (given : List Kept) (n segment start : ℕ) (bits : List Bool) (base : ℕ) (ends : Ends) → AreEnds bits ends → (old new : List PlacedRead) → new ≡ old ++ record { leaf = n; segment = segment; from = base + ends.first; last = base + ends.last } ∷ [] → n < length nodes → HasShape nodes n (shapes.Leaf segment) → AddsPlaced nodes given n start bits base old new
 ends_placed nodes given n segment start bits base ends are old new is known has =
     let F : List PlacedRead → Type 0 = AddsPlaced nodes given n start bits base old in
     subst F (sym is) (leaf_placed nodes given n segment start bits base ends known has (leaf_plan nodes n segment known has) are old)
+
+-- ---- a filter
+
+filter_below : (P : Test) (handed : Handed) (head : Head) (p : Plan) (row : ℕ) → (P handed (filter_plan head p) row → ⊥) → Visits P handed (filter_plan head p) row → Visits P handed p row
+filter_below P handed head p row none (inl own) = absurd (none own)
+filter_below P handed head p row none (inr v) = v
+
+-- what its child reads was added
+same_placed : (nodes : List Node) (given : List Kept) (n child : ℕ) → n < length nodes → HasShape nodes n (shapes.Same child) → (start : ℕ) (bits : List Bool) (base : ℕ) (old new : List PlacedRead) → AddsPlaced nodes given child start bits base old new → AddsPlaced nodes given n start bits base old new
+same_placed nodes given n child known has start bits base old new added = record {
+  only = λ need h. ⊎_elim (λ (o : Among need old). inl o) (λ (p : IsPlacedAt nodes given child start bits base need). inr (up need p)) (added.only need h);
+  kept = added.kept;
+  direct = λ read place chosen v. added.direct read place chosen (down (Direct (IsLeafRead read)) (start + place) (λ own. own) v);
+  inside = λ read place chosen v. added.inside read place chosen (down (Inside (IsLeafRead read)) (start + place) (λ own. own) v);
+  leaves = added.leaves;
+}
+  where
+    law : plan_at nodes n ≡ filter_plan (head_of nodes n) (plan_at nodes child)
+    law = same_law nodes n child known has
+
+    above : (P : Test) (row : ℕ) → Visits P (handed_by nodes (Some given)) (plan_at nodes child) row → Visits P (handed_by nodes (Some given)) (plan_at nodes n) row
+    above P row v = let F : Plan → Type 0 = λ p. Visits P (handed_by nodes (Some given)) p row in subst F (sym law) (inr v)
+
+    down : (P : Test) (row : ℕ) → (P (handed_by nodes (Some given)) (filter_plan (head_of nodes n) (plan_at nodes child)) row → ⊥) → Visits P (handed_by nodes (Some given)) (plan_at nodes n) row → Visits P (handed_by nodes (Some given)) (plan_at nodes child) row
+    down P row none v = let F : Plan → Type 0 = λ p. Visits P (handed_by nodes (Some given)) p row in filter_below P (handed_by nodes (Some given)) (head_of nodes n) (plan_at nodes child) row none (subst F law v)
+
+    direct_up : (read : LeafRead) (at : ℕ) → IsDirectAt nodes given child start bits base read at → IsDirectAt nodes given n start bits base read at
+    direct_up read at (k, is, chosen, v) = (k, is, chosen, above (Direct (IsLeafRead read)) (start + k) v)
+
+    inside_up : (read : LeafRead) (at : ℕ) → IsInsideAt nodes given child start bits base read at → IsInsideAt nodes given n start bits base read at
+    inside_up read at (k, is, chosen, v) = (k, is, chosen, above (Inside (IsLeafRead read)) (start + k) v)
+
+    up : (need : PlacedRead) → IsPlacedAt nodes given child start bits base need → IsPlacedAt nodes given n start bits base need
+    up need (inl (first, last)) = inl (direct_up (read_of need) need.from first, direct_up (read_of need) need.last last)
+    up need (inr (is, last)) = inr (is, inside_up (read_of need) need.last last)
+
+-- the leaf that a filter is over is under it
+pub under_filter : (nodes : List Node) (n child : ℕ) → n < length nodes → HasShape nodes n (shapes.Same child) → (found : Option LeafRead) → IfSome found (λ (leaf : LeafRead). (leaf.leaf ≡ child) × HasShape nodes child (shapes.Leaf leaf.segment)) → IfSome found (IsLeafUnder nodes n)
+under_filter nodes n child known has None is = is
+under_filter nodes n child known has (Some leaf) is =
+    let like = same_plan nodes n child known has in
+    let L : ℕ → Type 0 = λ k. k < length nodes in
+    let S : ℕ → Type 0 = λ k. HasShape nodes k (shapes.Leaf leaf.segment) in
+    let F : ℕ → Type 0 = λ k. HasShape nodes n (shapes.Same k) in
+    (subst L (sym is.0) like.known, subst S (sym is.0) is.1, inr (subst F (sym is.0) has))
+
+-- the leaf under a plan was added
+pub leaf_under_placed : (nodes : List Node) (given : List Kept) (n : ℕ) (leaf : LeafRead) (start : ℕ) (bits : List Bool) (base : ℕ) (ends : Ends) → AreEnds bits ends → (old new : List PlacedRead) → new ≡ old ++ record { leaf = leaf.leaf; segment = leaf.segment; from = base + ends.first; last = base + ends.last } ∷ [] → n < length nodes → IsLeafUnder nodes n leaf → AddsPlaced nodes given n start bits base old new
+leaf_under_placed nodes given n leaf start bits base ends are old new is known under =
+    let F : ℕ → Type 0 = λ k. AddsPlaced nodes given k start bits base old new in
+    let added : AddsPlaced nodes given leaf.leaf start bits base old new = ends_placed nodes given leaf.leaf leaf.segment start bits base ends are old new is under.0 under.1 in
+    ⊎_elim (λ (e : leaf.leaf ≡ n). subst F e added) (λ (has : HasShape nodes n (shapes.Same leaf.leaf)). same_placed nodes given n leaf.leaf known has start bits base old new added) under.2
 
 -- no row is selected
 pub none_placed : (nodes : List Node) (given : List Kept) (n start : ℕ) (bits : List Bool) (base : ℕ) → SelectsNone bits → (old : List PlacedRead) → AddsPlaced nodes given n start bits base old old

@@ -46,10 +46,13 @@ at_head k all =
 pub keeps_standing : (P : ℕ → Type 0) (here all stored result : List Kept) → StandFor here all stored → ((n : ℕ) → P n → IsKept all n → IsKept here n) → Keeps (λ k. P k.node) stored result → Keeps (λ k. P k.node) all result
 keeps_standing P here [] [] result stand held keeps = keeps
 keeps_standing P here [] (s ∷ stored) result stand held keeps = absurd stand
-keeps_standing P here (k ∷ all) [] result stand held keeps = absurd stand
-keeps_standing P here (k ∷ all) (s ∷ stored) result stand held (inl (p, (rest, are, keeps))) =
+keeps_standing P here (k ∷ all) [] result stand held keeps =
+    inr ((λ (p : P k.node). stand.0 (held k.node p (at_head k all))), keeps_standing P here all [] result stand.1 (λ n r kept. held n r (in_tail k all n kept)) keeps)
+keeps_standing P here (k ∷ all) (s ∷ stored) result (inl stand) held (inl (p, (rest, are, keeps))) =
     let q : P k.node = subst P stand.0 p in
     let same : s ≡ k = stand.1.0 (held k.node q (at_head k all)) in
     inl (q, (rest, are ∙ ap (λ (v : Kept). v ∷ rest) same, keeps_standing P here all stored rest stand.1.1 (λ n r kept. held n r (in_tail k all n kept)) keeps))
-keeps_standing P here (k ∷ all) (s ∷ stored) result stand held (inr (not, keeps)) =
+keeps_standing P here (k ∷ all) (s ∷ stored) result (inl stand) held (inr (not, keeps)) =
     inr ((λ (q : P k.node). not (subst P (sym stand.0) q)), keeps_standing P here all stored result stand.1.1 (λ n r kept. held n r (in_tail k all n kept)) keeps)
+keeps_standing P here (k ∷ all) (s ∷ stored) result (inr stand) held keeps =
+    inr ((λ (p : P k.node). stand.0 (held k.node p (at_head k all))), keeps_standing P here all (s ∷ stored) result stand.1 (λ n r kept. held n r (in_tail k all n kept)) keeps)

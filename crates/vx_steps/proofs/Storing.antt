@@ -1,5 +1,5 @@
 -- Stored columns of leaves, of which those of marked plans are gone.
-use Rattle.std.proofs.Common.{◌≡◌, Bor, ℕ, zero, suc, ◌<◌, ◌==◌, Bool, true, false, List, [], ◌∷◌, ◌++◌, map, take, get_or, Option, Some, None, Result, Ok, Err, Global, Vec, length, refl, sym, ap, ◌∙◌, subst, arith}
+use Rattle.std.proofs.Common.{◌≡◌, Bor, ℕ, inl, inr, zero, suc, ◌<◌, ◌==◌, Bool, true, false, List, [], ◌∷◌, ◌++◌, map, take, get_or, Option, Some, None, Result, Ok, Err, Global, Vec, length, refl, sym, ap, ◌∙◌, subst, arith}
 use Rattle.std.specs.Prelude.{if◌then◌else◌, MatchResult}
 use Rattle.std.specs.Bool.{MatchBool}
 use Rattle.std.specs.Option.{is_some, option_copied}
@@ -80,20 +80,18 @@ none_by : (b : Bool) (x y : ColumnData) (old new : Option ColumnData) → (old �
 none_by true x y old new f h = absurd cc
 none_by false x y old new f h = f h
 
--- the plans of which a column is stored are those of all
-pub none_stored : (gone : PlanMarks) (all stored : List Kept) (n : ℕ) → AreStored gone all stored → kept_at stored n ≡ None → kept_at all n ≡ None
-none_stored gone [] [] n are none = refl
-none_stored gone [] (s ∷ stored) n are none = absurd are
-none_stored gone (k ∷ all) [] n are none = absurd are
-none_stored gone (k ∷ all) (s ∷ stored) n are none =
-    ap (λ (m : ℕ). if m == n then Some k.column else kept_at all n) (sym are.0) ∙ none_by (s.node == n) s.column k.column (kept_at stored n) (kept_at all n) (λ e. none_stored gone all stored n are.1.1 e) none
+still_none : (b : Bool) (x : ColumnData) (old : Option ColumnData) → (if b then Some x else old) ≡ None → old ≡ None
+still_none true x old h = absurd cc
+still_none false x old h = h
 
+-- of a plan of which no column was kept none is stored
 pub none_of : (gone : PlanMarks) (all stored : List Kept) (n : ℕ) → AreStored gone all stored → kept_at all n ≡ None → kept_at stored n ≡ None
 none_of gone [] [] n are none = refl
 none_of gone [] (s ∷ stored) n are none = absurd are
-none_of gone (k ∷ all) [] n are none = absurd are
-none_of gone (k ∷ all) (s ∷ stored) n are none =
+none_of gone (k ∷ all) [] n are none = refl
+none_of gone (k ∷ all) (s ∷ stored) n (inl are) none =
     ap (λ (m : ℕ). if m == n then Some s.column else kept_at stored n) are.0 ∙ none_by (k.node == n) k.column s.column (kept_at all n) (kept_at stored n) (λ e. none_of gone all stored n are.1.1 e) none
+none_of gone (k ∷ all) (s ∷ stored) n (inr are) none = none_of gone all (s ∷ stored) n are.1 (still_none (k.node == n) k.column (kept_at all n) none)
 
 stored_one : (gone : PlanMarks) (k s : Kept) (n : ℕ) (b : Bool) (old new : Option ColumnData) → (k.node == n) ≡ b → is_marked gone n ≡ false → s.node ≡ k.node → (is_marked gone k.node ≡ false → s ≡ k) → new ≡ old →
     (if s.node == n then Some s.column else new) ≡ (if b then Some k.column else old)
@@ -104,12 +102,20 @@ stored_one gone k s n true old new here not_so same is again =
 stored_one gone k s n false old new here not_so same is again =
     ap (λ (m : ℕ). if m == n then Some s.column else new) same ∙ (ap (λ (c : Bool). if c then Some s.column else new) here ∙ again)
 
+-- a column of a marked plan is none of a plan that isn't
+passed_one : (gone : PlanMarks) (k : Kept) (n : ℕ) (b : Bool) (old new : Option ColumnData) → (k.node == n) ≡ b → is_marked gone n ≡ false → is_marked gone k.node ≡ true → new ≡ old → new ≡ (if b then Some k.column else old)
+passed_one gone k n true old new here not_so marked again =
+    let at : k.node ≡ n = grind arith in
+    absurd (true_false (is_marked gone n) (sym (ap (is_marked gone) at) ∙ marked) not_so)
+passed_one gone k n false old new here not_so marked again = again
+
 -- where a plan is not marked, its first stored column is its first one
-stored_at : (gone : PlanMarks) (all stored : List Kept) (n : ℕ) → AreStored gone all stored → is_marked gone n ≡ false → kept_at stored n ≡ kept_at all n
+pub stored_at : (gone : PlanMarks) (all stored : List Kept) (n : ℕ) → AreStored gone all stored → is_marked gone n ≡ false → kept_at stored n ≡ kept_at all n
 stored_at gone [] [] n are not_so = refl
 stored_at gone [] (s ∷ stored) n are not_so = absurd are
-stored_at gone (k ∷ all) [] n are not_so = absurd are
-stored_at gone (k ∷ all) (s ∷ stored) n are not_so = stored_one gone k s n (k.node == n) (kept_at all n) (kept_at stored n) refl not_so are.0 are.1.0 (stored_at gone all stored n are.1.1 not_so)
+stored_at gone (k ∷ all) [] n are not_so = passed_one gone k n (k.node == n) (kept_at all n) None refl not_so are.0 (stored_at gone all [] n are.1 not_so)
+stored_at gone (k ∷ all) (s ∷ stored) n (inl are) not_so = stored_one gone k s n (k.node == n) (kept_at all n) (kept_at stored n) refl not_so are.0 are.1.0 (stored_at gone all stored n are.1.1 not_so)
+stored_at gone (k ∷ all) (s ∷ stored) n (inr are) not_so = passed_one gone k n (k.node == n) (kept_at all n) (kept_at (s ∷ stored) n) refl not_so are.0 (stored_at gone all (s ∷ stored) n are.1 not_so)
 
 pub among_all : (gone : PlanMarks) (all stored : List Kept) → AreStored gone all stored → (n : ℕ) (column : ColumnData) → kept_at (unmarked gone stored) n ≡ Some column → kept_at all n ≡ Some column
 among_all gone all stored are n column at = by (is_marked gone n) refl
@@ -118,30 +124,52 @@ among_all gone all stored are n column at = by (is_marked gone n) refl
     by true marks_so = absurd (some_none (kept_at (unmarked gone stored) n) column at (marked_at gone stored n marks_so))
     by false not_so = sym (stored_at gone all stored n are not_so) ∙ (sym (unmarked_at gone stored n not_so) ∙ at)
 
+pub stored_here : (gone : PlanMarks) (stored : List Kept) (n : ℕ) → IsKept (unmarked gone stored) n → IsKept stored n
+stored_here gone stored n (column, at) = by (is_marked gone n) refl
+  where
+    by : (m : Bool) → is_marked gone n ≡ m → IsKept stored n
+    by true marks_so = absurd (some_none (kept_at (unmarked gone stored) n) column at (marked_at gone stored n marks_so))
+    by false not_so = (column, sym (unmarked_at gone stored n not_so) ∙ at)
+
 pub stored_kept : (gone : PlanMarks) (all stored : List Kept) (n : ℕ) → AreStored gone all stored → IsKept stored n → IsKept all n
 stored_kept gone all stored n are kept = found (kept_at all n) (λ none. some_none (kept_at stored n) kept.0 kept.1 (none_of gone all stored n are none))
 
+-- a plan that isn't marked was not marked before
+pub unmarked_before : (old new : PlanMarks) (n : ℕ) → ((m : ℕ) → is_marked old m ≡ true → is_marked new m ≡ true) → is_marked new n ≡ false → is_marked old n ≡ false
+unmarked_before old new n more not_so = by (is_marked old n) refl
+  where
+    by : (b : Bool) → is_marked old n ≡ b → is_marked old n ≡ false
+    by true e = absurd (true_false (is_marked new n) (more n e) not_so)
+    by false e = e
+
+-- the same is stored where more plans are marked
+pub stored_more : (old new : PlanMarks) (all stored : List Kept) → ((m : ℕ) → is_marked old m ≡ true → is_marked new m ≡ true) → AreStored old all stored → AreStored new all stored
+stored_more old new [] [] more are = tt
+stored_more old new [] (s ∷ stored) more are = absurd are
+stored_more old new (k ∷ all) [] more are = (more k.node are.0, stored_more old new all [] more are.1)
+stored_more old new (k ∷ all) (s ∷ stored) more (inl are) = inl (are.0, (λ not_so. are.1.0 (unmarked_before old new k.node more not_so), stored_more old new all stored more are.1.1))
+stored_more old new (k ∷ all) (s ∷ stored) more (inr are) = inr (more k.node are.0, stored_more old new all (s ∷ stored) more are.1)
+
 pub stored_same : (old new : PlanMarks) (all stored : List Kept) → KeepsMarks old new → AreStored old all stored → AreStored new all stored
-stored_same old new [] [] keeps are = tt
-stored_same old new [] (s ∷ stored) keeps are = absurd are
-stored_same old new (k ∷ all) [] keeps are = absurd are
-stored_same old new (k ∷ all) (s ∷ stored) keeps are = (are.0, (λ not_so. are.1.0 (sym (keeps.same k.node) ∙ not_so), stored_same old new all stored keeps are.1.1))
+stored_same old new all stored keeps are = stored_more old new all stored (λ m marked. keeps.same m ∙ marked) are
 
 pub stored_handed : (gone : PlanMarks) (all : List Kept) → AreStored gone all all
 stored_handed gone [] = tt
-stored_handed gone (k ∷ all) = (refl, (λ _. refl, stored_handed gone all))
+stored_handed gone (k ∷ all) = inl (refl, (λ _. refl, stored_handed gone all))
 
 pub stored_last : (gone : PlanMarks) (all stored : List Kept) (k : Kept) → AreStored gone all stored → AreStored gone (all ++ k ∷ []) (stored ++ k ∷ [])
-stored_last gone [] [] k are = (refl, (λ _. refl, tt))
+stored_last gone [] [] k are = inl (refl, (λ _. refl, tt))
 stored_last gone [] (s ∷ stored) k are = absurd are
-stored_last gone (x ∷ all) [] k are = absurd are
-stored_last gone (x ∷ all) (s ∷ stored) k are = (are.0, (are.1.0, stored_last gone all stored k are.1.1))
+stored_last gone (x ∷ all) [] k are = inr (are.0, stored_last gone all [] k are.1)
+stored_last gone (x ∷ all) (s ∷ stored) k (inl are) = inl (are.0, (are.1.0, stored_last gone all stored k are.1.1))
+stored_last gone (x ∷ all) (s ∷ stored) k (inr are) = inr (are.0, stored_last gone all (s ∷ stored) k are.1)
 
 stand_each : (gone : PlanMarks) (here all stored : List Kept) → ((n : ℕ) → IsKept here n → is_marked gone n ≡ false) → AreStored gone all stored → StandFor here all stored
 stand_each gone here [] [] free are = tt
 stand_each gone here [] (s ∷ stored) free are = absurd are
-stand_each gone here (k ∷ all) [] free are = absurd are
-stand_each gone here (k ∷ all) (s ∷ stored) free are = (are.0, (λ kept. are.1.0 (free k.node kept), stand_each gone here all stored free are.1.1))
+stand_each gone here (k ∷ all) [] free are = (λ kept. true_false (is_marked gone k.node) are.0 (free k.node kept), stand_each gone here all [] free are.1)
+stand_each gone here (k ∷ all) (s ∷ stored) free (inl are) = inl (are.0, (λ kept. are.1.0 (free k.node kept), stand_each gone here all stored free are.1.1))
+stand_each gone here (k ∷ all) (s ∷ stored) free (inr are) = inr (λ kept. true_false (is_marked gone k.node) are.0 (free k.node kept), stand_each gone here all (s ∷ stored) free are.1)
 
 pub stand_for : (gone : PlanMarks) (all stored : List Kept) → AreStored gone all stored → StandFor (unmarked gone stored) all stored
 stand_for gone all stored are = stand_each gone (unmarked gone stored) all stored (λ n kept. by n kept (is_marked gone n) refl) are
@@ -152,29 +180,39 @@ stand_for gone all stored are = stand_each gone (unmarked gone stored) all store
 
 -- ---- a column is forgotten
 
-marks_it : (node : ℕ) (old new : PlanMarks) (n : ℕ) → Marks node old new → (node == n) ≡ true → is_marked new n ≡ true
+pub marks_it : (node : ℕ) (old new : PlanMarks) (n : ℕ) → Marks node old new → (node == n) ≡ true → is_marked new n ≡ true
 marks_it node old new n marks here = marks.marked n ∙ ap (λ (c : Bool). if c then true else is_marked old n) here
 
-marks_other : (node : ℕ) (old new : PlanMarks) (n : ℕ) → Marks node old new → (node == n) ≡ false → is_marked new n ≡ is_marked old n
+pub marks_other : (node : ℕ) (old new : PlanMarks) (n : ℕ) → Marks node old new → (node == n) ≡ false → is_marked new n ≡ is_marked old n
 marks_other node old new n marks apart = marks.marked n ∙ ap (λ (c : Bool). if c then true else is_marked old n) apart
 
 not_marked : (node : ℕ) (old new : PlanMarks) (n : ℕ) (b : Bool) → (node == n) ≡ b → Marks node old new → is_marked new n ≡ false → ((n ≡ node → ⊥) × (is_marked old n ≡ false))
 not_marked node old new n true here marks not_so = absurd (true_false (is_marked new n) (marks_it node old new n marks here) not_so)
 not_marked node old new n false apart marks not_so = ((λ (same : n ≡ node). true_false (node == n) (grind arith) apart), sym (marks_other node old new n marks apart) ∙ not_so)
 
+either_true : (b c : Bool) → c ≡ true → (if b then true else c) ≡ true
+either_true true c h = refl
+either_true false c h = h
+
+-- a plan that was marked still is
+pub still_marked : (node : ℕ) (old new : PlanMarks) → Marks node old new → (n : ℕ) → is_marked old n ≡ true → is_marked new n ≡ true
+still_marked node old new marks n marked = marks.marked n ∙ either_true (node == n) (is_marked old n) marked
+
 pub stored_forgotten : (node : ℕ) (old new : PlanMarks) (all stored after : List Kept) → Marks node old new → ReplacesOnly node stored after → AreStored old all stored → AreStored new all after
 stored_forgotten node old new [] [] [] marks only are = tt
 stored_forgotten node old new [] [] (a ∷ after) marks only are = absurd only
 stored_forgotten node old new [] (s ∷ stored) after marks only are = absurd are
-stored_forgotten node old new (k ∷ all) [] after marks only are = absurd are
+stored_forgotten node old new (k ∷ all) [] [] marks only are = (still_marked node old new marks k.node are.0, stored_forgotten node old new all [] [] marks only are.1)
+stored_forgotten node old new (k ∷ all) [] (a ∷ after) marks only are = absurd only
 stored_forgotten node old new (k ∷ all) (s ∷ stored) [] marks only are = absurd only
-stored_forgotten node old new (k ∷ all) (s ∷ stored) (a ∷ after) marks only are = (
+stored_forgotten node old new (k ∷ all) (s ∷ stored) (a ∷ after) marks only (inl are) = inl (
   only.0 ∙ are.0,
   (
     λ not_so. let apart = not_marked node old new k.node (node == k.node) refl marks not_so in only.1.0 (λ (same : s.node ≡ node). apart.0 (sym are.0 ∙ same)) ∙ are.1.0 apart.1,
     stored_forgotten node old new all stored after marks only.1.1 are.1.1,
   ),
 )
+stored_forgotten node old new (k ∷ all) (s ∷ stored) (a ∷ after) marks only (inr are) = inr (still_marked node old new marks k.node are.0, stored_forgotten node old new all (s ∷ stored) (a ∷ after) marks only are.1)
 
 replaced_one : (node n : ℕ) (k l : Kept) (b : Bool) (old new : Option ColumnData) → (k.node == n) ≡ b → (n ≡ node → ⊥) → l.node ≡ k.node → ((k.node ≡ node → ⊥) → l ≡ k) → new ≡ old →
     (if l.node == n then Some l.column else new) ≡ (if b then Some k.column else old)
@@ -308,16 +346,22 @@ stores_forgotten node old new all kept after ready marks only there is = record 
   room = λ e. room_forgotten node old new kept after marks only (is.room e);
 }
 
--- where no column of the plan was kept there is none to forget
-pub forgets_none : (gone : PlanMarks) (all kept : List Kept) (ready : Bool) (node : ℕ) → StoresLeaves gone all kept ready → kept_at kept node ≡ None →
-    Forgets node (record { all = all; here = unmarked gone kept; ready = ready }) (record { all = all; here = unmarked gone kept; ready = ready })
-forgets_none gone all kept ready node is none = record { all = refl; here = λ n. by n (node == n) refl; ready = refl }
+-- of a plan of which no column is stored none is here
+pub unmarked_none : (gone : PlanMarks) (kept : List Kept) (n : ℕ) → kept_at kept n ≡ None → kept_at (unmarked gone kept) n ≡ None
+unmarked_none gone kept n none = by (is_marked gone n) refl
+  where
+    by : (b : Bool) → is_marked gone n ≡ b → kept_at (unmarked gone kept) n ≡ None
+    by true marks_so = marked_at gone kept n marks_so
+    by false not_so = unmarked_at gone kept n not_so ∙ none
+
+-- and there is none to forget
+pub forgets_none : (gone : PlanMarks) (all kept : List Kept) (ready : Bool) (node : ℕ) → kept_at kept node ≡ None → Forgets node (record { all = all; here = unmarked gone kept; ready = ready }) (record { all = all; here = unmarked gone kept; ready = ready })
+forgets_none gone all kept ready node none = record { all = refl; here = λ n. by n (node == n) refl; ready = refl }
   where
     by : (n : ℕ) (b : Bool) → (node == n) ≡ b → kept_at (unmarked gone kept) n ≡ (if b then None else kept_at (unmarked gone kept) n)
     by n true here =
         let same : node ≡ n = grind arith in
-        let not_so : is_marked gone node ≡ false = is.seen node (none_stored gone all kept node is.stored none) in
-        ap (kept_at (unmarked gone kept)) (sym same) ∙ (unmarked_at gone kept node not_so ∙ none)
+        ap (kept_at (unmarked gone kept)) (sym same) ∙ unmarked_none gone kept node none
     by n false apart = refl
 
 -- ---- what was handed in
@@ -344,9 +388,13 @@ pub none_kept : (found : Option (Bor ColumnData)) (o : Option ColumnData) → op
 none_kept None o e none = sym e
 none_kept (Some column) o e none = absurd cc
 
-pub says_kept : (gone : PlanMarks) (all kept : List Kept) (n : ℕ) → AreStored gone all kept → (found : Option (Bor ColumnData)) → option_copied found ≡ kept_at kept n → (b : Bool) → b ≡ is_some found → MatchBool b (IsKept all n) (kept_at all n ≡ None)
-says_kept gone all kept n are found is true some = stored_kept gone all kept n are (found_kept found (kept_at kept n) is (sym some))
-says_kept gone all kept n are found is false some = none_stored gone all kept n are (none_kept found (kept_at kept n) is (sym some))
+-- a marked plan is one of a column that was kept
+pub marked_kept : (gone : PlanMarks) (all : List Kept) (n : ℕ) → ((m : ℕ) → kept_at all m ≡ None → is_marked gone m ≡ false) → is_marked gone n ≡ true → IsKept all n
+marked_kept gone all n seen marks_so = found (kept_at all n) (λ none. true_false (is_marked gone n) marks_so (seen n none))
+
+pub says_kept : (gone : PlanMarks) (all kept : List Kept) (n : ℕ) → AreStored gone all kept → is_marked gone n ≡ false → (found : Option (Bor ColumnData)) → option_copied found ≡ kept_at kept n → (b : Bool) → b ≡ is_some found → MatchBool b (IsKept all n) (kept_at all n ≡ None)
+says_kept gone all kept n are not_so is_found is true some = found_kept is_found (kept_at all n) (is ∙ stored_at gone all kept n are not_so) (sym some)
+says_kept gone all kept n are not_so is_found is false some = none_kept is_found (kept_at all n) (is ∙ stored_at gone all kept n are not_so) (sym some)
 
 pub some_there : (found : Option (Bor ColumnData)) (o : Option ColumnData) → option_copied found ≡ o → is_some found ≡ true → o ≡ None → ⊥
 some_there None o e some none = absurd cc

@@ -4,12 +4,9 @@ use Rattle.std.specs.List.{slice_get}
 use Rattle.vx_steps.specs.declared.jobs.ActiveSplit.{ActiveSplit}
 use Rattle.vx_steps.specs.declared.jobs.Progress.{Progress}
 use Rattle.vx_steps.specs.declared.leaf_reads.LeafRead.{LeafRead}
-use Rattle.vx_steps.specs.declared.leavings.Sieve.{Sieve}
 use Rattle.vx_steps.specs.HeldData.{HoldsNoMore, HoldsOneMore, KeepsRoom}
-use Rattle.vx_steps.specs.Kept.{kept_at}
 use Rattle.vx_steps.specs.LaterReads.{SplitRead}
-use Rattle.vx_steps.specs.LeafColumns.{Forgets}
-use Rattle.vx_steps.specs.LeavesData.{LeavesData}
+use Rattle.vx_steps.specs.LeafColumns.{Forgets, ForgetsApart}
 use Rattle.vx_steps.specs.Needed.{IsNeededBy, LeafIsAhead, SegmentIsAhead}
 use Rattle.vx_steps.specs.Places.{place_in}
 use Rattle.vx_steps.specs.ReadTable.{LetsAllGo, LetsGo}
@@ -60,13 +57,7 @@ pub record KeepsStanding (old new : Progress) : Type 0 where
   pub leaves : new.store.columns.all ≡ old.store.columns.all
   pub wholes : new.wholes ≡ old.wholes
 
--- Only columns of leaves are forgotten that stand in the index.
-pub record ForgetsApart (apart : Sieve) (old new : LeavesData) : Type 0 where
-  pub all : new.all ≡ old.all
-  pub ready : new.ready ≡ old.ready
-  pub stays : (leaf : ℕ) → place_in apart.places leaf ≡ None → kept_at new.here leaf ≡ kept_at old.here leaf
-
--- No split is active any more, and no read counts as open; all bytes that came are gone, and nothing is held. Only leaves are
+-- No split is active any more, and no read counts as open; all bytes that came are gone, and nothing is held. The leaves are
 -- forgotten that are set apart, and nothing else changes.
 pub record Ends (old new : Progress) : Type 0 where
   pub active : new.active.items ≡ []
@@ -74,5 +65,5 @@ pub record Ends (old new : Progress) : Type 0 where
   pub held : new.needed.held.held ≡ []
   pub room : KeepsRoom old.needed.held new.needed.held
   pub still : IsTallyOf new.needed.still []
-  pub leaves : ForgetsApart old.needed.apart old.store.columns new.store.columns
+  pub leaves : ForgetsApart old.needed.apart.places old.store.columns new.store.columns
   pub same : new ≡ record old { active = new.active; reads = new.reads; store = record old.store { columns = new.store.columns }; needed = record old.needed { still = new.needed.still; held = new.needed.held } }

@@ -42,6 +42,10 @@ AskForNone nodes given n start bits = (number : ℕ) → Asks nodes given n star
 abbrev pub AreOfLeaves : List Node → List PlacedRead → Type 0
 AreOfLeaves nodes needs = (need : PlacedRead) → Among need needs → (need.leaf < length nodes) × HasShape nodes need.leaf (shapes.Leaf need.segment)
 
+-- the plan is the leaf, or a filter over it
+abbrev pub IsLeafUnder : List Node → ℕ → LeafRead → Type 0
+IsLeafUnder nodes n leaf = (leaf.leaf < length nodes) × HasShape nodes leaf.leaf (shapes.Leaf leaf.segment) × ((leaf.leaf ≡ n) ⊎ HasShape nodes n (shapes.Same leaf.leaf))
+
 -- What the selected rows of a plan read was added, each by the places of rows that read it, behind the base.
 pub record AddsPlaced (nodes : List Node) (given : List Kept) (n start : ℕ) (bits : List Bool) (base : ℕ) (old new : List PlacedRead) : Type 0 where
   pub only : (need : PlacedRead) → Among need new → Among need old ⊎ IsPlacedAt nodes given n start bits base need

@@ -1,10 +1,11 @@
 //! What is found at the first step: up to which split each leaf is read, and which of the leaves that were handed in rows read.
 
-ghost use Rattle.std.specs.Prelude.{◌≡◌, ◌+◌, ◌<◌, ◌^◌, ℕ, length, true, MatchOption, OnErr, OnOk};
+ghost use Rattle.std.specs.Prelude.{◌≡◌, ◌+◌, ◌<◌, ◌^◌, ℕ, length, true, IfSome, MatchOption, OnErr, OnOk};
 ghost use Rattle.std.specs.List.{AllByRecursion};
 ghost use Rattle.vx_plan.specs.Rules.{node_at};
 ghost use Rattle.vx_steps.specs.Splits.{IsInside};
 ghost use Rattle.vx_steps.specs.HandedLeaves.{AreSetApart, HandedAreApart, HoldsLeaf, IsHolding, NotesAll, NotesSplit};
+ghost use Rattle.vx_steps.specs.Kept.{IsKept};
 ghost use Rattle.vx_steps.specs.LettingGo.{KeepsStanding};
 ghost use Rattle.vx_steps.specs.OpenSegments.{IsLeafOver};
 ghost use Rattle.vx_steps.specs.Running.{IsRunning, IsSound};
@@ -12,6 +13,7 @@ ghost use Rattle.vx_steps.specs.Running.{IsRunning, IsSound};
 use crate::jobs::{Job, Progress};
 use crate::later_reads::LaterReads;
 use crate::leaf_columns::LeafColumns;
+use crate::leaf_reads::LeafRead;
 use crate::leavings::{meet_row, row_behind};
 use crate::needed::Needed;
 use crate::placed_reads::{PlacedRead, placed_of};
@@ -87,10 +89,11 @@ pub(crate) fn set_apart_handed(
     needed: &mut Needed,
 ) -> Result<(), AllocError>
     requires { job.now.plan < length table.now }
-    ensures { OnOk result (HandedAreApart table.now job.now.plan handed.now.all needed.old needed.new) }
+    ensures { OnOk result (HandedAreApart table.now job.now.plan handed.now.here needed.old needed.new) }
 {
-    for place in 0..handed.count() {
-        needed.apart.put(handed.node_at(place))?;
+    let columns = handed.stored();
+    for place in 0..columns.len() {
+        needed.apart.put(columns[place].node.0)?;
     }
     meet_row(table, job.plan, needed.row, &mut needed.apart);
     Ok(())
@@ -134,6 +137,21 @@ fn segment_of(table: &PlanTable, plan: u32) -> Option<u32>
     None
 }
 
+/// The leaf whose column is stored at a place, and its segment, where there is one.
+fn leaf_at(table: &PlanTable, leaves: &LeafColumns, place: usize) -> Option<LeafRead>
+    ensures { IfSome result (λ read. IsLeafOver table.now read.segment read.leaf × IsKept leaves.now.all read.leaf) }
+{
+    let columns = leaves.stored();
+    if place >= columns.len() {
+        return None;
+    }
+    let leaf = columns[place].node.0;
+    match segment_of(table, leaf) {
+        Some(segment) => Some(LeafRead { leaf, segment }),
+        None => None,
+    }
+}
+
 /// Holds the leaves that were handed in, as far as rows read them, and forgets the others.
 pub(crate) fn hold_handed(
     alloc: Global,
@@ -147,10 +165,9 @@ pub(crate) fn hold_handed(
     ensures running { OnOk result (IsRunning table.now job.now progress.new) }
     ensures keeps { KeepsStanding progress.old progress.new }
 {
-    for place in 0..progress.store.columns.count() {
-        let leaf = progress.store.columns.node_at(place);
-        if let Some(segment) = segment_of(table, leaf) {
-            hold_leaf(alloc, leaf, segment, job.splits.len(), progress)?;
+    for place in 0..progress.store.columns.stored().len() {
+        if let Some(read) = leaf_at(table, &progress.store.columns, place) {
+            hold_leaf(alloc, read.leaf, read.segment, job.splits.len(), progress)?;
         }
     }
     Ok(())

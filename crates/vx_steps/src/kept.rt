@@ -1,10 +1,14 @@
 //! Whole columns that are kept, each for a plan.
 
-ghost use Rattle.std.specs.Prelude.{◌≡◌, ◌+◌, ◌<◌, length, take, [], ◌∷◌, ◌++◌, None, map, MatchResult, OnOk, OnErr, option_copied};
+ghost use Rattle.std.specs.Prelude.{◌≡◌, ◌+◌, ◌<◌, ◌↔◌, length, take, [], ◌∷◌, ◌++◌, false, IsTrue, None, map, MatchResult, OnOk, OnErr, option_copied};
 ghost use Rattle.std.specs.Bool.{MatchBool};
+ghost use Rattle.vx_plan.specs.Refs.{number_of};
 ghost use Rattle.vx_steps.specs.Kept.{kept_at, kept_data, ArePlaces, ReplacesOnly};
+ghost use Rattle.vx_steps.specs.Offers.{Keeps};
+ghost use Rattle.vx_steps.specs.PlanMarks.{is_marked};
 
 use crate::places::PlaceTable;
+use crate::plan_marks::PlanMarks;
 use std::alloc::{AllocError, Global};
 use std::marker::Model;
 use vx_base::Column;
@@ -67,6 +71,13 @@ fn index_at(columns: &[KeptValue], place: usize, places: &mut PlaceTable) -> Res
     }
     places.put(node, place)?;
     Ok(())
+}
+
+/// Whether the plan of the column is not marked.
+fn is_unmarked(marks: &PlanMarks, value: &KeptValue) -> bool
+    ensures { IsTrue result ↔ (is_marked marks.now (number_of value.now.node) ≡ false) }
+{
+    !marks.get(value.node.0)
 }
 
 impl KeptColumns {
@@ -165,6 +176,15 @@ impl KeptColumns {
         if let Some(place) = self.places.get(node) {
             self.columns[place].column = column;
         }
+    }
+
+    /// Keeps only the columns of plans that are not marked, and looks through them until they are indexed. It takes no memory.
+    pub(crate) fn drop_marked(&mut self, alloc: Global, marks: &PlanMarks)
+        ensures { Keeps (λ kept. is_marked marks.now kept.node ≡ false) self.old self.new }
+    {
+        self.indexed = 0;
+        self.places = PlaceTable::new(alloc);
+        self.columns.retain(|value| is_unmarked(marks, value));
     }
 
     /// The kept columns, in the order in which they came.

@@ -1,10 +1,9 @@
 //! The columns of leaves, of which those that are not needed any more are forgotten.
 
-ghost use Rattle.std.specs.Prelude.{◌≡◌, ◌<◌, [], length, map, true, false, None, Some, MatchResult, OnErr, OnOk, option_copied, option_map};
-ghost use Rattle.std.specs.List.{slice_get};
+ghost use Rattle.std.specs.Prelude.{◌≡◌, ℕ, [], map, true, false, None, MatchResult, OnErr, OnOk, option_copied};
 ghost use Rattle.std.specs.Bool.{MatchBool};
 ghost use Rattle.vx_steps.specs.Kept.{kept_at, kept_data, ArePlaces, IsKept};
-ghost use Rattle.vx_steps.specs.LeafColumns.{AddsColumn, AreAmongAll, Forgets, StandFor};
+ghost use Rattle.vx_steps.specs.LeafColumns.{AddsColumn, AreAmongAll, Forgets, ForgetsApart, MarksApart, StandFor};
 ghost use Rattle.vx_steps.specs.PlanMarks.{HasRoom, KeepsMarks};
 
 use crate::kept::{KeptColumns, KeptValue};
@@ -24,7 +23,7 @@ pub(crate) struct SeenColumn {
 }
 
 /// The columns of leaves in the order in which they came; for a leaf the first of its columns counts. Where the column
-/// of a leaf is gone, the leaf is marked, and a column of no rows stands in its place.
+/// of a leaf is gone, the leaf is marked, and a column of no rows stands in its place, or none.
 #[derive(Drop)]
 pub(crate) struct LeafColumns {
     kept: KeptColumns,
@@ -59,6 +58,19 @@ fn reach_all(columns: &[KeptValue], gone: &mut PlanMarks) -> Result<(), AllocErr
         gone.reach(columns[place].node.0)?;
     }
     Ok(())
+}
+
+/// Marks the plans of the columns that have a place in the index. It takes no memory.
+fn mark_apart(columns: &[KeptValue], apart: &PlaceTable, gone: &mut PlanMarks)
+    requires { HasRoom gone.old (map kept_data columns.now) }
+    ensures { MarksApart apart.now (map kept_data columns.now) gone.old gone.new }
+{
+    for place in 0..columns.len() {
+        let node = columns[place].node.0;
+        if apart.has(node) {
+            gone.mark(node);
+        }
+    }
 }
 
 impl LeafColumns {
@@ -113,22 +125,18 @@ impl LeafColumns {
     pub(crate) fn is_kept(&self, node: u32) -> bool
         ensures { MatchBool result (IsKept self.now.all node) (kept_at self.now.all node ≡ None) }
     {
+        if self.gone.get(node) {
+            return true;
+        }
         self.kept.find(node).is_some()
     }
 
-    /// How many columns were kept, gone or not.
-    pub(crate) fn count(&self) -> usize
-        ensures { result ≡ length self.now.all }
+    /// The columns that are stored: each that is here, and perhaps one for a leaf whose column is gone.
+    pub(crate) fn stored(&self) -> &[KeptValue]
+        ensures here { (n : ℕ) → IsKept self.now.here n → IsKept (map kept_data result.now) n }
+        ensures only { (n : ℕ) → IsKept (map kept_data result.now) n → IsKept self.now.all n }
     {
-        self.kept.columns().len()
-    }
-
-    /// The plan of the column at a place.
-    pub(crate) fn node_at(&self, place: usize) -> u32
-        requires { place < length self.now.all }
-        ensures { option_map (λ kept. kept.node) (slice_get self.now.all place) ≡ Some result }
-    {
-        self.kept.columns()[place].node.0
+        self.kept.columns()
     }
 
     /// Says that what is here is among all.
@@ -178,7 +186,18 @@ impl LeafColumns {
         }
     }
 
-    /// For each of the columns one of its plan, which is the column itself where one of the plan is here; and the
+    /// Forgets the columns of all plans that have a place in the index, at once: only clauses remember them. The others are
+    /// indexed again; where there is no memory for that, they are looked through from now on.
+    pub(crate) fn forget_all(&mut self, alloc: Global, apart: &PlaceTable)
+        requires { self.old.ready ≡ true }
+        ensures { ForgetsApart apart.now self.old self.new }
+    {
+        mark_apart(self.kept.columns(), apart, &mut self.gone);
+        self.kept.drop_marked(alloc, &self.gone);
+        let _indexed = self.kept.index();
+    }
+
+    /// The columns that stand for all, in their order: each of whose plan one is here, and perhaps one for another; and the
     /// places of the first ones, where all are indexed. It takes no memory.
     pub(crate) fn into_indexed(self) -> Result<(Vec<KeptValue>, PlaceTable), Vec<KeptValue>>
         ensures { MatchResult result (λ found. StandFor self.here self.all (map kept_data found.0.items) × ArePlaces found.1 (map kept_data found.0.items)) (λ columns. StandFor self.here self.all (map kept_data columns.items)) }

@@ -95,7 +95,14 @@ impl Sieve {
     pub(crate) fn has(&self, leaf: u32) -> bool
         ensures { result ≡ is_some (place_in self.now.places leaf) }
     {
-        self.places.get(leaf).is_some()
+        self.places.has(leaf)
+    }
+
+    /// The index.
+    pub(crate) fn index(&self) -> &PlaceTable
+        ensures { result.now ≡ self.now.places }
+    {
+        &self.places
     }
 
     /// For one leaf that is looked for. It takes no memory.

@@ -1,12 +1,10 @@
 //! What is let go once rows were given: leaves and bytes that no row to come needs, and all of them behind the last rows.
 
 ghost use Rattle.std.specs.Prelude.{◌≡◌, ◌<◌, length, true, false};
-ghost use Rattle.vx_steps.specs.LettingGo.{open_count, Ends, ForgetsApart, ForgetsUnneeded, KeepsStanding, LetsGoUnneeded, ReleasesUnneeded};
+ghost use Rattle.vx_steps.specs.LettingGo.{open_count, Ends, ForgetsUnneeded, KeepsStanding, LetsGoUnneeded, ReleasesUnneeded};
 ghost use Rattle.vx_steps.specs.Running.{ArePassedAt, IsPassing, IsSound};
 
 use crate::jobs::{Job, Progress};
-use crate::leaf_columns::LeafColumns;
-use crate::leavings::Sieve;
 use crate::still_read::StillRead;
 use std::alloc::Global;
 use vx_plan::PlanTable;
@@ -99,21 +97,9 @@ pub(crate) fn pass_needs(
     'needs: while pass_next(alloc, table, job, place, progress) {}
 }
 
-/// Forgets the columns of the leaves that stand in the index. It takes no memory.
-fn forget_apart(alloc: Global, apart: &Sieve, columns: &mut LeafColumns)
-    requires { columns.old.ready ≡ true }
-    ensures { ForgetsApart apart.now columns.old columns.new }
-{
-    for place in 0..columns.count() {
-        let leaf = columns.node_at(place);
-        if apart.has(leaf) {
-            columns.forget(alloc, leaf);
-        }
-    }
-}
-
 /// Lets all go at once, where all rows were given: no split is active from now on, no read counts as open, no bytes are left,
-/// nothing is held, and the leaves are forgotten that the row behind the splits doesn't read. It takes no memory.
+/// nothing is held, and the leaves are forgotten that the row behind the splits doesn't read. It takes no memory but to index
+/// the other leaves.
 pub(crate) fn end(alloc: Global, progress: &mut Progress)
     requires { progress.old.store.columns.ready ≡ true }
     ensures { Ends progress.old progress.new }
@@ -121,5 +107,6 @@ pub(crate) fn end(alloc: Global, progress: &mut Progress)
     progress.let_all_go();
     progress.active.clear();
     progress.needed.still = StillRead::new(alloc);
-    forget_apart(alloc, &progress.needed.apart, &mut progress.store.columns);
+    let apart = progress.needed.apart.index();
+    progress.store.columns.forget_all(alloc, apart);
 }

@@ -1,6 +1,6 @@
 //! The leaves that the selected rows of a split read, each with the places of the first and of the last row that read it.
 
-ghost use Rattle.std.specs.Prelude.{◌≡◌, ◌+◌, ◌-◌, ◌<◌, ◌≤◌, ◌^◌, List, [], ◌∷◌, ◌++◌, length, map, slice_range, false, true, IfOk, IsTrue, MatchOption, OnOk};
+ghost use Rattle.std.specs.Prelude.{◌≡◌, ◌+◌, ◌-◌, ◌<◌, ◌≤◌, ◌^◌, List, [], ◌∷◌, ◌++◌, length, map, slice_range, false, true, IfOk, IfSome, IsTrue, MatchOption, OnOk};
 ghost use Rattle.std.specs.List.{All};
 ghost use Rattle.std.specs.List.Sorted.{IsNonDecreasingBy, IsPermutation};
 ghost use Rattle.vx_picking.specs.Rows.{SelectsNone};
@@ -11,7 +11,7 @@ ghost use Rattle.vx_plan.specs.Shapes.{HasShape};
 ghost use Rattle.vx_steps.specs.KeptData.{Kept};
 ghost use Rattle.vx_steps.specs.Needs.{AreLeaves};
 ghost use Rattle.vx_steps.specs.Pieces.{read_of, AreInOrder, ArePlaced};
-ghost use Rattle.vx_steps.specs.Placed.{up_to, AddsPlaced, AddsUnder, AreEnds, AskForNone};
+ghost use Rattle.vx_steps.specs.Placed.{up_to, AddsPlaced, AddsUnder, AreEnds, AskForNone, IsLeafUnder};
 
 use crate::kept::KeptColumns;
 use crate::leaf_reads::{LeafRead, add_whole_reads};
@@ -108,10 +108,43 @@ fn add_need(
     Ok(())
 }
 
-/// Adds a leaf that scans the segment, if the mask selects one of these rows of it.
+/// The leaf of the number, where the plan is one.
+fn leaf_at(table: &PlanTable, plan: u32) -> Option<LeafRead>
+    requires { plan < length table.now }
+    ensures { IfSome result (λ leaf. (leaf.leaf ≡ plan) × HasShape table.now plan (Leaf leaf.segment)) }
+{
+    match table.shape(PlanRef(plan)) {
+        Shape::Leaf(segment) => {
+            Some(LeafRead {
+                leaf: plan,
+                segment,
+            })
+        }
+        _ => None,
+    }
+}
+
+/// The leaf whose rows are those of a plan, where the plan is a leaf, or a filter over one.
+fn leaf_under(table: &PlanTable, plan: u32) -> Option<LeafRead>
+    requires { plan < length table.now }
+    ensures { IfSome result (IsLeafUnder table.now plan) }
+{
+    match table.shape(PlanRef(plan)) {
+        Shape::Leaf(segment) => {
+            Some(LeafRead {
+                leaf: plan,
+                segment,
+            })
+        }
+        Shape::Same(child) => leaf_at(table, child),
+        _ => None,
+    }
+}
+
+/// Adds the leaf under a plan, if the mask selects one of these rows of the plan.
 fn add_leaf_rows(
     alloc: Global,
-    segment: u32,
+    leaf: LeafRead,
     rows: ChildRows,
     mask: &Mask,
     selects_all: bool,
@@ -122,14 +155,14 @@ fn add_leaf_rows(
     requires forwards { rows.from ≤ rows.to }
     requires asked { rows.to ≤ length mask.now }
     requires base { base + length mask.now < 2 ^ 64 }
-    ensures { OnOk result ((nodes : List Node) (given : List Kept) → rows.child < length nodes → HasShape nodes rows.child (Leaf segment) → AddsPlaced nodes given rows.child rows.start (slice_range mask.now rows.from rows.to) (base + rows.from) needs.old.items needs.new.items) }
+    ensures { OnOk result ((nodes : List Node) (given : List Kept) → rows.child < length nodes → IsLeafUnder nodes rows.child leaf → AddsPlaced nodes given rows.child rows.start (slice_range mask.now rows.from rows.to) (base + rows.from) needs.old.items needs.new.items) }
 {
     let behind = base + rows.from;
     match ends_in(alloc, mask, selects_all, rows.from, rows.to) {
         Ok(Some(ends)) => {
             add_need(
-                rows.child,
-                segment,
+                leaf.leaf,
+                leaf.segment,
                 behind + ends.first,
                 behind + ends.last,
                 needs,
@@ -194,7 +227,7 @@ pub(crate) fn add_placed(
 }
 
 /// Adds the leaves that rows of a child read which the mask selects at their places. No mask is made for the rows of a leaf
-/// that are all selected.
+/// that are all selected, nor for those of a filter over it.
 #[cycle(placed_reads)]
 fn add_placed_rows(
     alloc: Global,
@@ -216,8 +249,8 @@ fn add_placed_rows(
     ensures added { OnOk result (AddsPlaced table.now given.now rows.child rows.start (slice_range mask.now rows.from rows.to) (base + rows.from) needs.old.items needs.new.items) }
     ensures asks { OnOk result (asks.new ≡ false → (asks.old ≡ false) × AskForNone table.now given.now rows.child rows.start (slice_range mask.now rows.from rows.to)) }
 {
-    if let Shape::Leaf(segment) = table.shape(PlanRef(rows.child)) {
-        return add_leaf_rows(alloc, segment, rows, mask, selects_all, base, needs);
+    if let Some(leaf) = leaf_under(table, rows.child) {
+        return add_leaf_rows(alloc, leaf, rows, mask, selects_all, base, needs);
     }
     if rows.from == 0 && rows.to == mask.len() {
         return add_placed(

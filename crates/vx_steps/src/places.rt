@@ -1,6 +1,7 @@
 //! Where the column of each plan stands among kept ones: a table by the numbers of plans.
 
 ghost use Rattle.std.specs.Prelude.{◌≡◌, ℕ, Some, None, OnErr, OnOk};
+ghost use Rattle.std.specs.Option.{is_some};
 ghost use Rattle.vx_steps.specs.Places.{place_in, KeepsPlaces, SetsPlace};
 
 use crate::number_table::NumberTable;
@@ -31,6 +32,13 @@ impl PlaceTable {
             return None;
         }
         Some((number - 1) as usize)
+    }
+
+    /// Whether the plan has a place.
+    pub(crate) fn has(&self, plan: u32) -> bool
+        ensures { result ≡ is_some (place_in self.now plan) }
+    {
+        self.get(plan).is_some()
     }
 
     /// Gives the plan a place.

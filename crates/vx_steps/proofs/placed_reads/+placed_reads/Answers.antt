@@ -4,7 +4,7 @@ use Rattle.std.proofs.lemmas.Result.{on_ok_weaker}
 use Rattle.vx_plan.specs.declared.parts.Part.{Part}
 use Rattle.vx_plan.specs.Parts.{parts_left, parts_of, IsPartOf}
 use Rattle.vx_steps.specs.Placed.{AddsPlaced, AskForNone}
-use Rattle.vx_steps.proofs.PlacedAsking.{all_ask_none, all_rows_ask_none, leaf_asks_none, none_ask_none, rows_ask_none}
+use Rattle.vx_steps.proofs.PlacedAsking.{all_ask_none, all_rows_ask_none, leaf_asks_none, leaf_under_asks_none, none_ask_none, rows_ask_none}
 use Rattle.vx_steps.proofs.Placing.{all_placed, leaf_placed, placed_done, rows_so_far, whole_so_far}
 use Rattle.vx_steps.proofs.Shaping.{leaf_plan}
 use Rattle.vx_steps.proofs.placed_reads.+placed_reads.Goals.{add_placed-in-Rows+in_ok-add_placed_rows-in-Rows, add_placed-in-Whole+in_ok-add_under-in-Whole}
@@ -57,12 +57,12 @@ add_placed-returns-clause-asks t c = λ is.
       all_ask_none c.args.table.now c.shape.ensures.good c.args.given.now c.args.plan c.requires.known c.shape.result c.shape.ensures.shape c.args.start c.args.mask.now c.in-Some.ends c.in-Some.ensures (parts_left c.args.table.now c.args.plan c.args.start (length c.args.mask.now) c.loop-next.place) (rw c.len.ensures at c.in_default-next_part.ensures) far.1,
     )
 
-pub add_placed_rows-returns-in-Leaf-clause-added : goal.add_placed_rows-returns-in-Leaf-clause-added
-add_placed_rows-returns-in-Leaf-clause-added t c = on_ok_weaker c.add_leaf_rows.result (λ adds. adds c.args.table.now c.args.given.now c.requires.known c.in-Leaf.ensures.shape) c.add_leaf_rows.ensures
+pub add_placed_rows-returns-in-Some-clause-added : goal.add_placed_rows-returns-in-Some-clause-added
+add_placed_rows-returns-in-Some-clause-added t c = on_ok_weaker c.add_leaf_rows.result (λ adds. adds c.args.table.now c.args.given.now c.requires.known c.in-Some.ensures) c.add_leaf_rows.ensures
 
-pub add_placed_rows-returns-in-Leaf-clause-asks : goal.add_placed_rows-returns-in-Leaf-clause-asks
-add_placed_rows-returns-in-Leaf-clause-asks t c =
-    on_ok_weaker c.add_leaf_rows.result (λ adds is. (is, leaf_asks_none c.args.table.now c.args.given.now c.args.rows.child c.in-Leaf.segment c.args.rows.start (slice_range c.args.mask.now c.args.rows.from c.args.rows.to) c.requires.known c.in-Leaf.ensures.shape)) c.add_leaf_rows.ensures
+pub add_placed_rows-returns-in-Some-clause-asks : goal.add_placed_rows-returns-in-Some-clause-asks
+add_placed_rows-returns-in-Some-clause-asks t c =
+    on_ok_weaker c.add_leaf_rows.result (λ adds is. (is, leaf_under_asks_none c.args.table.now c.args.given.now c.args.rows.child c.in-Some.leaf c.args.rows.start (slice_range c.args.mask.now c.args.rows.from c.args.rows.to) c.requires.known c.in-Some.ensures)) c.add_leaf_rows.ensures
 
 pub add_placed_rows-returns-then-rows-len-clause-added : goal.add_placed_rows-returns-then-rows-len-clause-added
 add_placed_rows-returns-then-rows-len-clause-added t c =

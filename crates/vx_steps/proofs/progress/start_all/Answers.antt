@@ -19,18 +19,18 @@ pub returns-in_err-set_apart_handed-clause-sound : goal.returns-in_err-set_apart
 returns-in_err-set_apart_handed-clause-sound c = sound_with c.args.table.now c.args.job.now c.args.progress.now _ refl refl c.requires.sound
 
 pub start_splits-requires-2-clause-noted : goal.start_splits-requires-2-clause-noted
-start_splits-requires-2-clause-noted c = noted_first c.args.table.now c.args.job.now c.args.progress.now.needed c.note_later.new.needed c.set_apart_handed.new.needed c.args.progress.now.store.columns.all c.in_ok-note_later.ensures.noted c.in_ok-set_apart_handed.ensures
+start_splits-requires-2-clause-noted c = noted_first c.args.table.now c.args.job.now c.args.progress.now.needed c.note_later.new.needed c.set_apart_handed.new.needed c.args.progress.now.store.columns.here c.in_ok-note_later.ensures.noted c.in_ok-set_apart_handed.ensures
 
 pub start_splits-requires-2-clause-sound : goal.start_splits-requires-2-clause-sound
 start_splits-requires-2-clause-sound c = sound_with c.args.table.now c.args.job.now c.args.progress.now _ refl refl c.requires.sound
 
 pub start_splits-requires-2-clause-running : goal.start_splits-requires-2-clause-running
-start_splits-requires-2-clause-running c = going_first c.args.table.now c.args.job.now c.args.progress.now c.args.progress.now.store.columns.all c.note_later.new.needed c.set_apart_handed.new.needed c.if-progress.false c.in_ok-note_later.ensures.noted c.in_ok-set_apart_handed.ensures c.requires.running.going
+start_splits-requires-2-clause-running c = going_first c.args.table.now c.args.job.now c.args.progress.now c.args.progress.now.store.columns.here c.note_later.new.needed c.set_apart_handed.new.needed c.if-progress.false c.in_ok-note_later.ensures.noted c.in_ok-set_apart_handed.ensures c.requires.running.going
 
 pub hold_handed-requires-clause-holding : goal.hold_handed-requires-clause-holding
 hold_handed-requires-clause-holding c =
     let h = c.in_ok-start_splits.ensures in
-    let noted = noted_first c.args.table.now c.args.job.now c.args.progress.now.needed c.note_later.new.needed c.set_apart_handed.new.needed c.args.progress.now.store.columns.all c.in_ok-note_later.ensures.noted c.in_ok-set_apart_handed.ensures in
+    let noted = noted_first c.args.table.now c.args.job.now c.args.progress.now.needed c.note_later.new.needed c.set_apart_handed.new.needed c.args.progress.now.store.columns.here c.in_ok-note_later.ensures.noted c.in_ok-set_apart_handed.ensures in
     holding_of c.args.table.now c.args.job.now c.start_splits-2.new.progress (ap (λ (s : LeafStore). s.columns.ready) h.store ∙ c.requires.ready) (h.noted ∙ noted) h.all h.running
 
 pub returns-in_err-start_splits-clause-leaves : goal.returns-in_err-start_splits-clause-leaves

@@ -11,7 +11,7 @@ pub returns-then-is_none : goal.returns-then-is_none
 returns-then-is_none c =
     let inside = c.self.inside in
     let F : LeavesData → Type 0 = λ leaves. Forgets c.args.node leaves leaves in
-    subst F c.self.view_is (forgets_none inside.gone (map kept_data inside.handed.value.items ++ map seen_data inside.decoded.items) inside.kept inside.ready c.args.node c.self.invariant (none_kept c.find.result (kept_at inside.kept c.args.node) c.find.ensures c.if-is_none.ensures))
+    subst F c.self.view_is (forgets_none inside.gone (map kept_data inside.handed.value.items ++ map seen_data inside.decoded.items) inside.kept inside.ready c.args.node (none_kept c.find.result (kept_at inside.kept c.args.node) c.find.ensures c.if-is_none.ensures))
 
 pub mark-requires : goal.mark-requires
 mark-requires c =
