@@ -5,7 +5,7 @@ use Rattle.std.specs.Str.{bytes_eq}
 use Rattle.clap.specs.Words.{Row, Text, first_of}
 use Rattle.scan_words.specs.declared.commands.Command.{Command}
 use Rattle.scan_words.specs.declared.commands.Command.TheVariants.{Scan, Read, Tree, Demo}
-use Rattle.vx_split_rules.specs.Limits.{default_max_rows}
+use Rattle.vx_split_rules.specs.Limits.{default_span}
 use Rattle.vx_split_rules.specs.declared.split_rules.SplitBy.{SplitBy}
 use Rattle.vx_split_rules.specs.declared.split_rules.SplitBy.TheVariants.{LayoutSubSplitting}
 use Rattle.scan_words.specs.Grammar.{demo_app, parse_rows, read_app, scan_app, tree_app}
@@ -39,7 +39,7 @@ unfoldable pub idle_limit : List Row → Option ℕ
 idle_limit rows = text_or default_idle size (first_of (codes "idle") rows)
 
 unfoldable pub split_choice : List Row → Option SplitBy
-split_choice rows = text_or (LayoutSubSplitting default_max_rows) split_rule (first_of (codes "split") rows)
+split_choice rows = text_or (LayoutSubSplitting default_span) split_rule (first_of (codes "split") rows)
 
 -- ---- what the rows of each mode ask
 

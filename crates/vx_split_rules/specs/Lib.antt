@@ -1,3 +1,3 @@
-pub mod Limits
+pub use Rattle.vx_splits.specs.Limits
 pub mod Splits
 pub mod Rules

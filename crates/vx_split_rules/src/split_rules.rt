@@ -1,7 +1,7 @@
 //! The rules by which the rows of a read are split.
 
 ghost use Rattle.std.specs.Prelude.{◌≡◌, ◌<◌, ◌≤◌, [], ◌∷◌, IfOk};
-ghost use Rattle.vx_split_rules.specs.Limits.{default_max_rows};
+ghost use Rattle.vx_split_rules.specs.Limits.{default_span};
 ghost use Rattle.vx_split_rules.specs.Rules.{counted, LayoutGives, Spans, SplitsGive};
 
 use crate::errors::SplitError;
@@ -11,7 +11,7 @@ use crate::row_splits::RowSplits;
 use crate::split_ranges::SplitRange;
 use std::alloc::{AllocError, Global};
 use std::ops::Range;
-use vx_splits::subdivide_large_spans;
+use vx_splits::{DEFAULT_MAX_SPLIT_ROWS, subdivide_large_spans};
 
 /// Where the rows of a read are split into batches.
 #[derive(Clone, Copy, Debug, PartialEq, Eq)]
@@ -25,11 +25,13 @@ pub enum SplitBy {
 }
 
 impl Default for SplitBy {
-    /// Where the chunks of the layout end, and after each 100000 rows of a longer span.
+    /// Where the chunks of the layout end, and after each [`DEFAULT_MAX_SPLIT_ROWS`] rows of a longer span.
     fn default() -> SplitBy
-        ensures { result ≡ SplitBy.LayoutSubSplitting default_max_rows }
+        ensures { result ≡ SplitBy.LayoutSubSplitting default_span }
     {
-        SplitBy::LayoutSubSplitting { max_rows: 100000 }
+        SplitBy::LayoutSubSplitting {
+            max_rows: DEFAULT_MAX_SPLIT_ROWS,
+        }
     }
 }
 
