@@ -8,10 +8,10 @@ use Rattle.vx_reads.specs.Errors.{IsOfBytes}
 use Rattle.vx_reads.specs.Projected.{AreProjectedBy, ProjectionFails}
 use Rattle.vx_reads.specs.Readable.{tree_head}
 use Rattle.vx_reads.specs.Reads.{file_bytes}
-use Rattle.vx_readers.specs.Evaluations.{rows_by, Evaluation, HasAll, IsReady, IsRefused}
+use Rattle.vx_readers.specs.Evaluations.{needed_by, rows_by, Evaluation, HasAll, IsReady, IsRefused}
 use Rattle.vx_readers.specs.States.{IsProjection, ProjectionFault}
 
-pub projection_ready : (e next : Evaluation) (values : List Datum) (before after : SourceState) → HasAll e next before after → AreProjectedBy next.reads (rows_by next) (tree_head next.nodes next.node).dtype next.expression.term next.start next.mask values → IsReady e before after (IsProjection e values)
+pub projection_ready : (e next : Evaluation) (values : List Datum) (before after : SourceState) → HasAll needed_by e next before after → AreProjectedBy next.reads (rows_by next) (tree_head next.nodes next.node).dtype next.expression.term next.start next.mask values → IsReady e before after (IsProjection e values)
 projection_ready e next values before after all are =
     let F : Evaluation → Type 0 = λ n. AreProjectedBy next.reads (rows_by n) (tree_head n.nodes n.node).dtype n.expression.term n.start n.mask values in
     let same : F (record e { reads = next.reads }) = subst F all.same are in
@@ -23,7 +23,7 @@ projection_ready e next values before after all are =
       content = λ file told have. same (file_bytes file e.locations) (all.goes.told file told have);
     }
 
-pub projection_refused : (e next : Evaluation) (error : ReaderError) (before after : SourceState) → HasAll e next before after → IsOfBytes error → ProjectionFails next.reads (rows_by next) (tree_head next.nodes next.node).dtype next.expression.term next.start next.mask error → IsRefused e error before after (ProjectionFault e error)
+pub projection_refused : (e next : Evaluation) (error : ReaderError) (before after : SourceState) → HasAll needed_by e next before after → IsOfBytes error → ProjectionFails next.reads (rows_by next) (tree_head next.nodes next.node).dtype next.expression.term next.start next.mask error → IsRefused e error before after (ProjectionFault e error)
 projection_refused e next error before after all own fails = by error own (subst (F error) all.same fails)
   where
     F : ReaderError → Evaluation → Type 0

@@ -1,15 +1,16 @@
 -- A column that is cut at splits: its parts have what it has.
-use Rattle.std.proofs.Common.{◌≡◌, ℕ, zero, suc, ◌+◌, ◌-◌, ◌≤◌, List, [], ◌∷◌, Option, Some, None, length, map, take, drop, get_or, refl, sym, ap, ◌∙◌, subst, arith}
+use Rattle.std.proofs.Common.{◌≡◌, ℕ, zero, suc, ◌+◌, ◌-◌, ◌<◌, ◌≤◌, List, [], ◌∷◌, ◌++◌, Option, Some, None, length, map, take, drop, get_or, refl, sym, ap, ◌∙◌, subst, arith}
 use Rattle.std.specs.Prelude.{slice_range}
 use Rattle.std.specs.List.{range_with_len}
-use Rattle.std.proofs.lemmas.List.{length-drop, length-take}
+use Rattle.std.proofs.lemmas.List.{drop-drop, length-drop, length-take}
 use Rattle.vx_base.specs.Columns.{ColumnData}
 use Rattle.vx_base.specs.Data.{Datum}
 use Rattle.vx_base.specs.Sources.{SourceState}
 use Rattle.vx_expr.specs.Bound.{Bound}
 use Rattle.vx_picking.specs.Rows.{AreOf}
 use Rattle.vx_readers.specs.ReaderData.{ReaderData}
-use Rattle.vx_readers.specs.WholeReads.{told_row, AreSplitColumns, IsPartOf, IsSplitColumn}
+use Rattle.vx_readers.specs.WholeReads.{told_row, AreSplitColumns, AreWithin, IsPartOf, IsSplitColumn}
+use Rattle.vx_readers.proofs.WholeReading.{gathers_first, gathers_more, Gathers}
 
 -- ---- what f gives at rows one behind another, and at some of them
 
@@ -63,3 +64,42 @@ parts_columns r e before rows whole (last ∷ []) [] all are = tt
 parts_columns r e before rows whole (last ∷ []) (column ∷ columns) all are = absurd are
 parts_columns r e before rows whole (start ∷ end ∷ splits) [] all are = absurd are
 parts_columns r e before rows whole (start ∷ end ∷ splits) (column ∷ columns) all are = (part_column r e before rows start end whole column all are.0, parts_columns r e before rows whole (end ∷ splits) columns all are.1)
+
+-- ---- cut off the rows that are left
+
+-- The columns are those of the splits up to a place, and the rows behind it are left.
+pub record CutsTo (whole rest : ColumnData) (splits : List ℕ) (place : ℕ) (columns : List ColumnData) : Type 0 where
+  pub gathered : Gathers (IsPartOf whole) splits place columns
+  pub same : rest.dtype ≡ whole.dtype
+  pub left : rest.values ≡ drop (get_or splits (place - 1) 0) whole.values
+
+pub cuts_first : (whole rest : ColumnData) (splits : List ℕ) (columns : List ColumnData) → rest ≡ whole → columns ≡ [] → get_or splits 0 0 ≡ 0 → CutsTo whole rest splits 1 columns
+cuts_first whole rest splits columns is none first = record {
+  gathered = subst (Gathers (IsPartOf whole) splits 1) (sym none) (gathers_first (IsPartOf whole) splits);
+  same = ap (λ (column : ColumnData). column.dtype) is;
+  left = ap (λ (column : ColumnData). column.values) is ∙ sym (ap (λ (n : ℕ). drop n whole.values) first);
+}
+
+pub cuts_room : (whole rest : ColumnData) (splits : List ℕ) (place : ℕ) (columns : List ColumnData) → AreWithin (length whole.values) splits → 1 ≤ place → place < length splits → CutsTo whole rest splits place columns → get_or splits place 0 - get_or splits (place - 1) 0 ≤ length rest.values
+cuts_room whole rest splits place columns within some inside cuts =
+    let w = within place some inside in
+    omega (arith, ap length cuts.left, length-drop (get_or splits (place - 1) 0) whole.values, w.0, w.1)
+
+rows_left : (whole now next : ColumnData) (start end : ℕ) → start ≤ end → now.values ≡ drop start whole.values → next.values ≡ drop (end - start) now.values → next.values ≡ drop end whole.values
+rows_left whole now next start end forwards left cut =
+    let behind : start + (end - start) ≡ end = omega arith in
+    cut ∙ ap (drop (end - start)) left ∙ drop-drop (end - start) start whole.values ∙ ap (λ (n : ℕ). drop n whole.values) behind
+
+pub cuts_next : (whole rest next part : ColumnData) (splits : List ℕ) (place : ℕ) (columns more : List ColumnData) → AreWithin (length whole.values) splits → 1 ≤ place → place < length splits → more ≡ columns ++ part ∷ [] → part.dtype ≡ rest.dtype → next.dtype ≡ rest.dtype →
+    part.values ≡ take (get_or splits place 0 - get_or splits (place - 1) 0) rest.values → next.values ≡ drop (get_or splits place 0 - get_or splits (place - 1) 0) rest.values → CutsTo whole rest splits place columns → CutsTo whole next splits (place + 1) more
+cuts_next whole rest next part splits place columns more within some inside pushed typed same values behind cuts =
+    let w = within place some inside in
+    let s : ℕ = get_or splits (place - 1) 0 in
+    let t : ℕ = get_or splits place 0 in
+    let is : IsPartOf whole s t part = (w.0, w.1, typed ∙ cuts.same, values ∙ ap (take (t - s)) cuts.left) in
+    let here : place ≡ place + 1 - 1 = omega arith in
+    record {
+      gathered = gathers_more (IsPartOf whole) splits place columns more part some inside is pushed cuts.gathered;
+      same = same ∙ cuts.same;
+      left = rows_left whole rest next s t w.0 cuts.left behind ∙ ap (λ (n : ℕ). drop (get_or splits n 0) whole.values) here;
+    }

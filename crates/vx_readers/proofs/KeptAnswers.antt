@@ -9,7 +9,7 @@ use Rattle.vx_reads.specs.Errors.{IsOfBytes}
 use Rattle.vx_reads.specs.MaskRows.{AreKeptBy, FilterFails}
 use Rattle.vx_reads.specs.Readable.{tree_head}
 use Rattle.vx_reads.specs.Reads.{file_bytes}
-use Rattle.vx_readers.specs.Evaluations.{rows_by, Evaluation, HasAll, IsPending, IsReady, IsRefused}
+use Rattle.vx_readers.specs.Evaluations.{needed_by, rows_by, Evaluation, HasAll, IsPending, IsReady, IsRefused}
 use Rattle.vx_readers.specs.States.{FilterFault, IsKept}
 
 -- the expression is the same, so it is true or not all the same
@@ -17,10 +17,10 @@ pub still_bool : (e next : Evaluation) (before after : SourceState) → IsPendin
 still_bool e next before after pending bool = subst (λ (n : Evaluation). IsBool n.expression.dtype) (sym pending.same) bool
 
 -- and so it is once all came
-pub came_bool : (e next : Evaluation) (before after : SourceState) → HasAll e next before after → IsBool e.expression.dtype → IsBool next.expression.dtype
+pub came_bool : (e next : Evaluation) (before after : SourceState) → HasAll needed_by e next before after → IsBool e.expression.dtype → IsBool next.expression.dtype
 came_bool e next before after all bool = subst (λ (n : Evaluation). IsBool n.expression.dtype) (sym all.same) bool
 
-pub filter_ready : (e next : Evaluation) (kept : List Bool) (before after : SourceState) → HasAll e next before after → AreKeptBy next.reads (rows_by next) (tree_head next.nodes next.node).dtype next.expression.term next.start next.mask kept → IsReady e before after (IsKept e kept)
+pub filter_ready : (e next : Evaluation) (kept : List Bool) (before after : SourceState) → HasAll needed_by e next before after → AreKeptBy next.reads (rows_by next) (tree_head next.nodes next.node).dtype next.expression.term next.start next.mask kept → IsReady e before after (IsKept e kept)
 filter_ready e next kept before after all are =
     let F : Evaluation → Type 0 = λ n. AreKeptBy next.reads (rows_by n) (tree_head n.nodes n.node).dtype n.expression.term n.start n.mask kept in
     let same : F (record e { reads = next.reads }) = subst F all.same are in
@@ -32,10 +32,10 @@ filter_ready e next kept before after all are =
       content = λ file told have. same (file_bytes file e.locations) (all.goes.told file told have);
     }
 
-pub filter_rows : (e next : Evaluation) (kept : List Bool) (before after : SourceState) → HasAll e next before after → length kept ≡ length next.mask → length kept ≡ length e.mask
+pub filter_rows : (e next : Evaluation) (kept : List Bool) (before after : SourceState) → HasAll needed_by e next before after → length kept ≡ length next.mask → length kept ≡ length e.mask
 filter_rows e next kept before after all rows = rows ∙ ap (λ (n : Evaluation). length n.mask) all.same
 
-pub filter_refused : (e next : Evaluation) (error : ReaderError) (before after : SourceState) → HasAll e next before after → IsOfBytes error → FilterFails next.reads (subtree next.nodes next.node) (tree_head next.nodes next.node).dtype next.expression.term next.start next.start next.mask error → IsRefused e error before after (FilterFault e error)
+pub filter_refused : (e next : Evaluation) (error : ReaderError) (before after : SourceState) → HasAll needed_by e next before after → IsOfBytes error → FilterFails next.reads (subtree next.nodes next.node) (tree_head next.nodes next.node).dtype next.expression.term next.start next.start next.mask error → IsRefused e error before after (FilterFault e error)
 filter_refused e next error before after all own fails = by error own (subst (F error) all.same fails)
   where
     F : ReaderError → Evaluation → Type 0

@@ -198,3 +198,12 @@ splits_between rows splits spans alone place some inside = by (cases_lt 0 rows)
     by (inr none) =
         let one : length splits ≡ 1 = ap length (alone none) in
         absurd (omega arith)
+
+pub splits_start : (rows : ℕ) (splits : List ℕ) → (0 < rows → Spans 0 rows splits) → (rows ≤ 0 → splits ≡ rows ∷ []) → get_or splits 0 0 ≡ 0
+splits_start rows splits spans alone = by (cases_lt 0 rows)
+  where
+    by : (0 < rows) ⊎ (rows ≤ 0) → get_or splits 0 0 ≡ 0
+    by (inl more) = let h = spans more in get_or_from_slice_get splits 0 0 0 h.first
+    by (inr none) =
+        let one : get_or splits 0 0 ≡ rows = ap (λ (ns : List ℕ). get_or ns 0 0) (alone none) in
+        omega arith

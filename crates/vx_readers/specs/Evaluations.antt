@@ -17,6 +17,8 @@ use Rattle.vx_reads.specs.Computed.{RowsBy}
 use Rattle.vx_reads.specs.Needed.{needed}
 use Rattle.vx_reads.specs.Readable.{tree_head, AreReadable}
 use Rattle.vx_reads.specs.Reads.{asked_also, file_bytes, segments_of, waiting_in, AreAsked, AreInFlight, GoOn, HasTicket, HaveBytes, SourceFault, Touches}
+use Rattle.vx_readers.specs.ZonesNeeded.{zones_needed}
+use Rattle.vx_readers.specs.ZonesOver.{zones_over, ZonesBy}
 
 -- An evaluation over rows of a node: the tree's nodes, the node, the first row, which rows are selected, the expression,
 -- where segments lie, and the reads that it needs.
@@ -33,9 +35,17 @@ pub record Evaluation : Type 0 where
 abbrev pub needed_by : Evaluation → List ℕ
 needed_by e = needed (subtree e.nodes e.node) e.start e.mask
 
+-- and which where it prunes: those of zones alone
+abbrev pub zones_needed_by : Evaluation → List ℕ
+zones_needed_by e = zones_needed (subtree e.nodes e.node) e.start e.mask
+
 -- how each row of the node is derived
 abbrev pub rows_by : Evaluation → RowsBy
 rows_by e = derivation (subtree e.nodes e.node) all
+
+-- the zones over each row of the node
+abbrev pub zones_by : Evaluation → ZonesBy
+zones_by e = zones_over (subtree e.nodes e.node)
 
 -- The rows lie in a node that is readable, the expression is bound to its dtype, and the reads are what the rows need.
 pub record IsSound (e : Evaluation) : Type 0 where
@@ -45,10 +55,18 @@ pub record IsSound (e : Evaluation) : Type 0 where
   pub bound : IsBoundTo e.expression (tree_head e.nodes e.node).dtype
   pub segments : segments_of e.reads ≡ needed_by e
 
--- An evaluation that begins: it reads what its rows need; whatever is in flight at a source, none of its reads is, and
--- whatever the file, none of its bytes are another's.
-pub record Begins (e : Evaluation) : Type 0 where
-  pub segments : segments_of e.reads ≡ needed_by e
+-- The same of one that prunes: the reads are what the zones over the rows need.
+pub record IsSoundPruning (e : Evaluation) : Type 0 where
+  pub known : e.node < length e.nodes
+  pub readable : AreReadable e.nodes
+  pub inside : e.start + length e.mask ≤ (tree_head e.nodes e.node).rows
+  pub bound : IsBoundTo e.expression (tree_head e.nodes e.node).dtype
+  pub segments : segments_of e.reads ≡ zones_needed_by e
+
+-- An evaluation that begins: it reads what it needs; whatever is in flight at a source, none of its reads is, and whatever
+-- the file, none of its bytes are another's.
+pub record Begins (needs : Evaluation → List ℕ) (e : Evaluation) : Type 0 where
+  pub segments : segments_of e.reads ≡ needs e
   pub in_flight : (flights : List (ℕ × SegmentLocation)) → AreInFlight e.locations e.reads flights
   pub bytes : (bytes : Bytes) → HaveBytes bytes e.reads
 
@@ -67,12 +85,12 @@ pub record IsPending (e next : Evaluation) (before after : SourceState) : Type 0
   pub waited : RoseBy (waiting_in next.reads) before.idle after.idle
 
 -- Another state of it, of which each read came: none is in flight.
-pub record HasAll (e next : Evaluation) (before after : SourceState) : Type 0 where
+pub record HasAll (needs : Evaluation → List ℕ) (e next : Evaluation) (before after : SourceState) : Type 0 where
   pub same : next ≡ record e { reads = next.reads }
   pub goes : GoOn e.locations e.reads next.reads before after
   pub asks : after.asked ≡ asked_also e.locations e.reads before.asked
   pub none : (ticket : ℕ) → HasTicket next.reads ticket → ⊥
-  pub came : Begin (needed_by next) next.reads
+  pub came : Begin (needs next) next.reads
 
 -- The answer is what it is to be by the source's file. Its reads that were not asked for were so, once and with nothing else;
 -- no call failed, and none of its reads is in flight any more: what is so was so before, and is another's.

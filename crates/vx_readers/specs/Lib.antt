@@ -1,9 +1,15 @@
+pub mod ZonesOver
+pub mod ZonesNeeded
+pub mod Unpruned
+pub mod ZoneTables
+pub mod ZoneRows
 pub mod Evaluations
 pub mod Turns
 pub mod States
 pub mod ReadErrors
 pub mod Reading
 pub mod Opening
+pub mod StrayStructs
 pub mod ReaderData
 pub mod Readers
 pub mod ChunkEnds

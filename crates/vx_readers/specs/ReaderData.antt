@@ -2,6 +2,7 @@
 use Rattle.std.specs.Prelude.{ℕ, ◌<◌, List, length}
 use Rattle.vx_base.specs.declared.locations.SegmentLocation.{SegmentLocation}
 use Rattle.vx_layout.specs.Nodes.{Node}
+use Rattle.vx_layout.specs.Shape.{IsGoodTree}
 use Rattle.vx_rows.specs.Heads.{Head}
 use Rattle.vx_reads.specs.Readable.{tree_head, AreReadable}
 
@@ -11,8 +12,9 @@ pub record ReaderData : Type 0 where
   pub node : ℕ
   pub locations : List SegmentLocation
 
--- The node is one of the tree, and each node of it is readable.
+-- The node is one of the tree, which keeps the rules of trees, and each node of it is readable.
 pub record IsReader (r : ReaderData) : Type 0 where
+  pub good : IsGoodTree r.nodes
   pub known : r.node < length r.nodes
   pub readable : AreReadable r.nodes
 

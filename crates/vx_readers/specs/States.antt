@@ -15,10 +15,11 @@ use Rattle.vx_reads.specs.Reads.{AreInFlight}
 use Rattle.vx_readers.specs.declared.states.ColumnState.{ColumnState}
 use Rattle.vx_readers.specs.declared.states.MaskState.{MaskState}
 use Rattle.vx_readers.specs.declared.states.Masking.{Masking}
-use Rattle.vx_readers.specs.declared.states.Masking.TheVariants.{Known, Filters}
+use Rattle.vx_readers.specs.declared.states.Masking.TheVariants.{Known, Filters, Prunes}
 use Rattle.vx_readers.specs.declared.progress.Progress.{Progress}
 use Rattle.vx_readers.specs.declared.progress.Progress.TheVariants.{Ready, Pending}
-use Rattle.vx_readers.specs.Evaluations.{rows_by, Evaluation, IsPending, IsReady, IsRefused}
+use Rattle.vx_readers.specs.Evaluations.{rows_by, zones_by, Evaluation, IsPending, IsReady, IsRefused}
+use Rattle.vx_readers.specs.Unpruned.{IsUnpruned, PruningCause}
 
 -- these are what the expression is worth at the selected rows
 abbrev pub IsProjection : Evaluation → List Datum → Bytes → Type 0
@@ -36,6 +37,14 @@ IsKept e kept bytes = IsFiltered bytes (rows_by e) (tree_head e.nodes e.node).dt
 abbrev pub FilterFault : Evaluation → ReaderError → Bytes → Type 0
 FilterFault e error bytes = FilterCause bytes (tree_head e.nodes e.node).dtype e.expression.term (subtree e.nodes e.node) e.start e.start e.mask error
 
+-- the mask's rows over which it prunes no zone
+abbrev pub IsLeft : Evaluation → List Bool → Bytes → Type 0
+IsLeft e kept bytes = IsUnpruned bytes (zones_by e) e.expression.term e.start e.mask kept
+
+-- why these are not known
+abbrev pub PruningFault : Evaluation → ReaderError → Bytes → Type 0
+PruningFault e error bytes = PruningCause bytes (zones_by e) e.start e.mask error
+
 -- The column of what the expression is worth at the selected rows, as many as these are whatever the source tells, the state as it goes on, or why there is none.
 abbrev pub ColumnPollGives : Result (Progress ColumnData ColumnState) ReaderError → Evaluation → SourceState → SourceState → Type 0
 ColumnPollGives (Ok (Ready column)) e before after = IsReady e before after (IsProjection e column.values) × (column.dtype ≡ e.expression.dtype) × (length column.values ≡ true_count e.mask)
@@ -48,29 +57,50 @@ FilterPollGives (Ok (Ready kept)) e before after = IsReady e before after (IsKep
 FilterPollGives (Ok (Pending next)) e before after = IsPending e next before after
 FilterPollGives (Err error) e before after = IsRefused e error before after (FilterFault e error)
 
--- ---- a mask that is known, or filtered
+-- The mask's rows over which no zone is pruned, the evaluation as it goes on, or why these are not known.
+abbrev pub PruningPollGives : Result (Progress (List Bool) Evaluation) ReaderError → Evaluation → SourceState → SourceState → Type 0
+PruningPollGives (Ok (Ready kept)) e before after = IsReady e before after (IsLeft e kept) × (length kept ≡ length e.mask)
+PruningPollGives (Ok (Pending next)) e before after = IsPending e next before after
+PruningPollGives (Err error) e before after = IsRefused e error before after (PruningFault e error)
+
+-- ---- a mask that is known, filtered or pruned
 
 -- it is this mask
 abbrev pub IsMask : List Bool → Masking → Type 0
 IsMask mask (Known kept) = kept ≡ mask
 IsMask mask (Filters e) = ⊥
+IsMask mask (Prunes e) = ⊥
 
 -- the reads that were started and have not ended are in flight at the source
 abbrev pub IsStarted : Masking → List (ℕ × SegmentLocation) → Type 0
 IsStarted (Known mask) in_flight = Unit {0}
 IsStarted (Filters e) in_flight = AreInFlight e.locations e.reads in_flight
+IsStarted (Prunes e) in_flight = AreInFlight e.locations e.reads in_flight
 
 -- the filter goes on
 abbrev pub FilterWaits : Evaluation → Masking → SourceState → SourceState → Type 0
 FilterWaits e (Known mask) before after = ⊥
 FilterWaits e (Filters next) before after = IsPending e next before after
+FilterWaits e (Prunes next) before after = ⊥
 
 abbrev pub FilterGives : Result (Progress (List Bool) MaskState) ReaderError → Evaluation → SourceState → SourceState → Type 0
 FilterGives (Ok (Ready kept)) e before after = IsReady e before after (IsKept e kept) × (length kept ≡ length e.mask)
 FilterGives (Ok (Pending next)) e before after = FilterWaits e next.masking before after
 FilterGives (Err error) e before after = IsRefused e error before after (FilterFault e error)
 
+-- the pruning goes on
+abbrev pub PruningWaits : Evaluation → Masking → SourceState → SourceState → Type 0
+PruningWaits e (Known mask) before after = ⊥
+PruningWaits e (Filters next) before after = ⊥
+PruningWaits e (Prunes next) before after = IsPending e next before after
+
+abbrev pub PruningGives : Result (Progress (List Bool) MaskState) ReaderError → Evaluation → SourceState → SourceState → Type 0
+PruningGives (Ok (Ready kept)) e before after = IsReady e before after (IsLeft e kept) × (length kept ≡ length e.mask)
+PruningGives (Ok (Pending next)) e before after = PruningWaits e next.masking before after
+PruningGives (Err error) e before after = IsRefused e error before after (PruningFault e error)
+
 -- A mask that is known is there at once, and the source stays as it was.
 abbrev pub MaskPollGives : Result (Progress (List Bool) MaskState) ReaderError → Masking → SourceState → SourceState → Type 0
 MaskPollGives result (Known mask) before after = (result ≡ Ok (Ready mask)) × (after ≡ before)
 MaskPollGives result (Filters e) before after = FilterGives result e before after
+MaskPollGives result (Prunes e) before after = PruningGives result e before after

@@ -36,6 +36,13 @@ pub(crate) fn add_ends(
             tree, chunks, node, from, start, end, splits,
         ),
         NodeParts::Dict { codes, values: _ } => add_ends(tree, codes, from, start, end, splits),
+        NodeParts::Zoned {
+            content,
+            zones: _,
+            zone_len: _,
+            stats: _,
+        } => add_ends(tree, content, from, start, end, splits),
+        NodeParts::Struct { .. } => Ok(()),
     }
 }
 

@@ -17,11 +17,12 @@ ghost use Rattle.vx_readers.specs.Evaluations.{needed_by, rows_by, Begins};
 use std::alloc::{AllocError, Global};
 use std::marker::Model;
 use std::ops::Range;
-use vx_base::{Column, Mask, SegmentLocation, SegmentSource};
+use vx_base::{Mask, SegmentLocation, SegmentSource};
 use vx_expr::BoundExpression;
 use vx_layout::LayoutTree;
 use vx_reads::{
-    ReaderError, SegmentRead, add_needs, fresh_reads, kept_rows, poll_reads, projected,
+    ColumnPieces, ReaderError, SegmentRead, add_needs, fresh_reads, kept_rows, poll_reads,
+    projected,
 };
 
 /// An expression over selected rows of a node.
@@ -54,11 +55,11 @@ impl<'a> Model for Evaluating<'a> {
 
 /// An evaluation after a turn of its reads.
 #[derive(Drop)]
-pub enum Turn<'a> {
+pub enum Turn<E> {
     /// The bytes of all of them have come.
-    Came(Evaluating<'a>),
+    Came(E),
     /// Some read goes on.
-    Waits(Evaluating<'a>),
+    Waits(E),
 }
 
 impl<'a> Evaluating<'a> {
@@ -79,7 +80,7 @@ impl<'a> Evaluating<'a> {
         requires masked { length mask ≡ rows.end - rows.start }
         requires bound { IsBoundTo expression.now (tree_head tree.now node).dtype }
         ensures is { IfOk result (λ e. e ≡ record { nodes = tree.now; node = node; start = rows.start; mask = mask; expression = expression.now; locations = locations.now; reads = e.reads }) }
-        ensures begins { IfOk result Begins }
+        ensures begins { IfOk result (Begins needed_by) }
     {
         let start = rows.start;
         let mut needs = Vec::new(alloc);
@@ -103,9 +104,9 @@ impl<'a> Evaluating<'a> {
 
     /// Asks for the reads that were not asked for yet, and polls those in flight once each. After an error the other reads
     /// stay in flight.
-    pub fn turn<S: SegmentSource>(self, source: &mut S) -> Result<Turn<'a>, ReaderError>
+    pub fn turn<S: SegmentSource>(self, source: &mut S) -> Result<Turn<Evaluating<'a>>, ReaderError>
         requires { AreInFlight self.locations self.reads (S.state source.old).in_flight }
-        ensures { TurnGives result self.entry (S.state source.old) (S.state source.new) }
+        ensures { TurnGives needed_by result self.entry (S.state source.old) (S.state source.new) }
     {
         let Evaluating {
             alloc,
@@ -141,8 +142,13 @@ impl<'a> Evaluating<'a> {
 }
 
 impl<'a> Evaluating<'a> {
-    /// The expression's column over the selected rows, whose reads came.
-    pub fn column(&self) -> Result<Column, ReaderError>
+    /// What it takes memory by.
+    pub(crate) fn alloc(&self) -> Global {
+        self.alloc
+    }
+
+    /// The expression's column over the selected rows, whose reads came, in pieces.
+    pub fn pieces(&self) -> Result<ColumnPieces, ReaderError>
         requires { Begin (needed_by self.now) self.now.reads }
         ensures dtype { IfOk result (λ column. column.dtype ≡ self.now.expression.dtype) }
         ensures rows { IfOk result (λ column. length column.values ≡ true_count self.now.mask) }
@@ -160,6 +166,7 @@ impl<'a> Evaluating<'a> {
             self.reads.as_slice(),
         )
     }
+
     /// The mask's rows at which the expression is true, whose reads came.
     pub fn mask(&self) -> Result<Mask, ReaderError>
         requires came { Begin (needed_by self.now) self.now.reads }

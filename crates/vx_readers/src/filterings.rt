@@ -5,7 +5,7 @@ ghost use Rattle.vx_base.specs.ColumnCalls.{IsBool};
 ghost use Rattle.vx_expr.specs.Bound.{IsBoundTo};
 ghost use Rattle.vx_reads.specs.Readable.{tree_head, AreReadable};
 ghost use Rattle.vx_reads.specs.Reads.{AreInFlight};
-ghost use Rattle.vx_readers.specs.Evaluations.{Begins};
+ghost use Rattle.vx_readers.specs.Evaluations.{needed_by, Begins};
 
 use crate::evaluations::{Evaluating, Turn};
 use crate::progress::Progress;
@@ -58,7 +58,7 @@ impl<'a> Filtering<'a> {
         requires bound { IsBoundTo expression.now (tree_head tree.now node).dtype }
         requires bool { IsBool expression.now.dtype }
         ensures is { IfOk result (λ e. e ≡ record { nodes = tree.now; node = node; start = rows.start; mask = mask; expression = expression.now; locations = locations.now; reads = e.reads }) }
-        ensures begins { IfOk result Begins }
+        ensures begins { IfOk result (Begins needed_by) }
     {
         match Evaluating::begin(alloc, tree, locations, node, rows, expression, mask) {
             Ok(evaluation) => Ok(Filtering { evaluation }),

@@ -1,6 +1,7 @@
 //! Readers of a layout, by the kind of its root.
 
 ghost use Rattle.std.specs.Prelude.{◌≡◌, IfErr, IfOk, OnOk};
+ghost use Rattle.vx_layout.specs.Shape.{IsGoodTree};
 ghost use Rattle.vx_reads.specs.Readable.{AreReadable};
 ghost use Rattle.vx_readers.specs.Opening.{OpenRefused};
 ghost use Rattle.vx_readers.specs.Readers.{reader_data, IsRootReader};
@@ -28,12 +29,19 @@ pub struct DictReader<'a> {
     pub(crate) over: NodeReader<'a>,
 }
 
+/// The reader of a node of data, and of the zones that tell of its rows.
+#[derive(Drop)]
+pub struct ZonedReader<'a> {
+    pub(crate) over: NodeReader<'a>,
+}
+
 /// The reader of a layout's root.
 #[derive(Drop)]
 pub enum Reader<'a> {
     Flat(FlatReader<'a>),
     Chunked(ChunkedReader<'a>),
     Dict(DictReader<'a>),
+    Zoned(ZonedReader<'a>),
 }
 
 impl<'a> Reader<'a> {
@@ -45,6 +53,7 @@ impl<'a> Reader<'a> {
         ensures opened { IfOk result (λ reader. reader_data reader ≡ record { nodes = tree.now; node = 0; locations = locations.now }) }
         ensures kind { IfOk result (IsRootReader tree.now) }
         ensures readable { OnOk result (AreReadable tree.now) }
+        ensures good { OnOk result (IsGoodTree tree.now) }
         ensures refused { IfErr result (OpenRefused tree.now) }
     {
         match check(tree) {
@@ -57,6 +66,7 @@ impl<'a> Reader<'a> {
             LayoutKind::Flat { .. } => Ok(Reader::Flat(FlatReader { over })),
             LayoutKind::Chunked => Ok(Reader::Chunked(ChunkedReader { over })),
             LayoutKind::Dict => Ok(Reader::Dict(DictReader { over })),
+            LayoutKind::Zoned { .. } => Ok(Reader::Zoned(ZonedReader { over })),
             _ => unreachable!(),
         }
     }

@@ -1,18 +1,21 @@
 //! What all readers have in common: a node of a tree that is readable, and where segments lie.
 
-ghost use Rattle.std.specs.Prelude.{◌≡◌, ◌++◌, ◌-◌, ◌<◌, ◌≤◌, length, IfOk, OnErr, OnOk};
+ghost use Rattle.std.specs.Prelude.{◌≡◌, ◌↔◌, ℕ, [], ◌++◌, ◌-◌, ◌<◌, ◌≤◌, length, IfOk, IsFalse, OnErr, OnOk};
 ghost use Rattle.vx_base.specs.ColumnCalls.{IsBool};
 ghost use Rattle.vx_base.specs.Views.{data_type};
 ghost use Rattle.vx_expr.specs.Bound.{IsBoundTo};
 ghost use Rattle.vx_reads.specs.Readable.{AreReadable};
-ghost use Rattle.vx_readers.specs.Begun.{BeginsOver, FiltersOver};
+ghost use Rattle.vx_readers.specs.Begun.{BeginsOver, FiltersOver, PrunesOver};
 ghost use Rattle.vx_readers.specs.ChunkEnds.{reader_ends, StandFirst};
 ghost use Rattle.vx_readers.specs.ReaderData.{reader_head};
+ghost use Rattle.vx_readers.specs.ZonesOver.{zones_over};
+ghost use Rattle.vx_layout.specs.Trees.{subtree};
 ghost use Rattle.vx_split_rules.specs.Splits.{registered};
 
 use crate::ends::add_ends;
 use crate::evaluations::Evaluating;
 use crate::filterings::Filtering;
+use crate::prunings::Pruning;
 use crate::states::{ColumnState, MaskState, Masking};
 use std::alloc::{AllocError, Global};
 use std::marker::Model;
@@ -20,8 +23,10 @@ use std::ops::Range;
 use vx_base::{DType, Mask, SegmentLocation};
 use vx_expr::BoundExpression;
 use vx_layout::LayoutTree;
+use vx_reads::parts::NodeParts;
 use vx_reads::{dtype_at, rows_at};
 use vx_split_rules::{RowSplits, SplitRange};
+use vx_zones::falsify;
 
 /// A node of a readable tree.
 #[derive(Drop)]
@@ -45,6 +50,21 @@ impl<'a> Model for NodeReader<'a> {
     ghost invariant = { λ a. IsReader (record { nodes = a.tree.now; node = a.node; locations = a.locations.now }) };
 }
 
+/// Whether zones may lie over rows of a node: a segment and a dictionary have none.
+fn may_have_zones(tree: &LayoutTree, node: u32) -> bool
+    requires known { node < length tree.now }
+    requires readable { AreReadable tree.now }
+    ensures { IsFalse result → (row : ℕ) → zones_over (subtree tree.now node) row ≡ [] }
+{
+    match NodeParts::of(tree, node) {
+        NodeParts::Leaf { .. } => false,
+        NodeParts::Dict { .. } => false,
+        NodeParts::Struct { .. } => false,
+        NodeParts::Chunks { .. } => true,
+        NodeParts::Zoned { .. } => true,
+    }
+}
+
 impl<'a> NodeReader<'a> {
     /// The reader of a node.
     pub fn new(tree: &'a LayoutTree, locations: &'a [SegmentLocation], node: u32) -> NodeReader<'a>
@@ -52,6 +72,7 @@ impl<'a> NodeReader<'a> {
         requires readable { AreReadable tree.now }
         ensures { result ≡ record { nodes = tree.now; node = node; locations = locations.now } }
     {
+        tree.keeps_rules();
         NodeReader {
             tree,
             locations,
@@ -127,6 +148,45 @@ impl<'a> NodeReader<'a> {
             Ok(filtering) => Ok(MaskState {
                 masking: Masking::Filters(filtering),
             }),
+            Err(error) => Err(error),
+        }
+    }
+
+    /// The mask's rows of a range that lie in no zone that the expression prunes: the state in which nothing was asked for,
+    /// or the mask itself where zones tell nothing.
+    pub fn prune(
+        &self,
+        alloc: Global,
+        rows: Range<u64>,
+        expression: &BoundExpression,
+        mask: Mask,
+    ) -> Result<MaskState<'a>, AllocError>
+        requires forwards { rows.start ≤ rows.end }
+        requires inside { rows.end ≤ (reader_head self.now).rows }
+        requires masked { length mask ≡ rows.end - rows.start }
+        requires bound { IsBoundTo expression.now (reader_head self.now).dtype }
+        requires bool { IsBool expression.now.dtype }
+        ensures { IfOk result (λ state. PrunesOver self.now rows.start mask expression.now state.masking) }
+    {
+        if !may_have_zones(self.tree, self.node) {
+            return Ok(MaskState::known(mask));
+        }
+        match falsify(alloc, expression) {
+            Ok(None) => Ok(MaskState::known(mask)),
+            Ok(Some(proof)) => match Pruning::begin(
+                alloc,
+                self.tree,
+                self.locations,
+                self.node,
+                rows,
+                proof,
+                mask,
+            ) {
+                Ok(pruning) => Ok(MaskState {
+                    masking: Masking::Prunes(pruning),
+                }),
+                Err(error) => Err(error),
+            },
             Err(error) => Err(error),
         }
     }

@@ -4,11 +4,10 @@ ghost use Rattle.std.specs.Prelude.{◌≡◌, ◌-◌, ◌≤◌, length, true,
 ghost use Rattle.vx_base.specs.ColumnCalls.{IsBool};
 ghost use Rattle.vx_base.specs.Views.{data_type};
 ghost use Rattle.vx_expr.specs.Bound.{IsBoundTo};
-ghost use Rattle.vx_readers.specs.Begun.{BeginsOver, FiltersOver};
+ghost use Rattle.vx_readers.specs.Begun.{BeginsOver, FiltersOver, PrunesOver};
 ghost use Rattle.vx_readers.specs.ChunkEnds.{reader_ends};
 ghost use Rattle.vx_readers.specs.ReaderData.{reader_head, ReaderData};
 ghost use Rattle.vx_readers.specs.Readers.{pushes_empty, reader_data};
-ghost use Rattle.vx_readers.specs.States.{IsMask};
 
 use crate::layout_readers::{ChunkedReader, DictReader, FlatReader, Reader};
 use crate::states::{ColumnState, MaskState};
@@ -27,7 +26,9 @@ pub trait LayoutReader<'a>: RegistersSplits {
     fn dtype(&self) -> &DType
         ensures { data_type result.now ≡ (reader_head (borrowed self.now)).dtype };
 
-    /// The mask of a range without the rows of zones in which the expression is nowhere true: there are no zones.
+    /// The mask of a range without the rows of zones that the expression prunes, whatever the bound: the state in which
+    /// nothing was asked for. It reads zones alone, and nothing where the expression has no proof; a segment and a dictionary
+    /// have no zones.
     fn pruning_evaluation(
         &self,
         alloc: Global,
@@ -40,7 +41,7 @@ pub trait LayoutReader<'a>: RegistersSplits {
         requires masked { length mask ≡ rows.end - rows.start }
         requires bound { IsBoundTo expression.now (reader_head (borrowed self.now)).dtype }
         requires bool { IsBool expression.now.dtype }
-        ensures { IfOk result (λ state. IsMask mask state.masking) };
+        ensures { IfOk result (λ state. PrunesOver (borrowed self.now) rows.start mask expression.now state.masking) };
 
     /// The mask's rows of a range at which the expression is true: the state in which nothing was asked for. The number of
     /// each row counts as 0.
@@ -109,7 +110,7 @@ impl<'a> LayoutReader<'a> for FlatReader<'a> {
         expression: &'a BoundExpression,
         mask: Mask,
     ) -> Result<MaskState<'a>, AllocError> {
-        Ok(MaskState::known(mask))
+        self.over.prune(alloc, rows, expression, mask)
     }
 
     fn filter_evaluation(
@@ -168,7 +169,7 @@ impl<'a> LayoutReader<'a> for ChunkedReader<'a> {
         expression: &'a BoundExpression,
         mask: Mask,
     ) -> Result<MaskState<'a>, AllocError> {
-        Ok(MaskState::known(mask))
+        self.over.prune(alloc, rows, expression, mask)
     }
 
     fn filter_evaluation(
@@ -227,7 +228,7 @@ impl<'a> LayoutReader<'a> for DictReader<'a> {
         expression: &'a BoundExpression,
         mask: Mask,
     ) -> Result<MaskState<'a>, AllocError> {
-        Ok(MaskState::known(mask))
+        self.over.prune(alloc, rows, expression, mask)
     }
 
     fn filter_evaluation(
@@ -263,6 +264,7 @@ impl<'a> RegistersSplits for Reader<'a> {
             Reader::Flat(reader) => reader.row_count(),
             Reader::Chunked(reader) => reader.row_count(),
             Reader::Dict(reader) => reader.row_count(),
+            Reader::Zoned(reader) => reader.row_count(),
         }
     }
 
@@ -276,6 +278,7 @@ impl<'a> RegistersSplits for Reader<'a> {
             Reader::Flat(reader) => reader.register_splits(field_mask, range, splits),
             Reader::Chunked(reader) => reader.register_splits(field_mask, range, splits),
             Reader::Dict(reader) => reader.register_splits(field_mask, range, splits),
+            Reader::Zoned(reader) => reader.register_splits(field_mask, range, splits),
         }
     }
 }
@@ -288,6 +291,7 @@ impl<'a> LayoutReader<'a> for Reader<'a> {
             Reader::Flat(reader) => reader.dtype(),
             Reader::Chunked(reader) => reader.dtype(),
             Reader::Dict(reader) => reader.dtype(),
+            Reader::Zoned(reader) => reader.dtype(),
         }
     }
 
@@ -302,6 +306,7 @@ impl<'a> LayoutReader<'a> for Reader<'a> {
             Reader::Flat(reader) => reader.pruning_evaluation(alloc, rows, expression, mask),
             Reader::Chunked(reader) => reader.pruning_evaluation(alloc, rows, expression, mask),
             Reader::Dict(reader) => reader.pruning_evaluation(alloc, rows, expression, mask),
+            Reader::Zoned(reader) => reader.pruning_evaluation(alloc, rows, expression, mask),
         }
     }
 
@@ -316,6 +321,7 @@ impl<'a> LayoutReader<'a> for Reader<'a> {
             Reader::Flat(reader) => reader.filter_evaluation(alloc, rows, expression, mask),
             Reader::Chunked(reader) => reader.filter_evaluation(alloc, rows, expression, mask),
             Reader::Dict(reader) => reader.filter_evaluation(alloc, rows, expression, mask),
+            Reader::Zoned(reader) => reader.filter_evaluation(alloc, rows, expression, mask),
         }
     }
 
@@ -330,6 +336,7 @@ impl<'a> LayoutReader<'a> for Reader<'a> {
             Reader::Flat(reader) => reader.projection_evaluation(alloc, rows, expression, mask),
             Reader::Chunked(reader) => reader.projection_evaluation(alloc, rows, expression, mask),
             Reader::Dict(reader) => reader.projection_evaluation(alloc, rows, expression, mask),
+            Reader::Zoned(reader) => reader.projection_evaluation(alloc, rows, expression, mask),
         }
     }
 }

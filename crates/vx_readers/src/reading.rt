@@ -11,7 +11,7 @@ use crate::states::ColumnState;
 use std::alloc::{AllocError, AllocFailed};
 use thiserror::Error;
 use vx_base::{Column, SegmentSource};
-use vx_reads::ReaderError;
+use vx_reads::{ColumnPieces, ReaderError};
 
 /// Why rows were not read to their end.
 #[derive(Clone, Copy, Debug, PartialEq, Eq, Error)]
@@ -69,13 +69,32 @@ pub fn read_range<S: SegmentSource>(
     requires { AreInFlight state.evaluation.locations state.evaluation.reads (S.state source.old).in_flight }
     ensures { ReadsRange idle_limit result state.entry.evaluation (S.state source.old) (S.state source.new) }
 {
+    let alloc = state.evaluation.alloc();
+    match read_pieces(state, source, idle_limit) {
+        Ok(pieces) => match pieces.into_column(alloc) {
+            Ok(column) => Ok(column),
+            Err(_) => Err(ReadRowsError::Memory),
+        },
+        Err(error) => Err(error),
+    }
+}
+
+/// The same, where the answer is the column in pieces.
+pub(crate) fn read_pieces<S: SegmentSource>(
+    state: ColumnState<'_>,
+    source: &mut S,
+    idle_limit: u64,
+) -> Result<ColumnPieces, ReadRowsError>
+    requires { AreInFlight state.evaluation.locations state.evaluation.reads (S.state source.old).in_flight }
+    ensures { ReadsRange idle_limit result state.entry.evaluation (S.state source.old) (S.state source.new) }
+{
     let mut state = state;
     for turn in 0..idle_limit {
         let _polls = turn;
-        match state.poll(source) {
-            Ok(Progress::Ready(column)) => {
+        match state.poll_pieces(source) {
+            Ok(Progress::Ready(pieces)) => {
                 source.clear();
-                return Ok(column);
+                return Ok(pieces);
             }
             Ok(Progress::Pending(next)) => state = next,
             Err(error) => {

@@ -6,8 +6,9 @@ ghost use Rattle.vx_readers.specs.States.{ColumnPollGives, IsMask, IsStarted, Ma
 use crate::evaluations::{Evaluating, Turn};
 use crate::filterings::Filtering;
 use crate::progress::Progress;
+use crate::prunings::Pruning;
 use vx_base::{Column, Mask, SegmentSource};
-use vx_reads::ReaderError;
+use vx_reads::{ColumnPieces, ReaderError};
 
 /// An expression that is projected over selected rows.
 #[derive(Drop)]
@@ -25,10 +26,29 @@ impl<'a> ColumnState<'a> {
         requires { AreInFlight self.evaluation.locations self.evaluation.reads (S.state source.old).in_flight }
         ensures { ColumnPollGives result self.entry.evaluation (S.state source.old) (S.state source.new) }
     {
+        let alloc = self.evaluation.alloc();
+        match self.poll_pieces(source) {
+            Ok(Progress::Ready(pieces)) => match pieces.into_column(alloc) {
+                Ok(column) => Ok(Progress::Ready(column)),
+                Err(_) => Err(ReaderError::Memory),
+            },
+            Ok(Progress::Pending(next)) => Ok(Progress::Pending(next)),
+            Err(error) => Err(error),
+        }
+    }
+
+    /// The same, where the answer is the column in pieces.
+    pub(crate) fn poll_pieces<S: SegmentSource>(
+        self,
+        source: &mut S,
+    ) -> Result<Progress<ColumnPieces, ColumnState<'a>>, ReaderError>
+        requires { AreInFlight self.evaluation.locations self.evaluation.reads (S.state source.old).in_flight }
+        ensures { ColumnPollGives result self.entry.evaluation (S.state source.old) (S.state source.new) }
+    {
         match self.evaluation.turn(source) {
             Ok(Turn::Waits(evaluation)) => Ok(Progress::Pending(ColumnState { evaluation })),
-            Ok(Turn::Came(evaluation)) => match evaluation.column() {
-                Ok(column) => Ok(Progress::Ready(column)),
+            Ok(Turn::Came(evaluation)) => match evaluation.pieces() {
+                Ok(pieces) => Ok(Progress::Ready(pieces)),
                 Err(error) => Err(error),
             },
             Err(error) => Err(error),
@@ -36,16 +56,18 @@ impl<'a> ColumnState<'a> {
     }
 }
 
-/// A mask over rows: one that is known, or what a filter makes of one.
+/// A mask over rows: one that is known, or what a filter makes of one, or what zones leave of one.
 #[derive(Drop)]
 pub enum Masking<'a> {
     /// The mask.
     Known(Mask),
     /// An expression, at whose rows the mask is kept where it is true.
     Filters(Filtering<'a>),
+    /// An expression, of whose zones the mask loses those that it prunes.
+    Prunes(Pruning<'a>),
 }
 
-/// A mask that is filtered.
+/// A mask that is filtered, or pruned.
 #[derive(Drop)]
 pub struct MaskState<'a> {
     pub(crate) masking: Masking<'a>,
@@ -76,6 +98,13 @@ impl<'a> MaskState<'a> {
                 Ok(Progress::Ready(kept)) => Ok(Progress::Ready(kept)),
                 Ok(Progress::Pending(next)) => Ok(Progress::Pending(MaskState {
                     masking: Masking::Filters(next),
+                })),
+                Err(error) => Err(error),
+            },
+            Masking::Prunes(pruning) => match pruning.poll(source) {
+                Ok(Progress::Ready(kept)) => Ok(Progress::Ready(kept)),
+                Ok(Progress::Pending(next)) => Ok(Progress::Pending(MaskState {
+                    masking: Masking::Prunes(next),
                 })),
                 Err(error) => Err(error),
             },

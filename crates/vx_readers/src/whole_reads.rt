@@ -1,6 +1,6 @@
 //! Reading all rows of a reader: once, and then cut where the splits begin and end.
 
-ghost use Rattle.std.specs.Prelude.{◌≡◌, ◌<◌, ◌≤◌, length, IfOk, IsFalse};
+ghost use Rattle.std.specs.Prelude.{◌≡◌, ◌<◌, ◌≤◌, get_or, length, IfOk, IsFalse};
 ghost use Rattle.vx_expr.specs.Bound.{IsBoundTo};
 ghost use Rattle.vx_expr.specs.Mentions.{uses_row_number};
 ghost use Rattle.vx_readers.specs.ReaderData.{reader_head};
@@ -9,14 +9,16 @@ ghost use Rattle.vx_readers.specs.WholeReads.{AreSplitColumns, AreWithin, IsPart
 
 use crate::layout_readers::Reader;
 use crate::reader_traits::LayoutReader;
-use crate::reading::{ReadRowsError, read_range};
+use crate::reading::{ReadRowsError, read_pieces};
+use crate::uncut_rows::UncutRows;
 use std::alloc::{AllocError, Global};
 use std::ops::Range;
 use vx_base::{Column, Mask, SegmentSource};
 use vx_expr::BoundExpression;
+use vx_reads::ColumnPieces;
 use vx_split_rules::{RegistersSplits, SplitBy, SplitError};
 
-/// The expression's column over all rows of a range.
+/// The expression's column over all rows of a range, in pieces.
 fn read_all<'a, S: SegmentSource>(
     alloc: Global,
     reader: &Reader<'a>,
@@ -24,7 +26,7 @@ fn read_all<'a, S: SegmentSource>(
     projection: &'a BoundExpression,
     source: &mut S,
     idle_limit: u64,
-) -> Result<Column, ReadRowsError>
+) -> Result<ColumnPieces, ReadRowsError>
     requires forwards { rows.start ≤ rows.end }
     requires inside { rows.end ≤ (reader_head (reader_data reader.now)).rows }
     requires bound { IsBoundTo projection.now (reader_head (reader_data reader.now)).dtype }
@@ -32,23 +34,25 @@ fn read_all<'a, S: SegmentSource>(
 {
     let mask = Mask::new_true(alloc, rows.end - rows.start)?;
     match reader.projection_evaluation(alloc, rows, projection, mask) {
-        Ok(state) => read_range(state, source, idle_limit),
+        Ok(state) => read_pieces(state, source, idle_limit),
         Err(_) => Err(ReadRowsError::Memory),
     }
 }
 
-/// The rows of the column between each two neighbours of the splits. Where these are all rows of it, none is copied.
-fn cut(alloc: Global, whole: Column, splits: &[u64]) -> Result<Vec<Column>, AllocError>
-    requires { AreWithin (length whole.values) splits.now }
+/// The rows of the column between each two neighbours of the splits, which begin with its first row. Where these are all
+/// rows of one of its pieces, none is copied.
+fn cut(alloc: Global, whole: ColumnPieces, splits: &[u64]) -> Result<Vec<Column>, AllocError>
+    requires first { get_or splits.now 0 0 ≡ 0 }
+    requires within { AreWithin (length whole.values) splits.now }
     ensures { IfOk result (λ columns. AreSplitColumns (IsPartOf whole) splits.now columns.items) }
 {
-    let shared = whole.share(alloc)?;
+    let mut rest = UncutRows::of(alloc, whole)?;
     let mut columns = Vec::new(alloc);
     for place in 1..splits.len() {
-        let part = shared.slice(alloc, splits[place - 1]..splits[place])?;
+        let part = rest.next_rows(alloc, splits[place] - splits[place - 1])?;
         columns.push(part)?;
     }
-    drop(shared);
+    drop(rest);
     Ok(columns)
 }
 

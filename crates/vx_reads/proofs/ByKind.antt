@@ -1,6 +1,6 @@
 -- What a node's column is, by the kind of the node.
 use Rattle.std.proofs.Common.{◌≡◌, ℕ, zero, suc, ◌+◌, ◌-◌, ◌<◌, ◌≤◌, Bool, true, List, [], ◌∷◌, ◌++◌, Option, Some, Result, Ok, Err, length, map, drop, replicate, get_or, refl, ◌⊎◌, inl, inr, sym, ap, ◌∙◌, subst, arith}
-use Rattle.std.specs.Prelude.{IfOk, IfErr, IfSome}
+use Rattle.std.specs.Prelude.{IfOk, IfErr, IfSome, OnOk}
 use Rattle.std.specs.List.{slice_get}
 use Rattle.std.proofs.lemmas.Bool.{cases_lt}
 use Rattle.std.proofs.lemmas.Option.{slice_get-get_or}
@@ -10,15 +10,16 @@ use Rattle.vx_base.specs.Data.{DataType, Datum}
 use Rattle.vx_layout.specs.Kept.{all}
 use Rattle.vx_layout.specs.Nodes.{Node}
 use Rattle.vx_layout.specs.Rows.{derivation, derivation_in, rows_in}
-use Rattle.vx_layout.specs.Trees.{Tree, leaf, chunks, dict, Forest, head_of, subtree}
+use Rattle.vx_layout.specs.Trees.{Tree, leaf, chunks, dict, zoned, Forest, head_of, subtree}
 use Rattle.vx_layout.specs.Sound.{AreChunks}
 use Rattle.vx_rows.specs.Heads.{Head}
+use Rattle.vx_rows.specs.Zones.{Zones}
 use Rattle.vx_rows.specs.SegmentLeaves.{Bytes}
 use Rattle.vx_picking.specs.declared.errors.LookUpError.{LookUpError}
 use Rattle.vx_reads.specs.declared.errors.ReaderError.{ReaderError}
 use Rattle.vx_reads.specs.Errors.{look_up_fault}
 use Rattle.vx_reads.specs.declared.reads.SegmentRead.{SegmentRead}
-use Rattle.vx_reads.specs.Computed.{row_value, AreRowsBy, Fails, IsLeafBy, IsLeafFault, RowsBy}
+use Rattle.vx_reads.specs.Computed.{row_value, AddsRows, AreRowsBy, Fails, IsLeafBy, IsLeafFault, RowsBy}
 use Rattle.vx_reads.specs.Came.{first_bytes, Begin}
 use Rattle.vx_reads.specs.Needed.{needed}
 use Rattle.vx_reads.specs.Readable.{tree_head, trees_of}
@@ -79,6 +80,12 @@ pub chunks_cause : (result : Result ColumnData ReaderError) (t : Tree) (head : H
 chunks_cause (Ok column) t head forest start count reads is by = tt
 chunks_cause (Err fault) t head forest start count reads is by = subst (λ (t : Tree). Fails reads (derivation t all) start count fault) (sym is) by
 
+pub chunks_added : (result : Result (Unit {0}) ReaderError) (t : Tree) (head : Head) (forest : Forest) (dtype : DataType) (start : ℕ) (bits : List Bool) (reads : List SegmentRead) (old new : List ColumnData) → t ≡ chunks head forest → OnOk result (AddsRows reads dtype (derivation_in forest all) start bits old new) → OnOk result (AddsRows reads dtype (derivation t all) start bits old new)
+chunks_added result t head forest dtype start bits reads old new is added = subst (λ (t : Tree). OnOk result (AddsRows reads dtype (derivation t all) start bits old new)) (sym is) added
+
+pub chunks_failed : (result : Result (Unit {0}) ReaderError) (t : Tree) (head : Head) (forest : Forest) (start count : ℕ) (reads : List SegmentRead) → t ≡ chunks head forest → IfErr result (Fails reads (derivation_in forest all) start count) → IfErr result (Fails reads (derivation t all) start count)
+chunks_failed result t head forest start count reads is failed = subst (λ (t : Tree). IfErr result (Fails reads (derivation t all) start count)) (sym is) failed
+
 -- the chunk at a place
 pub chunk_there : (xs : List ℕ) (place : ℕ) → place < length xs → slice_get xs place ≡ Some (get_or xs place 0)
 chunk_there xs place lt = slice_get-get_or xs place 0 lt
@@ -107,6 +114,30 @@ fits_left nodes ns place chunk row done end mask at here fits =
     by : (end < length mask) ⊎ (length mask ≤ end) → rows_in (trees_of nodes (drop place ns)) ≡ (tree_head nodes chunk).rows + rows_in (trees_of nodes (drop (place + 1) ns)) → (row - (tree_head nodes chunk).rows) + (length mask - end) ≤ rows_in (trees_of nodes (drop (place + 1) ns))
     by (inl lt) both = let whole = here.whole lt in omega arith
     by (inr le) both = omega arith
+
+-- ---- data in zones
+
+pub zoned_needed : (t : Tree) (head : Head) (zones : Zones) (content table : Tree) (start : ℕ) (bits : List Bool) → t ≡ zoned head zones content table → needed t start bits ≡ needed content start bits
+zoned_needed t head zones content table start bits is = ap (λ (t : Tree). needed t start bits) is
+
+pub zoned_dtype : (result : Result ColumnData ReaderError) (t s : DataType) → t ≡ s → IfOk result (λ column. column.dtype ≡ t) → IfOk result (λ column. column.dtype ≡ s)
+zoned_dtype (Err fault) t s same by = tt
+zoned_dtype (Ok column) t s same by = by ∙ same
+
+pub zoned_values : (result : Result ColumnData ReaderError) (t : Tree) (head : Head) (zones : Zones) (content table : Tree) (start : ℕ) (bits : List Bool) (reads : List SegmentRead) → t ≡ zoned head zones content table → IfOk result (λ column. AreRowsBy reads (derivation content all) start bits column.values) → IfOk result (λ column. AreRowsBy reads (derivation t all) start bits column.values)
+zoned_values (Err fault) t head zones content table start bits reads is by = tt
+zoned_values (Ok column) t head zones content table start bits reads is by = subst (λ (t : Tree). AreRowsBy reads (derivation t all) start bits column.values) (sym is) by
+
+pub zoned_cause : (result : Result ColumnData ReaderError) (t : Tree) (head : Head) (zones : Zones) (content table : Tree) (start count : ℕ) (reads : List SegmentRead) → t ≡ zoned head zones content table → IfErr result (Fails reads (derivation content all) start count) → IfErr result (Fails reads (derivation t all) start count)
+zoned_cause (Ok column) t head zones content table start count reads is by = tt
+zoned_cause (Err fault) t head zones content table start count reads is by = subst (λ (t : Tree). Fails reads (derivation t all) start count fault) (sym is) by
+
+pub zoned_added : (result : Result (Unit {0}) ReaderError) (t : Tree) (head : Head) (zones : Zones) (content table : Tree) (s dtype : DataType) (start : ℕ) (bits : List Bool) (reads : List SegmentRead) (old new : List ColumnData) → t ≡ zoned head zones content table → s ≡ dtype → OnOk result (AddsRows reads s (derivation content all) start bits old new) → OnOk result (AddsRows reads dtype (derivation t all) start bits old new)
+zoned_added result t head zones content table s dtype start bits reads old new is same added =
+    subst (λ (t : Tree). OnOk result (AddsRows reads dtype (derivation t all) start bits old new)) (sym is) (subst (λ (s : DataType). OnOk result (AddsRows reads s (derivation content all) start bits old new)) same added)
+
+pub zoned_failed : (result : Result (Unit {0}) ReaderError) (t : Tree) (head : Head) (zones : Zones) (content table : Tree) (start count : ℕ) (reads : List SegmentRead) → t ≡ zoned head zones content table → IfErr result (Fails reads (derivation content all) start count) → IfErr result (Fails reads (derivation t all) start count)
+zoned_failed result t head zones content table start count reads is failed = subst (λ (t : Tree). IfErr result (Fails reads (derivation t all) start count)) (sym is) failed
 
 -- ---- a dictionary
 

@@ -1,5 +1,5 @@
 -- The column of selected rows, kind by kind, and the faults of ranges.
-use Rattle.std.proofs.Common.{◌≡◌, ℕ, zero, suc, ◌+◌, ◌-◌, ◌<◌, ◌≤◌, inl, pos, negsuc, ◌≤ℤ◌, Bool, true, List, [], ◌∷◌, ◌++◌, Option, Some, None, length, map, take, replicate, refl, sym, ap, ◌∙◌, subst, arith, append-nil}
+use Rattle.std.proofs.Common.{◌≡◌, ℕ, zero, suc, ◌+◌, ◌-◌, ◌<◌, ◌≤◌, inl, pos, negsuc, ◌≤ℤ◌, Bool, true, List, [], ◌∷◌, ◌++◌, Option, Some, None, length, map, take, replicate, refl, sym, ap, ◌∙◌, subst, arith, append_assoc, append-nil}
 use Rattle.std.specs.Prelude.{slice_range, All, IsSomeAnd, IfSome, option_and_then}
 use Rattle.std.specs.List.{slice_get, range_with_len, AllByRecursion}
 use Rattle.std.proofs.lemmas.Grind.{flat_map-append}
@@ -64,9 +64,9 @@ all_behind : (P : ColumnData → Type 0) (xs ys : List ColumnData) → AllByRecu
 all_behind P [] ys left right = right
 all_behind P (x ∷ xs) ys left right = (left.0, all_behind P xs ys left.1 right)
 
-pub adds_then : (reads : List SegmentRead) (t : DataType) (r r2 : RowsBy) (start row done end : ℕ) (mask : List Bool) (parts new : List ColumnData) → done ≤ end → end ≤ length mask → ((i : ℕ) → i < end - done → r (start + (done + i)) ≡ r2 (row + i)) →
-    AddsRows reads t r start (take done mask) [] parts → AddsRows reads t r2 row (slice_range mask done end) parts new → AddsRows reads t r start (take end mask) [] new
-adds_then reads t r r2 start row done end mask parts new forwards inside alike first second =
+pub adds_then : (reads : List SegmentRead) (t : DataType) (r r2 : RowsBy) (start row done end : ℕ) (mask : List Bool) (old parts new : List ColumnData) → done ≤ end → end ≤ length mask → ((i : ℕ) → i < end - done → r (start + (done + i)) ≡ r2 (row + i)) →
+    AddsRows reads t r start (take done mask) old parts → AddsRows reads t r2 row (slice_range mask done end) parts new → AddsRows reads t r start (take end mask) old new
+adds_then reads t r r2 start row done end mask old parts new forwards inside alike first second =
     let joined : values_in (first.more ++ second.more) ≡ values_in first.more ++ values_in second.more = flat_map-append (λ (p : ColumnData). p.values) first.more second.more in
     let e : done + (end - done) ≡ end = omega arith in
     let some : List Bool = slice_range mask done end in
@@ -74,7 +74,7 @@ adds_then reads t r r2 start row done end mask parts new forwards inside alike f
     let count : true_count (take end mask) ≡ true_count (take done mask) + true_count some = ap (λ (k : ℕ). true_count (take k mask)) (sym e) ∙ count_more mask done (end - done) ∙ ap (λ (k : ℕ). true_count (take done mask) + true_count (slice_range mask done k)) e in
     record {
       more = first.more ++ second.more;
-      parts = second.parts ∙ ap (λ (xs : List ColumnData). xs ++ second.more) first.parts;
+      parts = second.parts ∙ ap (λ (xs : List ColumnData). xs ++ second.more) first.parts ∙ append_assoc old first.more second.more;
       dtypes = all_behind (λ (part : ColumnData). part.dtype ≡ t) first.more second.more first.dtypes second.dtypes;
       rows = omega (arith, ap length joined, length-append (values_in first.more) (values_in second.more), first.rows, second.rows, count);
       values = λ bytes have. both bytes joined bits_are (first.values bytes have) (second.values bytes have);
@@ -99,6 +99,22 @@ adds_none reads t r start bits parts none count = record {
   rows = sym count;
   values = λ bytes have. ap (map (row_value bytes r)) none;
 }
+
+-- Columns of the dtype have the values of the selected rows.
+pub record AreColumnsOf (reads : List SegmentRead) (t : DataType) (r : RowsBy) (start : ℕ) (bits : List Bool) (parts : List ColumnData) : Type 0 where
+  pub dtypes : AllByRecursion (λ part. part.dtype ≡ t) parts
+  pub rows : length (values_in parts) ≡ true_count bits
+  pub values : AreRowsBy reads r start bits (values_in parts)
+
+-- where none stood before them
+pub only_added : (reads : List SegmentRead) (t : DataType) (r : RowsBy) (start : ℕ) (bits : List Bool) (old new : List ColumnData) → old ≡ [] → AddsRows reads t r start bits old new → AreColumnsOf reads t r start bits new
+only_added reads t r start bits old new none added =
+    let same : new ≡ added.more = added.parts ∙ ap (λ (xs : List ColumnData). xs ++ added.more) none in
+    record {
+      dtypes = subst (AllByRecursion (λ (part : ColumnData). part.dtype ≡ t)) (sym same) added.dtypes;
+      rows = ap (λ (xs : List ColumnData). length (values_in xs)) same ∙ added.rows;
+      values = subst (λ (xs : List ColumnData). AreRowsBy reads r start bits (values_in xs)) (sym same) added.values;
+    }
 
 pub adds_one : (reads : List SegmentRead) (t : DataType) (r : RowsBy) (start : ℕ) (bits : List Bool) (parts new : List ColumnData) (part : ColumnData) → new ≡ parts ++ part ∷ [] → part.dtype ≡ t → length part.values ≡ true_count bits → AreRowsBy reads r start bits part.values → AddsRows reads t r start bits parts new
 adds_one reads t r start bits parts new part pushed dtype rows values =

@@ -10,6 +10,8 @@ pub mod Ranges
 pub mod Chunking
 pub mod Computing
 pub mod ByKind
+pub mod FieldTrees
+pub mod FieldColumns
 pub mod Projecting
 pub mod Filtering
 pub mod Knowing

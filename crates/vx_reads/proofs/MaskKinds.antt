@@ -18,10 +18,11 @@ use Rattle.vx_expr.specs.Types.{on_both}
 use Rattle.vx_layout.specs.Kept.{all}
 use Rattle.vx_layout.specs.Nodes.{Node}
 use Rattle.vx_layout.specs.Rows.{derivation, derivation_in}
-use Rattle.vx_layout.specs.Trees.{Tree, leaf, chunks, dict, Forest, head_of, subtree}
+use Rattle.vx_layout.specs.Trees.{Tree, leaf, chunks, fields, dict, zoned, Forest, Validity, head_of, subtree}
 use Rattle.vx_rows.specs.Derivations.{derived_each, each_row, look_up}
 use Rattle.vx_rows.specs.Heads.{Head}
 use Rattle.vx_rows.specs.SegmentLeaves.{Bytes, leaves_of}
+use Rattle.vx_rows.specs.Zones.{Zones}
 use Rattle.vx_picking.specs.declared.errors.LookUpError.TheVariants as looked
 use Rattle.vx_picking.specs.RowFaults.{root_meaning, IsEvalFault}
 use Rattle.vx_picking.specs.Rows.{rows_of, selects_some, AreOf}
@@ -167,6 +168,43 @@ rows_fail (BadSegment segment) reads r t e start first bits fails bytes have = f
 rows_fail (BadCode node row) reads r t e start first bits fails bytes have = fails bytes have
 rows_fail (NoLocation segment) reads r t e start first bits fails bytes have = fails bytes have
 rows_fail Memory reads r t e start first bits fails bytes have = fails bytes have
+
+-- ---- data in zones
+
+pub zoned_keeps : (result : Result (List Bool) ReaderError) (t : Tree) (head : Head) (zones : Zones) (content table : Tree) (dtype : DataType) (e : Term) (start : ℕ) (bits : List Bool) (reads : List SegmentRead) → t ≡ zoned head zones content table → (head_of content).dtype ≡ dtype → IfOk result (AreKeptBy reads (derivation content all) (head_of content).dtype e start bits) → IfOk result (AreKeptBy reads (derivation t all) dtype e start bits)
+zoned_keeps (Err fault) t head zones content table dtype e start bits reads is typed by = tt
+zoned_keeps (Ok kept) t head zones content table dtype e start bits reads is typed by =
+    subst (λ (t : Tree). AreKeptBy reads (derivation t all) dtype e start bits kept) (sym is) (subst (λ (s : DataType). AreKeptBy reads (derivation content all) s e start bits kept) typed by)
+
+zoned_fault : (fault : ReaderError) (head : Head) (zones : Zones) (content table : Tree) (dtype : DataType) (e : Term) (start first : ℕ) (bits : List Bool) (reads : List SegmentRead) → FilterFails reads content dtype e start first bits fault → FilterFails reads (zoned head zones content table) dtype e start first bits fault
+zoned_fault (EvalFault number) head zones content table dtype e start first bits reads fails bytes have = fails bytes have
+zoned_fault ReadFault head zones content table dtype e start first bits reads fails bytes have = fails bytes have
+zoned_fault (BadSegment segment) head zones content table dtype e start first bits reads fails bytes have = fails bytes have
+zoned_fault (BadCode node row) head zones content table dtype e start first bits reads fails bytes have = fails bytes have
+zoned_fault (NoLocation segment) head zones content table dtype e start first bits reads fails bytes have = fails bytes have
+zoned_fault Memory head zones content table dtype e start first bits reads fails bytes have = fails bytes have
+
+pub zoned_fails : (result : Result (List Bool) ReaderError) (t : Tree) (head : Head) (zones : Zones) (content table : Tree) (dtype : DataType) (e : Term) (start first : ℕ) (bits : List Bool) (reads : List SegmentRead) → t ≡ zoned head zones content table → (head_of content).dtype ≡ dtype → IfErr result (FilterFails reads content (head_of content).dtype e start first bits) → IfErr result (FilterFails reads t dtype e start first bits)
+zoned_fails (Ok kept) t head zones content table dtype e start first bits reads is typed by = tt
+zoned_fails (Err fault) t head zones content table dtype e start first bits reads is typed by =
+    subst (λ (t : Tree). FilterFails reads t dtype e start first bits fault) (sym is)
+    (zoned_fault fault head zones content table dtype e start first bits reads (subst (λ (s : DataType). FilterFails reads content s e start first bits fault) typed by))
+
+-- ---- a struct
+
+struct_fault : (fault : ReaderError) (head : Head) (forest : Forest) (validity : Validity) (dtype : DataType) (e : Term) (start first : ℕ) (bits : List Bool) (reads : List SegmentRead) → RowsFail reads (derivation (fields head forest validity) all) dtype e start first bits fault → FilterFails reads (fields head forest validity) dtype e start first bits fault
+struct_fault (EvalFault number) head forest validity dtype e start first bits reads fails bytes have = fails bytes have
+struct_fault ReadFault head forest validity dtype e start first bits reads fails bytes have = fails bytes have
+struct_fault (BadSegment segment) head forest validity dtype e start first bits reads fails bytes have = fails bytes have
+struct_fault (BadCode node row) head forest validity dtype e start first bits reads fails bytes have = fails bytes have
+struct_fault (NoLocation segment) head forest validity dtype e start first bits reads fails bytes have = fails bytes have
+struct_fault Memory head forest validity dtype e start first bits reads fails bytes have = fails bytes have
+
+pub struct_fails : (result : Result (List Bool) ReaderError) (t : Tree) (head : Head) (forest : Forest) (validity : Validity) (dtype : DataType) (e : Term) (start first : ℕ) (bits : List Bool) (reads : List SegmentRead) → t ≡ fields head forest validity → IfErr result (RowsFail reads (derivation t all) dtype e start first bits) → IfErr result (FilterFails reads t dtype e start first bits)
+struct_fails (Ok kept) t head forest validity dtype e start first bits reads is by = tt
+struct_fails (Err fault) t head forest validity dtype e start first bits reads is by =
+    subst (λ (t : Tree). FilterFails reads t dtype e start first bits fault) (sym is)
+    (struct_fault fault head forest validity dtype e start first bits reads (subst (λ (t : Tree). RowsFail reads (derivation t all) dtype e start first bits fault) is by))
 
 -- ---- a dictionary
 

@@ -28,16 +28,17 @@ pub record IsFiltered (bytes : Bytes) (r : RowsBy) (t : DataType) (e : Term) (st
   pub is : kept ≡ filtered (row_meaning bytes r t e) start bits
   pub known : EachRow (IsKnownAt bytes r t e) start bits
 
--- The number names a row at which the expression is worked out (at a leaf as over a column) and is a fault, counted from
--- the first one on; or, below a dictionary of which some row is selected, a row of the values over which a strict expression
--- is one.
+-- The number names a row at which the expression is worked out and is a fault, counted from the first one on: at a leaf as
+-- over a column, else at the selected rows; of data in zones as of the data. Or, below a dictionary of which some row is
+-- selected, it is that of a row of the values over which a strict expression is one.
 abbrev mutual
   pub FaultIn : Bytes → DataType → Term → Tree → ℕ → ℕ → List Bool → ℕ → Type 0
   FaultIn bytes t e (missing head) start first bits number = ⊥
   FaultIn bytes t e (leaf head segment coding) start first bits number =
       (place : ℕ) × IsWorkedOut bits place × (first + place ≡ number) × IsFaultAt bytes (derivation (leaf head segment coding) all) t e (start + place)
   FaultIn bytes t e (chunks head forest) start first bits number = FaultInChunks bytes t e forest start first bits number
-  FaultIn bytes t e (fields head forest validity) start first bits number = ⊥
+  FaultIn bytes t e (fields head forest validity) start first bits number =
+      (place : ℕ) × (slice_get bits place ≡ Some true) × (first + place ≡ number) × IsFaultAt bytes (derivation (fields head forest validity) all) t e (start + place)
   FaultIn bytes t e (dict head values codes) start first bits number =
       MatchBool (is_strict e) ((selects_some bits ≡ true) × (number < (head_of values).rows) × IsFaultAt bytes (derivation values all) t e number)
       ((place : ℕ) × (slice_get bits place ≡ Some true) × (first + place ≡ number) × IsFaultAt bytes (derivation (dict head values codes) all) t e (start + place))

@@ -5,6 +5,7 @@ pub mod Errors
 pub mod Readable
 pub mod Needed
 pub mod Computed
+pub mod Fielded
 pub mod Projected
 pub mod Truths
 pub mod FilterFaults

@@ -8,8 +8,9 @@ ghost use Rattle.vx_layout.specs.Trees.{subtree};
 ghost use Rattle.vx_rows.specs.SegmentLeaves.{Bytes};
 ghost use Rattle.vx_reads.specs.Computed.{AddsRows, AreRowsBy, Fails, IsLeafBy, IsLeafFault};
 ghost use Rattle.vx_reads.specs.Came.{first_bytes, Begin};
-ghost use Rattle.vx_reads.specs.Needed.{needed, needed_in, needed_of_range};
-ghost use Rattle.vx_reads.specs.Readable.{tree_head, trees_of, AreReadable, IsChunked, IsDict, IsLeafNode};
+ghost use Rattle.vx_reads.specs.Fielded.{AreColumnsBy};
+ghost use Rattle.vx_reads.specs.Needed.{needed, needed_in, needed_of_each, needed_of_range};
+ghost use Rattle.vx_reads.specs.Readable.{tree_head, trees_of, AreReadable, IsChunked, IsDict, IsLeafNode, IsStructNode};
 ghost use Rattle.vx_reads.specs.Errors.{IsOfBytes};
 ghost use Rattle.vx_picking.specs.Rows.{selects_some};
 
@@ -17,7 +18,9 @@ use crate::errors::ReaderError;
 use crate::faults::look_up_fault;
 use crate::needs::rows_here;
 use crate::parts::{NodeParts, dtype_at, empty_at, rows_at};
+use crate::pieces::ColumnPieces;
 use crate::reads::{ReadState, SegmentRead};
+use crate::structs::structs;
 use std::alloc::Global;
 use std::ops::Range;
 use vx_base::{Coding, Column, DecodeError, Mask, decode_as};
@@ -96,7 +99,7 @@ fn leaf_column(
 
 /// The selected rows of a node. `next` is the place of the first read that is theirs.
 #[cycle(columns)]
-pub(crate) fn column_of(
+pub fn column_of(
     alloc: Global,
     tree: &LayoutTree,
     node: u32,
@@ -130,6 +133,12 @@ pub(crate) fn column_of(
         NodeParts::Dict { codes, values } => {
             dict_column(alloc, tree, node, codes, values, start, mask, reads, next)
         }
+        NodeParts::Zoned { content, .. } => {
+            column_of(alloc, tree, content, start, mask, reads, next)
+        }
+        NodeParts::Struct { fields } => {
+            struct_column(alloc, tree, node, fields, start, mask, reads, next)
+        }
     }
 }
 
@@ -158,26 +167,56 @@ fn chunks_column(
     ensures passed { OnOk result (next.new ≡ next.old + length (needed_in (trees_of tree.now chunks.now) start mask.now)) }
 {
     let mut parts = Vec::new(alloc);
+    match add_chunks(
+        alloc, tree, node, chunks, start, mask, reads, next, &mut parts,
+    ) {
+        Ok(()) => {}
+        Err(error) => return Err(error),
+    }
+    let dtype = dtype_at(tree, node).copy(alloc)?;
+    Ok(Column::concat(alloc, dtype, parts)?)
+}
+
+/// Adds the columns of the selected rows of chunks, those of each behind those of the one before it.
+#[cycle(columns)]
+fn add_chunks(
+    alloc: Global,
+    tree: &LayoutTree,
+    node: u32,
+    chunks: &[u32],
+    start: u64,
+    mask: &Mask,
+    reads: &[SegmentRead],
+    next: &mut usize,
+    parts: &mut Vec<Column>,
+) -> Result<(), ReaderError>
+    requires known { node < length tree.now }
+    requires readable { AreReadable tree.now }
+    requires chunked { IsChunked tree.now node chunks.now }
+    requires inside { start + length mask.now ≤ (tree_head tree.now node).rows }
+    requires ready { Begin (needed_in (trees_of tree.now chunks.now) start mask.now) (drop next.old reads.now) }
+    ensures added { OnOk result (AddsRows reads.now (tree_head tree.now node).dtype (derivation_in (trees_of tree.now chunks.now) all) start mask.now parts.old.items parts.new.items) }
+    ensures cause { IfErr result (Fails reads.now (derivation_in (trees_of tree.now chunks.now) all) start (length mask.now)) }
+    ensures own { IfErr result IsOfBytes }
+    ensures passed { OnOk result (next.new ≡ next.old + length (needed_in (trees_of tree.now chunks.now) start mask.now)) }
+{
     let mut row = start;
     let mut done = 0;
     for chunk in chunks {
         let rows = rows_at(tree, *chunk);
         let here = rows_here(rows, row, done, mask.len());
         let end = here.end;
-        match add_range(
-            alloc, tree, *chunk, row, mask, here, reads, next, &mut parts,
-        ) {
+        match add_range(alloc, tree, *chunk, row, mask, here, reads, next, parts) {
             Ok(()) => {}
             Err(error) => return Err(error),
         }
         done = end;
         row = row.saturating_sub(rows);
     }
-    let dtype = dtype_at(tree, node).copy(alloc)?;
-    Ok(Column::concat(alloc, dtype, parts)?)
+    Ok(())
 }
 
-/// Adds the column of the rows that a range of the mask selects, where there are any.
+/// Adds the columns of the rows that a range of the mask selects, where there are any.
 #[cycle(columns)]
 fn add_range(
     alloc: Global,
@@ -208,13 +247,77 @@ fn add_range(
     if !selects_some(&some) {
         return Ok(());
     }
-    match column_of(alloc, tree, node, start, &some, reads, next) {
-        Ok(part) => {
-            parts.push(part)?;
-            Ok(())
-        }
+    match add_parts(alloc, tree, node, start, &some, reads, next, parts) {
+        Ok(()) => Ok(()),
         Err(error) => Err(error),
     }
+}
+
+/// Adds the columns of the selected rows of a node: of chunks those of each, and of any other node one.
+#[cycle(columns)]
+fn add_parts(
+    alloc: Global,
+    tree: &LayoutTree,
+    node: u32,
+    start: u64,
+    mask: &Mask,
+    reads: &[SegmentRead],
+    next: &mut usize,
+    parts: &mut Vec<Column>,
+) -> Result<(), ReaderError>
+    requires known { node < length tree.now }
+    requires readable { AreReadable tree.now }
+    requires inside { start + length mask.now ≤ (tree_head tree.now node).rows }
+    requires ready { Begin (needed (subtree tree.now node) start mask.now) (drop next.old reads.now) }
+    ensures added { OnOk result (AddsRows reads.now (tree_head tree.now node).dtype (derivation (subtree tree.now node) all) start mask.now parts.old.items parts.new.items) }
+    ensures cause { IfErr result (Fails reads.now (derivation (subtree tree.now node) all) start (length mask.now)) }
+    ensures own { IfErr result IsOfBytes }
+    ensures passed { OnOk result (next.new ≡ next.old + length (needed (subtree tree.now node) start mask.now)) }
+{
+    match NodeParts::of(tree, node) {
+        NodeParts::Chunks { chunks } => {
+            add_chunks(alloc, tree, node, chunks, start, mask, reads, next, parts)
+        }
+        NodeParts::Zoned { content, .. } => {
+            add_parts(alloc, tree, content, start, mask, reads, next, parts)
+        }
+        _ => match column_of(alloc, tree, node, start, mask, reads, next) {
+            Ok(part) => {
+                parts.push(part)?;
+                Ok(())
+            }
+            Err(error) => Err(error),
+        },
+    }
+}
+
+/// The selected rows of a node, in the columns that they come from. `next` is the place of the first read that is theirs.
+pub(crate) fn pieces_of(
+    alloc: Global,
+    tree: &LayoutTree,
+    node: u32,
+    start: u64,
+    mask: &Mask,
+    reads: &[SegmentRead],
+    next: &mut usize,
+) -> Result<ColumnPieces, ReaderError>
+    requires known { node < length tree.now }
+    requires readable { AreReadable tree.now }
+    requires inside { start + length mask.now ≤ (tree_head tree.now node).rows }
+    requires ready { Begin (needed (subtree tree.now node) start mask.now) (drop next.old reads.now) }
+    ensures dtype { IfOk result (λ column. column.dtype ≡ (tree_head tree.now node).dtype) }
+    ensures rows { IfOk result (λ column. length column.values ≡ true_count mask.now) }
+    ensures values { IfOk result (λ column. AreRowsBy reads.now (derivation (subtree tree.now node) all) start mask.now column.values) }
+    ensures cause { IfErr result (Fails reads.now (derivation (subtree tree.now node) all) start (length mask.now)) }
+    ensures own { IfErr result IsOfBytes }
+{
+    let mut parts = Vec::new(alloc);
+    match add_parts(alloc, tree, node, start, mask, reads, next, &mut parts) {
+        Ok(()) => {}
+        Err(error) => return Err(error),
+    }
+    let dtype = dtype_at(tree, node).copy(alloc)?;
+    Ok(ColumnPieces::of(dtype, parts))
 }
 
 /// The codes of the selected rows of a dictionary, and all of its values.
@@ -305,6 +408,71 @@ fn dict_column(
                 Ok(column) => Ok(column),
                 Err(error) => Err(look_up_fault(node, error)),
             }
+        }
+        Err(error) => Err(error),
+    }
+}
+
+/// A column of the selected rows of each field.
+#[cycle(columns)]
+fn field_columns(
+    alloc: Global,
+    tree: &LayoutTree,
+    node: u32,
+    fields: &[u32],
+    start: u64,
+    mask: &Mask,
+    reads: &[SegmentRead],
+    next: &mut usize,
+) -> Result<Vec<Column>, ReaderError>
+    requires known { node < length tree.now }
+    requires readable { AreReadable tree.now }
+    requires fields { IsStructNode tree.now node fields.now }
+    requires inside { start + length mask.now ≤ (tree_head tree.now node).rows }
+    requires ready { Begin (needed_of_each (trees_of tree.now fields.now) start mask.now) (drop next.old reads.now) }
+    ensures columns { IfOk result (λ columns. AreColumnsBy reads.now (trees_of tree.now fields.now) start mask.now columns.items) }
+    ensures cause { IfErr result (Fails reads.now (derivation (subtree tree.now node) all) start (length mask.now)) }
+    ensures own { IfErr result IsOfBytes }
+    ensures passed { OnOk result (next.new ≡ next.old + length (needed_of_each (trees_of tree.now fields.now) start mask.now)) }
+{
+    let mut columns = Vec::new(alloc);
+    for field in fields {
+        match column_of(alloc, tree, *field, start, mask, reads, next) {
+            Ok(column) => columns.push(column)?,
+            Err(error) => return Err(error),
+        }
+    }
+    Ok(columns)
+}
+
+/// The structs of the selected rows of the fields.
+#[cycle(columns)]
+fn struct_column(
+    alloc: Global,
+    tree: &LayoutTree,
+    node: u32,
+    fields: &[u32],
+    start: u64,
+    mask: &Mask,
+    reads: &[SegmentRead],
+    next: &mut usize,
+) -> Result<Column, ReaderError>
+    requires known { node < length tree.now }
+    requires readable { AreReadable tree.now }
+    requires fields { IsStructNode tree.now node fields.now }
+    requires inside { start + length mask.now ≤ (tree_head tree.now node).rows }
+    requires ready { Begin (needed (subtree tree.now node) start mask.now) (drop next.old reads.now) }
+    ensures dtype { IfOk result (λ column. column.dtype ≡ (tree_head tree.now node).dtype) }
+    ensures rows { IfOk result (λ column. length column.values ≡ true_count mask.now) }
+    ensures values { IfOk result (λ column. AreRowsBy reads.now (derivation (subtree tree.now node) all) start mask.now column.values) }
+    ensures cause { IfErr result (Fails reads.now (derivation (subtree tree.now node) all) start (length mask.now)) }
+    ensures own { IfErr result IsOfBytes }
+    ensures passed { OnOk result (next.new ≡ next.old + length (needed (subtree tree.now node) start mask.now)) }
+{
+    match field_columns(alloc, tree, node, fields, start, mask, reads, next) {
+        Ok(columns) => {
+            let made = structs(alloc, dtype_at(tree, node), columns, mask.true_count())?;
+            Ok(made)
         }
         Err(error) => Err(error),
     }

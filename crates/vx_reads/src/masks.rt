@@ -15,7 +15,7 @@ ghost use Rattle.vx_reads.specs.Readable.{tree_head, trees_of, AreReadable, IsCh
 use crate::columns::take_bytes;
 use crate::errors::ReaderError;
 use crate::needs::rows_here;
-use crate::node_masks::{dict_mask, leaf_mask};
+use crate::node_masks::{dict_mask, leaf_mask, looked_mask};
 use crate::parts::{NodeParts, rows_at};
 use crate::reads::SegmentRead;
 use std::alloc::Global;
@@ -96,6 +96,12 @@ fn mask_of(
         ),
         NodeParts::Dict { codes, values } => dict_mask(
             alloc, tree, node, codes, values, start, first, mask, expression, reads, next,
+        ),
+        NodeParts::Zoned { content, .. } => mask_of(
+            alloc, tree, content, start, first, mask, expression, reads, next,
+        ),
+        NodeParts::Struct { .. } => looked_mask(
+            alloc, tree, node, start, first, mask, expression, reads, next,
         ),
     }
 }

@@ -3,7 +3,7 @@
 ghost use Rattle.std.specs.Prelude.{◌≡◌, ◌+◌, ◌-◌, ◌<◌, ◌≤◌, ◌++◌, length, slice_range, All, IfOk};
 ghost use Rattle.vx_layout.specs.Shape.{IsLater};
 ghost use Rattle.vx_layout.specs.Trees.{subtree};
-ghost use Rattle.vx_reads.specs.Needed.{needed, needed_in, needed_of_range};
+ghost use Rattle.vx_reads.specs.Needed.{needed, needed_in, needed_of_each, needed_of_range};
 ghost use Rattle.vx_reads.specs.Readable.{trees_of, AreReadable};
 
 use crate::parts::{NodeParts, rows_at};
@@ -45,11 +45,37 @@ pub fn add_needs(
             let all = Mask::new_true(alloc, rows_at(tree, values))?;
             add_needs(alloc, tree, values, 0, &all, needs)
         }
+        NodeParts::Zoned { content, .. } => add_needs(alloc, tree, content, start, mask, needs),
+        NodeParts::Struct { fields } => add_field_needs(
+            alloc, tree, fields, node, start, mask, needs,
+        ),
     }
 }
 
+/// Adds the segments that the selected rows of each field need.
+#[cycle(needs)]
+fn add_field_needs(
+    alloc: Global,
+    tree: &LayoutTree,
+    fields: &[u32],
+    node: u32,
+    start: u64,
+    mask: &Mask,
+    needs: &mut Vec<u32>,
+) -> Result<(), AllocError>
+    requires known { node < length tree.now }
+    requires readable { AreReadable tree.now }
+    requires later { All (IsLater tree.now node) fields.now }
+    ensures { IfOk result (λ _. needs.new.items ≡ needs.old.items ++ needed_of_each (trees_of tree.now fields.now) start mask.now) }
+{
+    for field in fields {
+        add_needs(alloc, tree, *field, start, mask, needs)?;
+    }
+    Ok(())
+}
+
 /// The rows of a range that a chunk has: those before its end, which lies so many rows behind the first one.
-pub(crate) fn rows_here(rows: u64, start: u64, done: u64, len: u64) -> Range<u64>
+pub fn rows_here(rows: u64, start: u64, done: u64, len: u64) -> Range<u64>
     requires { done ≤ len }
     ensures start { result.start ≡ done }
     ensures forwards { result.start ≤ result.end }

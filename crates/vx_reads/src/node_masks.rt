@@ -76,7 +76,7 @@ pub(crate) fn leaf_mask(
 }
 
 /// Of the selected rows of a node those at which the expression is true, worked out over their column.
-fn looked_mask(
+pub(crate) fn looked_mask(
     alloc: Global,
     tree: &LayoutTree,
     node: u32,

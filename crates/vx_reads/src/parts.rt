@@ -6,17 +6,37 @@ ghost use Rattle.vx_reads.specs.Readable.{tree_head, AreReadable, PartsOf};
 
 use std::alloc::{AllocError, Global};
 use vx_base::{Coding, Column, DType};
+use vx_expr::Statistics;
 use vx_layout::{LayoutKind, LayoutTree};
 
 /// What a node is over, by the numbers of its children.
 #[derive(Drop)]
 pub enum NodeParts<'a> {
     /// A segment, and how it is coded.
-    Leaf { segment: u32, coding: Coding },
+    Leaf {
+        segment: u32,
+        coding: Coding,
+    },
     /// One child after another.
-    Chunks { chunks: &'a [u32] },
+    Chunks {
+        chunks: &'a [u32],
+    },
     /// The codes, and the values that they look up.
-    Dict { codes: u32, values: u32 },
+    Dict {
+        codes: u32,
+        values: u32,
+    },
+    /// Data, and zones of so many rows, which tell so much of each.
+    Zoned {
+        content: u32,
+        zones: u32,
+        zone_len: u64,
+        stats: &'a Statistics,
+    },
+    /// A child for each field of a struct that takes no nulls.
+    Struct {
+        fields: &'a [u32],
+    },
 }
 
 impl<'a> NodeParts<'a> {
@@ -38,6 +58,13 @@ impl<'a> NodeParts<'a> {
                 codes: children[1],
                 values: children[0],
             },
+            LayoutKind::Zoned { zone_len, stats } => NodeParts::Zoned {
+                content: children[0],
+                zones: children[1],
+                zone_len: *zone_len,
+                stats,
+            },
+            LayoutKind::Struct => NodeParts::Struct { fields: children },
             _ => unreachable!(),
         }
     }

@@ -12,18 +12,20 @@ ghost use Rattle.vx_reads.specs.Projected.{AreProjectedBy, ProjectionFails};
 ghost use Rattle.vx_reads.specs.Readable.{tree_head, AreReadable};
 ghost use Rattle.vx_reads.specs.Errors.{IsOfBytes};
 
-use crate::columns::column_of;
+use crate::columns::{column_of, pieces_of};
 use crate::errors::ReaderError;
 use crate::faults::apply_fault;
 use crate::parts::rows_at;
+use crate::pieces::ColumnPieces;
 use crate::reads::SegmentRead;
 use std::alloc::Global;
-use vx_base::{Column, Mask};
+use vx_base::Mask;
 use vx_expr::BoundExpression;
 use vx_layout::LayoutTree;
 use vx_picking::worked_out;
 
-/// The expression's column over the selected rows of a node, whose reads came. That of the root itself is not worked out.
+/// The expression's column over the selected rows of a node, whose reads came. That of the root itself is not worked out:
+/// it lies in the columns that its rows come from.
 pub fn projected(
     alloc: Global,
     tree: &LayoutTree,
@@ -32,7 +34,7 @@ pub fn projected(
     mask: &Mask,
     expression: &BoundExpression,
     reads: &[SegmentRead],
-) -> Result<Column, ReaderError>
+) -> Result<ColumnPieces, ReaderError>
     requires known { node < length tree.now }
     requires readable { AreReadable tree.now }
     requires inside { start + length mask.now ≤ (tree_head tree.now node).rows }
@@ -46,18 +48,21 @@ pub fn projected(
 {
     // The contract of `rows_at` says that the rows are so few that their numbers fit.
     let _rows = rows_at(tree, node);
+    // The contract of `dtype` says that the root itself has the dtype that it is bound to.
+    let _dtype = expression.dtype();
     let mut next = 0;
+    if expression.is_root() {
+        return match pieces_of(alloc, tree, node, start, mask, reads, &mut next) {
+            Ok(root) => Ok(root),
+            Err(error) => Err(error),
+        };
+    }
     match column_of(alloc, tree, node, start, mask, reads, &mut next) {
         Ok(root) => {
-            // The contract of `dtype` says that the root itself has the dtype that it is bound to.
-            let _dtype = expression.dtype();
-            if expression.is_root() {
-                return Ok(root);
-            }
             let made = worked_out(alloc, expression, &root, start, mask);
             drop(root);
             match made {
-                Ok(column) => Ok(column),
+                Ok(column) => Ok(ColumnPieces::whole(alloc, column)?),
                 Err(error) => Err(apply_fault(error)),
             }
         }

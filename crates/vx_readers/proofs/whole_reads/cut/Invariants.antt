@@ -1,6 +1,5 @@
-use Rattle.vx_readers.specs.WholeReads.{IsPartOf}
-use Rattle.vx_readers.proofs.WholeReading.{Gathers}
+use Rattle.vx_readers.proofs.Cutting.{CutsTo}
 use Rattle.vx_readers.proofs.whole_reads.cut.Given as goal
 
 abbrev pub invariant-loop-place : goal.invariant-loop-place
-invariant-loop-place l = Gathers (IsPartOf l.fn.whole) l.splits l.place l.columns.items
+invariant-loop-place l = CutsTo l.fn.whole l.rest l.splits l.place l.columns.items

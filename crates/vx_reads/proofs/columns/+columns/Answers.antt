@@ -7,17 +7,19 @@ use Rattle.std.proofs.lemmas.List.Elements.{All-head, All-tail}
 use Rattle.vx_base.specs.Columns.{ColumnData}
 use Rattle.vx_base.specs.Data.{DataType}
 use Rattle.vx_layout.specs.Kept.{all}
-use Rattle.vx_layout.specs.Rows.{derivation, derivation_in}
+use Rattle.vx_layout.specs.Rows.{derivation, derivation_in, struct_members}
 use Rattle.vx_layout.specs.Shape.{IsLater}
 use Rattle.vx_layout.specs.Trees.{subtree}
 use Rattle.vx_reads.specs.Computed.{AddsRows, AreRowsBy, Fails}
 use Rattle.vx_reads.specs.Came.{Begin}
-use Rattle.vx_reads.specs.Needed.{needed, needed_in, needed_of_range}
+use Rattle.vx_reads.specs.Needed.{needed, needed_in, needed_of_each, needed_of_range}
 use Rattle.vx_reads.specs.Readable.{tree_head, trees_of}
 use Rattle.vx_picking.specs.Rows.{selects_some}
 use Rattle.vx_reads.proofs.Chunking.{begin_left, begin_next, left_needed}
-use Rattle.vx_reads.proofs.ByKind.{alike_here, alike_left, chunk_dtype, chunk_there, chunks_cause, chunks_values, codes_failed, count_all, dict_cause, dict_needed, dict_values, fits_left, leaf_cause, leaf_values, none_by, values_failed}
+use Rattle.vx_reads.proofs.ByKind.{alike_here, alike_left, chunk_dtype, chunk_there, chunks_added, chunks_cause, chunks_failed, chunks_values, codes_failed, count_all, dict_cause, dict_needed, dict_values, fits_left, leaf_cause, leaf_values, none_by, values_failed, zoned_added, zoned_cause, zoned_dtype, zoned_failed, zoned_needed, zoned_values}
 use Rattle.vx_reads.proofs.Computing.{adds_none, adds_then, fails_up, finds_in_range}
+use Rattle.vx_reads.proofs.FieldColumns.{columns_more, struct_count, struct_parts_fit, struct_values}
+use Rattle.vx_reads.proofs.FieldTrees.{bare_struct, field_failed, field_rows, fields_left, struct_needed}
 use Rattle.vx_picking.proofs.MaskRanges.{length_between}
 use Rattle.vx_reads.proofs.Ranges.{IsHere}
 use Rattle.vx_picking.proofs.SelectedRows.{none_count, none_rows, some_long}
@@ -35,8 +37,8 @@ add_range-returns-clause-cause g c =
     let F : ℕ → Type 0 = λ count. Fails c.args.reads.now (derivation (subtree c.args.tree.now c.args.node) all) c.args.start count c.in-Err.error in
     subst F long c.in-Err.ensures.cause
 
-pub chunks_column-add_range-requires : goal.chunks_column-add_range-requires
-chunks_column-add_range-requires g c =
+pub add_chunks-add_range-requires : goal.add_chunks-add_range-requires
+add_chunks-add_range-requires g c =
     let nodes = c.args.tree.now in
     let chunk = get_or c.args.chunks.now c.loop-chunk.chunk-index 0 in
     let lt : c.loop-chunk.chunk-index < length c.args.chunks.now = c.loop-chunk-test.true in
@@ -57,8 +59,8 @@ chunks_column-add_range-requires g c =
     let ready = begin_left (needed_of_range (subtree nodes chunk) c.loop-chunk.row (slice_range c.args.mask.now c.loop-chunk.done c.rows_here-here.result.end)) _ _ (subst (λ (ns : List ℕ). Begin ns (drop c.loop-chunk.next c.args.reads.now)) needs c.loop-chunk.invariant.ready) in
     (omega arith, (known, (c.requires.readable, (c.rows_here-here.ensures.forwards, (omega (arith, c.rows_here-here.ensures.inside, c.len.ensures), (λ less. omega arith, rw done_is ready))))))
 
-pub chunks_column-returns-in-Err-clause-cause : goal.chunks_column-returns-in-Err-clause-cause
-chunks_column-returns-in-Err-clause-cause g c =
+pub add_chunks-returns-in-Err-clause-cause : goal.add_chunks-returns-in-Err-clause-cause
+add_chunks-returns-in-Err-clause-cause g c =
     let nodes = c.args.tree.now in
     let chunk = get_or c.args.chunks.now c.loop-chunk.chunk-index 0 in
     let lt : c.loop-chunk.chunk-index < length c.args.chunks.now = c.loop-chunk-test.true in
@@ -79,8 +81,8 @@ chunks_column-returns-in-Err-clause-cause g c =
     (alike_here nodes c.args.chunks.now c.loop-chunk.chunk-index chunk c.args.start c.loop-chunk.row c.loop-chunk.done c.rows_here-here.result.end c.args.mask.now at here c.loop-chunk.invariant.alike))
     c.in-Err.error (subst F done_is c.in-Err.ensures.cause)
 
-pub chunks_column-loop-chunk-preserved : goal.chunks_column-loop-chunk-preserved
-chunks_column-loop-chunk-preserved g c =
+pub add_chunks-loop-chunk-preserved : goal.add_chunks-loop-chunk-preserved
+add_chunks-loop-chunk-preserved g c =
     let nodes = c.args.tree.now in
     let chunk = get_or c.args.chunks.now c.loop-chunk.chunk-index 0 in
     let lt : c.loop-chunk.chunk-index < length c.args.chunks.now = c.loop-chunk-test.true in
@@ -107,16 +109,10 @@ chunks_column-loop-chunk-preserved g c =
       alike = rw row_is (alike_left nodes c.args.chunks.now c.loop-chunk.chunk-index chunk c.args.start c.loop-chunk.row c.loop-chunk.done c.rows_here-here.result.end c.args.mask.now at here c.loop-chunk.invariant.alike);
       ready = rw row_is (begin_next now rest c.args.reads.now c.loop-chunk.next c.add_range.new.next went (subst (λ (ns : List ℕ). Begin ns (drop c.loop-chunk.next c.args.reads.now)) needs c.loop-chunk.invariant.ready));
       passed = rw row_is (let all_needed = ap length needs ∙ length-append now rest in omega (arith, went, all_needed, c.loop-chunk.invariant.passed));
-      added = adds_then c.args.reads.now (tree_head nodes c.args.node).dtype r r2 c.args.start c.loop-chunk.row c.loop-chunk.done c.rows_here-here.result.end c.args.mask.now c.loop-chunk.parts.items _ here.forwards here.inside
+      added = adds_then c.args.reads.now (tree_head nodes c.args.node).dtype r r2 c.args.start c.loop-chunk.row c.loop-chunk.done c.rows_here-here.result.end c.args.mask.now c.args.parts.now.items c.loop-chunk.parts.items _ here.forwards here.inside
           (alike_here nodes c.args.chunks.now c.loop-chunk.chunk-index chunk c.args.start c.loop-chunk.row c.loop-chunk.done c.rows_here-here.result.end c.args.mask.now at here c.loop-chunk.invariant.alike)
           c.loop-chunk.invariant.added (subst (λ (t : DataType). AddsRows c.args.reads.now t r2 c.loop-chunk.row (slice_range c.args.mask.now c.loop-chunk.done c.rows_here-here.result.end) c.loop-chunk.parts.items c.add_range.new.parts.items) typed (rw done_is at c.in-Ok.ensures.added));
     }
-
-pub chunks_column-concat-requires : goal.chunks_column-concat-requires
-chunks_column-concat-requires g c =
-    let added = c.loop-chunk.invariant.added in
-    let F : DataType → Type 0 = λ t. AllByRecursion (λ (part : ColumnData). part.dtype ≡ t) c.loop-chunk.parts.items in
-    subst F (sym (c.in_ok-dtype.ensures ∙ c.dtype_at.ensures)) (subst (AllByRecursion (λ (part : ColumnData). part.dtype ≡ (tree_head c.args.tree.now c.args.node).dtype)) (sym added.parts) added.dtypes)
 
 pub column_of-returns-else-len-eq0-clause-values : goal.column_of-returns-else-len-eq0-clause-values
 column_of-returns-else-len-eq0-clause-values g c =
@@ -197,3 +193,113 @@ dict_column-returns-in-Ok-made-clause-values g c =
 pub dict_column-returns-in-Err-made-clause-cause : goal.dict_column-returns-in-Err-made-clause-cause
 dict_column-returns-in-Err-made-clause-cause g c =
     rw c.look_up_fault.ensures.is (dict_cause c.in-Err-made.error (subtree c.args.tree.now c.args.node) (tree_head c.args.tree.now c.args.node) (subtree c.args.tree.now c.args.values) (subtree c.args.tree.now c.args.codes) c.args.node c.args.start c.args.mask.now c.in-Ok.parts.codes.values c.in-Ok.parts.values.values c.args.reads.now c.requires.dict.tree c.requires.dict.number c.in-Ok.ensures.codes c.in-Ok.ensures.values_count c.in-Err-made.ensures.fault)
+
+pub add_parts-add_parts-requires : goal.add_parts-add_parts-requires
+add_parts-add_parts-requires g c =
+    let over = c.in-Zoned.ensures.0 in
+    let later : IsLater c.args.tree.now c.args.node c.in-Zoned.content = All-head (IsLater c.args.tree.now c.args.node) c.in-Zoned.content (c.in-Zoned.zones ∷ []) over.later in
+    let above = later.0 in
+    let known = later.1 in
+    let rows = over.sound.1.rows in
+    let needs = zoned_needed (subtree c.args.tree.now c.args.node) (tree_head c.args.tree.now c.args.node) _ (subtree c.args.tree.now c.in-Zoned.content) _ c.args.start c.args.mask.now over.tree in
+    (omega arith, (known, (c.requires.readable, (omega (arith, rows, c.requires.inside), subst (λ (ns : List ℕ). Begin ns (drop c.args.next.now c.args.reads.now)) needs c.requires.ready))))
+
+pub add_parts-returns-in-Zoned-clause-added : goal.add_parts-returns-in-Zoned-clause-added
+add_parts-returns-in-Zoned-clause-added g c =
+    zoned_added c.add_parts.result (subtree c.args.tree.now c.args.node) (tree_head c.args.tree.now c.args.node) _ (subtree c.args.tree.now c.in-Zoned.content) _ (tree_head c.args.tree.now c.in-Zoned.content).dtype (tree_head c.args.tree.now c.args.node).dtype c.args.start c.args.mask.now c.args.reads.now c.args.parts.now.items c.add_parts.new.parts.items c.in-Zoned.ensures.0.tree c.in-Zoned.ensures.0.sound.1.dtype c.add_parts.ensures.added
+
+pub add_parts-returns-in-Zoned-clause-cause : goal.add_parts-returns-in-Zoned-clause-cause
+add_parts-returns-in-Zoned-clause-cause g c =
+    zoned_failed c.add_parts.result (subtree c.args.tree.now c.args.node) (tree_head c.args.tree.now c.args.node) _ (subtree c.args.tree.now c.in-Zoned.content) _ c.args.start (length c.args.mask.now) c.args.reads.now c.in-Zoned.ensures.0.tree c.add_parts.ensures.cause
+
+pub column_of-column_of-requires : goal.column_of-column_of-requires
+column_of-column_of-requires g c =
+    let over = c.in-Zoned.ensures.0 in
+    let later : IsLater c.args.tree.now c.args.node c.in-Zoned.content = All-head (IsLater c.args.tree.now c.args.node) c.in-Zoned.content (c.in-Zoned.zones ∷ []) over.later in
+    let above = later.0 in
+    let known = later.1 in
+    let rows = over.sound.1.rows in
+    let needs = zoned_needed (subtree c.args.tree.now c.args.node) (tree_head c.args.tree.now c.args.node) _ (subtree c.args.tree.now c.in-Zoned.content) _ c.args.start c.args.mask.now over.tree in
+    (omega arith, (known, (c.requires.readable, (omega (arith, rows, c.requires.inside), subst (λ (ns : List ℕ). Begin ns (drop c.args.next.now c.args.reads.now)) needs c.requires.ready))))
+
+pub column_of-returns-in-Zoned-clause-dtype : goal.column_of-returns-in-Zoned-clause-dtype
+column_of-returns-in-Zoned-clause-dtype g c =
+    zoned_dtype c.column_of.result (tree_head c.args.tree.now c.in-Zoned.content).dtype (tree_head c.args.tree.now c.args.node).dtype c.in-Zoned.ensures.0.sound.1.dtype c.column_of.ensures.dtype
+
+pub column_of-returns-in-Zoned-clause-values : goal.column_of-returns-in-Zoned-clause-values
+column_of-returns-in-Zoned-clause-values g c =
+    zoned_values c.column_of.result (subtree c.args.tree.now c.args.node) (tree_head c.args.tree.now c.args.node) _ (subtree c.args.tree.now c.in-Zoned.content) _ c.args.start c.args.mask.now c.args.reads.now c.in-Zoned.ensures.0.tree c.column_of.ensures.values
+
+pub column_of-returns-in-Zoned-clause-cause : goal.column_of-returns-in-Zoned-clause-cause
+column_of-returns-in-Zoned-clause-cause g c =
+    zoned_cause c.column_of.result (subtree c.args.tree.now c.args.node) (tree_head c.args.tree.now c.args.node) _ (subtree c.args.tree.now c.in-Zoned.content) _ c.args.start (length c.args.mask.now) c.args.reads.now c.in-Zoned.ensures.0.tree c.column_of.ensures.cause
+
+pub field_columns-column_of-requires : goal.field_columns-column_of-requires
+field_columns-column_of-requires g c =
+    let nodes = c.args.tree.now in
+    let field = get_or c.args.fields.now c.loop-field.field-index 0 in
+    let lt : c.loop-field.field-index < length c.args.fields.now = c.loop-field-test.true in
+    let at = chunk_there c.args.fields.now c.loop-field.field-index lt in
+    let later : IsLater c.args.tree.now c.args.node (get_or c.args.fields.now c.loop-field.field-index 0) = c.requires.fields.later c.loop-field.field-index 0 lt in
+    let above = later.0 in
+    let known = later.1 in
+    let rows = field_rows nodes (struct_members (tree_head nodes c.args.node).dtype) (tree_head nodes c.args.node).rows c.args.fields.now c.loop-field.field-index field c.requires.fields.sound.1 at in
+    let needs = fields_left nodes c.args.fields.now c.loop-field.field-index field c.args.start c.args.mask.now at in
+    let ready = begin_left (needed (subtree nodes field) c.args.start c.args.mask.now) _ _ (subst (λ (ns : List ℕ). Begin ns (drop c.loop-field.next c.args.reads.now)) needs c.loop-field.invariant.ready) in
+    (omega arith, (known, (c.requires.readable, (omega (arith, rows, c.requires.inside), ready))))
+
+pub field_columns-returns-in-Err-clause-cause : goal.field_columns-returns-in-Err-clause-cause
+field_columns-returns-in-Err-clause-cause g c =
+    let nodes = c.args.tree.now in
+    let field = get_or c.args.fields.now c.loop-field.field-index 0 in
+    let lt : c.loop-field.field-index < length c.args.fields.now = c.loop-field-test.true in
+    let at = chunk_there c.args.fields.now c.loop-field.field-index lt in
+    field_failed c.in-Err.error nodes (subtree nodes c.args.node) (tree_head nodes c.args.node) c.args.fields.now c.loop-field.field-index field c.args.start (length c.args.mask.now) c.args.reads.now c.requires.fields.tree c.requires.fields.sound at c.in-Err.ensures.cause
+
+pub field_columns-loop-field-preserved : goal.field_columns-loop-field-preserved
+field_columns-loop-field-preserved g c =
+    let nodes = c.args.tree.now in
+    let field = get_or c.args.fields.now c.loop-field.field-index 0 in
+    let lt : c.loop-field.field-index < length c.args.fields.now = c.loop-field-test.true in
+    let at = chunk_there c.args.fields.now c.loop-field.field-index lt in
+    let now = needed (subtree nodes field) c.args.start c.args.mask.now in
+    let rest = needed_of_each (trees_of nodes (drop (c.loop-field.field-index + 1) c.args.fields.now)) c.args.start c.args.mask.now in
+    let needs = fields_left nodes c.args.fields.now c.loop-field.field-index field c.args.start c.args.mask.now at in
+    let went = c.in-Ok.ensures.passed in
+    record {
+      ready = begin_next now rest c.args.reads.now c.loop-field.next c.column_of.new.next went (subst (λ (ns : List ℕ). Begin ns (drop c.loop-field.next c.args.reads.now)) needs c.loop-field.invariant.ready);
+      passed = (let all_needed = ap length needs ∙ length-append now rest in omega (arith, went, all_needed, c.loop-field.invariant.passed));
+      columns = columns_more c.args.reads.now nodes c.args.start c.args.mask.now c.args.fields.now c.loop-field.field-index field c.loop-field.columns.items c.push.new.self.items c.in-Ok.column at c.in_ok-push-in-Ok.ensures.items c.loop-field.invariant.columns (record { dtype = c.in-Ok.ensures.dtype; rows = c.in-Ok.ensures.rows; values = c.in-Ok.ensures.values });
+    }
+
+pub struct_column-structs-requires-clause-bare : goal.struct_column-structs-requires-clause-bare
+struct_column-structs-requires-clause-bare g c = bare_struct _ (tree_head c.args.tree.now c.args.node) (trees_of c.args.tree.now c.args.fields.now) c.dtype_at.ensures c.requires.fields.sound
+
+pub struct_column-structs-requires-clause-columns : goal.struct_column-structs-requires-clause-columns
+struct_column-structs-requires-clause-columns g c = struct_parts_fit c.args.reads.now _ (tree_head c.args.tree.now c.args.node) (trees_of c.args.tree.now c.args.fields.now) c.args.start _ c.args.mask.now c.in-Ok.columns.items c.dtype_at.ensures c.true_count.ensures c.requires.fields.sound c.in-Ok.ensures.columns
+
+pub struct_column-field_columns-requires : goal.struct_column-field_columns-requires
+struct_column-field_columns-requires g c =
+    let needs = struct_needed (subtree c.args.tree.now c.args.node) (tree_head c.args.tree.now c.args.node) (trees_of c.args.tree.now c.args.fields.now) c.args.start c.args.mask.now c.requires.fields.tree c.requires.fields.sound in
+    (omega arith, (c.requires.known, (c.requires.readable, (c.requires.fields, (c.requires.inside, subst (λ (ns : List ℕ). Begin ns (drop c.args.next.now c.args.reads.now)) needs c.requires.ready)))))
+
+pub struct_column-returns-in_ok-made-in-Ok-clause-rows : goal.struct_column-returns-in_ok-made-in-Ok-clause-rows
+struct_column-returns-in_ok-made-in-Ok-clause-rows g c =
+    struct_count c.in-Ok.columns.items _ c.true_count.result c.args.mask.now c.true_count.ensures c.in_ok-made-in-Ok.ensures.values
+
+pub struct_column-returns-in_ok-made-in-Ok-clause-values : goal.struct_column-returns-in_ok-made-in-Ok-clause-values
+struct_column-returns-in_ok-made-in-Ok-clause-values g c =
+    struct_values c.args.reads.now (subtree c.args.tree.now c.args.node) (tree_head c.args.tree.now c.args.node) (trees_of c.args.tree.now c.args.fields.now) c.args.start c.true_count.result c.args.mask.now c.in-Ok.columns.items _ c.requires.fields.tree c.requires.fields.sound c.in-Ok.ensures.columns c.true_count.ensures c.in_ok-made-in-Ok.ensures.values
+
+pub struct_column-returns-in_ok-made-in-Ok-clause-passed : goal.struct_column-returns-in_ok-made-in-Ok-clause-passed
+struct_column-returns-in_ok-made-in-Ok-clause-passed g c =
+    let needs = struct_needed (subtree c.args.tree.now c.args.node) (tree_head c.args.tree.now c.args.node) (trees_of c.args.tree.now c.args.fields.now) c.args.start c.args.mask.now c.requires.fields.tree c.requires.fields.sound in
+    c.in-Ok.ensures.passed ∙ ap (λ (ns : List ℕ). c.args.next.now + length ns) (sym needs)
+
+pub add_parts-returns-in-Chunks-clause-added : goal.add_parts-returns-in-Chunks-clause-added
+add_parts-returns-in-Chunks-clause-added g c =
+    chunks_added c.add_chunks.result (subtree c.args.tree.now c.args.node) (tree_head c.args.tree.now c.args.node) (trees_of c.args.tree.now c.in-Chunks.chunks.now) (tree_head c.args.tree.now c.args.node).dtype c.args.start c.args.mask.now c.args.reads.now c.args.parts.now.items c.add_chunks.new.parts.items c.in-Chunks.ensures.tree c.add_chunks.ensures.added
+
+pub add_parts-returns-in-Chunks-clause-cause : goal.add_parts-returns-in-Chunks-clause-cause
+add_parts-returns-in-Chunks-clause-cause g c =
+    chunks_failed c.add_chunks.result (subtree c.args.tree.now c.args.node) (tree_head c.args.tree.now c.args.node) (trees_of c.args.tree.now c.in-Chunks.chunks.now) c.args.start (length c.args.mask.now) c.args.reads.now c.in-Chunks.ensures.tree c.add_chunks.ensures.cause

@@ -1,6 +1,7 @@
-use Rattle.std.proofs.Common.{◌≡◌, ℕ, ◌+◌, ◌-◌, ◌<◌, ◌≤◌, Bool, true, false, List, [], length, drop, get_or, sym, ap, ◌∙◌, subst, arith, rules}
+use Rattle.std.proofs.Common.{◌≡◌, ℕ, ◌+◌, ◌-◌, ◌<◌, ◌≤◌, Bool, true, false, List, [], ◌∷◌, length, drop, get_or, sym, ap, ◌∙◌, subst, arith, rules}
 use Rattle.std.specs.Prelude.{slice_range, IfOk}
 use Rattle.std.proofs.lemmas.List.{drop_all, length-append, take_all}
+use Rattle.std.proofs.lemmas.List.Elements.{All-head}
 use Rattle.vx_base.specs.Data.{DataType}
 use Rattle.vx_expr.specs.Bound.{IsBoundTo}
 use Rattle.vx_layout.specs.Kept.{all}
@@ -12,10 +13,10 @@ use Rattle.vx_reads.specs.MaskRows.{AreKeptBy, RangeFails}
 use Rattle.vx_reads.specs.Needed.{needed_in, needed_of_range}
 use Rattle.vx_reads.specs.Readable.{tree_head, trees_of}
 use Rattle.vx_picking.specs.Rows.{selects_some}
-use Rattle.vx_reads.proofs.ByKind.{alike_here, alike_left, chunk_dtype, chunk_there, fits_left}
+use Rattle.vx_reads.proofs.ByKind.{alike_here, alike_left, chunk_dtype, chunk_there, fits_left, zoned_needed}
 use Rattle.vx_reads.proofs.Chunking.{begin_left, begin_next, left_needed}
 use Rattle.vx_reads.proofs.MaskFilters.{keeps_then, left_fault}
-use Rattle.vx_reads.proofs.MaskKinds.{chunks_fail, chunks_keep, empty_none, kept_none, leaf_fails, leaf_keeps, range_cause, range_failed}
+use Rattle.vx_reads.proofs.MaskKinds.{chunks_fail, chunks_keep, empty_none, kept_none, leaf_fails, leaf_keeps, range_cause, range_failed, struct_fails, zoned_fails, zoned_keeps}
 use Rattle.vx_reads.proofs.Ranges.{IsHere}
 use Rattle.vx_reads.proofs.masks.+masks.Goals as goal
 
@@ -143,3 +144,27 @@ pub range_mask-returns-clause-cause : goal.range_mask-returns-clause-cause
 range_mask-returns-clause-cause g c =
     let some : selects_some c.in_ok-some.some ≡ true = sym c.selects_some.ensures ∙ c.if-not-selects_some.false in
     range_cause c.mask_of.result c.args.reads.now (subtree c.args.tree.now c.args.node) (tree_head c.args.tree.now c.args.node).dtype c.args.expression.now.term c.args.start c.args.first c.in_ok-some.some (slice_range c.args.mask.now c.args.range.start c.args.range.end) c.in_ok-some.ensures some c.mask_of.ensures.cause
+
+pub mask_of-mask_of-requires : goal.mask_of-mask_of-requires
+mask_of-mask_of-requires g c =
+    let over = c.in-Zoned.ensures.0 in
+    let later : IsLater c.args.tree.now c.args.node c.in-Zoned.content = All-head (IsLater c.args.tree.now c.args.node) c.in-Zoned.content (c.in-Zoned.zones ∷ []) over.later in
+    let above = later.0 in
+    let known = later.1 in
+    let rows = over.sound.1.rows in
+    let bound = subst (IsBoundTo c.args.expression.now) (sym over.sound.1.dtype) c.requires.bound in
+    let needs = zoned_needed (subtree c.args.tree.now c.args.node) (tree_head c.args.tree.now c.args.node) _ (subtree c.args.tree.now c.in-Zoned.content) _ c.args.start c.args.mask.now over.tree in
+    let ready = subst (λ (ns : List ℕ). Begin ns (drop c.args.next.now c.args.reads.now)) needs c.requires.ready in
+    (omega arith, (known, (c.requires.readable, (omega (arith, rows, c.requires.inside), (c.requires.few, (bound, (c.requires.bool, ready)))))))
+
+pub mask_of-returns-in-Zoned-clause-kept : goal.mask_of-returns-in-Zoned-clause-kept
+mask_of-returns-in-Zoned-clause-kept g c =
+    zoned_keeps c.mask_of.result (subtree c.args.tree.now c.args.node) (tree_head c.args.tree.now c.args.node) _ (subtree c.args.tree.now c.in-Zoned.content) _ (tree_head c.args.tree.now c.args.node).dtype c.args.expression.now.term c.args.start c.args.mask.now c.args.reads.now c.in-Zoned.ensures.0.tree c.in-Zoned.ensures.0.sound.1.dtype c.mask_of.ensures.kept
+
+pub mask_of-returns-in-Zoned-clause-cause : goal.mask_of-returns-in-Zoned-clause-cause
+mask_of-returns-in-Zoned-clause-cause g c =
+    zoned_fails c.mask_of.result (subtree c.args.tree.now c.args.node) (tree_head c.args.tree.now c.args.node) _ (subtree c.args.tree.now c.in-Zoned.content) _ (tree_head c.args.tree.now c.args.node).dtype c.args.expression.now.term c.args.start c.args.first c.args.mask.now c.args.reads.now c.in-Zoned.ensures.0.tree c.in-Zoned.ensures.0.sound.1.dtype c.mask_of.ensures.cause
+
+pub mask_of-returns-in-Struct-clause-cause : goal.mask_of-returns-in-Struct-clause-cause
+mask_of-returns-in-Struct-clause-cause g c =
+    struct_fails c.looked_mask.result (subtree c.args.tree.now c.args.node) (tree_head c.args.tree.now c.args.node) _ _ (tree_head c.args.tree.now c.args.node).dtype c.args.expression.now.term c.args.start c.args.first c.args.mask.now c.args.reads.now c.in-Struct.ensures.tree c.looked_mask.ensures.cause
