@@ -7,6 +7,7 @@ use Rattle.vx_base.specs.Sources.{SourceState, Rose}
 use Rattle.vx_base.specs.Streams.{ReadState, WriteState}
 use Rattle.vx_base.specs.declared.outside.StreamError.{StreamError}
 use Rattle.vx_base.specs.declared.outside.StreamError.TheVariants as stream
+use Rattle.vx_layout.specs.Shape.{IsGoodTree}
 use Rattle.vx_scan.specs.Plans.{IsQuiet, WhereTold}
 use Rattle.scan_input.specs.Reading.{most_bytes, ReadsPieces}
 use Rattle.scan_output.specs.RowWriting.{batch_lines}
@@ -81,6 +82,12 @@ valid_asked bytes file asked before after told reads valid =
     let is : IsRequest bytes asked = told_bytes (λ b. IsRequest b asked) bytes before.request after.request told reads in
     subst (λ (a : Asked). IsValidRead file a) (same_request bytes valid.1.0 asked valid.1.1 is) valid.1.2
 
+-- its nodes are a layout tree
+good_asked : (bytes : List ℕ) (asked : Asked) (before after : LentRead) → before.request.rest ≡ Some bytes → ReadsRequest asked before.request after.request → IsGoodTree asked.nodes
+good_asked bytes asked before after told reads =
+    let is : IsRequest bytes asked = told_bytes (λ b. IsRequest b asked) bytes before.request after.request told reads in
+    is.good
+
 reads_well : (limit : ℕ) (ending : Ending) (bytes file : List ℕ) (before after : LentRead) → before.request.rest ≡ Some bytes → before.source.file ≡ Some file → Reads limit ending before after → IsValidToRead bytes file
     → (Rose before.request.faults after.request.faults → ⊥) → IsQuiet limit before.source after.source → (Rose before.sink.faults after.sink.faults → ⊥) → (ending ≡ Done) ⊎ (ending ≡ OutOfMemory)
 reads_well limit Done bytes file before after told file_told ends valid request quiet sink = inl refl
@@ -100,7 +107,7 @@ reads_well limit NotReadable bytes file before after told file_told ends valid r
     absurd (ends.unreadable known.readable)
 reads_well limit (ReadFailed error) bytes file before after told file_told ends valid request quiet sink =
     let known : IsValidRead file ends.asked = valid_asked bytes file ends.asked before after told ends.begun.reads valid in
-    absurd (read_invalid limit ends.asked file error before.source after.source file_told known quiet ends.cause)
+    absurd (read_invalid limit ends.asked file error before.source after.source file_told (good_asked bytes ends.asked before after told ends.begun.reads) known quiet ends.cause)
 reads_well limit WriteFault bytes file before after told file_told ends valid request quiet sink = absurd (sink ends.rose)
 reads_well limit RequestFault bytes file before after told file_told ends valid request quiet sink = absurd (request ends.0.rose)
 

@@ -12,7 +12,9 @@ use Rattle.vx_expr.specs.Meaning.{meaning}
 use Rattle.vx_expr.specs.Rows.{no_bound}
 use Rattle.vx_layout.specs.Kept.{all}
 use Rattle.vx_layout.specs.Rows.{derivation, file_leaves, segment_bytes}
+use Rattle.vx_layout.specs.Shape.{IsGoodTree}
 use Rattle.vx_layout.specs.Trees.{Tree, head_of, subtree}
+use Rattle.vx_layout.proofs.Ruled.{good_sound}
 use Rattle.vx_lower.specs.Projected.{projected_at}
 use Rattle.vx_rows.specs.Derivations.{LeafRow, Leaves, derived}
 use Rattle.vx_rows.specs.Reads.{directly, reads_of, Found, a_leaf_row, a_code, a_list_row, Read, Finds, FindsOnly, IsIn, IsFine, IsPlaceAmong}
@@ -80,14 +82,14 @@ no_worth : (o : Option Datum) → o ≡ None → IsSome o → ⊥
 no_worth o none some = let known : IsSome {T = Datum} None = subst IsSome none some in cc
 
 -- the row has a value, over which the expression is a fault: it is none of a valid read
-fault_not : (asked : Asked) (file : List ℕ) (row : ℕ) → IsValidRead file asked → row < rows_asked asked
+fault_not : (asked : Asked) (file : List ℕ) (row : ℕ) → IsGoodTree asked.nodes → IsValidRead file asked → row < rows_asked asked
     → IsFaultAt (segment_bytes file asked.locations) (derivation (subtree asked.nodes 0) all) (head_of (subtree asked.nodes 0)).dtype asked.projection.term row → ⊥
-fault_not asked file row valid inside fault = by (derived (file_leaves file asked.locations) (derivation (subtree asked.nodes 0) all row)) refl fault
+fault_not asked file row good valid inside fault = by (derived (file_leaves file asked.locations) (derivation (subtree asked.nodes 0) all row)) refl fault
   where
     by : (o : Option Datum) → derived (file_leaves file asked.locations) (derivation (subtree asked.nodes 0) all row) ≡ o → IsSomeAnd o (λ v. meaning (head_of (subtree asked.nodes 0)).dtype no_bound asked.projection.term v 0 ≡ None) → ⊥
     by None here fault = fault
     by (Some v) here fault =
-        let worth = worth_told (reader_of asked) (scan_of asked).projection file row v valid.readable.nodes refl (no_numbers asked valid.readable.plain) here in
+        let worth = worth_told (reader_of asked) (scan_of asked).projection file row v (good_sound asked.nodes good 0 good.nonempty) refl (no_numbers asked valid.readable.plain) here in
         no_worth (projected_at (file_leaves file asked.locations) (scan_of asked).projection row) (worth ∙ fault) (valid.answered row inside)
 
 -- ---- no cause but want of memory
@@ -96,24 +98,24 @@ fault_not asked file row valid inside fault = by (derived (file_leaves file aske
 in_rows : (P : ℕ → Type 0) (count : ℕ) → P (length (replicate count true)) → P count
 in_rows P count is = subst P (length-replicate count true) is
 
-pub read_invalid : (limit : ℕ) (asked : Asked) (file : List ℕ) (error : ReadRowsError) (before after : SourceState) → before.file ≡ Some file → IsValidRead file asked → IsQuiet limit before after → ReadCause limit asked error before after → ⊥
-read_invalid limit asked file (read.Reader reader.ReadFault) before after told valid quiet cause = quiet.faults cause
-read_invalid limit asked file (read.Reader (reader.NoLocation segment)) before after told valid quiet cause =
+pub read_invalid : (limit : ℕ) (asked : Asked) (file : List ℕ) (error : ReadRowsError) (before after : SourceState) → before.file ≡ Some file → IsGoodTree asked.nodes → IsValidRead file asked → IsQuiet limit before after → ReadCause limit asked error before after → ⊥
+read_invalid limit asked file (read.Reader reader.ReadFault) before after told good valid quiet cause = quiet.faults cause
+read_invalid limit asked file (read.Reader (reader.NoLocation segment)) before after told good valid quiet cause =
     rows_fine (file_leaves file asked.locations) (IsIn segment) (unplaced_amiss file asked.locations segment cause.1) (subtree asked.nodes 0) (rows_asked asked) valid.fine cause.0
-read_invalid limit asked file (read.Reader (reader.BadSegment segment)) before after told valid quiet cause =
+read_invalid limit asked file (read.Reader (reader.BadSegment segment)) before after told good valid quiet cause =
     let bytes : Bytes = segment_bytes file asked.locations in
     rows_fine (leaves_of bytes) (IsTornIn bytes segment) (torn_amiss bytes segment) (subtree asked.nodes 0) (rows_asked asked) valid.fine
     (in_rows (λ (count : ℕ). RangeFinds (IsTornIn bytes segment) (derivation (subtree asked.nodes 0) all) 0 count) (rows_asked asked) (cause file told))
-read_invalid limit asked file (read.Reader (reader.BadCode node row)) before after told valid quiet cause =
+read_invalid limit asked file (read.Reader (reader.BadCode node row)) before after told good valid quiet cause =
     let bytes : Bytes = segment_bytes file asked.locations in
     rows_fine (leaves_of bytes) (IsBadCodeAt bytes node row) (code_amiss bytes node row) (subtree asked.nodes 0) (rows_asked asked) valid.fine
     (in_rows (λ (count : ℕ). RangeFinds (IsBadCodeAt bytes node row) (derivation (subtree asked.nodes 0) all) 0 count) (rows_asked asked) (cause file told))
-read_invalid limit asked file (read.Reader (reader.EvalFault row)) before after told valid quiet cause =
+read_invalid limit asked file (read.Reader (reader.EvalFault row)) before after told good valid quiet cause =
     let fault = cause file told in
     let inside : fault.0 < rows_asked asked = in_rows (λ (count : ℕ). fault.0 < count) (rows_asked asked) (slice_get_within (replicate (rows_asked asked) true) fault.0 true fault.1) in
     let place : fault.0 ≡ row = omega (arith, fault.2) in
-    fault_not asked file row valid (subst (λ (k : ℕ). k < rows_asked asked) place inside) fault.3
-read_invalid limit asked file (read.Reader reader.Memory) before after told valid quiet cause = cause
-read_invalid limit asked file read.Stalled before after told valid quiet cause = quiet.idle cause
-read_invalid limit asked file read.ZeroSize before after told valid quiet cause = cause
-read_invalid limit asked file read.Memory before after told valid quiet cause = cause
+    fault_not asked file row good valid (subst (λ (k : ℕ). k < rows_asked asked) place inside) fault.3
+read_invalid limit asked file (read.Reader reader.Memory) before after told good valid quiet cause = cause
+read_invalid limit asked file read.Stalled before after told good valid quiet cause = quiet.idle cause
+read_invalid limit asked file read.ZeroSize before after told good valid quiet cause = cause
+read_invalid limit asked file read.Memory before after told good valid quiet cause = cause

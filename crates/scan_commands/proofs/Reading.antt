@@ -11,11 +11,12 @@ use Rattle.vx_expr.specs.Bound.{Bound}
 use Rattle.vx_expr.specs.Mentions.{uses_row_number}
 use Rattle.vx_layout.specs.Nodes.{Node}
 use Rattle.vx_layout.specs.Rows.{file_leaves}
+use Rattle.vx_layout.specs.Shape.{IsGoodTree}
 use Rattle.vx_layout.specs.Trees.{subtree}
-use Rattle.vx_reads.specs.Readable.{IsReadableKind}
+use Rattle.vx_reads.specs.Readable.{IsReadableNode}
 use Rattle.vx_readers.specs.declared.layout_readers.Reader.{Reader}
 use Rattle.vx_readers.specs.declared.readers.OpenError.{OpenError}
-use Rattle.vx_readers.specs.declared.readers.OpenError.TheVariants.{Unsupported}
+use Rattle.vx_readers.specs.declared.readers.OpenError.TheVariants.{Unsupported, ZeroZoneLength}
 use Rattle.vx_readers.specs.declared.reading.ReadRowsError.{ReadRowsError}
 use Rattle.vx_readers.specs.declared.reading.ReadRowsError.TheVariants as read
 use Rattle.vx_readers.specs.Opening.{OpenRefused}
@@ -97,12 +98,13 @@ not_both false is isnt = absurd cc
 pub not_plain : (asked : Asked) → is_plain asked ≡ false → ¬ (IsReadable asked)
 not_plain asked isnt = λ readable. not_both (is_plain asked) readable.plain isnt
 
-some_not : (o : Option Node) → IsSomeAnd o (λ node. IsReadableKind node.kind → ⊥) → IfSome o (λ node. IsReadableKind node.kind) → ⊥
-some_not None bad kind = bad
-some_not (Some node) bad kind = bad kind
+some_not : (nodes : List Node) (n : ℕ) (o : Option Node) → IsSomeAnd o (λ node. IsReadableNode nodes n node.kind → ⊥) → IfSome o (λ node. IsReadableNode nodes n node.kind) → ⊥
+some_not nodes n None bad kind = bad
+some_not nodes n (Some node) bad kind = bad kind
 
 pub not_opened : (asked : Asked) (error : OpenError) → OpenRefused asked.nodes error → ¬ (IsReadable asked)
-not_opened asked (Unsupported node) refused = λ readable. some_not (slice_get asked.nodes node) refused.there (readable.nodes node)
+not_opened asked (Unsupported node) refused = λ readable. some_not asked.nodes node (slice_get asked.nodes node) refused.0.there (readable.nodes node)
+not_opened asked (ZeroZoneLength node) refused = λ readable. some_not asked.nodes node (slice_get asked.nodes node) refused.0.there (readable.nodes node)
 
 -- ---- the columns
 
@@ -118,11 +120,11 @@ typed r e before (start ∷ end ∷ splits) (column ∷ columns) are = (are.0.0,
 lines_are : (t : DataType) (columns : List ColumnData) → AllByRecursion (λ (column : ColumnData). column.dtype ≡ t) columns → batch_lines columns ≡ lines t (joined columns)
 lines_are t columns are = lines_joined t columns are ∙ ap (lines t) (flat_joined columns)
 
-read_text : (limit : ℕ) (rule : SplitBy) (asked : Asked) (reader : Reader) (columns : Vec ColumnData) (before after : SourceState) → 0 < length asked.nodes → IsReadable asked → reader_data reader ≡ reader_of asked → ReadsRows limit rule (Ok columns) reader asked.projection before after
+read_text : (limit : ℕ) (rule : SplitBy) (asked : Asked) (reader : Reader) (columns : Vec ColumnData) (before after : SourceState) → 0 < length asked.nodes → IsGoodTree asked.nodes → IsReadable asked → reader_data reader ≡ reader_of asked → ReadsRows limit rule (Ok columns) reader asked.projection before after
     → WhereTold before (λ file. IsText (scan_of asked) file (batch_lines columns.items))
-read_text limit rule asked reader columns before after some readable is given = λ file told.
+read_text limit rule asked reader columns before after some good readable is given = λ file told.
     let of : IsOfAllRows (scan_of asked) reader = of_all_rows asked reader readable.plain is in
-    let sound : IsReader (reader_data reader) = subst (λ (r : ReaderData). IsReader r) (sym is) (record { known = some; readable = readable.nodes }) in
+    let sound : IsReader (reader_data reader) = subst (λ (r : ReaderData). IsReader r) (sym is) (record { good = good; known = some; readable = readable.nodes }) in
     let answer : IsAnswer (file_leaves file asked.locations) (scan_of asked).projection (range_with_len 0 (row_count (scan_of asked))) (joined columns.items) = read_answer reader rule (scan_of asked) limit columns before after file sound of given told in (
       joined columns.items,
       subst (λ (rows : List ℕ). IsAnswer (file_leaves file asked.locations) (scan_of asked).projection rows (joined columns.items)) (sym (all_scanned (scan_of asked) reader of)) answer,
@@ -132,9 +134,9 @@ read_text limit rule asked reader columns before after some readable is given = 
 only_these : (asked : Asked) (reader : Reader) (before after : SourceState) → reader_data reader ≡ reader_of asked → ReadsOnly (reader_data reader) before after → ReadsOnly (reader_of asked) before after
 only_these asked reader before after is only = subst (λ (r : ReaderData). ReadsOnly r before after) is only
 
-pub rows_given : (limit : ℕ) (rule : SplitBy) (asked : Asked) (reader : Reader) (columns : Vec ColumnData) (before after : SourceState) → 0 < length asked.nodes → IsReadable asked → reader_data reader ≡ reader_of asked → ReadsRows limit rule (Ok columns) reader asked.projection before after → RowsGive limit asked (Ok columns) before after
-rows_given limit rule asked reader columns before after some readable is given =
-    (readable, only_these asked reader before after is given.reads, read_text limit rule asked reader columns before after some readable is given)
+pub rows_given : (limit : ℕ) (rule : SplitBy) (asked : Asked) (reader : Reader) (columns : Vec ColumnData) (before after : SourceState) → 0 < length asked.nodes → IsGoodTree asked.nodes → IsReadable asked → reader_data reader ≡ reader_of asked → ReadsRows limit rule (Ok columns) reader asked.projection before after → RowsGive limit asked (Ok columns) before after
+rows_given limit rule asked reader columns before after some good readable is given =
+    (readable, only_these asked reader before after is given.reads, read_text limit rule asked reader columns before after some good readable is given)
 
 -- or how the run ends without them
 pub rows_lost : (limit : ℕ) (rule : SplitBy) (asked : Asked) (reader : Reader) (ending : Ending) (error : ReadRowsError) (before after : SourceState) → (IsZeroSize rule → ⊥) → IsReadable asked → reader_data reader ≡ reader_of asked → ending ≡ read_ending error → ReadsRows limit rule (Err error) reader asked.projection before after → NoRows limit ending asked before after

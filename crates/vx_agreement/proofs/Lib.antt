@@ -1,2 +1,3 @@
-pub mod PlainTrees
+pub mod KeptTrees
 pub mod ReadAnswers
+pub mod SameFields

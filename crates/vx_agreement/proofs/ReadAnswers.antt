@@ -17,13 +17,14 @@ use Rattle.vx_expr.specs.Rows.{no_bound}
 use Rattle.vx_expr.proofs.AnyRow.{worth_at_any_row}
 use Rattle.vx_layout.specs.Kept.{all}
 use Rattle.vx_layout.specs.Rows.{derivation, file_leaves, value}
+use Rattle.vx_layout.specs.Sound.{IsSound}
 use Rattle.vx_layout.specs.Trees.{Tree, head_of, subtree}
 use Rattle.vx_layout.proofs.Joined.{range_split}
+use Rattle.vx_layout.proofs.Ruled.{good_sound}
 use Rattle.vx_lower.specs.Projected.{kept_of, projected_at, Projection}
 use Rattle.vx_lower.proofs.RowIndexed.{worth_at_any_root}
 use Rattle.vx_picking.specs.Rows.{AreOf}
 use Rattle.vx_picking.proofs.SelectedRows.{then_rows}
-use Rattle.vx_reads.specs.Readable.{AreReadable}
 use Rattle.vx_readers.specs.declared.layout_readers.Reader.{Reader}
 use Rattle.vx_readers.specs.ReaderData.{reader_head, IsReader, ReaderData}
 use Rattle.vx_readers.specs.Readers.{reader_data}
@@ -40,7 +41,8 @@ use Rattle.vx_split_rules.proofs.Spanned.{splits_alone, splits_span}
 use Rattle.vx_splits.specs.declared.selections.Selection.TheVariants as selections
 use Rattle.vx_splits.specs.Taken.{selects, taken_rows}
 use Rattle.vx_agreement.specs.Agreement.{joined, AreOneAnswer, IsOfAllRows}
-use Rattle.vx_agreement.proofs.PlainTrees.{plain_kept, readable_plain}
+use Rattle.vx_agreement.proofs.KeptTrees.{kept_alike}
+use Rattle.vx_agreement.proofs.SameFields.{kept_meaning}
 
 -- ---- one row
 
@@ -54,12 +56,12 @@ worth_row false leaves p row w used unnumbered here =
     worth_at_any_row (head_of p.root).dtype p.expression.term no_bound null (p.offset + row) 0 unnumbered
     ∙ worth_at_any_root (head_of p.root).dtype (head_of p.root).dtype p.expression.term no_bound null w 0 used
 
--- the same for a tree of readable nodes, of whose rows all is read
-pub worth_told : (r : ReaderData) (p : Projection) (file : List ℕ) (row : ℕ) (w : Datum) → AreReadable r.nodes → p.root ≡ subtree r.nodes r.node → uses_row_number p.expression.term ≡ false → derived (file_leaves file r.locations) (derivation p.root all row) ≡ Some w → projected_at (file_leaves file r.locations) p row ≡ meaning (head_of p.root).dtype no_bound p.expression.term w 0
-worth_told r p file row w readable root unnumbered here =
-    let plain = plain_kept (subtree r.nodes r.node) (kept_of p) row (readable_plain r.nodes readable r.node) in
-    let kept : derivation p.root (kept_of p) row ≡ derivation p.root all row = subst (λ (t : Tree). derivation t (kept_of p) row ≡ derivation t all row) (sym root) plain in
-    worth_row (uses_root p.expression.term) (file_leaves file r.locations) p row w refl unnumbered (ap (derived (file_leaves file r.locations)) kept ∙ here)
+-- the same where all of the row is read
+pub worth_told : (r : ReaderData) (p : Projection) (file : List ℕ) (row : ℕ) (w : Datum) → IsSound (subtree r.nodes r.node) → p.root ≡ subtree r.nodes r.node → uses_row_number p.expression.term ≡ false → derived (file_leaves file r.locations) (derivation p.root all row) ≡ Some w → projected_at (file_leaves file r.locations) p row ≡ meaning (head_of p.root).dtype no_bound p.expression.term w 0
+worth_told r p file row w sound root unnumbered here =
+    let kept = kept_alike (file_leaves file r.locations) (kept_of p) p.root row w (subst IsSound (sym root) sound) here in
+    worth_row (uses_root p.expression.term) (file_leaves file r.locations) p row kept.value refl unnumbered kept.is
+    ∙ kept_meaning (head_of p.root).dtype p.expression.term kept.value w 0 kept.alike
 
 some_value : (f : Datum → Option Datum) (o : Option Datum) (v : Datum) → option_and_then f o ≡ Some v → (w : Datum) × (o ≡ Some w) × (f w ≡ Some v)
 some_value f None v is = absurd cc
@@ -71,7 +73,7 @@ told_answer r p file row v reader root unnumbered told =
     let F : Tree → Type 0 = λ t. option_and_then (λ u. meaning (head_of t).dtype no_bound p.expression.term u 0) (derived (file_leaves file r.locations) (derivation t all row)) ≡ Some v in
     let there : F p.root = subst F (sym root) told in
     let o = some_value (λ u. meaning (head_of p.root).dtype no_bound p.expression.term u 0) (derived (file_leaves file r.locations) (derivation p.root all row)) v there in
-    worth_told r p file row o.0 reader.readable root unnumbered o.1 ∙ o.2
+    worth_told r p file row o.0 (good_sound r.nodes reader.good r.node reader.known) root unnumbered o.1 ∙ o.2
 
 -- ---- the columns of the splits, one behind another
 

@@ -24,7 +24,7 @@ returns-in-Ok-read_rows g c =
     let asked = asked_of c.args.request.now in
     let readable : IsReadable asked = record { plain = sym c.is_plain.ensures ∙ c.if-not-is_plain.false; nodes = c.in-Ok.ensures.readable } in
     let is = reader_is asked (reader_data c.in-Ok.reader) c.deref.result.now c.in-Ok.ensures.opened c.deref.ensures.value in
-    rows_given c.args.idle_limit c.args.split.now asked c.in-Ok.reader c.in-Ok-read_rows.columns _ _ c.requires.some readable is c.in-Ok-read_rows.ensures
+    rows_given c.args.idle_limit c.args.split.now asked c.in-Ok.reader c.in-Ok-read_rows.columns _ _ c.requires.some c.in-Ok.ensures.good readable is c.in-Ok-read_rows.ensures
 
 pub returns-in-Err-read_rows : goal.returns-in-Err-read_rows
 returns-in-Err-read_rows g c =
