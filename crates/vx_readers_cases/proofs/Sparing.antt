@@ -7,14 +7,14 @@ use Rattle.vx_base.specs.Sources.{SourceState, location_of}
 use Rattle.vx_reads.specs.declared.reads.ReadState.{ReadState}
 use Rattle.vx_reads.specs.declared.reads.ReadState.TheVariants as states
 use Rattle.vx_reads.specs.declared.reads.SegmentRead.{SegmentRead}
-use Rattle.vx_reads.specs.Reads.{read_with, ticket_at, ticket_in, AreInFlight, GoOn, HasTicket, IsInFlight, Touches}
+use Rattle.vx_reads.specs.Reads.{read_with, ticket_in, AreInFlight, GoOn, HasTicket, IsInFlight, Touches}
 use Rattle.vx_readers.specs.declared.states.ColumnState.{ColumnState}
 use Rattle.vx_readers.specs.declared.states.MaskState.{MaskState}
 use Rattle.vx_readers.specs.declared.states.Masking.{Masking}
-use Rattle.vx_readers.specs.declared.states.Masking.TheVariants.{Known, Filters}
+use Rattle.vx_readers.specs.declared.states.Masking.TheVariants.{Known, Filters, Prunes}
 use Rattle.vx_readers.specs.Evaluations.{Evaluation, IsPending}
 use Rattle.vx_readers.specs.declared.progress.Progress.TheVariants.{Ready, Pending}
-use Rattle.vx_readers.specs.States.{ColumnPollGives, FilterWaits, IsStarted, MaskPollGives}
+use Rattle.vx_readers.specs.States.{ColumnPollGives, FilterWaits, IsStarted, MaskPollGives, PruningWaits}
 use Rattle.vx_base.specs.Columns.{ColumnData}
 use Rattle.vx_reads.specs.declared.errors.ReaderError.{ReaderError}
 use Rattle.vx_readers_cases.specs.declared.running.Running.{Running}
@@ -70,6 +70,7 @@ no_reads ticket (place, is) = cc
 still_mask : (locations : List SegmentLocation) (reads : List SegmentRead) (before after : SourceState) → Touches locations reads before after → (masking : Masking) → IsStarted masking before.in_flight → ((ticket : ℕ) → HasTicket reads ticket → HasTicket (mask_reads masking) ticket → ⊥) → IsStarted masking after.in_flight
 still_mask locations reads before after touches (Known mask) is apart = tt
 still_mask locations reads before after touches (Filters e) is apart = still locations reads e.locations e.reads before after touches is apart
+still_mask locations reads before after touches (Prunes e) is apart = still locations reads e.locations e.reads before after touches is apart
 
 spares : (locations : List SegmentLocation) (reads : List SegmentRead) (before after : SourceState) → Touches locations reads before after → (other : Running) → IsRunning other before.in_flight → ((ticket : ℕ) → HasTicket reads ticket → HasTicket (reads_of other) ticket → ⊥) → IsRunning other after.in_flight
 spares locations reads before after touches (Column state) is apart = still locations reads state.evaluation.locations state.evaluation.reads before after touches is apart
@@ -79,6 +80,7 @@ spares locations reads before after touches Over is apart = tt
 parted_mask : (locations : List SegmentLocation) (reads new : List SegmentRead) (before after : SourceState) → GoOn locations reads new before after → (masking : Masking) → IsStarted masking before.in_flight → ((ticket : ℕ) → HasTicket reads ticket → HasTicket (mask_reads masking) ticket → ⊥) → (ticket : ℕ) → HasTicket new ticket → HasTicket (mask_reads masking) ticket → ⊥
 parted_mask locations reads new before after goes (Known mask) is apart ticket mine theirs = no_reads ticket theirs
 parted_mask locations reads new before after goes (Filters e) is apart ticket mine theirs = parted locations reads new e.locations e.reads before after goes is apart ticket mine theirs
+parted_mask locations reads new before after goes (Prunes e) is apart ticket mine theirs = parted locations reads new e.locations e.reads before after goes is apart ticket mine theirs
 
 parts : (locations : List SegmentLocation) (reads new : List SegmentRead) (before after : SourceState) → GoOn locations reads new before after → (other : Running) → IsRunning other before.in_flight → ((ticket : ℕ) → HasTicket reads ticket → HasTicket (reads_of other) ticket → ⊥) → (ticket : ℕ) → HasTicket new ticket → HasTicket (reads_of other) ticket → ⊥
 parts locations reads new before after goes (Column state) is apart ticket mine theirs = parted locations reads new state.evaluation.locations state.evaluation.reads before after goes is apart ticket mine theirs
@@ -129,7 +131,17 @@ record MaskGoes (old new : Masking) (before after : SourceState) : Type 0 where
 
 filter_goes : (e : Evaluation) (new : Masking) (before after : SourceState) → FilterWaits e new before after → MaskGoes (Filters e) new before after
 filter_goes e (Known mask) before after waits = absurd waits
+filter_goes e (Prunes next) before after waits = absurd waits
 filter_goes e (Filters next) before after pending = record {
+  runs = located_next e next before after pending;
+  spares = λ other is apart. spares e.locations e.reads before after pending.goes.touches other is apart;
+  apart = λ other is apart. parts e.locations e.reads next.reads before after pending.goes other is apart;
+}
+
+pruning_goes : (e : Evaluation) (new : Masking) (before after : SourceState) → PruningWaits e new before after → MaskGoes (Prunes e) new before after
+pruning_goes e (Known mask) before after waits = absurd waits
+pruning_goes e (Filters next) before after waits = absurd waits
+pruning_goes e (Prunes next) before after pending = record {
   runs = located_next e next before after pending;
   spares = λ other is apart. spares e.locations e.reads before after pending.goes.touches other is apart;
   apart = λ other is apart. parts e.locations e.reads next.reads before after pending.goes other is apart;
@@ -138,8 +150,9 @@ filter_goes e (Filters next) before after pending = record {
 masking_goes : (old : Masking) (next : MaskState) (before after : SourceState) → MaskPollGives (Ok (Pending next)) old before after → MaskGoes old next.masking before after
 masking_goes (Known mask) next before after gives = absurd (let e = gives.0 in cc)
 masking_goes (Filters e) next before after gives = filter_goes e next.masking before after gives
+masking_goes (Prunes e) next before after gives = pruning_goes e next.masking before after gives
 
--- a filter goes on
+-- a filter goes on, or pruning
 pub mask_goes : (state next : MaskState) (before after : SourceState) → MaskPollGives (Ok (Pending next)) state.masking before after → GoesOn (Mask state) (Mask next) before after
 mask_goes state next before after gives =
     let goes = masking_goes state.masking next before after gives in
@@ -148,8 +161,9 @@ mask_goes state next before after gives =
 masking_spares : (old : Masking) (kept : List Bool) (before after : SourceState) → MaskPollGives (Ok (Ready kept)) old before after → (other : Running) → IsRunning other before.in_flight → ((ticket : ℕ) → HasTicket (mask_reads old) ticket → HasTicket (reads_of other) ticket → ⊥) → IsRunning other after.in_flight
 masking_spares (Known mask) kept before after gives other is apart = subst (λ (source : SourceState). IsRunning other source.in_flight) (sym gives.1) is
 masking_spares (Filters e) kept before after gives other is apart = spares e.locations e.reads before after gives.0.touches other is apart
+masking_spares (Prunes e) kept before after gives other is apart = spares e.locations e.reads before after gives.0.touches other is apart
 
--- a filter has its answer
+-- a filter has its answer, or pruning
 pub mask_ready : (state : MaskState) (kept : List Bool) (before after : SourceState) → MaskPollGives (Ok (Ready kept)) state.masking before after → GoesOn (Mask state) Over before after
 mask_ready state kept before after gives = record {
   runs = tt;
@@ -160,8 +174,9 @@ mask_ready state kept before after gives = record {
 refused_spares : (old : Masking) (error : ReaderError) (before after : SourceState) → MaskPollGives (Err error) old before after → (other : Running) → IsRunning other before.in_flight → ((ticket : ℕ) → HasTicket (mask_reads old) ticket → HasTicket (reads_of other) ticket → ⊥) → IsRunning other after.in_flight
 refused_spares (Known mask) error before after gives other is apart = absurd (let e = gives.0 in cc)
 refused_spares (Filters e) error before after gives other is apart = spares e.locations e.reads before after gives.touches other is apart
+refused_spares (Prunes e) error before after gives other is apart = spares e.locations e.reads before after gives.touches other is apart
 
--- a filter is refused
+-- a filter is refused, or pruning
 pub mask_refused : (state : MaskState) (error : ReaderError) (before after : SourceState) → MaskPollGives (Err error) state.masking before after → GoesOn (Mask state) Over before after
 mask_refused state error before after gives = record {
   runs = tt;
@@ -182,6 +197,7 @@ none_started locations reads flights ticket mine =
 none_filtered : (masking : Masking) → IsStarted masking [] → (ticket : ℕ) → HasTicket (mask_reads masking) ticket → ⊥
 none_filtered (Known mask) is ticket mine = no_reads ticket mine
 none_filtered (Filters e) is ticket mine = none_started e.locations e.reads is ticket mine
+none_filtered (Prunes e) is ticket mine = none_started e.locations e.reads is ticket mine
 
 -- one that starts has no read of any other
 pub starts_apart : (one two : Running) → Starts one → AreApart one two

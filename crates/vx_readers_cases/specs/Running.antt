@@ -5,15 +5,16 @@ use Rattle.vx_base.specs.Sources.{SourceState}
 use Rattle.vx_reads.specs.declared.reads.SegmentRead.{SegmentRead}
 use Rattle.vx_reads.specs.Reads.{AreInFlight, HasTicket}
 use Rattle.vx_readers.specs.declared.states.Masking.{Masking}
-use Rattle.vx_readers.specs.declared.states.Masking.TheVariants.{Known, Filters}
+use Rattle.vx_readers.specs.declared.states.Masking.TheVariants.{Known, Filters, Prunes}
 use Rattle.vx_readers.specs.States.{IsStarted}
 use Rattle.vx_readers_cases.specs.declared.running.Running.{Running}
 use Rattle.vx_readers_cases.specs.declared.running.Running.TheVariants.{Column, Mask, Over}
 
--- the reads of a mask that is filtered
+-- the reads of a mask that is filtered or pruned
 abbrev pub mask_reads : Masking → List SegmentRead
 mask_reads (Known mask) = []
 mask_reads (Filters e) = e.reads
+mask_reads (Prunes e) = e.reads
 
 -- the reads of an evaluation
 abbrev pub reads_of : Running → List SegmentRead

@@ -37,6 +37,7 @@ fn reader_error(name: &str) -> ReaderError {
 pub(crate) fn write_text(name: &str, out: &mut String) -> Result<(), AllocError> {
     match name {
         "unsupported" => write!(out, " {}", OpenError::Unsupported(3)),
+        "zero_zones" => write!(out, " {}", OpenError::ZeroZoneLength(3)),
         "zero_size" => write!(out, " {}", SplitError::ZeroSize),
         "out_of_range" => write!(out, " {}", SplitError::OutOfRange),
         "split_memory" => write!(out, " {}", SplitError::Memory),

@@ -26,6 +26,7 @@ fn write_opened(alloc: Global, reader: &Reader<'_>, out: &mut String) -> Result<
         Reader::Flat(_) => "flat",
         Reader::Chunked(_) => "chunked",
         Reader::Dict(_) => "dict",
+        Reader::Zoned(_) => "zoned",
     };
     let dtype = dtype_text(alloc, reader.dtype()).unwrap_or(String::new(alloc));
     let rows = reader.row_count();
@@ -115,6 +116,9 @@ fn write_inner<'a>(
         Reader::Dict(dict) => write_evaluated(
             alloc, case_state, dict, expression, command, words, out,
         ),
+        Reader::Zoned(zoned) => write_evaluated(
+            alloc, case_state, zoned, expression, command, words, out,
+        ),
     }
 }
 
@@ -151,6 +155,7 @@ fn write_inner_splits(
         Reader::Flat(flat) => write_split(alloc, flat, words, out),
         Reader::Chunked(chunked) => write_split(alloc, chunked, words, out),
         Reader::Dict(dict) => write_split(alloc, dict, words, out),
+        Reader::Zoned(zoned) => write_split(alloc, zoned, words, out),
     }
 }
 
