@@ -6,3 +6,4 @@ pub mod SideRows
 pub mod Somes
 pub mod Steps
 mod TestedRows
+mod TextOrder

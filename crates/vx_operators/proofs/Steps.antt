@@ -1,6 +1,6 @@
 -- Rows that are made one by one: one row more, and no rows left.
 use Rattle.std.specs.Prelude.{slice_get}
-use Rattle.std.proofs.Common.{◌≡◌, ℕ, ◌+◌, Bool, cond, map, drop, Some, None, append_assoc, List, [], ◌∷◌, ◌++◌, Option, sym, ap, ◌∙◌}
+use Rattle.std.proofs.Common.{◌≡◌, ℕ, zero, suc, ◌+◌, Bool, cond, length, map, take, drop, set, get_or, replicate, Some, None, append_assoc, List, [], ◌∷◌, ◌++◌, Option, refl, sym, ap, subst, ◌∙◌, arith}
 use Rattle.std.proofs.lemmas.Option.{slice_get_within, get_or_from_slice_get}
 use Rattle.std.proofs.lemmas.List.{append-nil, drop_more, map-append}
 use Rattle.vx_operators.specs.Rows.{along, front}
@@ -41,3 +41,28 @@ joined_fault {X} {Y} {Z} {T} seen op blank mask xs ys out whole i bit x y b e d 
     let two = got ys i y d in
     let more = rw (none, one, two) at h in
     sym (append-nil (map seen out)) ∙ ap (λ (r : Option Z). map seen out ++ front (r ∷ rest)) here ∙ more
+
+-- ---- each row by itself
+marked_next : {X : Type 0} (f : X → Bool) (xs : List X) (bits : List Bool) (i : ℕ) (x : X) (bit : Bool) → slice_get xs i ≡ Some x → bit ≡ f x → length bits ≡ length xs
+    → take i bits ≡ map f (take i xs) → take (suc i) (set bits i bit) ≡ map f (take (suc i) xs)
+marked_next {X} f [] bits i x bit e here same h =
+    let none : List X = [] in
+    absurd (omega (arith, slice_get_within none i x e))
+marked_next f (y ∷ xs) [] i x bit e here same h = absurd (omega arith)
+marked_next f (y ∷ xs) (b ∷ bits) zero x bit e here same h = ap (λ (c : Bool). c ∷ []) (here ∙ ap f (sym (get_or_from_slice_get (y ∷ xs) 0 x x e)))
+marked_next f (y ∷ xs) (b ∷ bits) (suc i) x bit e here same h =
+    let first : b ≡ f y = ap (λ (bs : List Bool). get_or bs 0 b) h in
+    let rest : take i bits ≡ map f (take i xs) = ap (λ (bs : List Bool). drop 1 bs) h in
+    let more = marked_next f xs bits i x bit e here (omega arith) rest in
+    λ k. first k ∷ more k
+
+pub marked_more : {X : Type 0} (f : X → Bool) (xs : List X) (bits : List Bool) (i : ℕ) (x : X) (bit : Bool) → slice_get xs i ≡ Some x → bit ≡ f x → length bits ≡ length xs
+    → take i bits ≡ map f (take i xs) → take (i + 1) (set bits i bit) ≡ map f (take (i + 1) xs)
+marked_more f xs bits i x bit e here same h =
+    let next : suc i ≡ i + 1 = omega arith in
+    subst (λ (n : ℕ). take n (set bits i bit) ≡ map f (take n xs)) next (marked_next f xs bits i x bit e here same h)
+
+pub along_same : {X Y Z : Type 0} (f : X → Y → Z) (xs : List X) (rows : ℕ) (y : Y) → length (replicate rows y) ≡ length xs → map (λ x. f x y) xs ≡ along f xs (replicate rows y)
+along_same f [] rows y e = refl
+along_same f (x ∷ xs) zero y e = absurd (omega arith)
+along_same {Z = Z} f (x ∷ xs) (suc rows) y e = ap (λ (zs : List Z). f x y ∷ zs) (along_same f xs rows y (omega arith))

@@ -15,6 +15,7 @@ mod numbers;
 pub mod operators;
 mod sides;
 mod tested_rows;
+mod text_fronts;
 mod text_operators;
 mod text_sides;
 mod texts;

@@ -1,6 +1,7 @@
 //! Comparison of texts, row by row, where they stand.
 
-ghost use Rattle.std.specs.Prelude.{◌≡◌, length, map, IfOk};
+ghost use Rattle.std.specs.Prelude.{◌≡◌, ◌≤◌, length, map, take, IfOk};
+ghost use Rattle.std.specs.Slice.Scan.{big_endian};
 ghost use Rattle.vx_types.specs.declared.dtypes.Nullability.TheVariants.{NonNullable};
 ghost use Rattle.vx_types.specs.Data.{bool_type};
 ghost use Rattle.vx_operators.specs.Kernels.{compares_text};
@@ -10,9 +11,10 @@ ghost use Rattle.vx_operators.specs.TextSides.{text_valid, side_texts, text_rows
 
 use crate::operators::CompareOp;
 use crate::tested_rows::tested_array;
+use crate::text_fronts::{front_of, order_by_front};
 use crate::text_sides::TextSide;
 use std::alloc::{AllocError, Global};
-use vx_arrays::Array;
+use vx_arrays::{Array, Texts};
 
 /// How two texts compare.
 #[inline(always)]
@@ -22,8 +24,8 @@ fn test_text(op: CompareOp, left: &str, right: &str) -> bool
     op.holds(left.cmp(right))
 }
 
-/// How what the rows of both sides hold compares.
-fn compared_texts(
+/// How what the rows of both sides hold compares, row by row.
+fn compared_each(
     alloc: Global,
     op: CompareOp,
     left: TextSide<'_>,
@@ -39,6 +41,61 @@ fn compared_texts(
         truths.push(test_text(op, left.at(row), right.at(row)))?;
     }
     Ok(truths)
+}
+
+/// Writes how each text of a column compares with one text, whose first 16 bytes spell the number.
+fn mark_column(op: CompareOp, texts: &Texts, text: &str, front: u128, truths: &mut [bool])
+    requires long { 16 ≤ length text.now }
+    requires front { front ≡ big_endian 0 (take 16 text.now) }
+    requires rows { length truths.old ≡ length texts.now }
+    ensures { truths.new ≡ map (λ t. compares_text op t text.now) texts.now }
+{
+    for row in 0..texts.len() {
+        truths[row] = op.holds(order_by_front(texts.text(row), text, front));
+    }
+}
+
+/// How each text of a column compares with one text.
+fn compared_column(
+    alloc: Global,
+    op: CompareOp,
+    texts: &Texts,
+    text: &str,
+) -> Result<Vec<bool>, AllocError>
+    requires { 16 ≤ length text.now }
+    ensures { IfOk result (λ truths. truths.items ≡ map (λ t. compares_text op t text.now) texts.now) }
+{
+    let rows = texts.len();
+    let mut truths = Vec::with_capacity(alloc, rows)?;
+    truths.resize(rows, false)?;
+    let front = front_of(text.as_bytes());
+    mark_column(op, texts, text, front, truths.as_mut_slice());
+    Ok(truths)
+}
+
+/// How what the rows of both sides hold compares. A column beside one text that isn't short is gone over by the first
+/// bytes of its texts.
+fn compared_texts(
+    alloc: Global,
+    op: CompareOp,
+    left: TextSide<'_>,
+    right: TextSide<'_>,
+) -> Result<Vec<bool>, AllocError>
+    requires left { IsTextSide left }
+    requires rows { length (side_texts right) ≡ length (side_texts left) }
+    ensures { IfOk result (λ truths. truths.items ≡ along (compares_text op) (side_texts left.entry) (side_texts right.entry)) }
+{
+    match (left, right) {
+        (TextSide::Rows(_, texts), TextSide::One(text, _)) => {
+            if text.len() < 16 {
+                compared_each(alloc, op, left, right)
+            } else {
+                let truths = compared_column(alloc, op, texts, text)?;
+                Ok(truths)
+            }
+        }
+        _ => compared_each(alloc, op, left, right),
+    }
 }
 
 /// How the texts of both sides compare.
