@@ -1,7 +1,8 @@
 -- A mask of zones that are pruned at a key, made anew or kept.
-use Rattle.std.proofs.Common.{◌≡◌, ℕ, true, List, Bool, Option, Some, Result, Ok, Err, sym, ap, ◌∙◌, subst}
-use Rattle.std.specs.Prelude.{IfOk, IfSome, option_map, slice_get}
+use Rattle.std.proofs.Common.{◌≡◌, ℕ, List, Bool, Option, Some, Result, Ok, Err, sym, ap, ◌∙◌, subst}
+use Rattle.std.specs.Prelude.{IfOk, IfSome, option_map}
 use Rattle.vx_expr.specs.Bound.{Bound}
+use Rattle.vx_zones.specs.Covers.{NoRowIsTrue}
 use Rattle.vx_zones.specs.Prunes.{pruned_zones}
 use Rattle.vx_zones.specs.Tables.{TableData}
 use Rattle.vx_zones.proofs.TableLaw.{pruned_is_not_true}
@@ -17,8 +18,7 @@ pub mask_gives : (table : TableData) (predicate : Bound) (seat : BoundSeat) (mad
 mask_gives table predicate seat made seen is = record {
   key = sym seen;
   mask = is;
-  keeps = λ values later zone place row v covers less out inside at.
-      pruned_is_not_true table values predicate.root predicate.term made.key later zone place row v covers less (subst (λ (bits : List Bool). slice_get bits zone ≡ Some true) is out) inside at;
+  keeps = subst (NoRowIsTrue table predicate.root predicate.term made.key) (sym is) (pruned_is_not_true table predicate.root predicate.term made.key);
 }
 
 -- one that was made at that key, where it was made

@@ -1,9 +1,7 @@
 -- What a mask of zones that are pruned by a bound says.
-use Rattle.std.specs.Prelude.{◌≡◌, ℕ, ◌+◌, ◌*◌, ◌<◌, ◌≤◌, true, List, slice_get, Some}
-use Rattle.vx_base.specs.Data.{Datum, truth}
+use Rattle.std.specs.Prelude.{◌≡◌}
 use Rattle.vx_expr.specs.Bound.{Bound}
-use Rattle.vx_expr.specs.Meaning.{meaning}
-use Rattle.vx_zones.specs.Covers.{Covers}
+use Rattle.vx_zones.specs.Covers.{NoRowIsTrue}
 use Rattle.vx_zones.specs.Prunes.{pruned_zones}
 use Rattle.vx_zones.specs.Tables.{TableData}
 use Rattle.vx_bound.specs.declared.bounds.BoundSeat.{BoundSeat}
@@ -20,7 +18,4 @@ pub record MaskGives (table : TableData) (predicate : Bound) (seat : BoundSeat) 
   pub key : made.key ≡ least_seen seat
   pub mask : made.mask ≡ pruned_zones made.key predicate.term table
   -- where the table covers the values, no row is pruned that the predicate keeps at that key or at any later one
-  pub keeps : (values : List Datum) (later zone place row : ℕ) (v : Datum)
-      → Covers table values → later ≤ made.key → slice_get made.mask zone ≡ Some true
-      → place < table.zone_len → slice_get values (zone * table.zone_len + place) ≡ Some v
-      → ¬ (meaning predicate.root later predicate.term v row ≡ Some (truth true))
+  pub keeps : NoRowIsTrue table predicate.root predicate.term made.key made.mask

@@ -23,6 +23,7 @@ pub struct BoundMask {
 /// A table of zones and a proof that prunes them. Each worker has a copy of its own, and keeps its last mask beside its
 /// key.
 pub struct PrunedZones {
+    alloc: Global,
     zones: ZoneTable,
     proof: ZoneProof,
     kept: Option<BoundMask>,
@@ -31,6 +32,7 @@ pub struct PrunedZones {
 impl Drop for PrunedZones {
     fn drop(self) {
         let PrunedZones {
+            alloc: _,
             zones: _,
             proof: _,
             kept: _,
@@ -52,12 +54,13 @@ impl Model for PrunedZones {
 }
 
 impl PrunedZones {
-    /// These zones and this proof, and no mask yet. It takes no memory.
-    pub fn new(zones: ZoneTable, proof: ZoneProof) -> PrunedZones
+    /// These zones and this proof, and no mask yet: masks will take memory by `alloc`. It takes none itself.
+    pub fn new(alloc: Global, zones: ZoneTable, proof: ZoneProof) -> PrunedZones
         requires { IsBoundTo proof zones.dtype }
         ensures { result ≡ pruned_data zones proof None }
     {
         PrunedZones {
+            alloc,
             zones,
             proof,
             kept: None,
@@ -70,18 +73,18 @@ impl PrunedZones {
     {
         let zones = self.zones.copy(alloc)?;
         let proof = self.proof.copy(alloc)?;
-        Ok(PrunedZones::new(zones, proof))
+        Ok(PrunedZones::new(alloc, zones, proof))
     }
 
     /// The kept mask, where it was made at this key, in memory of its own.
     #[tactic(auto, using(crate::proofs::MaskRights::kept_shown, crate::proofs::MaskRights::kept_right))]
-    fn kept_at(&self, alloc: Global, key: u64) -> Result<Option<Mask>, AllocError>
+    fn kept_at(&self, key: u64) -> Result<Option<Mask>, AllocError>
         ensures kept { IfOk result (λ found. IfSome found (λ mask. self.now.kept ≡ Some (key, mask))) }
         ensures right { IfOk result (λ found. IfSome found (λ mask. mask ≡ pruned_zones key self.now.predicate.term self.now.table)) }
     {
         match &self.kept {
             Some(kept) if kept.key == key => {
-                let mask = kept.mask.copy(alloc)?;
+                let mask = kept.mask.copy(self.alloc)?;
                 Ok(Some(mask))
             }
             _ => Ok(None),
@@ -89,14 +92,14 @@ impl PrunedZones {
     }
 
     /// The zones that are pruned at this key, by a pass over the table. The mask is kept in place of the last one.
-    fn prune_at(&mut self, alloc: Global, key: u64) -> Result<BoundMask, AllocError>
+    fn prune_at(&mut self, key: u64) -> Result<BoundMask, AllocError>
         ensures key { IfOk result (λ made. made.key ≡ key) }
         ensures mask { IfOk result (λ made. made.mask ≡ pruned_zones key self.old.predicate.term self.old.table) }
         ensures kept { IfOk result (λ made. self.new ≡ pruned_data self.old.table self.old.predicate (Some (made.key, made.mask))) }
         ensures refused { OnErr result (self.new ≡ self.old) }
     {
-        let mask = self.zones.prune(alloc, &self.proof, key)?;
-        let kept = mask.copy(alloc)?;
+        let mask = self.zones.prune(self.alloc, &self.proof, key)?;
+        let kept = mask.copy(self.alloc)?;
         self.kept = Some(BoundMask { mask: kept, key });
         Ok(BoundMask { mask, key })
     }
@@ -106,7 +109,6 @@ impl PrunedZones {
     /// kept mask stay as they were, and the seat has loaded the bound once.
     pub fn mask(
         &mut self,
-        alloc: Global,
         table: &BoundTable,
         seat: &mut BoundSeat,
     ) -> Result<BoundMask, AllocError>
@@ -118,9 +120,9 @@ impl PrunedZones {
         ensures refused { OnErr result (self.new ≡ self.old) }
     {
         let key = table.load(seat);
-        match self.kept_at(alloc, key) {
+        match self.kept_at(key) {
             Ok(Some(mask)) => Ok(BoundMask { mask, key }),
-            Ok(None) => self.prune_at(alloc, key),
+            Ok(None) => self.prune_at(key),
             Err(error) => Err(error),
         }
     }

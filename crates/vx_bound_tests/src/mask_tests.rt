@@ -64,7 +64,7 @@ fn table_over(rt: &(impl AllocGlobal + Abort), dtype: &DType, minima: &[Option<u
 fn zones_with(rt: &(impl AllocGlobal + Abort), minima: &[Option<u64>]) -> PrunedZones {
     let dtype = DType::Int(IntKind::U64, Nullability::NonNullable);
     let proof = proof_over(rt, &dtype);
-    PrunedZones::new(table_over(rt, &dtype, minima), proof)
+    PrunedZones::new(rt.alloc(), table_over(rt, &dtype, minima), proof)
 }
 
 /// Whether the mask has these truth values.
@@ -92,7 +92,7 @@ fn assert_pruned(
     requires { IsSeatOf table.now seat.old }
     ensures { IsSeatOf table.now seat.new }
 {
-    let made = zones.mask(rt.alloc(), table, seat).expect(rt, "a mask");
+    let made = zones.mask(table, seat).expect(rt, "a mask");
     assert!(rt; made.key == key);
     assert!(rt; is_mask(&made.mask, bits), "at {key}");
 }

@@ -148,5 +148,5 @@ zones_law stats zone_len left (d ∷ told) values t later bound e (suc zone) pla
     zones_law stats zone_len (left - zone_len) told (drop zone_len values) t later bound e zone place (zone * zone_len + place) row v (omega (arith, count, rows)) covers.1 less out inside refl there says
 
 pub pruned_is_not_true : PrunedIsNotTrue
-pruned_is_not_true table values t e bound later zone place row v covers less out inside at true_there =
+pruned_is_not_true table t e bound values later zone place row v covers less out inside at true_there =
     zones_law table.stats table.zone_len table.row_count table.told values t later bound e zone place (zone * table.zone_len + place) row v covers.rows covers.each less out inside refl at (ap is_yes true_there)

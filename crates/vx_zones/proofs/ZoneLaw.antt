@@ -1,6 +1,6 @@
 -- Where what is told of a zone covers a value, a predicate that prunes the zone isn't true of it.
 use Rattle.std.proofs.Common.{◌≡◌, ℕ, ◌≤◌, Bool, true, false, ◌⊎◌, inl, inr, Option, Some, None, refl, sym, ap, ◌∙◌, arith}
-use Rattle.std.specs.Prelude.{ℤ, pos, int_le, ◌≤ℤ◌, ◌<ℤ◌, ◌&&◌, ◌||◌, if◌then◌else◌, option_map, option_and_then, IsTrue}
+use Rattle.std.specs.Prelude.{ℤ, pos, ◌≤ℤ◌, ◌<ℤ◌, ◌&&◌, ◌||◌, if◌then◌else◌, option_map, option_and_then}
 use Rattle.std.specs.Ordering.{int_cmp, MatchOrdering}
 use Rattle.std.specs.declared.cmp.Ordering.{Ordering}
 use Rattle.std.specs.declared.cmp.Ordering.TheVariants.{Less, Equal, Greater}
@@ -132,9 +132,6 @@ compared t later op a b v row zone false true is other at out says =
 compared t later op a b v row zone false false is other at out says = cc
 
 -- ---- tests of the root
-
-null_yes : (v : Datum) → is_yes (null_test_of v) ≡ true → is_null v ≡ true
-null_yes v h = h
 
 le_number : (z w : ℤ) (o : Ordering) → MatchOrdering o (z <ℤ w) (z ≡ w) (w <ℤ z) → z ≤ℤ w → holds Le o ≡ true
 le_number z w Less m le = refl

@@ -36,11 +36,15 @@ pub record Covers (table : TableData) (values : List Datum) : Type 0 where
   pub rows : length values ≡ table.row_count
   pub each : CoverEach table.zone_len (zones_in table) values
 
--- Where the table covers the values, no row of a pruned zone makes the predicate true at the bound or at any lesser one,
--- whatever number it has.
-abbrev pub PrunedIsNotTrue : Type 0
-PrunedIsNotTrue = (table : TableData) (values : List Datum) (t : DataType) (e : Term) (bound later zone place row : ℕ) (v : Datum)
+-- Where the table covers the values, no row of the zones that a mask names makes the predicate true at the bound or at any
+-- lesser one, whatever number it has.
+abbrev pub NoRowIsTrue : TableData → DataType → Term → ℕ → List Bool → Type 0
+NoRowIsTrue table t e bound zones = (values : List Datum) (later zone place row : ℕ) (v : Datum)
     → Covers table values → later ≤ bound
-    → slice_get (pruned_zones bound e table) zone ≡ Some true
+    → slice_get zones zone ≡ Some true
     → place < table.zone_len → slice_get values (zone * table.zone_len + place) ≡ Some v
     → ¬ (meaning t later e v row ≡ Some (truth true))
+
+-- So it is of the zones that the predicate prunes at the bound.
+abbrev pub PrunedIsNotTrue : Type 0
+PrunedIsNotTrue = (table : TableData) (t : DataType) (e : Term) (bound : ℕ) → NoRowIsTrue table t e bound (pruned_zones bound e table)

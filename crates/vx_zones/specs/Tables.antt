@@ -20,16 +20,17 @@ pub record Zone : Type 0 where
   pub nulls : Datum
   pub rows : ℕ
 
-abbrev pub is_statistic : Statistic → Statistic → Bool
-is_statistic Min Min = true
-is_statistic Max Max = true
-is_statistic NullCount NullCount = true
-is_statistic stat other = false
+-- whether the statistics are the same
+abbrev pub same_statistic : Statistic → Statistic → Bool
+same_statistic Min Min = true
+same_statistic Max Max = true
+same_statistic NullCount NullCount = true
+same_statistic stat other = false
 
 -- the place of the first such statistic
 abbrev pub place_of : Statistic → List Statistic → Option ℕ
 place_of stat [] = None
-place_of stat (other ∷ stats) = if is_statistic stat other then Some 0 else option_map (λ place. 1 + place) (place_of stat stats)
+place_of stat (other ∷ stats) = if same_statistic stat other then Some 0 else option_map (λ place. 1 + place) (place_of stat stats)
 
 -- a zone's statistic at a place, which is null where there is none
 abbrev pub told_at : Option ℕ → Datum → Datum

@@ -18,7 +18,7 @@ use vx_expr::{CompareOp, Expr, Statistic};
 use vx_operators::Scalar;
 
 impl ZoneTable {
-    /// The zones of whose least value is told that it compares so with a value.
+    /// The zones whose least value, where it is told, compares so with a value.
     fn least_tells(
         &self,
         alloc: Global,
@@ -31,7 +31,7 @@ impl ZoneTable {
         Ok(mask)
     }
 
-    /// The zones of whose greatest value is told that it compares so with a value.
+    /// The zones whose greatest value, where it is told, compares so with a value.
     fn greatest_tells(
         &self,
         alloc: Global,

@@ -8,7 +8,7 @@ ghost use Rattle.vx_operators.specs.declared.operators.CompareOp.TheVariants.{Eq
 ghost use Rattle.vx_operators.specs.ColumnarValues.{scalar_datum};
 ghost use Rattle.vx_zones.specs.declared.errors.ZoneError.TheVariants as errors;
 ghost use Rattle.vx_zones.specs.Prunes.{tells, none_null, all_null};
-ghost use Rattle.vx_zones.specs.Tables.{is_statistic, place_of, table_of, told_at, zones_in, IsTable};
+ghost use Rattle.vx_zones.specs.Tables.{place_of, same_statistic, table_of, told_at, zones_in, IsTable};
 ghost use Rattle.vx_zones.specs.Tellings.{full_along};
 
 use crate::errors::ZoneError;
@@ -63,8 +63,8 @@ impl Model for ZoneTable {
 }
 
 /// Whether the statistics are the same.
-fn is_statistic(stat: Statistic, other: Statistic) -> bool
-    ensures { result ≡ is_statistic stat other }
+fn same_statistic(stat: Statistic, other: Statistic) -> bool
+    ensures { result ≡ same_statistic stat other }
 {
     match stat {
         Statistic::Min => matches!(other, Statistic::Min),
@@ -78,7 +78,7 @@ fn place_of(stat: Statistic, stats: &[Statistic]) -> Option<usize>
     ensures { result ≡ place_of stat stats.now }
 {
     for (place, other) in stats.iter().enumerate() {
-        if is_statistic(stat, *other) {
+        if same_statistic(stat, *other) {
             return Some(place);
         }
     }
@@ -151,8 +151,8 @@ fn zone_table(
 }
 
 impl ZoneTable {
-    /// The table of zones that the column is: with a struct of the statistics, in order, for each `zone_len` of the
-    /// `row_count` rows of the dtype. Of two statistics of one sort the first stands.
+    /// A table of zones from a column of structs: one for each `zone_len` of the `row_count` rows of the dtype, with a field
+    /// for each statistic, in order. Of two statistics of one sort the first stands.
     pub fn try_new(
         alloc: Global,
         dtype: &DType,

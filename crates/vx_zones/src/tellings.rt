@@ -1,4 +1,4 @@
-//! Which zones a statistic tells that they compare so with a value: a whole column at a time where it is packed.
+//! The zones where what a statistic tells compares so with a value: a whole column at a time where it is packed.
 
 ghost use Rattle.std.specs.Prelude.{◌≡◌, ◌<◌, ◌∷◌, [], length, map, slice_index_or, IfOk, IfSome};
 ghost use Rattle.std.specs.Int.{div_ceil};
@@ -63,8 +63,8 @@ pub(crate) fn natural_of(number: u64) -> Scalar<'static>
     Scalar::Number(IntKind::U64, Some(i128::from(number)))
 }
 
-/// The zones of which packed statistics tell that they compare so with a value. None where no operator goes over them
-/// as a whole.
+/// The zones where what packed statistics tell compares so with a value. None where no operator goes over them as a
+/// whole.
 fn tells_packed(
     alloc: Global,
     op: CompareOp,
@@ -109,7 +109,7 @@ impl Told<'_> {
         }
     }
 
-    /// Whether it tells of a zone that it compares so with a value.
+    /// Whether what it tells of a zone compares so with a value.
     fn tells_of(&self, op: CompareOp, zone: usize, scalar: Scalar<'_>) -> bool
         requires { zone < length (told_values self.now) }
         ensures { result ≡ tells op (slice_index_or (told_values self.now) zone null) (scalar_datum scalar.entry) }
@@ -121,7 +121,7 @@ impl Told<'_> {
         }
     }
 
-    /// The zones of which it tells that they compare so with a value, one by one.
+    /// The zones where what it tells compares so with a value, one by one.
     fn tells_each(
         &self,
         alloc: Global,
@@ -138,7 +138,7 @@ impl Told<'_> {
         Mask::of(alloc, bits)
     }
 
-    /// The zones of which it tells that they compare so with a value.
+    /// The zones where what it tells compares so with a value.
     pub(crate) fn tells(
         &self,
         alloc: Global,

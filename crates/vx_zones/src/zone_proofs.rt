@@ -14,7 +14,7 @@ use vx_base::{DType, IntKind, Value, is_leaf};
 use vx_expr::{BoundExpression, CompareOp, Expr};
 use vx_operators::Scalar;
 
-/// That a predicate can prune zones: it is seen as the predicate.
+/// A predicate that can prune zones.
 #[derive(Drop)]
 pub struct ZoneProof {
     predicate: BoundExpression,
@@ -33,7 +33,7 @@ impl Model for ZoneProof {
     ghost invariant = { λ a. HasProof a.predicate };
 }
 
-/// The proof that the predicate can prune zones. None where it has none.
+/// The predicate as a proof that it can prune zones. None where it can't.
 pub fn falsify(alloc: Global, predicate: &BoundExpression) -> Result<Option<ZoneProof>, AllocError>
     requires { IsBool predicate.now.dtype }
     ensures { IfOk result (λ found. MatchOption found (¬ HasProof predicate.now) (λ proof. (proof ≡ predicate.now) × HasProof predicate.now)) }
