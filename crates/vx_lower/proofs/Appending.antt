@@ -6,7 +6,7 @@ use Rattle.vx_plan.specs.Alike.{SameHead}
 use Rattle.vx_plan.specs.Kinds.{IsRowIdx}
 use Rattle.vx_plan.specs.Nodes.{Node}
 use Rattle.vx_rows.specs.Heads.{Head}
-use Rattle.vx_plan.specs.Plans.{Plan, no_plan, concat_plan, eval_plan, filter_plan, pack_plan, take_plan, share_plan, list_plan, row_idx_plan, scan_plan, zoned_plan, plan_head, head_at, plan_at, plan_grown_as}
+use Rattle.vx_plan.specs.Plans.{Plan, no_plan, concat_plan, eval_plan, filter_plan, pack_plan, take_plan, share_plan, list_plan, row_idx_plan, scan_plan, zoned_plan, pruning_plan, plan_head, head_at, plan_at, plan_grown_as}
 use Rattle.vx_plan.specs.Rules.{node_at, nodes_at}
 use Rattle.vx_plan.specs.Tables.{AreIn, IsAdded, IsGoodTable}
 use Rattle.vx_plan.proofs.Adding.{all_stay, head_in_table, length_added, plan_added}
@@ -124,6 +124,7 @@ numbered_like first (list_plan head elements offsets validity) = record { dtype 
 numbered_like first (row_idx_plan head) = record { dtype = refl; rows = refl }
 numbered_like first (scan_plan head segment coding) = record { dtype = refl; rows = refl }
 numbered_like first (zoned_plan head zones content table) = record { dtype = refl; rows = refl }
+numbered_like first (pruning_plan head pruning table) = record { dtype = refl; rows = refl }
 
 like_head : (nodes : List Node) → IsGoodTable nodes → (first n : ℕ) (p : Plan) → n < length nodes → plan_at nodes n ≡ numbered first p → IsLikeHead (node_at nodes n) (plan_head p)
 like_head nodes good first n p lt is =

@@ -31,3 +31,4 @@ pub mod PlanLines
 pub mod GoodTrees
 pub mod PlannedTables
 pub mod TreePlans
+pub mod Predicates

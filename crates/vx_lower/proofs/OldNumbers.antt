@@ -2,10 +2,10 @@
 use Rattle.std.proofs.Common.{◌≡◌, ℕ, suc, ◌+◌, ◌-◌, ◌<◌, List, [], ◌∷◌, ◌++◌, length, map, get_or, refl, sym, ap, ◌∙◌, arith}
 use Rattle.std.proofs.lemmas.List.{length-append}
 use Rattle.vx_plan.specs.Alike.{SameHead, IsAlike, AreAlike, ValidityIsAlike}
-use Rattle.vx_plan.specs.Plans.{Plan, no_plan, concat_plan, eval_plan, filter_plan, pack_plan, take_plan, share_plan, list_plan, row_idx_plan, scan_plan, zoned_plan, Plans, no_plans, plan, PlanValidity, all_valid, valid_as}
+use Rattle.vx_plan.specs.Plans.{Plan, no_plan, concat_plan, eval_plan, filter_plan, pack_plan, take_plan, share_plan, list_plan, row_idx_plan, scan_plan, zoned_plan, pruning_plan, Plans, no_plans, plan, PlanValidity, all_valid, valid_as}
 use Rattle.vx_plan.specs.PlanRows.{plan_derivation, plan_value, plan_reads}
-use Rattle.vx_plan.proofs.AlikePlans.{concat_alike, pack_alike, take_alike, eval_alike, zoned_alike, list_alike, alike_values, alike_reads}
-use Rattle.vx_rows.specs.Derivations.{Derivation, nothing, of_leaf, list_row, given, packed, valid_where, looked_up, worked_out, read_whole, Derivations, no_more, also, Leaves}
+use Rattle.vx_plan.proofs.AlikePlans.{concat_alike, pack_alike, take_alike, eval_alike, zoned_alike, pruning_alike, list_alike, alike_values, alike_reads}
+use Rattle.vx_rows.specs.Derivations.{Derivation, nothing, of_leaf, list_row, given, packed, valid_where, looked_up, worked_out, read_whole, concluded, Derivations, no_more, also, Leaves}
 use Rattle.vx_rows.specs.Reads.{Way, directly, through, Found, a_leaf_row, a_code, a_list_row, Read}
 use Rattle.vx_rows.specs.Renumbered.{renumbered, each_renumbered, way_renumbered, found_renumbered, read_renumbered}
 use Rattle.vx_rows.specs.Heads.{Head}
@@ -32,6 +32,7 @@ mutual
   count_numbers (scan_plan head segment coding) = refl
   count_numbers (zoned_plan head zones content table) =
       omega (arith, length-append (numbers_of content) (numbers_of table ++ head.number ∷ []), length-append (numbers_of table) (head.number ∷ []), count_numbers content, count_numbers table)
+  count_numbers (pruning_plan head pruning table) = omega (arith, length-append (numbers_of table) (head.number ∷ []), count_numbers table)
 
   pub count_each : (ps : Plans) → length (each_numbers_of ps) ≡ plans_size ps
   count_each no_plans = refl
@@ -125,6 +126,9 @@ mutual
       let number : ℕ = first + (plan_size content + plan_size table) in
       zoned_alike f itself offset (head_with number head) head zones zones (numbered first content) content (numbered (first + plan_size content) table) table (same_head number head)
       (alike_by f offset first content (front f first (numbers_of content) (numbers_of table ++ head.number ∷ []) gives))
+  alike_by f offset first (pruning_plan head pruning table) gives =
+      pruning_alike f itself offset (head_with (first + plan_size table) head) head pruning (numbered first table) table (same_head (first + plan_size table) head)
+      (alike_by f offset first table (front f first (numbers_of table) (head.number ∷ []) gives))
 
   each_alike : (f : ℕ → ℕ) (offset first : ℕ) (ps : Plans) → Gives f first (each_numbers_of ps) → AreAlike f itself offset (each_numbered first ps) ps
   each_alike f offset first no_plans gives = tt
@@ -155,6 +159,7 @@ mutual
   same_numbers (looked_up dictionary row code values) = let p = same_numbers code in let q = each_same_numbers values in cc
   same_numbers (worked_out t e d) = ap (worked_out t e) (same_numbers d)
   same_numbers (read_whole share row d ds) = let p = same_numbers d in let q = each_same_numbers ds in cc
+  same_numbers (concluded rule ds) = ap (concluded rule) (each_same_numbers ds)
 
   each_same_numbers : (ds : Derivations) → each_renumbered itself ds ≡ ds
   each_same_numbers no_more = refl

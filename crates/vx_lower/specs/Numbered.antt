@@ -5,7 +5,7 @@ use Rattle.std.specs.List.{AllByRecursion}
 use Rattle.vx_plan.specs.Kinds.{IsRowIdx}
 use Rattle.vx_plan.specs.Nodes.{Node}
 use Rattle.vx_rows.specs.Heads.{Head}
-use Rattle.vx_plan.specs.Plans.{Plan, no_plan, concat_plan, eval_plan, filter_plan, pack_plan, take_plan, share_plan, list_plan, row_idx_plan, scan_plan, zoned_plan, Plans, no_plans, plan, PlanValidity, all_valid, valid_as, plan_at}
+use Rattle.vx_plan.specs.Plans.{Plan, no_plan, concat_plan, eval_plan, filter_plan, pack_plan, take_plan, share_plan, list_plan, row_idx_plan, scan_plan, zoned_plan, pruning_plan, Plans, no_plans, plan, PlanValidity, all_valid, valid_as, plan_at}
 use Rattle.vx_plan.specs.Tables.{AreIn, IsGoodTable}
 use Rattle.vx_lower.specs.Sizes.{plan_size, plans_size, plan_validity_size}
 
@@ -35,6 +35,7 @@ abbrev mutual
   numbered first (zoned_plan head zones content table) =
       zoned_plan (head_with (first + (plan_size content + plan_size table)) head) zones
       (numbered first content) (numbered (first + plan_size content) table)
+  numbered first (pruning_plan head pruning table) = pruning_plan (head_with (first + plan_size table) head) pruning (numbered first table)
 
   pub each_numbered : ℕ → Plans → Plans
   each_numbered first no_plans = no_plans

@@ -1,6 +1,6 @@
 -- The numbers that the parts of a plan had before a table gave them new ones.
 use Rattle.std.specs.Prelude.{ℕ, ◌-◌, List, [], ◌∷◌, ◌++◌, slice_index_or}
-use Rattle.vx_plan.specs.Plans.{Plan, no_plan, concat_plan, eval_plan, filter_plan, pack_plan, take_plan, share_plan, list_plan, row_idx_plan, scan_plan, zoned_plan, Plans, no_plans, plan, PlanValidity, all_valid, valid_as}
+use Rattle.vx_plan.specs.Plans.{Plan, no_plan, concat_plan, eval_plan, filter_plan, pack_plan, take_plan, share_plan, list_plan, row_idx_plan, scan_plan, zoned_plan, pruning_plan, Plans, no_plans, plan, PlanValidity, all_valid, valid_as}
 
 -- the numbers of a plan and its parts, in the order of a table: children first, and each plan after its children
 abbrev mutual
@@ -17,6 +17,7 @@ abbrev mutual
   numbers_of (row_idx_plan head) = head.number ∷ []
   numbers_of (scan_plan head segment coding) = head.number ∷ []
   numbers_of (zoned_plan head zones content table) = numbers_of content ++ (numbers_of table ++ head.number ∷ [])
+  numbers_of (pruning_plan head pruning table) = numbers_of table ++ head.number ∷ []
 
   pub each_numbers_of : Plans → List ℕ
   each_numbers_of no_plans = []

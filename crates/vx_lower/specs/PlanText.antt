@@ -23,12 +23,13 @@ dtype_part node = codes "(" ++ type_text node.dtype
 abbrev pub rows_part : Node → List ℕ
 rows_part node = codes ", rows=" ++ (decimal node.rows ++ codes ")")
 
--- the expression, of the kind that has one
+-- the expression, or the predicate by which zones are pruned, of the kinds that have one
 abbrev pub expression_text : PlanKind → List ℕ
 expression_text (kinds.Eval a) = codes " expr=" ++ term_text a.term
+expression_text (kinds.Pruning zone_len stats proof) = codes " prune=" ++ term_text proof.term
 expression_text kind = []
 
--- a summary: the kind, the dtype and the rows, and the expression
+-- a summary: the kind, the dtype and the rows, and the expression or the predicate
 abbrev pub node_text : Node → List ℕ
 node_text node = id_text (id_of node.kind) ++ (dtype_part node ++ (rows_part node ++ expression_text node.kind))
 

@@ -1,7 +1,7 @@
 -- How many nodes a tree and a plan have.
 use Rattle.std.specs.Prelude.{ℕ, ◌+◌}
 use Rattle.vx_layout.specs.Trees.{Tree, missing, leaf, chunks, fields, dict, lists, zoned, Forest, no_trees, tree, Validity, always, valid_by}
-use Rattle.vx_plan.specs.Plans.{Plan, no_plan, concat_plan, eval_plan, filter_plan, pack_plan, take_plan, share_plan, list_plan, row_idx_plan, scan_plan, zoned_plan, Plans, no_plans, plan, PlanValidity, all_valid, valid_as}
+use Rattle.vx_plan.specs.Plans.{Plan, no_plan, concat_plan, eval_plan, filter_plan, pack_plan, take_plan, share_plan, list_plan, row_idx_plan, scan_plan, zoned_plan, pruning_plan, Plans, no_plans, plan, PlanValidity, all_valid, valid_as}
 
 abbrev mutual
   pub tree_size : Tree → ℕ
@@ -34,6 +34,7 @@ abbrev mutual
   plan_size (row_idx_plan head) = 1
   plan_size (scan_plan head segment coding) = 1
   plan_size (zoned_plan head zones content table) = 1 + (plan_size content + plan_size table)
+  plan_size (pruning_plan head pruning table) = 1 + plan_size table
 
   pub plans_size : Plans → ℕ
   plans_size no_plans = 0

@@ -1,12 +1,15 @@
 //! What a line of a plan's text says behind the plan's name: a summary of the plan, and what callers have to say.
 
-ghost use Rattle.std.specs.Prelude.{◌≡◌, ◌<◌, ◌++◌, length, map, OnErr, OnOk};
+ghost use Rattle.std.specs.Prelude.{◌≡◌, ◌<◌, ◌++◌, codes, length, map, option_map, OnErr, OnOk};
+ghost use Rattle.vx_expr.specs.TermText.{term_text};
 ghost use Rattle.vx_lower.specs.PlanText.{all_headers, dtype_part, expression_text, headers_text, rows_part, summary_text, Header};
+ghost use Rattle.vx_plan.specs.Kinds.{proof_of, HasKind, IsEval};
 ghost use Rattle.vx_plan.specs.Refs.{number_of};
 ghost use Rattle.vx_plan.specs.Rules.{node_at};
 
 use std::alloc::{AllocError, Global};
 use vx_plan::{PlanRef, PlanTable};
+use vx_zones::ZoneProof;
 
 /// What has something to say of each plan of a text.
 pub trait PlanTreeExtractor: Drop {
@@ -26,8 +29,9 @@ pub trait PlanTreeExtractor: Drop {
         ensures unchanged { OnErr result (out.new.items ≡ out.old.items) };
 }
 
-/// Says of a plan which kind it is of, its dtype and its number of rows, and its expression where it has one: a space,
-/// then `vortex.plan.eval(i64, rows=3) expr=$.a`.
+/// Says of a plan which kind it is of, its dtype and its number of rows, and its expression, or the predicate by which it
+/// prunes zones, where it has one: a space, then `vortex.plan.eval(i64, rows=3) expr=$.a`, or
+/// `vortex.plan.zoned(bool, rows=9) prune=($ > 7)`.
 #[derive(Clone, Copy, Debug)]
 pub struct PlanSummaryExtractor;
 
@@ -61,7 +65,44 @@ fn write_rows(
     out.extend_from_slice(text.as_bytes())
 }
 
-/// Appends the expression of a plan, where it has one.
+/// The proof by which a plan prunes zones, where it has one.
+fn proof_of(table: &PlanTable, plan: PlanRef) -> Option<&ZoneProof>
+    requires { number_of plan < length table.now }
+    ensures { option_map (λ proof. proof.now) result ≡ proof_of (node_at table.now (number_of plan)).kind }
+{
+    match table.as_zoned(plan) {
+        Some(zoned) => zoned.pruning_proof(table),
+        None => None,
+    }
+}
+
+/// Appends a predicate by which zones are pruned.
+fn write_proof(alloc: Global, proof: &ZoneProof, out: &mut Vec<u8>) -> Result<(), AllocError>
+    ensures { OnOk result (out.new.items ≡ out.old.items ++ (codes " prune=" ++ term_text proof.now.term)) }
+{
+    let text = proof.predicate().text(alloc)?;
+    out.extend_from_slice(b" prune=")?;
+    out.extend_from_slice(&text)
+}
+
+/// Appends the predicate by which a plan that has no expression prunes zones, where it has one.
+fn write_predicate(
+    alloc: Global,
+    table: &PlanTable,
+    plan: PlanRef,
+    out: &mut Vec<u8>,
+) -> Result<(), AllocError>
+    requires known { number_of plan < length table.now }
+    requires plain { ¬ HasKind IsEval table.now (number_of plan) }
+    ensures { OnOk result (out.new.items ≡ out.old.items ++ expression_text (node_at table.now (number_of plan)).kind) }
+{
+    match proof_of(table, plan) {
+        Some(proof) => write_proof(alloc, proof, out),
+        None => Ok(()),
+    }
+}
+
+/// Appends the expression of a plan, or the predicate by which it prunes zones, where it has one.
 fn write_expression(
     alloc: Global,
     table: &PlanTable,
@@ -77,7 +118,7 @@ fn write_expression(
             out.extend_from_slice(b" expr=")?;
             out.extend_from_slice(&text)
         }
-        None => Ok(()),
+        None => write_predicate(alloc, table, plan, out),
     }
 }
 

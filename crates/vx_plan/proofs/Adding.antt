@@ -58,6 +58,7 @@ head_grown head kinds.RowIdx ps = refl
 head_grown head (kinds.SegmentScan segment coding) ps = refl
 head_grown head (kinds.Zoned zone_len stats) ps = refl
 head_grown head (kinds.LegacyStats zone_len stats) ps = refl
+head_grown head (kinds.Pruning zone_len stats proof) ps = refl
 
 pub head_in_table : (nodes : List Node) → IsGoodTable nodes → (n : ℕ) → n < length nodes → plan_head (plan_at nodes n) ≡ head_at n (node_at nodes n)
 head_in_table nodes good n lt =
@@ -78,6 +79,7 @@ coding_grown head kinds.RowIdx ps = refl
 coding_grown head (kinds.SegmentScan segment coding) ps = refl
 coding_grown head (kinds.Zoned zone_len stats) ps = refl
 coding_grown head (kinds.LegacyStats zone_len stats) ps = refl
+coding_grown head (kinds.Pruning zone_len stats proof) ps = refl
 
 pub coding_in_table : (nodes : List Node) → IsGoodTable nodes → (n : ℕ) → n < length nodes → plan_coding (plan_at nodes n) ≡ coding_of (node_at nodes n).kind
 coding_in_table nodes good n lt =

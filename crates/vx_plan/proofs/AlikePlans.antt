@@ -2,9 +2,10 @@
 use Rattle.std.proofs.Common.{◌≡◌, ℕ, zero, suc, ◌+◌, ◌-◌, ltb, Bool, true, false, cond, map, refl, sym, ap, ◌∙◌}
 use Rattle.vx_base.specs.declared.codings.Coding.{Coding}
 use Rattle.vx_expr.specs.Terms.{Term}
-use Rattle.vx_rows.specs.Derivations.{Derivation, packed, list_row, each_row, Leaves, derived}
+use Rattle.vx_rows.specs.Derivations.{Derivation, packed, list_row, concluded, each_row, Leaves, derived}
 use Rattle.vx_rows.specs.Reads.{directly, reads_of}
-use Rattle.vx_plan.specs.Plans.{Plan, concat_plan, eval_plan, filter_plan, pack_plan, take_plan, list_plan, scan_plan, zoned_plan, Plans, no_plans, plan, PlanValidity, all_valid, valid_as, plan_head}
+use Rattle.vx_plan.specs.Pruning.{Pruning, is_pruned_at}
+use Rattle.vx_plan.specs.Plans.{Plan, concat_plan, eval_plan, filter_plan, pack_plan, take_plan, list_plan, scan_plan, zoned_plan, pruning_plan, Plans, no_plans, plan, PlanValidity, all_valid, valid_as, plan_head}
 use Rattle.vx_plan.specs.PlanRows.{plan_derivation, plan_derivation_in, plan_derivations, plan_where_valid, plan_value, plan_reads}
 use Rattle.vx_rows.specs.Renumbered.{renumbered, each_renumbered, read_renumbered}
 use Rattle.vx_rows.specs.Heads.{Head}
@@ -95,6 +96,15 @@ scan_alike f g offset head other inner other_inner segment coding same inside = 
       let t : inner.dtype ≡ other_inner.dtype = inside.dtype in
       let r : inner.rows ≡ other_inner.rows = inside.rows in
       rw (t, r) refl;
+}
+
+pub pruning_alike : (f g : ℕ → ℕ) (offset : ℕ) (head other : Head) (pruning : Pruning) (p q : Plan) → SameHead head other → IsAlike f g offset p q → IsAlike f g offset (pruning_plan head pruning p) (pruning_plan other pruning q)
+pruning_alike f g offset head other pruning p q same are = record {
+  head = same;
+  derived = λ row.
+      let each : each_renumbered f (each_row (plan_derivation offset p) 0 (plan_head p).rows) ≡ each_renumbered g (each_row (plan_derivation offset q) 0 (plan_head p).rows) = rows_alike f g (plan_derivation offset p) (plan_derivation offset q) are.derived 0 (plan_head p).rows in
+      ap (concluded (is_pruned_at pruning head.rows row)) (each ∙ ap (λ (count : ℕ). each_renumbered g (each_row (plan_derivation offset q) 0 count)) are.head.rows)
+      ∙ ap (λ (rows : ℕ). concluded (is_pruned_at pruning rows row) (each_renumbered g (each_row (plan_derivation offset q) 0 (plan_head q).rows))) same.rows;
 }
 
 pub zoned_alike : (f g : ℕ → ℕ) (offset : ℕ) (head other : Head) (zones other_zones : Zones) (p q table other_table : Plan) → SameHead head other → IsAlike f g offset p q → IsAlike f g offset (zoned_plan head zones p table) (zoned_plan other other_zones q other_table)

@@ -82,6 +82,11 @@ values_below nodes n codes values known has =
 pub shared_below : (nodes : List Node) (n child : ℕ) → n < length nodes → HasShape nodes n (shapes.Shared child) → IsBelow nodes n child
 shared_below nodes n child known has = first_below nodes n (node_at nodes n) _ kinds.Share child [] known (shape_there nodes n (shapes.Shared child) known has)
 
+pub zones_below : (nodes : List Node) (n table : ℕ) → n < length nodes → HasShape nodes n (shapes.Pruned table) → IsBelow nodes n table
+zones_below nodes n table known has =
+    let p = shape_there nodes n (shapes.Pruned table) known has in
+    first_below nodes n (node_at nodes n) _ (kinds.Pruning p.zone_len p.stats p.proof) table [] known p.over
+
 zoned_rows : (nodes : List Node) (node : Node) (is_legacy : Bool) (zone_len : ℕ) (stats : List Statistic) (content table : ℕ) → IsMadeAs (zoned_kind is_legacy zone_len stats) node (nodes_at nodes (content ∷ table ∷ [])) → node.rows ≡ (node_at nodes content).rows
 zoned_rows nodes node false zone_len stats content table made = made.1
 zoned_rows nodes node true zone_len stats content table made = made.1
@@ -99,10 +104,10 @@ kind_known Is [] n has = absurd has
 kind_known Is (node ∷ nodes) zero has = omega arith
 kind_known Is (node ∷ nodes) (suc n) has = let lt : n < length nodes = kind_known Is nodes n has in omega arith
 
-kind_there : (Is : PlanKind → Type 0) (nodes : List Node) (n : ℕ) → HasKind Is nodes n → Is (node_at nodes n).kind
+pub kind_there : (Is : PlanKind → Type 0) (nodes : List Node) (n : ℕ) → HasKind Is nodes n → Is (node_at nodes n).kind
 kind_there Is nodes n has = subst (λ (o : Option Node). IsSomeAnd o (λ node. Is node.kind)) (slice_get-get_or nodes n absent (kind_known Is nodes n has)) has
 
-good_there : (nodes : List Node) → IsGoodTable nodes → (n : ℕ) → n < length nodes → IsGoodNode nodes n (node_at nodes n)
+pub good_there : (nodes : List Node) → IsGoodTable nodes → (n : ℕ) → n < length nodes → IsGoodNode nodes n (node_at nodes n)
 good_there nodes good n known = subst (λ (o : Option Node). IfSome o (IsGoodNode nodes n)) (slice_get-get_or nodes n absent known) (good n)
 
 pub child_there : (nodes : List Node) (children : List ℕ) (place child : ℕ) → slice_get children place ≡ Some child → slice_get (nodes_at nodes children) place ≡ Some (node_at nodes child)
@@ -129,6 +134,7 @@ pack_rows kinds.RowIdx rows below is fit = absurd is
 pack_rows (kinds.SegmentScan segment coding) rows below is fit = absurd is
 pack_rows (kinds.Zoned zone_len stats) rows below is fit = absurd is
 pack_rows (kinds.LegacyStats zone_len stats) rows below is fit = absurd is
+pack_rows (kinds.Pruning zone_len stats proof) rows below is fit = absurd is
 
 pub field_part : (nodes : List Node) → IsGoodTable nodes → (n place child : ℕ) → HasKind IsPack nodes n → slice_get (node_at nodes n).children place ≡ Some child → child < n → IsPart nodes n child
 field_part nodes good n place child has at lt =
@@ -182,3 +188,9 @@ share_law nodes good n child known has at start count bits e some =
     whole_law nodes good child (shared_below nodes n child known has).known at start count bits e
     ∙ sym (entered bits (selected_of (plan_at nodes child) (fixed at start (start + length bits)) 0 (all_rows (plan_head (plan_at nodes child)).rows)) some)
     ∙ sym (ap (λ (p : Plan). selected_of p at start bits) (shape_there nodes n (shapes.Shared child) known has).law)
+
+pub pruning_law : (nodes : List Node) → IsGoodTable nodes → (n table : ℕ) → n < length nodes → HasShape nodes n (shapes.Pruned table) → (at : Reach) (start count : ℕ) (bits : List Bool) → length bits ≡ count → any_row bits ≡ true → selected_of (plan_at nodes table) (fixed at start (start + count)) 0 (all_rows (node_at nodes table).rows) ≡ selected_of (plan_at nodes n) at start bits
+pruning_law nodes good n table known has at start count bits e some =
+    whole_law nodes good table (zones_below nodes n table known has).known at start count bits e
+    ∙ sym (entered bits (selected_of (plan_at nodes table) (fixed at start (start + length bits)) 0 (all_rows (plan_head (plan_at nodes table)).rows)) some)
+    ∙ sym (ap (λ (p : Plan). selected_of p at start bits) (shape_there nodes n (shapes.Pruned table) known has).over.law)

@@ -27,10 +27,14 @@ use Rattle.vx_expr.specs.contracts.bound_expressions.BoundExpression.TheInside a
 use Rattle.vx_plan.proofs.children.PlanChildren.TheSendSync as children
 use Rattle.vx_plan.specs.contracts.nodes.EvalExpression as evals
 use Rattle.vx_plan.specs.contracts.nodes.EvalExpression.TheInside as inside_evals
+use Rattle.vx_plan.specs.contracts.nodes.PruningProof as prunings
+use Rattle.vx_plan.specs.contracts.nodes.PruningProof.TheInside as inside_prunings
 use Rattle.vx_plan.specs.contracts.nodes.PlanKind as plan_kinds
 use Rattle.vx_plan.specs.contracts.nodes.PlanNode as nodes
 use Rattle.vx_plan.specs.contracts.tables.PlanTable as tables
 use Rattle.vx_plan.specs.contracts.tables.PlanTable.TheInside as inside_tables
+use Rattle.vx_zones.specs.contracts.zone_proofs.ZoneProof as proofs
+use Rattle.vx_zones.specs.contracts.zone_proofs.ZoneProof.TheInside as inside_proofs
 use Rattle.vx_base.below.vx_types.proofs.dtypes.IntKind.TheSendSync as kinds
 use Rattle.vx_base.below.vx_types.proofs.dtypes.Nullability.TheSendSync as nullable
 use Rattle.vx_base.below.vx_types.proofs.texts.Text.TheSendSync as texts
@@ -103,6 +107,12 @@ sync_bound = view_sync inside_bounds.the_row _ _ _ _ (declared_sync inside_bound
 sync_eval : IsSync evals.the_row
 sync_eval = view_sync inside_evals.the_row _ _ _ _ (declared_sync inside_evals.the_type (boxed.the_sync bounds.the_row alloc.the_row impl.ghosts sync_bound global.the_sync, tt))
 
+sync_proof : IsSync proofs.the_row
+sync_proof = view_sync inside_proofs.the_row _ _ _ _ (declared_sync inside_proofs.the_type (sync_bound, tt))
+
+sync_pruning : IsSync prunings.the_row
+sync_pruning = view_sync inside_prunings.the_row _ _ _ _ (declared_sync inside_prunings.the_type (boxed.the_sync proofs.the_row alloc.the_row impl.ghosts sync_proof global.the_sync, tt))
+
 sync_kind : IsSync plan_kinds.the_row
 sync_kind = variants_sync plan_kinds.enum (
   tt,
@@ -126,7 +136,10 @@ sync_kind = variants_sync plan_kinds.enum (
                     (as_row_sync u64-field (plain_sync _ _ _ _ _), (statistics.the_sync, tt)),
                     (
                       (as_row_sync u64-field (plain_sync _ _ _ _ _), (statistics.the_sync, tt)),
-                      tt,
+                      (
+                        (as_row_sync u64-field (plain_sync _ _ _ _ _), (statistics.the_sync, (sync_pruning, tt))),
+                        tt,
+                      ),
                     ),
                   ),
                 ),

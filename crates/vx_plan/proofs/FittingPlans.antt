@@ -88,6 +88,9 @@ one_fit (kinds.LegacyStats zone_len stats) nodes head node [] e made rows types 
 one_fit (kinds.LegacyStats zone_len stats) nodes head node (n ∷ []) e made rows types each = absurd made
 one_fit (kinds.LegacyStats zone_len stats) nodes head node (n ∷ m ∷ []) e made rows types each = (each.0.rows ∙ sym made.1 ∙ sym e, each.0.fit)
 one_fit (kinds.LegacyStats zone_len stats) nodes head node (n ∷ m ∷ k ∷ ns) e made rows types each = absurd made
+one_fit (kinds.Pruning zone_len stats proof) nodes head node [] e made rows types each = absurd made
+one_fit (kinds.Pruning zone_len stats proof) nodes head node (n ∷ []) e made rows types each = each.0.fit
+one_fit (kinds.Pruning zone_len stats proof) nodes head node (n ∷ m ∷ ns) e made rows types each = absurd made
 
 all_fit : (nodes : List Node) (bound : ℕ) → ((n : ℕ) → n < bound → n < length nodes → IsFitting nodes n) → (ns : List ℕ) → All (λ n. n < bound) ns → AreIn nodes ns → AreFitting nodes ns
 all_fit nodes bound each [] below these = tt

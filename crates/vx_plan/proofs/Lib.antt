@@ -13,6 +13,7 @@ pub mod Keeping
 pub mod Offsets
 pub mod PartSelecting
 pub mod Parting
+pub mod PruningNodes
 pub mod Refusing
 pub mod SelectedReads
 pub mod Selecting

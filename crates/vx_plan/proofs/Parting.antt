@@ -60,6 +60,11 @@ look_up_left nodes n codes values known has start count at = left_by nodes n _ k
 pub shared_left : (nodes : List Node) (n child : ℕ) → n < length nodes → HasShape nodes n (shapes.Shared child) → (start count : ℕ) → AreLeft nodes n start count (parts.Whole n child ∷ [])
 shared_left nodes n child known has start count at = left_by nodes n _ kinds.Share (child ∷ []) (shape_there nodes n (shapes.Shared child) known has) start count at
 
+pub pruned_left : (nodes : List Node) (n table : ℕ) → n < length nodes → HasShape nodes n (shapes.Pruned table) → (start count : ℕ) → AreLeft nodes n start count (parts.All table ∷ [])
+pruned_left nodes n table known has start count at =
+    let p = shape_there nodes n (shapes.Pruned table) known has in
+    left_by nodes n _ (kinds.Pruning p.zone_len p.stats p.proof) (table ∷ []) p.over start count at
+
 pub chunks_left : (nodes : List Node) (n : ℕ) → n < length nodes → HasShape nodes n shapes.Chunks → (start count : ℕ) (at : PartPlace) → parts_left nodes n start count at ≡ chunk_parts nodes (node_at nodes n).children (start + at.done) at.done (count - at.done)
 chunks_left nodes n known has start count at = left_by nodes n _ kinds.Concat (node_at nodes n).children (shape_there nodes n shapes.Chunks known has) start count at
 

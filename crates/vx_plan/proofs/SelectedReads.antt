@@ -1,18 +1,19 @@
 -- The segments that are given for selected rows are exactly those that the rows read.
-use Rattle.std.proofs.Common.{◌≡◌, ℕ, zero, suc, ◌+◌, ◌-◌, ◌<◌, ◌≤◌, ◌⊎◌, inl, inr, ⊎_elim, Bool, true, false, List, [], ◌∷◌, ◌++◌, Some, length, take, drop, refl, sym, ap, ◌∙◌, subst, arith}
+use Rattle.std.proofs.Common.{◌≡◌, ℕ, zero, suc, ◌+◌, ◌-◌, ◌<◌, ◌≤◌, ◌⊎◌, inl, inr, ⊎_elim, Bool, true, false, List, [], ◌∷◌, ◌++◌, Option, Some, length, take, drop, refl, sym, ap, ◌∙◌, subst, arith}
 use Rattle.std.specs.Prelude.{if◌then◌else◌}
 use Rattle.std.specs.List.{slice_get}
 use Rattle.std.proofs.lemmas.Bool.{lt-ltb, le-ltb, cases_lt}
 use Rattle.std.proofs.lemmas.Option.{slice_get_within}
 use Rattle.vx_base.specs.declared.codings.Coding.{Coding}
-use Rattle.vx_base.specs.Data.{DataType}
-use Rattle.vx_rows.specs.Derivations.{Derivation, nothing, of_leaf, packed, looked_up, read_whole, Derivations, each_row}
+use Rattle.vx_base.specs.Data.{DataType, Datum}
+use Rattle.vx_rows.specs.Derivations.{Derivation, nothing, of_leaf, packed, looked_up, read_whole, concluded, Derivations, each_row}
 use Rattle.vx_rows.specs.Reads.{Way, directly, inside, Read, reads_of, reads_of_each, AnyOf, IsIn}
 use Rattle.vx_plan.specs.declared.reaching.Reach.{Reach}
 use Rattle.vx_plan.specs.declared.reaching.SegmentReach.{SegmentReach}
 use Rattle.vx_plan.specs.FittingRows.{HasFittingRows, HaveFittingRows, FieldsHaveRows, ValidityHasRows}
 use Rattle.vx_plan.specs.Laws.{IsReached, IsReadBy}
-use Rattle.vx_plan.specs.Plans.{Plan, no_plan, concat_plan, eval_plan, filter_plan, pack_plan, take_plan, share_plan, list_plan, row_idx_plan, scan_plan, zoned_plan, Plans, no_plans, plan, PlanValidity, all_valid, valid_as, plan_head}
+use Rattle.vx_plan.specs.Pruning.{is_pruned_at}
+use Rattle.vx_plan.specs.Plans.{Plan, no_plan, concat_plan, eval_plan, filter_plan, pack_plan, take_plan, share_plan, list_plan, row_idx_plan, scan_plan, zoned_plan, pruning_plan, Plans, no_plans, plan, PlanValidity, all_valid, valid_as, plan_head}
 use Rattle.vx_plan.specs.PlanRows.{plan_derivation, plan_derivation_in, plan_derivations, plan_where_valid}
 use Rattle.vx_plan.specs.Reaches.{any_row, all_rows, fixed, shifted, reached_at, selected_of, selected_chunks, selected_fields, selected_validity}
 
@@ -219,6 +220,13 @@ field_rest segment offset first rest way start bits some = record {
   holds = behind (InSegment segment) (reads_of way (plan_derivation offset first (start + some.row))) (reads_of_each way (plan_derivations offset rest (start + some.row))) some.holds;
 }
 
+zones_whole : (segment offset : ℕ) (rule : ℕ → List Datum → Option Datum) (table : Plan) (way : Way) (start : ℕ) (bits : List Bool) → HasRow bits → SomeRow (λ row. Reads segment way (plan_derivation offset table row)) 0 (all_rows (plan_head table).rows) → SomeRow (λ row. Reads segment way (concluded (rule row) (each_row (plan_derivation offset table) 0 (plan_head table).rows))) start bits
+zones_whole segment offset rule table way start bits any some = record {
+  row = any.row;
+  chosen = any.chosen;
+  holds = each_row_reads (InSegment segment) way (plan_derivation offset table) 0 (plan_head table).rows some.row (within_all (plan_head table).rows some.row some.chosen) some.holds;
+}
+
 mutual
   reached_read : (segment offset : ℕ) (p : Plan) (way : Way) (at : Reach) (start : ℕ) (bits : List Bool) → IsReached segment (selected_of p at start bits) → SomeRow (λ row. Reads segment way (plan_derivation offset p row)) start bits
   reached_read segment offset (no_plan head) way at start bits any = absurd any
@@ -245,6 +253,10 @@ mutual
   reached_read segment offset (row_idx_plan head) way at start bits any = absurd any
   reached_read segment offset (scan_plan head other coding) way at start bits any = scan_read segment other way head.dtype coding head.rows start bits (reached_at at start (length bits) other) refl any
   reached_read segment offset (zoned_plan head zones content table) way at start bits any = reached_read segment offset content way at start bits any
+  reached_read segment offset (pruning_plan head pruning table) way at start bits any =
+      let entries : List SegmentReach = selected_of table (fixed at start (start + length bits)) 0 (all_rows (plan_head table).rows) in
+      let enter : IsEntered segment (any_row bits) entries = entered_if segment (any_row bits) entries any in
+      zones_whole segment offset (is_pruned_at pruning head.rows) table way start bits (has_row bits enter.test) (reached_read segment offset table way (fixed at start (start + length bits)) 0 (all_rows (plan_head table).rows) enter.reached)
 
   chunk_read : (segment offset : ℕ) (ps : Plans) (way : Way) (before : ℕ) (at : Reach) (start : ℕ) (bits : List Bool) → IsReached segment (selected_chunks before ps at start bits) → SomeRow (λ row. Reads segment way (plan_derivation_in offset ps row)) start bits
   chunk_read segment offset no_plans way before at start bits any = absurd any
@@ -349,6 +361,10 @@ mutual
   read_reached segment offset (scan_plan head other coding) way at start bits row fit within chosen any =
       if_entered segment (any_row bits) (reached_at at start (length bits) other ∷ []) (row_any bits row chosen) any
   read_reached segment offset (zoned_plan head zones content table) way at start bits row fit within chosen any = read_reached segment offset content way at start bits row fit.1 (inside_same head.rows (plan_head content).rows start bits fit.0 within) chosen any
+  read_reached segment offset (pruning_plan head pruning table) way at start bits row fit within chosen any =
+      let one : IsOfRow (InSegment segment) way (plan_derivation offset table) 0 (plan_head table).rows = row_read (InSegment segment) way (plan_derivation offset table) 0 (plan_head table).rows any in
+      if_entered segment (any_row bits) (selected_of table (fixed at start (start + length bits)) 0 (all_rows (plan_head table).rows)) (row_any bits row chosen)
+      (read_reached segment offset table way (fixed at start (start + length bits)) 0 (all_rows (plan_head table).rows) one.row fit (inside_all (plan_head table).rows) (all_chosen (plan_head table).rows one.row one.lt) one.reads)
 
   read_chunk : (segment offset : ℕ) (ps : Plans) (way : Way) (before : ℕ) (at : Reach) (start : ℕ) (bits : List Bool) (row : ℕ) → HaveFittingRows ps → slice_get bits row ≡ Some true → Reads segment way (plan_derivation_in offset ps (start + row)) → IsReached segment (selected_chunks before ps at start bits)
   read_chunk segment offset no_plans way before at start bits row fit chosen any = absurd any

@@ -4,7 +4,7 @@ use Rattle.std.specs.Prelude.{if◌then◌else◌}
 use Rattle.std.proofs.lemmas.List.{drop-take, drop-replicate, length-replicate}
 use Rattle.vx_plan.specs.declared.reaching.Reach.{Reach}
 use Rattle.vx_plan.specs.declared.reaching.SegmentReach.{SegmentReach}
-use Rattle.vx_plan.specs.Plans.{Plan, no_plan, concat_plan, eval_plan, filter_plan, pack_plan, take_plan, share_plan, list_plan, row_idx_plan, scan_plan, zoned_plan, Plans, no_plans, plan, PlanValidity, all_valid, valid_as, plan_head, plans_from, field_plans, front_plans, last_plan, last_validity}
+use Rattle.vx_plan.specs.Plans.{Plan, no_plan, concat_plan, eval_plan, filter_plan, pack_plan, take_plan, share_plan, list_plan, row_idx_plan, scan_plan, zoned_plan, pruning_plan, Plans, no_plans, plan, PlanValidity, all_valid, valid_as, plan_head, plans_from, field_plans, front_plans, last_plan, last_validity}
 use Rattle.vx_plan.specs.Reaches.{any_row, chosen_rows, shifted, selected_of, selected_chunks, selected_fields, selected_validity}
 use Rattle.vx_expr.proofs.RewrittenTypes.{or_left, or_right}
 
@@ -43,6 +43,7 @@ mutual
   nothing_selected (row_idx_plan head) at start bits none = refl
   nothing_selected (scan_plan head segment coding) at start bits none = if_none (any_row bits) _ none
   nothing_selected (zoned_plan head zones content table) at start bits none = nothing_selected content at start bits none
+  nothing_selected (pruning_plan head pruning table) at start bits none = if_none (any_row bits) _ none
 
   pub nothing_in_chunks : (ps : Plans) (before : ℕ) (at : Reach) (start : ℕ) (bits : List Bool) → any_row bits ≡ false → selected_chunks before ps at start bits ≡ []
   nothing_in_chunks no_plans before at start bits none = refl

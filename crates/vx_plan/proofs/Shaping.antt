@@ -12,7 +12,7 @@ use Rattle.vx_plan.specs.declared.shapes.Shape.TheVariants as shapes
 use Rattle.vx_plan.specs.Nodes.{Node}
 use Rattle.vx_plan.specs.Kinds.{coding_of}
 use Rattle.vx_plan.specs.Plans.{head_at, plan_at, plan_grown_as, scan_plan}
-use Rattle.vx_plan.specs.Rules.{nodes_at, HasZones, IsLike, IsLookUp, IsMadeAs, IsWorkedOut}
+use Rattle.vx_plan.specs.Rules.{nodes_at, HasZones, AreTruthsOver, IsLike, IsLookUp, IsMadeAs, IsWorkedOut}
 use Rattle.vx_plan.specs.Shapes.{HasShape, IsOver, ShapeOf}
 use Rattle.vx_plan.specs.Tables.{IsGoodTable}
 use Rattle.vx_plan.proofs.Unfolding.{Known, known}
@@ -61,6 +61,11 @@ two_zoned nodes node [] n m made at also = absurd made
 two_zoned nodes node (a ∷ []) n m made at also = absurd made
 two_zoned nodes node (a ∷ b ∷ []) n m made at also = cc
 two_zoned nodes node (a ∷ b ∷ c ∷ ns) n m made at also = absurd made
+
+one_truths : (nodes : List Node) (node : Node) (ns : List ℕ) (n : ℕ) → AreTruthsOver node (nodes_at nodes ns) → slice_get ns 0 ≡ Some n → ns ≡ n ∷ []
+one_truths nodes node [] n made at = absurd made
+one_truths nodes node (m ∷ []) n made at = cc
+one_truths nodes node (m ∷ k ∷ ns) n made at = absurd made
 
 pub leaf_shape : (nodes : List Node) → IsGoodTable nodes → (n : ℕ) (node : Node) (segment : ℕ) (coding : Coding) → slice_get nodes n ≡ Some node → node.kind ≡ kinds.SegmentScan segment coding → HasShape nodes n (shapes.Leaf segment)
 leaf_shape nodes good n node segment coding at is =
@@ -118,3 +123,8 @@ pub legacy_shape : (nodes : List Node) → IsGoodTable nodes → (n : ℕ) (node
 legacy_shape nodes good n node zone_len stats content table at is first second =
     there (λ node. ShapeOf nodes n node (shapes.Zoned content table)) (slice_get nodes n) node at
     (record { is_legacy = true; zone_len = zone_len; stats = stats; over = over nodes good n node (kinds.LegacyStats zone_len stats) (content ∷ table ∷ []) at is (two_zoned nodes node node.children content table (made_as nodes good n node (kinds.LegacyStats zone_len stats) at is) first second) })
+
+pub pruning_shape : (nodes : List Node) → IsGoodTable nodes → (n : ℕ) (node : Node) (zone_len : ℕ) (stats : List Statistic) (proof : Bound) (table : ℕ) → slice_get nodes n ≡ Some node → node.kind ≡ kinds.Pruning zone_len stats proof → slice_get node.children 0 ≡ Some table → HasShape nodes n (shapes.Pruned table)
+pruning_shape nodes good n node zone_len stats proof table at is first =
+    there (λ node. ShapeOf nodes n node (shapes.Pruned table)) (slice_get nodes n) node at
+    (record { zone_len = zone_len; stats = stats; proof = proof; over = over nodes good n node (kinds.Pruning zone_len stats proof) (table ∷ []) at is (one_truths nodes node node.children table (made_as nodes good n node (kinds.Pruning zone_len stats proof) at is) first) })

@@ -37,6 +37,7 @@ some_children kinds.RowIdx t below fit has = absurd cc
 some_children (kinds.SegmentScan segment coding) t below fit has = absurd cc
 some_children (kinds.Zoned zone_len stats) t below fit has = absurd cc
 some_children (kinds.LegacyStats zone_len stats) t below fit has = absurd cc
+some_children (kinds.Pruning zone_len stats proof) t below fit has = absurd cc
 
 given_last : (has : Bool) (children : List ℕ) (o : Option PlanRef) → option_map number_of o ≡ validity_among has children → (IsTrue has → 0 < length children) → (IsSome o → IsTrue has) × (IsTrue has → IsSome o)
 given_last false children None e some = (λ s. absurd cc, λ t. absurd cc)

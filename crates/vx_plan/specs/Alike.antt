@@ -4,7 +4,8 @@ use Rattle.std.specs.Prelude.{◌≡◌, ℕ, map}
 use Rattle.vx_base.specs.declared.codings.Coding.{Coding}
 use Rattle.vx_expr.specs.Terms.{Term}
 use Rattle.vx_rows.specs.Derivations.{Leaves}
-use Rattle.vx_plan.specs.Plans.{Plan, concat_plan, eval_plan, filter_plan, pack_plan, take_plan, list_plan, scan_plan, zoned_plan, Plans, no_plans, plan, PlanValidity, all_valid, valid_as, plan_head}
+use Rattle.vx_plan.specs.Pruning.{Pruning}
+use Rattle.vx_plan.specs.Plans.{Plan, concat_plan, eval_plan, filter_plan, pack_plan, take_plan, list_plan, scan_plan, zoned_plan, pruning_plan, Plans, no_plans, plan, PlanValidity, all_valid, valid_as, plan_head}
 use Rattle.vx_plan.specs.PlanRows.{plan_derivation, plan_value, plan_reads}
 use Rattle.vx_rows.specs.Renumbered.{renumbered, read_renumbered}
 use Rattle.vx_rows.specs.Heads.{Head}
@@ -51,6 +52,9 @@ ScansAreAlike = (f g : ℕ → ℕ) (offset : ℕ) (head other inner other_inner
 
 abbrev pub ZonedPlansAreAlike : Type 0
 ZonedPlansAreAlike = (f g : ℕ → ℕ) (offset : ℕ) (head other : Head) (zones other_zones : Zones) (p q table other_table : Plan) → SameHead head other → IsAlike f g offset p q → IsAlike f g offset (zoned_plan head zones p table) (zoned_plan other other_zones q other_table)
+
+abbrev pub PruningPlansAreAlike : Type 0
+PruningPlansAreAlike = (f g : ℕ → ℕ) (offset : ℕ) (head other : Head) (pruning : Pruning) (p q : Plan) → SameHead head other → IsAlike f g offset p q → IsAlike f g offset (pruning_plan head pruning p) (pruning_plan other pruning q)
 
 abbrev pub ListPacksAreAlike : Type 0
 ListPacksAreAlike = (f g : ℕ → ℕ) (offset : ℕ) (head other : Head) (elements other_elements offsets other_offsets : Plan) (validity other_validity : PlanValidity) → SameHead head other → f head.number ≡ g other.number → IsAlike f g offset (list_plan head elements offsets validity) (list_plan other other_elements other_offsets other_validity)

@@ -32,6 +32,7 @@ name_as kinds.Take node place = take_name place
 name_as (kinds.ListPack has_validity) node place = list_name place
 name_as (kinds.Zoned zone_len stats) node place = zoned_name place
 name_as (kinds.LegacyStats zone_len stats) node place = zoned_name place
+name_as (kinds.Pruning zone_len stats proof) node place = codes "zones"
 name_as kind node place = codes "child"
 
 -- the name of the child at a place

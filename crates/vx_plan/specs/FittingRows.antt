@@ -1,6 +1,6 @@
 -- Plans that have as many rows as what they are over, where they give its rows one by one.
 use Rattle.std.specs.Prelude.{◌≡◌, ℕ}
-use Rattle.vx_plan.specs.Plans.{Plan, no_plan, concat_plan, eval_plan, filter_plan, pack_plan, take_plan, share_plan, list_plan, row_idx_plan, scan_plan, zoned_plan, Plans, no_plans, plan, PlanValidity, all_valid, valid_as, plan_head}
+use Rattle.vx_plan.specs.Plans.{Plan, no_plan, concat_plan, eval_plan, filter_plan, pack_plan, take_plan, share_plan, list_plan, row_idx_plan, scan_plan, zoned_plan, pruning_plan, Plans, no_plans, plan, PlanValidity, all_valid, valid_as, plan_head}
 
 abbrev mutual
   pub HasFittingRows : Plan → Type 0
@@ -15,6 +15,7 @@ abbrev mutual
   HasFittingRows (row_idx_plan head) = Unit {0}
   HasFittingRows (scan_plan head segment coding) = Unit {0}
   HasFittingRows (zoned_plan head zones content table) = ((plan_head content).rows ≡ head.rows) × HasFittingRows content
+  HasFittingRows (pruning_plan head pruning table) = HasFittingRows table
 
   pub HaveFittingRows : Plans → Type 0
   HaveFittingRows no_plans = Unit {0}

@@ -1,9 +1,10 @@
 -- Plans of one kind.
-use Rattle.std.specs.Prelude.{ℕ, ◌-◌, codes, Bool, false, true, List, [], length, Option, None, IsSomeAnd}
+use Rattle.std.specs.Prelude.{ℕ, ◌-◌, codes, Bool, false, true, List, [], length, Option, Some, None, IsSomeAnd}
 use Rattle.std.specs.List.{slice_get}
 use Rattle.vx_base.specs.declared.codings.Coding.{Coding}
 use Rattle.vx_base.specs.declared.codings.Coding.TheVariants.{Plain}
 use Rattle.vx_expr.specs.declared.statistics.Statistic.{Statistic}
+use Rattle.vx_expr.specs.Bound.{Bound}
 use Rattle.vx_plan.specs.declared.kinds.PlanId.{PlanId}
 use Rattle.vx_plan.specs.declared.kinds.PlanId.TheVariants as ids
 use Rattle.vx_plan.specs.declared.nodes.PlanKind.{PlanKind}
@@ -22,6 +23,7 @@ id_of kinds.RowIdx = ids.RowIdx
 id_of (kinds.SegmentScan segment coding) = ids.SegmentScan
 id_of (kinds.Zoned zone_len stats) = ids.Zoned
 id_of (kinds.LegacyStats zone_len stats) = ids.LegacyStats
+id_of (kinds.Pruning zone_len stats proof) = ids.Zoned
 
 -- the name of a kind
 abbrev pub id_text : PlanId → List ℕ
@@ -73,8 +75,19 @@ abbrev pub IsSegmentScan : PlanKind → Type 0
 IsSegmentScan (kinds.SegmentScan segment coding) = Unit {0}
 IsSegmentScan kind = ⊥
 
+-- a plan of the rows of data that stands in zones
+abbrev pub IsOverData : PlanKind → Type 0
+IsOverData (kinds.Zoned zone_len stats) = Unit {0}
+IsOverData kind = ⊥
+
+-- one that tells of each row whether its zone is pruned
+abbrev pub IsPruning : PlanKind → Type 0
+IsPruning (kinds.Pruning zone_len stats proof) = Unit {0}
+IsPruning kind = ⊥
+
 abbrev pub IsZoned : PlanKind → Type 0
 IsZoned (kinds.Zoned zone_len stats) = Unit {0}
+IsZoned (kinds.Pruning zone_len stats proof) = Unit {0}
 IsZoned kind = ⊥
 
 abbrev pub IsLegacyStats : PlanKind → Type 0
@@ -90,12 +103,24 @@ coding_of kind = Plain
 abbrev pub zone_len_of : PlanKind → ℕ
 zone_len_of (kinds.Zoned zone_len stats) = zone_len
 zone_len_of (kinds.LegacyStats zone_len stats) = zone_len
+zone_len_of (kinds.Pruning zone_len stats proof) = zone_len
 zone_len_of kind = 0
 
 abbrev pub stats_of : PlanKind → List Statistic
 stats_of (kinds.Zoned zone_len stats) = stats
 stats_of (kinds.LegacyStats zone_len stats) = stats
+stats_of (kinds.Pruning zone_len stats proof) = stats
 stats_of kind = []
+
+-- the predicate by which a pruning plan prunes; any other has none
+abbrev pub proof_of : PlanKind → Option Bound
+proof_of (kinds.Pruning zone_len stats proof) = Some proof
+proof_of kind = None
+
+-- at which place among its children a plan over zones has them: they are the only child of a pruning plan
+abbrev pub zones_place : PlanKind → ℕ
+zones_place (kinds.Pruning zone_len stats proof) = 0
+zones_place kind = 1
 
 -- whether a validity was given
 abbrev pub has_validity_of : PlanKind → Bool

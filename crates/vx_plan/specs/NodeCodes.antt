@@ -48,6 +48,7 @@ kind_parts (kinds.SegmentScan segment Constant) = numbered 11 segment
 kind_parts (kinds.SegmentScan segment Runs) = numbered 12 segment
 kind_parts (kinds.Zoned zone_len stats) = with_stats 9 zone_len stats
 kind_parts (kinds.LegacyStats zone_len stats) = with_stats 10 zone_len stats
+kind_parts (kinds.Pruning zone_len stats proof) = record { which = 13; number = zone_len; flag = false; stats = stats; expression = proof }
 
 abbrev kind_of : ℕ → ℕ → Bool → List Statistic → Bound → PlanKind
 kind_of zero n flag stats a = kinds.Concat
@@ -62,7 +63,8 @@ kind_of (suc (suc (suc (suc (suc (suc (suc (suc zero)))))))) n flag stats a = ki
 kind_of (suc (suc (suc (suc (suc (suc (suc (suc (suc zero))))))))) n flag stats a = kinds.Zoned n stats
 kind_of (suc (suc (suc (suc (suc (suc (suc (suc (suc (suc zero)))))))))) n flag stats a = kinds.LegacyStats n stats
 kind_of (suc (suc (suc (suc (suc (suc (suc (suc (suc (suc (suc zero))))))))))) n flag stats a = kinds.SegmentScan n Constant
-kind_of (suc (suc (suc (suc (suc (suc (suc (suc (suc (suc (suc (suc k)))))))))))) n flag stats a = kinds.SegmentScan n Runs
+kind_of (suc (suc (suc (suc (suc (suc (suc (suc (suc (suc (suc (suc zero)))))))))))) n flag stats a = kinds.SegmentScan n Runs
+kind_of (suc (suc (suc (suc (suc (suc (suc (suc (suc (suc (suc (suc (suc k))))))))))))) n flag stats a = kinds.Pruning n stats a
 
 abbrev pub kind_with : KindParts → PlanKind
 kind_with parts = kind_of parts.which parts.number parts.flag parts.stats parts.expression
@@ -81,6 +83,7 @@ kind_back (kinds.SegmentScan segment Constant) = refl
 kind_back (kinds.SegmentScan segment Runs) = refl
 kind_back (kinds.Zoned zone_len stats) = refl
 kind_back (kinds.LegacyStats zone_len stats) = refl
+kind_back (kinds.Pruning zone_len stats proof) = refl
 
 abbrev pub parts_pair : KindParts → ℕ × (ℕ × (Bool × (List Statistic × Bound)))
 parts_pair parts = (parts.which, (parts.number, (parts.flag, (parts.stats, parts.expression))))

@@ -2,14 +2,15 @@
 -- the kinds of plan are to a row.
 use Rattle.std.specs.Prelude.{ℕ, ◌+◌, ◌-◌, nat_lt, pos, if◌then◌else◌, List, Option}
 use Rattle.vx_base.specs.Data.{Datum, number}
-use Rattle.vx_rows.specs.Derivations.{Derivation, nothing, of_leaf, list_row, given, packed, valid_where, looked_up, worked_out, read_whole, Derivations, no_more, also, each_row, Leaves, derived}
+use Rattle.vx_rows.specs.Derivations.{Derivation, nothing, of_leaf, list_row, given, packed, valid_where, looked_up, worked_out, read_whole, concluded, Derivations, no_more, also, each_row, Leaves, derived}
 use Rattle.vx_rows.specs.Reads.{directly, Read, reads_of}
-use Rattle.vx_plan.specs.Plans.{Plan, no_plan, concat_plan, eval_plan, filter_plan, pack_plan, take_plan, share_plan, list_plan, row_idx_plan, scan_plan, zoned_plan, Plans, no_plans, plan, PlanValidity, all_valid, valid_as, plan_head}
+use Rattle.vx_plan.specs.Pruning.{is_pruned_at}
+use Rattle.vx_plan.specs.Plans.{Plan, no_plan, concat_plan, eval_plan, filter_plan, pack_plan, take_plan, share_plan, list_plan, row_idx_plan, scan_plan, zoned_plan, pruning_plan, Plans, no_plans, plan, PlanValidity, all_valid, valid_as, plan_head}
 
 -- A concat's row is that of the child that holds it; an eval's is worked out over the child's row; a filter
 -- and zoned data give their child; a pack's is packed where it is valid; a take's is looked up by its code
 -- among all rows of the values; a share reads all rows of its child besides; the row index is the row's number
--- and the offset; a scan's row is a cell.
+-- and the offset; a scan's row is a cell; whether a row's zone is pruned is concluded from all rows of the zones.
 abbrev mutual
   pub plan_derivation : ℕ → Plan → ℕ → Derivation
   plan_derivation offset (no_plan head) row = nothing
@@ -23,6 +24,7 @@ abbrev mutual
   plan_derivation offset (row_idx_plan head) row = given (number (pos (row + offset)))
   plan_derivation offset (scan_plan head segment coding) row = of_leaf (record { dtype = head.dtype; coding = coding; rows = head.rows; segment = segment; row = row })
   plan_derivation offset (zoned_plan head zones content table) row = plan_derivation offset content row
+  plan_derivation offset (pruning_plan head pruning table) row = concluded (is_pruned_at pruning head.rows row) (each_row (plan_derivation offset table) 0 (plan_head table).rows)
 
   -- the row of plans one after another
   pub plan_derivation_in : ℕ → Plans → ℕ → Derivation

@@ -8,11 +8,12 @@ use Rattle.vx_expr.specs.Terms.{Term}
 use Rattle.vx_plan.specs.declared.nodes.PlanKind.{PlanKind}
 use Rattle.vx_plan.specs.declared.nodes.PlanKind.TheVariants as kinds
 use Rattle.vx_plan.specs.Nodes.{Node, absent}
+use Rattle.vx_plan.specs.Pruning.{Pruning, pruning_of}
 use Rattle.vx_rows.specs.Heads.{Head}
 use Rattle.vx_rows.specs.Zones.{Zones, zones_of}
 
 -- A scan names its segment and how that is coded; a take has its codes, then its values; a list its elements, then its offsets; zoned
--- data the data, then the zones.
+-- data the data, then the zones; a pruning plan is over the zones alone.
 mutual
   pub data Plan : Type 0 where
     no_plan : Head → Plan
@@ -26,6 +27,7 @@ mutual
     row_idx_plan : Head → Plan
     scan_plan : Head → ℕ → Coding → Plan
     zoned_plan : Head → Zones → Plan → Plan → Plan
+    pruning_plan : Head → Pruning → Plan → Plan
 
   pub data Plans : Type 0 where
     no_plans : Plans
@@ -48,6 +50,7 @@ plan_head (list_plan head elements offsets validity) = head
 plan_head (row_idx_plan head) = head
 plan_head (scan_plan head segment coding) = head
 plan_head (zoned_plan head zones content table) = head
+plan_head (pruning_plan head pruning table) = head
 
 -- how the segment of a scan is coded; another plan has none, and is as a plain one
 abbrev pub plan_coding : Plan → Coding
@@ -104,6 +107,7 @@ plan_grown_as head kinds.RowIdx ps = row_idx_plan head
 plan_grown_as head (kinds.SegmentScan segment coding) ps = scan_plan head segment coding
 plan_grown_as head (kinds.Zoned zone_len stats) ps = zoned_plan head (zones_of false zone_len stats) (plan_in ps 0) (plan_in ps 1)
 plan_grown_as head (kinds.LegacyStats zone_len stats) ps = zoned_plan head (zones_of true zone_len stats) (plan_in ps 0) (plan_in ps 1)
+plan_grown_as head (kinds.Pruning zone_len stats proof) ps = pruning_plan head (pruning_of zone_len stats proof) (plan_in ps 0)
 
 abbrev pub plan_grown : (ℕ → Plan) → ℕ → Option Node → Plan
 plan_grown below number None = plan_gap number

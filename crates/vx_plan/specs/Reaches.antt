@@ -6,7 +6,7 @@ use Rattle.std.specs.declared.ops.Range.{Range}
 use Rattle.vx_plan.specs.declared.reaching.Reach.{Reach}
 use Rattle.vx_plan.specs.declared.reaching.Reach.TheVariants.{Offset, Fixed}
 use Rattle.vx_plan.specs.declared.reaching.SegmentReach.{SegmentReach}
-use Rattle.vx_plan.specs.Plans.{Plan, no_plan, concat_plan, eval_plan, filter_plan, pack_plan, take_plan, share_plan, list_plan, row_idx_plan, scan_plan, zoned_plan, Plans, no_plans, plan, PlanValidity, all_valid, valid_as, plan_head, plans_from}
+use Rattle.vx_plan.specs.Plans.{Plan, no_plan, concat_plan, eval_plan, filter_plan, pack_plan, take_plan, share_plan, list_plan, row_idx_plan, scan_plan, zoned_plan, pruning_plan, Plans, no_plans, plan, PlanValidity, all_valid, valid_as, plan_head, plans_from}
 
 -- ---- rows of a plan as rows of the root
 
@@ -47,8 +47,8 @@ reached_at at start count segment = record { segment = segment; rows = rooted at
 
 -- The rows from a first one on of which these are selected. A leaf is read where one is. A concat's rows are those
 -- of the children, each behind the rows before it. A take's values, and what is shared, are entered whole, for the
--- rows that were asked of the take or the share. No plan is entered of whose rows none is selected; the rows of a
--- list reach nothing.
+-- rows that were asked of the take or the share, and so are the zones of a pruning plan. No plan is entered of whose
+-- rows none is selected; the rows of a list reach nothing.
 abbrev mutual
   pub selected_of : Plan → Reach → ℕ → List Bool → List SegmentReach
   selected_of (no_plan head) at start bits = []
@@ -64,6 +64,8 @@ abbrev mutual
   selected_of (row_idx_plan head) at start bits = []
   selected_of (scan_plan head segment coding) at start bits = if any_row bits then reached_at at start (length bits) segment ∷ [] else []
   selected_of (zoned_plan head zones content table) at start bits = selected_of content at start bits
+  selected_of (pruning_plan head pruning table) at start bits =
+      if any_row bits then selected_of table (fixed at start (start + length bits)) 0 (all_rows (plan_head table).rows) else []
 
   -- Of chunks of which the first stands behind so many rows of the concat; the rows are counted from that one on.
   pub selected_chunks : ℕ → Plans → Reach → ℕ → List Bool → List SegmentReach

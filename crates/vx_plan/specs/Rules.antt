@@ -21,6 +21,7 @@ use Rattle.vx_plan.specs.declared.nodes.PlanKind.{PlanKind}
 use Rattle.vx_plan.specs.declared.nodes.PlanKind.TheVariants as kinds
 use Rattle.vx_plan.specs.declared.rules.PlanRule.{PlanRule}
 use Rattle.vx_plan.specs.declared.rules.PlanRule.TheVariants as rules
+use Rattle.vx_plan.specs.Kinds.{stats_of, zone_len_of}
 use Rattle.vx_plan.specs.Nodes.{Node, absent}
 use Rattle.vx_rows.specs.TypeForms.{IsStruct, IsListOf, IsOffsets}
 use Rattle.vx_rows.specs.Zones.{zones_type, StandOver}
@@ -151,6 +152,7 @@ pub record AreZones (zone_len : ℕ) (stats : List Statistic) (t : DataType) (ro
 abbrev pub ZonesFit : PlanKind → DataType → ℕ → List Node → Type 0
 ZonesFit (kinds.Zoned zone_len stats) t rows below = IsSomeAnd (slice_get below 1) (AreZones zone_len stats t rows)
 ZonesFit (kinds.LegacyStats zone_len stats) t rows below = IsSomeAnd (slice_get below 1) (AreZones zone_len stats t rows)
+ZonesFit (kinds.Pruning zone_len stats proof) t rows below = IsSomeAnd (slice_get below 0) (AreZones zone_len stats proof.root rows)
 ZonesFit kind t rows below = Unit {0}
 
 -- ---- the rules
@@ -216,6 +218,11 @@ abbrev pub HasZones : Node → List Node → Type 0
 HasZones node (column ∷ zones ∷ []) = (node.dtype ≡ column.dtype) × (node.rows ≡ column.rows)
 HasZones node below = ⊥
 
+-- truth values that are never null, over one plan
+abbrev pub AreTruthsOver : Node → List Node → Type 0
+AreTruthsOver node (zones ∷ []) = node.dtype ≡ bool_type NonNullable
+AreTruthsOver node below = ⊥
+
 abbrev pub IsMadeAs : PlanKind → Node → List Node → Type 0
 IsMadeAs kinds.Concat node below = (node.rows ≡ sum_by rows_of below) × (node.offsets ≡ offsets_from 0 below)
 IsMadeAs (kinds.Eval a) node below = IsWorkedOut a.dtype node below
@@ -228,6 +235,7 @@ IsMadeAs kinds.RowIdx node below = IsRowNumbers node below
 IsMadeAs (kinds.SegmentScan segment coding) node below = below ≡ []
 IsMadeAs (kinds.Zoned zone_len stats) node below = HasZones node below
 IsMadeAs (kinds.LegacyStats zone_len stats) node below = HasZones node below
+IsMadeAs (kinds.Pruning zone_len stats proof) node below = AreTruthsOver node below
 
 abbrev pub IsMade : Node → List Node → Type 0
 IsMade node below = IsMadeAs node.kind node below
@@ -278,6 +286,14 @@ zoned_node nodes column zones zone_len stats = record { kind = kinds.Zoned zone_
 
 abbrev pub legacy_node : List Node → ℕ → ℕ → ℕ → List Statistic → Node
 legacy_node nodes column zones zone_len stats = record { kind = kinds.LegacyStats zone_len stats; dtype = (node_at nodes column).dtype; rows = (node_at nodes column).rows; children = column ∷ zones ∷ []; offsets = [] }
+
+-- the plan of the zones, which is the second child of a plan over data
+abbrev pub zones_of_node : Node → ℕ
+zones_of_node node = slice_index_or node.children 1 0
+
+-- over the zones of a plan, with its rows
+abbrev pub pruning_node : List Node → ℕ → Bound → Node
+pruning_node nodes zoned predicate = record { kind = kinds.Pruning (zone_len_of (node_at nodes zoned).kind) (stats_of (node_at nodes zoned).kind) predicate; dtype = bool_type NonNullable; rows = (node_at nodes zoned).rows; children = zones_of_node (node_at nodes zoned) ∷ []; offsets = [] }
 
 -- a node of a kind that has the dtype and the rows of its only child
 pub record IsLikeChild (kind : PlanKind) (nodes : List Node) (child : ℕ) (node : Node) : Type 0 where

@@ -10,7 +10,8 @@ use Rattle.vx_plan.specs.declared.shapes.Shape.TheVariants as shapes
 use Rattle.vx_plan.specs.Kinds.{coding_of}
 use Rattle.vx_plan.specs.Nodes.{Node}
 use Rattle.vx_rows.specs.Zones.{zones_of}
-use Rattle.vx_plan.specs.Plans.{Plan, head_at, plan_at, plan_grown_as, plans_from, field_plans, last_validity, concat_plan, eval_plan, filter_plan, pack_plan, take_plan, share_plan, row_idx_plan, scan_plan, zoned_plan}
+use Rattle.vx_plan.specs.Pruning.{pruning_of}
+use Rattle.vx_plan.specs.Plans.{Plan, head_at, plan_at, plan_grown_as, plans_from, field_plans, last_validity, concat_plan, eval_plan, filter_plan, pack_plan, take_plan, share_plan, row_idx_plan, scan_plan, zoned_plan, pruning_plan}
 use Rattle.vx_plan.specs.Tables.{IsGoodNode}
 
 -- The plan of the number is this one; its node has the kind and the children.
@@ -41,6 +42,13 @@ pub record IsZonedOver (nodes : List Node) (n : ℕ) (node : Node) (content tabl
   pub stats : List Statistic
   pub over : IsOver nodes n node (zoned_plan (head_at n node) (zones_of is_legacy zone_len stats) (plan_at nodes content) (plan_at nodes table)) (zoned_kind is_legacy zone_len stats) (content ∷ table ∷ [])
 
+-- A pruning plan is over its zones.
+pub record IsPruningOver (nodes : List Node) (n : ℕ) (node : Node) (table : ℕ) : Type 0 where
+  pub zone_len : ℕ
+  pub stats : List Statistic
+  pub proof : Bound
+  pub over : IsOver nodes n node (pruning_plan (head_at n node) (pruning_of zone_len stats proof) (plan_at nodes table)) (kinds.Pruning zone_len stats proof) (table ∷ [])
+
 abbrev pub fields_plan : List Node → ℕ → Node → Bool → Plan
 fields_plan nodes n node has_validity = pack_plan (head_at n node) (plans_from (field_plans has_validity (map (plan_at nodes) node.children))) (last_validity has_validity (map (plan_at nodes) node.children))
 
@@ -55,6 +63,7 @@ ShapeOf nodes n node (shapes.Shared child) = IsOver nodes n node (share_plan (he
 ShapeOf nodes n node shapes.Lists = IsListOver nodes n node
 ShapeOf nodes n node shapes.RowNumbers = IsOver nodes n node (row_idx_plan (head_at n node)) kinds.RowIdx []
 ShapeOf nodes n node (shapes.Zoned content table) = IsZonedOver nodes n node content table
+ShapeOf nodes n node (shapes.Pruned table) = IsPruningOver nodes n node table
 
 abbrev pub HasShape : List Node → ℕ → Shape → Type 0
 HasShape nodes n shape = IsSomeAnd (slice_get nodes n) (λ node. ShapeOf nodes n node shape)

@@ -1,6 +1,9 @@
 -- Which tables of plans are good, and what a new plan says of the table.
 use Rattle.std.specs.Prelude.{◌≡◌, ℕ, ◌<◌, List, [], ◌∷◌, ◌++◌, length, Some, IfSome, All}
 use Rattle.std.specs.List.{slice_get}
+use Rattle.vx_expr.specs.Bound.{Bound}
+use Rattle.vx_zones.specs.Prunes.{HasProof}
+use Rattle.vx_plan.specs.Kinds.{HasKind, IsOverData}
 use Rattle.vx_plan.specs.Nodes.{Node}
 use Rattle.vx_plan.specs.Rules.{node_at, nodes_at, IsMade, KeepsRules}
 
@@ -16,6 +19,11 @@ IsGoodTable nodes = (number : ℕ) → IfSome (slice_get nodes number) (IsGoodNo
 -- these are plans of the table
 abbrev pub AreIn : List Node → List ℕ → Type 0
 AreIn nodes numbers = All (λ number. number < length nodes) numbers
+
+-- The plan is over data that stands in zones, and the predicate has a proof that can prune them.
+pub record CanPrune (nodes : List Node) (n : ℕ) (predicate : Bound) : Type 0 where
+  pub over : HasKind IsOverData nodes n
+  pub proof : HasProof predicate
 
 -- The node was appended to a good table and has this number; it keeps the rules.
 pub record IsAdded (old new : List Node) (node : Node) (number : ℕ) : Type 0 where

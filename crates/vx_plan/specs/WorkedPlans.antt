@@ -1,17 +1,21 @@
 -- Plans that were written by hand, on which the definitions of rows, of reads and of what is reached are checked.
-use Rattle.std.specs.Prelude.{codes, ℕ, pos, List, map, Option}
+use Rattle.std.specs.Prelude.{codes, ℕ, pos, List, [], ◌∷◌, map, Option}
 use Rattle.std.specs.declared.ops.Range.{Range}
 use Rattle.vx_base.specs.declared.codings.Coding.TheVariants.{Plain}
-use Rattle.vx_base.specs.declared.dtypes.IntKind.TheVariants.{U8}
+use Rattle.vx_base.specs.declared.dtypes.IntKind.TheVariants.{I64, U8}
 use Rattle.vx_base.specs.declared.dtypes.Nullability.TheVariants.{NonNullable, Nullable}
 use Rattle.vx_base.specs.Data.{DataType, bool_type, int_type, struct_type, list_type, no_members, member, Datum, number}
 use Rattle.vx_expr.specs.declared.operators.ArithOp.TheVariants.{Add, Div}
-use Rattle.vx_expr.specs.Terms.{root, literal, get_field, arithmetic}
+use Rattle.vx_operators.specs.declared.operators.CompareOp.TheVariants.{Gt}
+use Rattle.vx_expr.specs.declared.statistics.Statistic.TheVariants.{Max}
+use Rattle.vx_expr.specs.Bound.{Bound}
+use Rattle.vx_expr.specs.Terms.{root, literal, get_field, arithmetic, comparison}
 use Rattle.vx_rows.specs.ByHand.{all_have, i64, segments_in, u64}
 use Rattle.vx_rows.specs.Reads.{Way}
 use Rattle.vx_rows.specs.Heads.{Head}
 use Rattle.vx_plan.specs.declared.reaching.SegmentReach.{SegmentReach}
-use Rattle.vx_plan.specs.Plans.{Plan, concat_plan, eval_plan, filter_plan, pack_plan, take_plan, share_plan, list_plan, row_idx_plan, scan_plan, no_plans, plan, all_valid, valid_as}
+use Rattle.vx_plan.specs.Plans.{Plan, concat_plan, eval_plan, filter_plan, pack_plan, take_plan, share_plan, list_plan, row_idx_plan, scan_plan, pruning_plan, no_plans, plan, all_valid, valid_as}
+use Rattle.vx_plan.specs.Pruning.{pruning_of}
 use Rattle.vx_plan.specs.PlanRows.{plan_value, plan_reads}
 
 abbrev pub head : DataType → ℕ → Head
@@ -46,6 +50,16 @@ two_behind = eval_plan (head u64 3) (arithmetic Add root (literal (number (pos 2
 -- ten through the field `a`
 abbrev pub ten_through : Plan
 ten_through = eval_plan (head i64 3) (arithmetic Div (literal (number (pos 10)) i64) (get_field (codes "a") root)) (pack_plan (head (struct_type (member (codes "a") i64 no_members) NonNullable) 3) (plan (flat i64 3 0) no_plans) all_valid)
+
+-- nine rows in zones of three, of each of which the greatest value stands in segment 3; whether a zone lacks rows above seven
+abbrev pub above_seven : Bound
+above_seven = record { root = i64; term = comparison Gt root (literal (number (pos 7)) i64); dtype = bool_type NonNullable }
+
+abbrev pub greatest : Plan
+greatest = pack_plan (head (struct_type (member (codes "max") (int_type I64 Nullable) no_members) NonNullable) 3) (plan (flat (int_type I64 Nullable) 3 3) no_plans) all_valid
+
+abbrev pub pruned_zones : Plan
+pruned_zones = pruning_plan (head (bool_type NonNullable) 9) (pruning_of 3 (Max ∷ []) above_seven) greatest
 
 -- ---- what rows are worth and read
 

@@ -80,6 +80,7 @@ impl PlanTable {
             PlanKind::Zoned { .. } | PlanKind::LegacyStats { .. } => {
                 text_of(alloc, zoned_name(place))
             }
+            PlanKind::Pruning { .. } => text_of(alloc, "zones"),
             _ => text_of(alloc, "child"),
         }
     }

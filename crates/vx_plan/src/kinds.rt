@@ -45,6 +45,7 @@ impl PlanId {
             PlanKind::SegmentScan { .. } => PlanId::SegmentScan,
             PlanKind::Zoned { .. } => PlanId::Zoned,
             PlanKind::LegacyStats { .. } => PlanId::LegacyStats,
+            PlanKind::Pruning { .. } => PlanId::Zoned,
         }
     }
 
@@ -184,7 +185,7 @@ impl PlanTable {
         ensures exactly { IsSome result ↔ HasKind IsZoned self.now (number_of plan) }
     {
         match self.node(plan.0).kind {
-            PlanKind::Zoned { .. } => Some(ZonedPlan { plan }),
+            PlanKind::Zoned { .. } | PlanKind::Pruning { .. } => Some(ZonedPlan { plan }),
             _ => None,
         }
     }

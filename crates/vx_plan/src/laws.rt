@@ -1,6 +1,6 @@
 //! The laws of the plans of a table. Each is the contract of a function that does nothing.
 
-ghost use Rattle.vx_plan.specs.Alike.{ConcatsAreAlike, PacksAreAlike, TakesAreAlike, EvalsAreAlike, ScansAreAlike, ZonedPlansAreAlike, ListPacksAreAlike, AlikeHaveValues, AlikeRead};
+ghost use Rattle.vx_plan.specs.Alike.{ConcatsAreAlike, PacksAreAlike, TakesAreAlike, EvalsAreAlike, ScansAreAlike, ZonedPlansAreAlike, PruningPlansAreAlike, ListPacksAreAlike, AlikeHaveValues, AlikeRead};
 ghost use Rattle.vx_plan.specs.Laws.{PlanUnfolds, PlanStays, PlanHasHead, PlanRowsFit, ReachedIsRead, ReadIsReached};
 
 /// The plan of a number is its node over the plans of the node's children; it stays when others are appended, and
@@ -26,6 +26,7 @@ pub fn plans_are_alike()
     ensures evals { EvalsAreAlike }
     ensures scans { ScansAreAlike }
     ensures zoned { ZonedPlansAreAlike }
+    ensures pruning { PruningPlansAreAlike }
     ensures lists { ListPacksAreAlike }
 {}
 

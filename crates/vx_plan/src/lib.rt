@@ -2,7 +2,8 @@
 //! read, and which segments it reaches.
 //!
 //! - Plans by number, and the table that holds them: [`PlanRef`], [`PlanChildren`], [`PlanTable`] with [`PlanError`];
-//!   the nodes inside are [`PlanNode`] of a [`PlanKind`], which may hold an [`EvalExpression`], and keep each [`PlanRule`].
+//!   the nodes inside are [`PlanNode`] of a [`PlanKind`], which may hold an [`EvalExpression`] or a [`PruningProof`], and
+//!   keep each [`PlanRule`].
 //! - The kinds of plan, with their constructors: [`ConcatPlan`], [`EvalPlan`], [`FilterPlan`], [`PackPlan`],
 //!   [`TakePlan`], [`SharePlan`], [`ListPackPlan`], [`RowIdxPlan`], [`SegmentScanPlan`], [`ZonedPlan`],
 //!   [`LegacyStatsPlan`]; which of them a plan is: [`PlanId`].
@@ -28,6 +29,7 @@ mod list_plans;
 mod nodes;
 mod parts;
 mod plan_types;
+mod pruning_plans;
 mod reaching;
 mod row_plans;
 mod rules;
@@ -44,7 +46,7 @@ pub use chunks::{Chunk, chunk_at};
 pub use errors::PlanError;
 pub use kinds::PlanId;
 pub use laws::{alike_plans_are_worth_the_same, plans_are_alike, plans_unfold, reached_is_read};
-pub use nodes::{EvalExpression, PlanKind, PlanNode};
+pub use nodes::{EvalExpression, PlanKind, PlanNode, PruningProof};
 pub use parts::{ChildRows, NextPart, Part, PartPlace};
 pub use plan_types::{
     ConcatPlan, EvalPlan, FilterPlan, LegacyStatsPlan, ListPackPlan, PackPlan, RowIdxPlan,

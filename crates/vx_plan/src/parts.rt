@@ -30,6 +30,8 @@ pub enum Part {
     Rows(ChildRows),
     /// All rows of it, which are the whole values of that number: those of a take, or a share.
     Whole(u32, u32),
+    /// All rows of it, whichever rows are asked for: zones by which these may be pruned.
+    All(u32),
 }
 
 /// How many of the parts were gone through, and how many rows of a concat.
@@ -186,6 +188,7 @@ fn next_by_shape(
             )
         }
         Shape::Shared(child) => only(Part::Whole(plan.0, child), at),
+        Shape::Pruned(zones) => only(Part::All(zones), at),
         Shape::Leaf(_) => None,
         Shape::Lists => None,
         Shape::RowNumbers => None,

@@ -98,6 +98,7 @@ fn collect(
         match next.part {
             Part::Rows(rows) => collect_rows(table, rows, span, mask, at, out)?,
             Part::Whole(_, child) => collect_whole(table, PlanRef(child), span, at, out)?,
+            Part::All(child) => collect_whole(table, PlanRef(child), span, at, out)?,
         }
         place = next.behind;
     }

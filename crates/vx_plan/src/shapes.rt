@@ -32,6 +32,8 @@ pub enum Shape {
     RowNumbers,
     /// The rows of the first plan, of whose zones the second tells.
     Zoned(u32, u32),
+    /// Whether the zone of each row is pruned, by all rows of this plan.
+    Pruned(u32),
 }
 
 impl PlanTable {
@@ -54,6 +56,7 @@ impl PlanTable {
             PlanKind::SegmentScan { segment, .. } => Shape::Leaf(*segment),
             PlanKind::Zoned { .. } => Shape::Zoned(node.children.at(0), node.children.at(1)),
             PlanKind::LegacyStats { .. } => Shape::Zoned(node.children.at(0), node.children.at(1)),
+            PlanKind::Pruning { .. } => Shape::Pruned(node.children.at(0)),
         }
     }
 }

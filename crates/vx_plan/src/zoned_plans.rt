@@ -1,7 +1,7 @@
 //! Plans of data that stands in zones.
 
-ghost use Rattle.std.specs.Prelude.{◌≡◌, ◌<◌, [], ◌∷◌, length, IfErr, IfOk, IsSomeAnd, OnErr};
-ghost use Rattle.vx_plan.specs.Kinds.{zone_len_of, stats_of, HasKind, IsLegacyStats, IsZoned};
+ghost use Rattle.std.specs.Prelude.{◌≡◌, ◌<◌, [], ◌∷◌, ◌↔◌, length, IfErr, IfOk, IfSome, IsSome, OnErr};
+ghost use Rattle.vx_plan.specs.Kinds.{zone_len_of, stats_of, zones_place, HasKind, IsLegacyStats, IsOverData, IsZoned};
 ghost use Rattle.vx_plan.specs.Limits.{most_plans};
 ghost use Rattle.vx_plan.specs.Refs.{number_of};
 ghost use Rattle.vx_plan.specs.Rules.{legacy_node, node_at, nodes_at, zoned_node, RefusedBy};
@@ -52,6 +52,7 @@ impl ZonedPlan {
     {
         match table.node(self.plan.0).kind {
             PlanKind::Zoned { zone_len, .. } => zone_len,
+            PlanKind::Pruning { zone_len, .. } => zone_len,
             _ => unreachable!(),
         }
     }
@@ -63,24 +64,35 @@ impl ZonedPlan {
     {
         match &table.node(self.plan.0).kind {
             PlanKind::Zoned { stats, .. } => stats,
+            PlanKind::Pruning { stats, .. } => stats,
             _ => unreachable!(),
         }
     }
 
-    /// The plan of the data.
+    /// The plan of the data, and `None` exactly on a pruning plan.
     pub fn data_plan(self, table: &PlanTable) -> Option<PlanRef>
         requires { HasKind IsZoned table.now (number_of self.plan) }
-        ensures { IsSomeAnd result (λ child. IsChildAt table.now (number_of self.plan) 0 (number_of child)) }
+        ensures at { IfSome result (λ child. IsChildAt table.now (number_of self.plan) 0 (number_of child)) }
+        ensures exactly { IsSome result ↔ HasKind IsOverData table.now (number_of self.plan) }
     {
-        Some(PlanRef(table.node(self.plan.0).children.at(0)))
+        let node = table.node(self.plan.0);
+        match node.kind {
+            PlanKind::Zoned { .. } => Some(PlanRef(node.children.at(0))),
+            _ => None,
+        }
     }
 
     /// The plan of the zones.
     pub fn zones_plan(self, table: &PlanTable) -> PlanRef
         requires { HasKind IsZoned table.now (number_of self.plan) }
-        ensures { IsChildAt table.now (number_of self.plan) 1 (number_of result) }
+        ensures { IsChildAt table.now (number_of self.plan) (zones_place (node_at table.now (number_of self.plan)).kind) (number_of result) }
     {
-        PlanRef(table.node(self.plan.0).children.at(1))
+        let node = table.node(self.plan.0);
+        match node.kind {
+            PlanKind::Zoned { .. } => PlanRef(node.children.at(1)),
+            PlanKind::Pruning { .. } => PlanRef(node.children.at(0)),
+            _ => unreachable!(),
+        }
     }
 }
 

@@ -6,7 +6,7 @@ use Rattle.vx_base.specs.Data.{Datum}
 use Rattle.vx_expr.specs.Meaning.{meaning}
 use Rattle.vx_expr.specs.Rows.{no_bound}
 use Rattle.vx_expr.specs.Packs.{struct_row}
-use Rattle.vx_rows.specs.Derivations.{LeafRow, Derivation, nothing, of_leaf, list_row, given, packed, valid_where, looked_up, worked_out, read_whole, Derivations, no_more, also, Leaves, derived, derived_each}
+use Rattle.vx_rows.specs.Derivations.{LeafRow, Derivation, nothing, of_leaf, list_row, given, packed, valid_where, looked_up, worked_out, read_whole, concluded, Derivations, no_more, also, Leaves, derived, derived_each}
 use Rattle.vx_rows.specs.Reads.{Way, inside, CodeRow, code_row, a_leaf_row, a_code, Read, ReadsLeafRow, reads_of, reads_of_each}
 use Rattle.vx_rows.specs.Given.{GivenValues, all_given, values_with, given_row, share_with, with_given, each_with_given, AreCertified, EachCertified}
 use Rattle.vx_rows.proofs.ReadRows.{any_either, any_left, any_right}
@@ -27,6 +27,7 @@ mutual
   none_given (looked_up dictionary row code values) = ap (λ (c : Derivation). looked_up dictionary row c values) (none_given code)
   none_given (worked_out t e d) = ap (worked_out t e) (none_given d)
   none_given (read_whole share row d ds) = refl
+  none_given (concluded rule ds) = ap (concluded rule) (none_given_each ds)
 
   none_given_each : (ds : Derivations) → each_with_given (λ _. None) ds ≡ ds
   none_given_each no_more = refl
@@ -70,6 +71,7 @@ mutual
       cc
   certified leaves values_for (worked_out t e d) are = ap (option_and_then (λ (v : Datum). meaning t no_bound e v 0)) (certified leaves values_for d are)
   certified leaves values_for (read_whole share row d ds) are = share_same leaves share row d ds (values_for share) are
+  certified leaves values_for (concluded rule ds) are = ap (option_and_then rule) (certified_each leaves values_for ds are)
 
   certified_each : (leaves : Leaves) (values_for : GivenValues) (ds : Derivations) → EachCertified leaves values_for ds → derived_each leaves (each_with_given values_for ds) ≡ derived_each leaves ds
   certified_each leaves values_for no_more are = refl
@@ -124,6 +126,7 @@ mutual
       (reads_no_more values_for code way other at) (values_read (inside dictionary way) other at values (values_for dictionary)) rest)) any
   reads_no_more values_for (worked_out t e d) way other at any = reads_no_more values_for d way other at any
   reads_no_more values_for (read_whole share row d ds) way other at any = share_read way other at row (read_whole share row d ds) (values_for share) any
+  reads_no_more values_for (concluded rule ds) way other at any = each_reads_no_more values_for ds way other at any
 
   each_reads_no_more : (values_for : GivenValues) (ds : Derivations) (way other : Way) (at : LeafRow) → ReadsLeafRow other at (reads_of_each way (each_with_given values_for ds)) → ReadsLeafRow other at (reads_of_each way ds)
   each_reads_no_more values_for no_more way other at any = any

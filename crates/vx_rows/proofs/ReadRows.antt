@@ -7,9 +7,9 @@ use Rattle.vx_expr.specs.Types.{on_both}
 use Rattle.vx_expr.specs.Meaning.{meaning}
 use Rattle.vx_expr.specs.Rows.{no_bound}
 use Rattle.vx_expr.specs.Packs.{struct_row}
-use Rattle.vx_rows.specs.Derivations.{LeafRow, Derivation, nothing, of_leaf, list_row, given, packed, valid_where, looked_up, worked_out, read_whole, Derivations, no_more, also, derivation_count, Leaves, where_valid, look_up, one_more, derived, derived_each}
+use Rattle.vx_rows.specs.Derivations.{LeafRow, Derivation, nothing, of_leaf, list_row, given, packed, valid_where, looked_up, worked_out, read_whole, concluded, Derivations, no_more, also, derivation_count, Leaves, where_valid, look_up, one_more, derived, derived_each}
 use Rattle.vx_rows.specs.Reads.{Way, through, inside, Found, a_leaf_row, a_code, Read, code_row, reads_of, reads_of_each, AnyOf, Finds, FindsOnly, found_in, IsPlaceAmong, IsBadCode, IsFaulty, IsFine}
-use Rattle.vx_rows.specs.Whole.{IsWhole, AreWhole, IsStrict, AreStrict, GiveEachRow, AgreeOn}
+use Rattle.vx_rows.specs.Whole.{Concludes, IsWhole, AreWhole, IsStrict, AreStrict, GiveEachRow, AgreeOn}
 
 -- ---- reads one after another
 
@@ -55,6 +55,7 @@ mutual
       cc
   agree ones others way (worked_out t e d) each = ap (option_and_then (λ (v : Datum). meaning t no_bound e v 0)) (agree ones others way d each)
   agree ones others way (read_whole share row d ds) each = agree ones others way d (only_left (AgreeOn ones others) (reads_of way d) (reads_of_each way ds) each)
+  agree ones others way (concluded rule ds) each = ap (option_and_then rule) (agree_each ones others way ds each)
 
   pub agree_each : (ones others : Leaves) (way : Way) (ds : Derivations) → FindsOnly (AgreeOn ones others) (reads_of_each way ds) → derived_each ones ds ≡ derived_each others ds
   agree_each ones others way no_more each = refl
@@ -134,6 +135,7 @@ mutual
       (any_either (Meets (IsFaulty leaves)) (reads_of way code) (reads_of_each (inside dictionary way) values) rest)) any
   faulty leaves way (worked_out t e d) strict any = ap (option_and_then (λ (v : Datum). meaning t no_bound e v 0)) (faulty leaves way d strict any)
   faulty leaves way (read_whole share row d ds) strict any = absurd strict
+  faulty leaves way (concluded rule ds) strict any = ap (option_and_then rule) (faulty_each leaves way ds strict any)
 
   pub faulty_each : (leaves : Leaves) (way : Way) (ds : Derivations) → AreStrict ds → Finds (IsFaulty leaves) (reads_of_each way ds) → derived_each leaves ds ≡ None
   faulty_each leaves way no_more strict any = absurd any
@@ -188,6 +190,10 @@ one_more_there None ds some also_some = absurd cc
 one_more_there (Some v) None some also_some = absurd cc
 one_more_there (Some v) (Some vs) some also_some = refl
 
+concluded_there : (rule : List Datum → Option Datum) (ds : Option (List Datum)) (count : ℕ) → IfSome ds (HasCount count) → Concludes rule count → IsSome ds → IsSome (option_and_then rule ds)
+concluded_there rule None count size gives some = absurd cc
+concluded_there rule (Some vs) count size gives some = gives vs size
+
 mutual
   pub complete : (leaves : Leaves) → GiveEachRow leaves → (way : Way) (d : Derivation) → IsWhole d → FindsOnly (IsFine leaves) (reads_of way d) → IsSome (derived leaves d)
   complete leaves each_row way nothing whole fine = absurd whole
@@ -205,6 +211,7 @@ mutual
       (complete leaves each_row way code whole.0 (only_left (IsFine leaves) (reads_of way code) (reads_of_each (inside dictionary way) values) fine.1))
   complete leaves each_row way (worked_out t e d) whole fine = absurd whole
   complete leaves each_row way (read_whole share row d ds) whole fine = complete leaves each_row way d whole (only_left (IsFine leaves) (reads_of way d) (reads_of_each way ds) fine)
+  complete leaves each_row way (concluded rule ds) whole fine = concluded_there rule (derived_each leaves ds) (derivation_count ds) (derived_count leaves ds) whole.0 (complete_each leaves each_row way ds whole.1 fine)
 
   pub complete_each : (leaves : Leaves) → GiveEachRow leaves → (way : Way) (ds : Derivations) → AreWhole ds → FindsOnly (IsFine leaves) (reads_of_each way ds) → IsSome (derived_each leaves ds)
   complete_each leaves each_row way no_more whole fine = refl
@@ -237,6 +244,7 @@ mutual
       ap (λ (found : List Found). a_code (code_row dictionary row code values) ∷ found) (join_found (reads_of p code) (reads_of_each (inside dictionary p) values) (reads_of q code) (reads_of_each (inside dictionary q) values) (found_same p q code) (found_same_each (inside dictionary p) (inside dictionary q) values))
   found_same p q (worked_out t e d) = found_same p q d
   found_same p q (read_whole share row d ds) = join_found (reads_of p d) (reads_of_each p ds) (reads_of q d) (reads_of_each q ds) (found_same p q d) (found_same_each p q ds)
+  found_same p q (concluded rule ds) = found_same_each p q ds
 
   found_same_each : (p q : Way) (ds : Derivations) → found_in (reads_of_each p ds) ≡ found_in (reads_of_each q ds)
   found_same_each p q no_more = refl
@@ -273,6 +281,7 @@ mutual
   lies_through n (looked_up dictionary row code values) = (refl, each_join (LiesIn (through n)) (reads_of (through n) code) (reads_of_each (through n) values) (lies_through n code) (each_lies_through n values))
   lies_through n (worked_out t e d) = lies_through n d
   lies_through n (read_whole share row d ds) = each_join (LiesIn (through n)) (reads_of (through n) d) (reads_of_each (through n) ds) (lies_through n d) (each_lies_through n ds)
+  lies_through n (concluded rule ds) = each_lies_through n ds
 
   pub each_lies_through : (n : ℕ) (ds : Derivations) → AllByRecursion (LiesIn (through n)) (reads_of_each (through n) ds)
   each_lies_through n no_more = tt

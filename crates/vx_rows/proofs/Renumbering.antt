@@ -6,7 +6,7 @@ use Rattle.vx_base.specs.Data.{Datum}
 use Rattle.vx_expr.specs.Meaning.{meaning}
 use Rattle.vx_expr.specs.Rows.{no_bound}
 use Rattle.vx_expr.specs.Packs.{struct_row}
-use Rattle.vx_rows.specs.Derivations.{Derivation, nothing, of_leaf, list_row, given, packed, valid_where, looked_up, worked_out, read_whole, Derivations, no_more, also, derivation_count, Leaves, derived, derived_each}
+use Rattle.vx_rows.specs.Derivations.{Derivation, nothing, of_leaf, list_row, given, packed, valid_where, looked_up, worked_out, read_whole, concluded, Derivations, no_more, also, derivation_count, Leaves, derived, derived_each}
 use Rattle.vx_rows.specs.Reads.{Way, directly, through, inside, a_code, Read, read_by, code_row, reads_of, reads_of_each}
 use Rattle.vx_rows.specs.Renumbered.{renumbered, each_renumbered, way_renumbered, read_renumbered}
 
@@ -27,6 +27,7 @@ mutual
       cc
   same_worth leaves f (worked_out t e d) = ap (option_and_then (λ (v : Datum). meaning t no_bound e v 0)) (same_worth leaves f d)
   same_worth leaves f (read_whole share row d ds) = same_worth leaves f d
+  same_worth leaves f (concluded rule ds) = ap (option_and_then rule) (same_worth_each leaves f ds)
 
   same_worth_each : (leaves : Leaves) (f : ℕ → ℕ) (ds : Derivations) → derived_each leaves (each_renumbered f ds) ≡ derived_each leaves ds
   same_worth_each leaves f no_more = refl
@@ -62,6 +63,7 @@ mutual
       cc
   reads_moved f way (worked_out t e d) = reads_moved f way d
   reads_moved f way (read_whole share row d ds) = reads_join f (reads_of way d) (reads_of_each way ds) (reads_of (way_renumbered f way) (renumbered f d)) (reads_of_each (way_renumbered f way) (each_renumbered f ds)) (reads_moved f way d) (reads_moved_each f way ds)
+  reads_moved f way (concluded rule ds) = reads_moved_each f way ds
 
   reads_moved_each : (f : ℕ → ℕ) (way : Way) (ds : Derivations) → reads_of_each (way_renumbered f way) (each_renumbered f ds) ≡ map (read_renumbered f) (reads_of_each way ds)
   reads_moved_each f way no_more = refl

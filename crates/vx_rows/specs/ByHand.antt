@@ -1,5 +1,5 @@
 -- Leaves, reads and values by hand, on which the definitions of derived rows are checked, and those of trees and of plans.
-use Rattle.std.specs.Prelude.{ℕ, ◌==◌, if◌then◌else◌, true, false, List, [], ◌∷◌, ◌++◌, map, Some, None, slice_get}
+use Rattle.std.specs.Prelude.{ℕ, ◌==◌, if◌then◌else◌, true, false, List, [], ◌∷◌, ◌++◌, map, Option, Some, None, slice_get}
 use Rattle.vx_base.specs.declared.codings.Coding.TheVariants.{Plain}
 use Rattle.vx_base.specs.declared.dtypes.IntKind.TheVariants.{I64, U64}
 use Rattle.vx_base.specs.declared.dtypes.Nullability.TheVariants.{NonNullable, Nullable}
@@ -36,6 +36,10 @@ all_have values t coding rows segment = Some values
 -- numbers in segment 0, of which one is null, and truth values in segment 1
 abbrev pub two_leaves : Leaves
 two_leaves = leaves_in ((natural 5 ∷ null ∷ natural 7 ∷ []) ∷ (truth true ∷ truth false ∷ null ∷ []) ∷ [])
+
+-- the second of some values
+abbrev pub second : List Datum → Option Datum
+second values = slice_get values 1
 
 abbrev pub leaf_row_read : Way → ℕ → ℕ → Read
 leaf_row_read way segment row = read_by way (a_leaf_row (leaf_row_at segment row))

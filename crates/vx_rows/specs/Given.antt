@@ -2,7 +2,7 @@
 use Rattle.std.specs.Prelude.{◌≡◌, ℕ, List, [], ◌∷◌, Option, Some, None, IfSome}
 use Rattle.std.specs.List.{slice_get}
 use Rattle.vx_base.specs.Data.{Datum}
-use Rattle.vx_rows.specs.Derivations.{Derivation, nothing, of_leaf, list_row, given, packed, valid_where, looked_up, worked_out, read_whole, Derivations, no_more, also, Leaves, derived, derived_each}
+use Rattle.vx_rows.specs.Derivations.{Derivation, nothing, of_leaf, list_row, given, packed, valid_where, looked_up, worked_out, read_whole, concluded, Derivations, no_more, also, Leaves, derived, derived_each}
 
 -- the values that are handed in for a dictionary or a share of a number, if any
 abbrev pub GivenValues : Type 0
@@ -40,6 +40,7 @@ abbrev mutual
       looked_up dictionary row (with_given values_for code) (values_with (values_for dictionary) values)
   with_given values_for (worked_out t e d) = worked_out t e (with_given values_for d)
   with_given values_for (read_whole share row d ds) = share_with (values_for share) row (read_whole share row d ds)
+  with_given values_for (concluded rule ds) = concluded rule (each_with_given values_for ds)
 
   pub each_with_given : GivenValues → Derivations → Derivations
   each_with_given values_for no_more = no_more
@@ -58,6 +59,7 @@ abbrev mutual
       AreCertified leaves values_for code × IfSome (values_for dictionary) (λ vs. derived_each leaves values ≡ Some vs)
   AreCertified leaves values_for (worked_out t e d) = AreCertified leaves values_for d
   AreCertified leaves values_for (read_whole share row d ds) = IfSome (values_for share) (λ vs. derived leaves d ≡ slice_get vs row)
+  AreCertified leaves values_for (concluded rule ds) = EachCertified leaves values_for ds
 
   pub EachCertified : Leaves → GivenValues → Derivations → Type 0
   EachCertified leaves values_for no_more = Unit {0}

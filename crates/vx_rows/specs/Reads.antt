@@ -3,7 +3,7 @@
 use Rattle.std.specs.Prelude.{◌≡◌, ℕ, ◌<◌, ◌⊎◌, pos, List, [], ◌∷◌, ◌++◌, map, None, IfSome, IsSome, IsSomeAnd}
 use Rattle.std.specs.List.{AllByRecursion}
 use Rattle.vx_base.specs.Data.{Datum, null, number}
-use Rattle.vx_rows.specs.Derivations.{LeafRow, Derivation, nothing, of_leaf, list_row, given, packed, valid_where, looked_up, worked_out, read_whole, Derivations, no_more, also, derivation_count, Leaves, derived}
+use Rattle.vx_rows.specs.Derivations.{LeafRow, Derivation, nothing, of_leaf, list_row, given, packed, valid_where, looked_up, worked_out, read_whole, concluded, Derivations, no_more, also, derivation_count, Leaves, derived}
 
 -- how a read is come to: directly, or through the values of an outermost dictionary of that number
 pub data Way : Type 0 where
@@ -50,6 +50,7 @@ abbrev mutual
       ∷ (reads_of way code ++ reads_of_each (inside dictionary way) values)
   reads_of way (worked_out t e d) = reads_of way d
   reads_of way (read_whole share row d ds) = reads_of way d ++ reads_of_each way ds
+  reads_of way (concluded rule ds) = reads_of_each way ds
 
   pub reads_of_each : Way → Derivations → List Read
   reads_of_each way no_more = []

@@ -1,6 +1,6 @@
 -- Derivations and reads with other numbers for dictionaries and lists, as a table of plans has them.
 use Rattle.std.specs.Prelude.{ℕ}
-use Rattle.vx_rows.specs.Derivations.{Derivation, nothing, of_leaf, list_row, given, packed, valid_where, looked_up, worked_out, read_whole, Derivations, no_more, also}
+use Rattle.vx_rows.specs.Derivations.{Derivation, nothing, of_leaf, list_row, given, packed, valid_where, looked_up, worked_out, read_whole, concluded, Derivations, no_more, also}
 use Rattle.vx_rows.specs.Reads.{Way, directly, through, CodeRow, Found, a_leaf_row, a_code, a_list_row, Read}
 
 abbrev mutual
@@ -16,6 +16,7 @@ abbrev mutual
   renumbered number_of (worked_out t e d) = worked_out t e (renumbered number_of d)
   renumbered number_of (read_whole share row d ds) =
       read_whole (number_of share) row (renumbered number_of d) (each_renumbered number_of ds)
+  renumbered number_of (concluded rule ds) = concluded rule (each_renumbered number_of ds)
 
   pub each_renumbered : (ℕ → ℕ) → Derivations → Derivations
   each_renumbered number_of no_more = no_more

@@ -1,13 +1,18 @@
 -- Derivations in which nothing is amiss, whatever the leaves.
-use Rattle.std.specs.Prelude.{◌≡◌, ℕ, ◌<◌, length, IfSome}
+use Rattle.std.specs.Prelude.{◌≡◌, ℕ, ◌<◌, List, Option, length, IfSome, IsSome}
 use Rattle.std.specs.List.{AllByRecursion}
 use Rattle.vx_base.specs.declared.codings.Coding.{Coding}
-use Rattle.vx_base.specs.Data.{DataType}
+use Rattle.vx_base.specs.Data.{DataType, Datum}
 use Rattle.vx_base.specs.Fits.{Fits}
-use Rattle.vx_rows.specs.Derivations.{Derivation, nothing, of_leaf, list_row, given, packed, valid_where, looked_up, worked_out, read_whole, Derivations, no_more, also, Leaves}
+use Rattle.vx_rows.specs.Derivations.{Derivation, nothing, of_leaf, list_row, given, packed, valid_where, looked_up, worked_out, read_whole, concluded, Derivations, no_more, also, derivation_count, Leaves}
 use Rattle.vx_rows.specs.Reads.{Found, a_leaf_row, a_code, a_list_row}
 
--- No node is missing, each cell's row is one of its leaf, and no expression is worked out, which may be a fault.
+-- from so many values the rule concludes one, whatever they are
+abbrev pub Concludes : (List Datum → Option Datum) → ℕ → Type 0
+Concludes rule count = (values : List Datum) → length values ≡ count → IsSome (rule values)
+
+-- No node is missing, each cell's row is one of its leaf, no expression is worked out, which may be a fault, and a rule
+-- concludes from whatever values its rows have.
 abbrev mutual
   pub IsWhole : Derivation → Type 0
   IsWhole nothing = ⊥
@@ -19,12 +24,14 @@ abbrev mutual
   IsWhole (looked_up dictionary row code values) = IsWhole code × AreWhole values
   IsWhole (worked_out t e d) = ⊥
   IsWhole (read_whole share row d ds) = IsWhole d
+  IsWhole (concluded rule ds) = Concludes rule (derivation_count ds) × AreWhole ds
 
   pub AreWhole : Derivations → Type 0
   AreWhole no_more = Unit {0}
   AreWhole (also d ds) = IsWhole d × AreWhole ds
 
--- No row is read beside the one that is asked for but a dictionary's values: whatever is read counts.
+-- No row is read beside the one that is asked for but a dictionary's values, and those that a rule concludes from: whatever
+-- is read counts.
 abbrev mutual
   pub IsStrict : Derivation → Type 0
   IsStrict nothing = Unit {0}
@@ -36,6 +43,7 @@ abbrev mutual
   IsStrict (looked_up dictionary row code values) = IsStrict code × AreStrict values
   IsStrict (worked_out t e d) = IsStrict d
   IsStrict (read_whole share row d ds) = ⊥
+  IsStrict (concluded rule ds) = AreStrict ds
 
   pub AreStrict : Derivations → Type 0
   AreStrict no_more = Unit {0}

@@ -1,4 +1,4 @@
-use Rattle.vx_plan.proofs.AlikePlans.{concat_alike, pack_alike, take_alike, eval_alike, scan_alike, zoned_alike, list_alike}
+use Rattle.vx_plan.proofs.AlikePlans.{concat_alike, pack_alike, take_alike, eval_alike, scan_alike, zoned_alike, pruning_alike, list_alike}
 use Rattle.vx_plan.proofs.laws.plans_are_alike.Goals as goal
 
 pub returns-clause-concats : goal.returns-clause-concats
@@ -18,6 +18,9 @@ returns-clause-scans c = scan_alike
 
 pub returns-clause-zoned : goal.returns-clause-zoned
 returns-clause-zoned c = zoned_alike
+
+pub returns-clause-pruning : goal.returns-clause-pruning
+returns-clause-pruning c = pruning_alike
 
 pub returns-clause-lists : goal.returns-clause-lists
 returns-clause-lists c = list_alike

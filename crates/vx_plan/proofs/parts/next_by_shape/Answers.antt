@@ -3,8 +3,8 @@ use Rattle.vx_plan.specs.Refs.{number_of}
 use Rattle.vx_plan.specs.Parts.{same_rows}
 use Rattle.vx_plan.specs.Rules.{node_at}
 use Rattle.std.proofs.Common.{map, refl}
-use Rattle.vx_plan.proofs.Collecting.{codes_part, over_part, same_part, shared_below, values_below, zoned_part}
-use Rattle.vx_plan.proofs.Parting.{fields_are, fields_left, leaf_left, lists_left, look_up_left, next_of, none_left, numbers_left, one_next, over_left, same_is, same_left, shared_left, two_next, zoned_left}
+use Rattle.vx_plan.proofs.Collecting.{codes_part, over_part, same_part, shared_below, values_below, zoned_part, zones_below}
+use Rattle.vx_plan.proofs.Parting.{fields_are, fields_left, leaf_left, lists_left, look_up_left, next_of, none_left, numbers_left, one_next, over_left, pruned_left, same_is, same_left, shared_left, two_next, zoned_left}
 use Rattle.vx_plan.proofs.parts.next_by_shape.Goals as goal
 
 pub returns-in-Same : goal.returns-in-Same
@@ -37,3 +37,8 @@ returns-in-Lists c = none_left c.args.table.now (number_of c.args.plan) c.args.s
 
 pub returns-in-RowNumbers : goal.returns-in-RowNumbers
 returns-in-RowNumbers c = none_left c.args.table.now (number_of c.args.plan) c.args.start c.args.count c.args.at (numbers_left c.args.table.now (number_of c.args.plan) c.requires.known c.in-RowNumbers.ensures.shape c.args.start c.args.count)
+
+pub returns-in-Pruned : goal.returns-in-Pruned
+returns-in-Pruned c =
+    let below = zones_below c.args.table.now (number_of c.args.plan) c.in-Pruned.zones c.requires.known c.in-Pruned.ensures.shape in
+    one_next c.args.table.now (number_of c.args.plan) c.args.start c.args.count (parts.All c.in-Pruned.zones) (parts.All c.in-Pruned.zones) refl (pruned_left c.args.table.now (number_of c.args.plan) c.in-Pruned.zones c.requires.known c.in-Pruned.ensures.shape c.args.start c.args.count) (below.lower, below.known) c.args.at c.only-in-Pruned.result c.only-in-Pruned.ensures

@@ -1,5 +1,5 @@
 use Rattle.vx_plan.specs.Nodes.{node_data}
-use Rattle.vx_plan.proofs.Shaping.{leaf_shape, filter_shape, share_shape, concat_shape, pack_shape, take_shape, eval_shape, list_shape, row_idx_shape, zoned_shape, legacy_shape}
+use Rattle.vx_plan.proofs.Shaping.{leaf_shape, filter_shape, share_shape, concat_shape, pack_shape, take_shape, eval_shape, list_shape, row_idx_shape, zoned_shape, legacy_shape, pruning_shape}
 use Rattle.vx_plan.proofs.tables.PlanTable.shape.Goals as goal
 
 pub returns-in-Concat-clause-shape : goal.returns-in-Concat-clause-shape
@@ -34,3 +34,6 @@ returns-in-Zoned-clause-shape c = zoned_shape c.args.self.now c.node-node.ensure
 
 pub returns-in-LegacyStats-clause-shape : goal.returns-in-LegacyStats-clause-shape
 returns-in-LegacyStats-clause-shape c = legacy_shape c.args.self.now c.node-node.ensures.good c.args.plan.0 (node_data c.node-node.result.now) _ _ c.at-in-LegacyStats.result c.at-in-LegacyStats-2.result c.node-node.ensures.at c.in-LegacyStats.is c.at-in-LegacyStats.ensures c.at-in-LegacyStats-2.ensures
+
+pub returns-in-Pruning-clause-shape : goal.returns-in-Pruning-clause-shape
+returns-in-Pruning-clause-shape c = pruning_shape c.args.self.now c.node-node.ensures.good c.args.plan.0 (node_data c.node-node.result.now) _ _ _ c.at-in-Pruning.result c.node-node.ensures.at c.in-Pruning.is c.at-in-Pruning.ensures
