@@ -47,6 +47,7 @@ asked_kind kinds.RowIdx nodes good (Some given) head node ns number row there ma
 asked_kind (kinds.SegmentScan segment coding) nodes good (Some given) head node ns number row there made these v = absurd v
 asked_kind (kinds.Zoned zone_len stats) nodes good (Some given) head node ns number row there made these v = absurd v
 asked_kind (kinds.LegacyStats zone_len stats) nodes good (Some given) head node ns number row there made these v = absurd v
+asked_kind (kinds.Pruning zone_len stats proof) nodes good (Some given) head node ns number row there made these v = absurd v
 
 -- the plan of that number is in the table
 asked_known : (nodes : List Node) → IsGoodTable nodes → (n start : ℕ) (bits : List Bool) (number : ℕ) → n < length nodes → Asks nodes [] n start bits number → number < length nodes

@@ -7,7 +7,7 @@ use Rattle.vx_rows.specs.Derivations.{Derivation, packed, Leaves}
 use Rattle.vx_rows.specs.Given.{GivenValues, AreCertified, EachCertified}
 use Rattle.vx_rows.proofs.Givens.{certified}
 use Rattle.vx_plan.specs.Nodes.{Node}
-use Rattle.vx_plan.specs.Plans.{Plan, no_plan, concat_plan, eval_plan, filter_plan, pack_plan, take_plan, share_plan, list_plan, row_idx_plan, scan_plan, zoned_plan, Plans, no_plans, plan, PlanValidity, all_valid, valid_as, plan_head, plan_at}
+use Rattle.vx_plan.specs.Plans.{Plan, no_plan, concat_plan, eval_plan, filter_plan, pack_plan, take_plan, share_plan, list_plan, row_idx_plan, scan_plan, zoned_plan, pruning_plan, Plans, no_plans, plan, PlanValidity, all_valid, valid_as, plan_head, plan_at}
 use Rattle.vx_plan.specs.PlanRows.{plan_derivation, plan_derivation_in, plan_derivations, plan_where_valid}
 use Rattle.vx_plan.specs.Refs.{number_of}
 use Rattle.vx_plan.specs.Rules.{node_at}
@@ -20,6 +20,7 @@ use Rattle.vx_steps.specs.Held.{AreMade}
 use Rattle.vx_steps.specs.KeptData.{Kept}
 use Rattle.vx_steps.specs.Laws.{HandsNone}
 use Rattle.vx_steps.specs.Visits.{Test, Visits, VisitsIn, VisitsField, VisitsValidity, SomeVisit, HasBadCode, HasEvalFault}
+use Rattle.vx_steps.proofs.AllRows.{certified_at}
 use Rattle.vx_steps.proofs.CertifiedValues.{row_certified}
 use Rattle.vx_steps.proofs.FreeVisits.{list_selected, served_none, IsFaultAt, IsNoPlace}
 
@@ -62,6 +63,8 @@ mutual
   stays leaves f offset P free none own (scan_plan head segment coding) row are v = own (scan_plan head segment coding) row are v
   stays leaves f offset P free none own (zoned_plan head zones content table) row are (inl v) = inl (own (zoned_plan head zones content table) row are v)
   stays leaves f offset P free none own (zoned_plan head zones content table) row are (inr v) = inr (stays leaves f offset P free none own content row are v)
+  stays leaves f offset P free none own (pruning_plan head pruning table) row are (inl v) = inl (own (pruning_plan head pruning table) row are v)
+  stays leaves f offset P free none own (pruning_plan head pruning table) row are (inr (other, less, v)) = inr (other, less, stays leaves f offset P free none own table other (certified_at leaves f (plan_derivation offset table) (plan_head table).rows other less are) v)
 
   stays_in : (leaves : Leaves) (f : GivenValues) (offset : ℕ) (P : Test) (free : Handed) → HandsNone free → Stays leaves f offset P free → (ps : Plans) (row : ℕ) → AreCertified leaves f (plan_derivation_in offset ps row) → VisitsIn P (Some f) ps row → VisitsIn P free ps row
   stays_in leaves f offset P free none own no_plans row are v = v
@@ -96,6 +99,7 @@ code_stays leaves f offset n at free none (list_plan head elements offsets valid
 code_stays leaves f offset n at free none (row_idx_plan head) row are v = absurd v
 code_stays leaves f offset n at free none (scan_plan head segment coding) row are v = absurd v
 code_stays leaves f offset n at free none (zoned_plan head zones content table) row are v = absurd v
+code_stays leaves f offset n at free none (pruning_plan head pruning table) row are v = absurd v
 
 fault_stays : (leaves : Leaves) (f : GivenValues) (offset at : ℕ) (free : Handed) → HandsNone free → Stays leaves f offset (HasEvalFault leaves offset at) free
 fault_stays leaves f offset at free none (no_plan head) row are v = absurd v
@@ -109,6 +113,7 @@ fault_stays leaves f offset at free none (list_plan head elements offsets validi
 fault_stays leaves f offset at free none (row_idx_plan head) row are v = absurd v
 fault_stays leaves f offset at free none (scan_plan head segment coding) row are v = absurd v
 fault_stays leaves f offset at free none (zoned_plan head zones content table) row are v = absurd v
+fault_stays leaves f offset at free none (pruning_plan head pruning table) row are v = absurd v
 
 -- ---- causes
 

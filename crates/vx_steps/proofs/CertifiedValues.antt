@@ -15,7 +15,7 @@ use Rattle.vx_plan.specs.declared.nodes.PlanKind.{PlanKind}
 use Rattle.vx_plan.specs.declared.nodes.PlanKind.TheVariants as kinds
 use Rattle.vx_plan.specs.FittingRows.{HasFittingRows, HaveFittingRows, FieldsHaveRows, ValidityHasRows}
 use Rattle.vx_plan.specs.Nodes.{Node, absent}
-use Rattle.vx_plan.specs.Plans.{Plan, no_plan, concat_plan, eval_plan, filter_plan, pack_plan, take_plan, share_plan, list_plan, row_idx_plan, scan_plan, zoned_plan, Plans, no_plans, plan, PlanValidity, all_valid, valid_as, plan_head, head_at, plan_at, plan_in, plan_grown_as}
+use Rattle.vx_plan.specs.Plans.{Plan, no_plan, concat_plan, eval_plan, filter_plan, pack_plan, take_plan, share_plan, list_plan, row_idx_plan, scan_plan, zoned_plan, pruning_plan, Plans, no_plans, plan, PlanValidity, all_valid, valid_as, plan_head, head_at, plan_at, plan_in, plan_grown_as}
 use Rattle.vx_plan.specs.PlanRows.{plan_derivation, plan_derivation_in, plan_derivations, plan_where_valid, plan_value}
 use Rattle.vx_plan.specs.Rules.{node_at}
 use Rattle.vx_plan.specs.Tables.{IsGoodTable}
@@ -29,6 +29,7 @@ use Rattle.vx_steps.specs.GivenLaws.{AreServed}
 use Rattle.vx_steps.specs.Held.{AreMade}
 use Rattle.vx_steps.specs.KeptData.{Kept}
 use Rattle.vx_steps.specs.Kept.{kept_at, values_of, whole_of}
+use Rattle.vx_steps.proofs.AllRows.{rows_certified}
 use Rattle.vx_steps.proofs.WholeRows.{each_at}
 use Rattle.vx_steps.proofs.Shaping.{given_known}
 use Rattle.vx_steps.proofs.Standing.{IsOfTable, stands_of_table}
@@ -77,6 +78,7 @@ mutual
   certify leaves f offset (row_idx_plan head) row fit less each = tt
   certify leaves f offset (scan_plan head segment coding) row fit less each = tt
   certify leaves f offset (zoned_plan head zones content table) row fit less each = certify leaves f offset content row fit.1 (below_rows row head.rows (plan_head content).rows fit.0 less) (λ q s. each q (inr (inl s)))
+  certify leaves f offset (pruning_plan head pruning table) row fit less each = rows_certified leaves f (plan_derivation offset table) 0 (plan_head table).rows (λ other lt. certify leaves f offset table other fit (omega arith) (λ q s. each q (inr s)))
 
   certify_in : (leaves : Leaves) (f : GivenValues) (offset : ℕ) (ps : Plans) (row : ℕ) → HaveFittingRows ps → ((q : Plan) → StandsAmong (λ r. r ≡ q) ps → Certifies leaves f offset q) → AreCertified leaves f (plan_derivation_in offset ps row)
   certify_in leaves f offset no_plans row fit each = tt
@@ -124,6 +126,7 @@ grown_certifies kinds.RowIdx nodes used leaves f offset head ns is law made = tt
 grown_certifies (kinds.SegmentScan segment coding) nodes used leaves f offset head ns is law made = tt
 grown_certifies (kinds.Zoned zone_len stats) nodes used leaves f offset head ns is law made = tt
 grown_certifies (kinds.LegacyStats zone_len stats) nodes used leaves f offset head ns is law made = tt
+grown_certifies (kinds.Pruning zone_len stats proof) nodes used leaves f offset head ns is law made = tt
 
 plan_certifies : (nodes : List Node) → IsGoodTable nodes → (used : List Kept) (leaves : Leaves) (offset n : ℕ) → n < length nodes → AreMade nodes offset used leaves → Certifies leaves (given_for nodes used) offset (plan_at nodes n)
 plan_certifies nodes good used leaves offset n there made =

@@ -7,7 +7,7 @@ use Rattle.vx_rows.specs.Reads.{Way, a_code, code_row, CodeRow, IsPlaceAmong}
 use Rattle.vx_rows.specs.Given.{all_given, values_with, with_given}
 use Rattle.vx_rows.specs.Heads.{Head}
 use Rattle.vx_plan.specs.FittingRows.{HasFittingRows}
-use Rattle.vx_plan.specs.Plans.{Plan, no_plan, concat_plan, eval_plan, filter_plan, pack_plan, take_plan, share_plan, list_plan, row_idx_plan, scan_plan, zoned_plan, Plans, no_plans, plan, PlanValidity, all_valid, valid_as, plan_head}
+use Rattle.vx_plan.specs.Plans.{Plan, no_plan, concat_plan, eval_plan, filter_plan, pack_plan, take_plan, share_plan, list_plan, row_idx_plan, scan_plan, zoned_plan, pruning_plan, Plans, no_plans, plan, PlanValidity, all_valid, valid_as, plan_head}
 use Rattle.vx_plan.specs.PlanRows.{plan_derivation}
 use Rattle.vx_steps.specs.Given.{Handed, row_value, values_for}
 use Rattle.vx_steps.specs.Laws.{GivenFits, GivenFitsEach, GivenFitsValidity, IsBadCodeAt}
@@ -45,6 +45,8 @@ mutual
   turned P Q f handed (scan_plan head segment coding) row fits v = f handed (scan_plan head segment coding) row fits v
   turned P Q f handed (zoned_plan head zones content table) row fits (inl v) = inl (f handed (zoned_plan head zones content table) row fits v)
   turned P Q f handed (zoned_plan head zones content table) row fits (inr v) = inr (turned P Q f handed content row fits v)
+  turned P Q f handed (pruning_plan head pruning table) row fits (inl v) = inl (f handed (pruning_plan head pruning table) row fits v)
+  turned P Q f handed (pruning_plan head pruning table) row fits (inr (other, less, v)) = inr (other, less, turned P Q f handed table other fits v)
 
   turned_in : (P Q : Test) → Turns P Q → (handed : Handed) (ps : Plans) (row : ℕ) → GivenFitsEach handed ps → VisitsIn P handed ps row → VisitsIn Q handed ps row
   turned_in P Q f handed no_plans row fits v = v
@@ -103,6 +105,7 @@ into leaves offset n at handed (list_plan head elements offsets validity) row fi
 into leaves offset n at handed (row_idx_plan head) row fits v = absurd v
 into leaves offset n at handed (scan_plan head segment coding) row fits v = absurd v
 into leaves offset n at handed (zoned_plan head zones content table) row fits v = absurd v
+into leaves offset n at handed (pruning_plan head pruning table) row fits v = absurd v
 
 back : (leaves : Leaves) (offset n at : ℕ) → Turns (ReadsBadCode leaves offset n at) (HasBadCode leaves offset n at)
 back leaves offset n at handed (no_plan head) row fits v = absurd v
@@ -117,6 +120,7 @@ back leaves offset n at handed (list_plan head elements offsets validity) row fi
 back leaves offset n at handed (row_idx_plan head) row fits v = absurd v
 back leaves offset n at handed (scan_plan head segment coding) row fits v = absurd v
 back leaves offset n at handed (zoned_plan head zones content table) row fits v = absurd v
+back leaves offset n at handed (pruning_plan head pruning table) row fits v = absurd v
 
 code_own : (leaves : Leaves) (offset n at : ℕ) → FindsOwn (ReadsBadCode leaves offset n at) (IsBadCodeAt leaves n at) offset
 code_own leaves offset n at handed way (no_plan head) row v = absurd v
@@ -130,6 +134,7 @@ code_own leaves offset n at handed way (list_plan head elements offsets validity
 code_own leaves offset n at handed way (row_idx_plan head) row v = absurd v
 code_own leaves offset n at handed way (scan_plan head segment coding) row v = absurd v
 code_own leaves offset n at handed way (zoned_plan head zones content table) row v = absurd v
+code_own leaves offset n at handed way (pruning_plan head pruning table) row v = absurd v
 
 pub code_found : (leaves : Leaves) (handed : Handed) (offset : ℕ) (p : Plan) (way : Way) (row n at : ℕ) → GivenFits handed p → Visits (HasBadCode leaves offset n at) handed p row → RowReads (IsBadCodeAt leaves n at) way handed (plan_derivation offset p row)
 code_found leaves handed offset p way row n at fits v =

@@ -64,6 +64,10 @@ shape_of_leaf nodes n segment (shapes.Shared child) known has leaf =
     let is = (shape_there nodes n (shapes.Shared child) known has).kind_is in
     let scan = kind_of_leaf nodes n segment known leaf in
     absurd cc
+shape_of_leaf nodes n segment (shapes.Pruned table) known has leaf =
+    let is = (shape_there nodes n (shapes.Pruned table) known has).over.kind_is in
+    let scan = kind_of_leaf nodes n segment known leaf in
+    absurd cc
 shape_of_leaf nodes n segment shapes.Lists known has leaf =
     let is = (shape_there nodes n shapes.Lists known has).over.kind_is in
     let scan = kind_of_leaf nodes n segment known leaf in

@@ -8,7 +8,7 @@ use Rattle.vx_expr.specs.Rows.{no_bound}
 use Rattle.vx_rows.specs.Derivations.{Leaves, derived}
 use Rattle.vx_rows.specs.Given.{GivenValues}
 use Rattle.vx_rows.specs.Reads.{IsPlaceAmong}
-use Rattle.vx_plan.specs.Plans.{Plan, no_plan, concat_plan, eval_plan, filter_plan, pack_plan, take_plan, share_plan, list_plan, row_idx_plan, scan_plan, zoned_plan, Plans, no_plans, plan, PlanValidity, all_valid, valid_as, plan_head}
+use Rattle.vx_plan.specs.Plans.{Plan, no_plan, concat_plan, eval_plan, filter_plan, pack_plan, take_plan, share_plan, list_plan, row_idx_plan, scan_plan, zoned_plan, pruning_plan, Plans, no_plans, plan, PlanValidity, all_valid, valid_as, plan_head}
 use Rattle.vx_plan.specs.PlanRows.{plan_derivation}
 use Rattle.vx_plan.specs.Refs.{number_of}
 use Rattle.vx_steps.specs.declared.errors.StepError.{StepError}
@@ -53,6 +53,8 @@ mutual
   freed P Q handed free none own deep (scan_plan head segment coding) row v = own (scan_plan head segment coding) row v
   freed P Q handed free none own deep (zoned_plan head zones content table) row (inl v) = own (zoned_plan head zones content table) row v
   freed P Q handed free none own deep (zoned_plan head zones content table) row (inr v) = inr (freed P Q handed free none own deep content row v)
+  freed P Q handed free none own deep (pruning_plan head pruning table) row (inl v) = own (pruning_plan head pruning table) row v
+  freed P Q handed free none own deep (pruning_plan head pruning table) row (inr (other, less, v)) = inr (other, less, freed P Q handed free none own deep table other v)
 
   freed_in : (P Q : Test) (handed free : Handed) → HandsNone free → Becomes P Q handed free → Becomes P Q None None → (ps : Plans) (row : ℕ) → VisitsIn P handed ps row → VisitsIn Q free ps row
   freed_in P Q handed free none own deep no_plans row v = v
@@ -83,6 +85,7 @@ leaf_becomes read handed free (list_plan head elements offsets validity) row v =
 leaf_becomes read handed free (row_idx_plan head) row v = absurd v
 leaf_becomes read handed free (scan_plan head segment coding) row v = v
 leaf_becomes read handed free (zoned_plan head zones content table) row v = absurd v
+leaf_becomes read handed free (pruning_plan head pruning table) row v = absurd v
 
 pub list_becomes : (n : ℕ) (handed free : Handed) → Becomes (IsListRead n) (IsListRead n) handed free
 list_becomes n handed free (no_plan head) row v = absurd v
@@ -96,6 +99,7 @@ list_becomes n handed free (list_plan head elements offsets validity) row v = v
 list_becomes n handed free (row_idx_plan head) row v = absurd v
 list_becomes n handed free (scan_plan head segment coding) row v = absurd v
 list_becomes n handed free (zoned_plan head zones content table) row v = absurd v
+list_becomes n handed free (pruning_plan head pruning table) row v = absurd v
 
 pub leaf_free : (handed free : Handed) → HandsNone free → (p : Plan) (row : ℕ) (read : LeafRead) → Visits (IsLeafRead read) handed p row → Visits (IsLeafRead read) free p row
 leaf_free handed free none p row read v = freed (IsLeafRead read) (IsLeafRead read) handed free none (leaf_becomes read handed free) (leaf_becomes read None None) p row v
@@ -141,6 +145,7 @@ code_becomes leaves offset n at handed free same (list_plan head elements offset
 code_becomes leaves offset n at handed free same (row_idx_plan head) row v = absurd v
 code_becomes leaves offset n at handed free same (scan_plan head segment coding) row v = absurd v
 code_becomes leaves offset n at handed free same (zoned_plan head zones content table) row v = absurd v
+code_becomes leaves offset n at handed free same (pruning_plan head pruning table) row v = absurd v
 
 pub fault_becomes : (leaves : Leaves) (offset at : ℕ) (handed free : Handed) → SameValues leaves offset handed free → Becomes (HasEvalFault leaves offset at) (HasEvalFault leaves offset at) handed free
 fault_becomes leaves offset at handed free same (no_plan head) row v = absurd v
@@ -154,6 +159,7 @@ fault_becomes leaves offset at handed free same (list_plan head elements offsets
 fault_becomes leaves offset at handed free same (row_idx_plan head) row v = absurd v
 fault_becomes leaves offset at handed free same (scan_plan head segment coding) row v = absurd v
 fault_becomes leaves offset at handed free same (zoned_plan head zones content table) row v = absurd v
+fault_becomes leaves offset at handed free same (pruning_plan head pruning table) row v = absurd v
 
 pub none_same : (leaves : Leaves) (offset : ℕ) → SameValues leaves offset None None
 none_same leaves offset p row = refl

@@ -10,7 +10,7 @@ use Rattle.vx_plan.specs.declared.nodes.PlanKind.{PlanKind}
 use Rattle.vx_plan.specs.declared.nodes.PlanKind.TheVariants as kinds
 use Rattle.vx_plan.specs.Nodes.{Node, absent}
 use Rattle.vx_rows.specs.Heads.{Head}
-use Rattle.vx_plan.specs.Plans.{Plan, plan_head, head_at, plan_at, plan_in, plan_grown_as, plans_from, front_plans, last_plan, field_plans, last_validity, no_plan, concat_plan, eval_plan, filter_plan, pack_plan, take_plan, share_plan, list_plan, row_idx_plan, scan_plan, zoned_plan, Plans, no_plans, plan, PlanValidity, all_valid, valid_as}
+use Rattle.vx_plan.specs.Plans.{Plan, plan_head, head_at, plan_at, plan_in, plan_grown_as, plans_from, front_plans, last_plan, field_plans, last_validity, no_plan, concat_plan, eval_plan, filter_plan, pack_plan, take_plan, share_plan, list_plan, row_idx_plan, scan_plan, zoned_plan, pruning_plan, Plans, no_plans, plan, PlanValidity, all_valid, valid_as}
 use Rattle.vx_plan.specs.Rules.{node_at}
 use Rattle.vx_plan.specs.Tables.{IsGoodTable}
 use Rattle.vx_plan.proofs.Adding.{head_in_table}
@@ -37,6 +37,7 @@ mutual
   none_fits (row_idx_plan head) = tt
   none_fits (scan_plan head segment coding) = tt
   none_fits (zoned_plan head zones content table) = none_fits content
+  none_fits (pruning_plan head pruning table) = none_fits table
 
   none_fits_each : (ps : Plans) → GivenFitsEach None ps
   none_fits_each no_plans = tt
@@ -91,6 +92,7 @@ grown_fits kinds.RowIdx nodes handed head ns own each = tt
 grown_fits (kinds.SegmentScan segment coding) nodes handed head ns own each = tt
 grown_fits (kinds.Zoned zone_len stats) nodes handed head ns own each = one_fits nodes handed ns 0 each
 grown_fits (kinds.LegacyStats zone_len stats) nodes handed head ns own each = one_fits nodes handed ns 0 each
+grown_fits (kinds.Pruning zone_len stats proof) nodes handed head ns own each = one_fits nodes handed ns 0 each
 
 -- ---- the columns of a table
 

@@ -5,7 +5,7 @@ use Rattle.std.proofs.lemmas.Bool.{cases_lt}
 use Rattle.std.proofs.lemmas.Option.{slice_get_within}
 use Rattle.vx_plan.specs.Kinds.{coding_of}
 use Rattle.vx_plan.specs.Nodes.{Node}
-use Rattle.vx_plan.specs.Plans.{Plan, plan_head, plan_at, plans_from, field_plans, last_validity, filter_plan, pack_plan, row_idx_plan, scan_plan, share_plan, take_plan}
+use Rattle.vx_plan.specs.Plans.{Plan, plan_head, plan_at, plans_from, field_plans, last_validity, filter_plan, pack_plan, pruning_plan, row_idx_plan, scan_plan, share_plan, take_plan}
 use Rattle.vx_plan.specs.Rules.{node_at}
 use Rattle.vx_plan.specs.Tables.{IsGoodTable}
 use Rattle.vx_plan.specs.declared.chunks.Chunk.{Chunk}
@@ -16,7 +16,7 @@ use Rattle.vx_steps.specs.Hindrances.{AreHindered, IsHindrance, IsOne, IsRun}
 use Rattle.vx_steps.specs.Visits.{SomeVisit, Visits}
 use Rattle.vx_steps.proofs.ChunkRows.{chunk_down, chunk_up, IsConcatPlan}
 use Rattle.vx_steps.proofs.Selecting.{only_right}
-use Rattle.vx_steps.proofs.Shaping.{head_of, IsLeafPlan, IsOverPlan, IsPackPlan, IsSharePlan, IsTakePlan, IsZonedPlan}
+use Rattle.vx_steps.proofs.Shaping.{head_of, IsLeafPlan, IsOverPlan, IsPackPlan, IsPruningPlan, IsSharePlan, IsTakePlan, IsZonedPlan}
 use Rattle.vx_steps.proofs.Visiting.{any_packed, child_any, packed_any, AnyVisits}
 
 -- it hinders one of so many rows of this plan
@@ -82,6 +82,26 @@ zoned_rows places nodes n content table start count found over one = child_rows 
 
 pub over_rows : (places : ℕ) (nodes : List Node) (n child start count : ℕ) (found : Option Hindrance) → IsOverPlan nodes n child → IsOne (AreHindered places nodes child start count) found → IsOne (AreHindered places nodes n start count) found
 over_rows places nodes n child start count found over one = child_rows places nodes n child start count _ found over.plan.law (λ x row. (λ v. inr v, λ v. only_right v)) one
+
+-- ---- zones
+
+pub pruned_rows : (places : ℕ) (nodes : List Node) (n table start count rows : ℕ) (found : Option Hindrance) → IsPruningPlan nodes n table → 0 < count → rows ≡ (node_at nodes table).rows → IsOne (AreHindered places nodes table 0 rows) found → IsOne (AreHindered places nodes n start count) found
+pruned_rows places nodes n table start count rows found over some same one =
+    one_as (AreHindered places nodes table 0 rows) (AreHindered places nodes n start count) up (λ x r. down x (subst (Hindered places x start count) over.law r)) found one
+  where
+    up : (x : Hindrance) → AreHindered places nodes table 0 rows x → AreHindered places nodes n start count x
+    up x r =
+        let small : r.0 < rows = r.1 in
+        let inside : 0 + r.0 < (node_at nodes table).rows = omega arith in
+        let less : 0 + r.0 < (plan_head (plan_at nodes table)).rows = rw over.table_head inside in
+        subst (Hindered places x start count) (sym over.law) (0, some, inr (0 + r.0, less, r.2))
+
+    down : (x : Hindrance) → Hindered places x start count (pruning_plan (head_of nodes n) over.pruning (plan_at nodes table)) → AreHindered places nodes table 0 rows x
+    down x (place, less, inl none) = absurd none
+    down x (place, less, inr w) =
+        let inside : w.0 < (node_at nodes table).rows = rw over.table_head at w.1 in
+        let here : w.0 ≡ 0 + w.0 = omega arith in
+        (w.0, omega arith, subst (Visits (IsHindrance places x) None (plan_at nodes table)) here w.2)
 
 -- ---- whole values
 

@@ -8,7 +8,7 @@ use Rattle.vx_plan.specs.declared.nodes.PlanKind.{PlanKind}
 use Rattle.vx_plan.specs.declared.nodes.PlanKind.TheVariants as kinds
 use Rattle.vx_plan.specs.declared.shapes.Shape.TheVariants as shapes
 use Rattle.vx_plan.specs.Nodes.{Node, absent}
-use Rattle.vx_plan.specs.Plans.{Plan, no_plan, concat_plan, eval_plan, filter_plan, pack_plan, take_plan, share_plan, list_plan, row_idx_plan, scan_plan, zoned_plan, plan_head, plan_at, plan_gap, plan_grown_as, head_at}
+use Rattle.vx_plan.specs.Plans.{Plan, no_plan, concat_plan, eval_plan, filter_plan, pack_plan, take_plan, share_plan, list_plan, row_idx_plan, scan_plan, zoned_plan, pruning_plan, plan_head, plan_at, plan_gap, plan_grown_as, head_at}
 use Rattle.vx_plan.specs.Rules.{node_at}
 use Rattle.vx_plan.specs.Shapes.{HasShape}
 use Rattle.vx_plan.specs.Tables.{IsGoodTable}
@@ -51,6 +51,7 @@ tells_read read handed (list_plan head elements offsets validity) row v = v
 tells_read read handed (row_idx_plan head) row v = v
 tells_read read handed (scan_plan head segment coding) row v = v
 tells_read read handed (zoned_plan head zones content table) row v = v
+tells_read read handed (pruning_plan head pruning table) row v = v
 
 tells_leaf : (leaf : ℕ) → Tells (IsLeafOf leaf) (IsScan leaf)
 tells_leaf leaf handed (no_plan head) row v = v
@@ -64,6 +65,7 @@ tells_leaf leaf handed (list_plan head elements offsets validity) row v = v
 tells_leaf leaf handed (row_idx_plan head) row v = v
 tells_leaf leaf handed (scan_plan head segment coding) row v = v
 tells_leaf leaf handed (zoned_plan head zones content table) row v = v
+tells_leaf leaf handed (pruning_plan head pruning table) row v = v
 
 scan_of : (read : LeafRead) (p : Plan) → IsScanOf read p → IsScan read.leaf p
 scan_of read (no_plan head) is = is
@@ -77,6 +79,7 @@ scan_of read (list_plan head elements offsets validity) is = is
 scan_of read (row_idx_plan head) is = is
 scan_of read (scan_plan head segment coding) is = is.0
 scan_of read (zoned_plan head zones content table) is = is
+scan_of read (pruning_plan head pruning table) is = is
 
 scan_number : (leaf : ℕ) (p : Plan) → IsScan leaf p → (plan_head p).number ≡ leaf
 scan_number leaf (no_plan head) is = absurd is
@@ -90,6 +93,7 @@ scan_number leaf (list_plan head elements offsets validity) is = absurd is
 scan_number leaf (row_idx_plan head) is = absurd is
 scan_number leaf (scan_plan head segment coding) is = is
 scan_number leaf (zoned_plan head zones content table) is = absurd is
+scan_number leaf (pruning_plan head pruning table) is = absurd is
 
 -- a plan of a table that is so and has that number is the plan of the number
 of_number : (F : Plan → Type 0) (leaf : ℕ) → (F (plan_gap 0) → ⊥) → ((p : Plan) → F p → IsScan leaf p) → (nodes : List Node) → IsGoodTable nodes → IsOfTable F nodes → (leaf < length nodes) × F (plan_at nodes leaf)
@@ -122,6 +126,7 @@ one_scan one other (list_plan head elements offsets validity) is also = absurd i
 one_scan one other (row_idx_plan head) is also = absurd is
 one_scan one other (scan_plan head segment coding) is also = sym is.1 ∙ also.1
 one_scan one other (zoned_plan head zones content table) is also = absurd is
+one_scan one other (pruning_plan head pruning table) is also = absurd is
 
 pub one_segment : (nodes : List Node) → IsGoodTable nodes → (n : ℕ) → n < length nodes → (one other : LeafRead) (row at : ℕ) → Visits (IsLeafRead one) None (plan_at nodes n) row → Visits (IsLeafRead other) None (plan_at nodes n) at → one.leaf ≡ other.leaf → one.segment ≡ other.segment
 one_segment nodes good n there one other row at v w same =
@@ -143,6 +148,7 @@ scan_kind leaf kinds.RowIdx head ps is = absurd is
 scan_kind leaf (kinds.SegmentScan segment coding) head ps is = (segment, coding, refl)
 scan_kind leaf (kinds.Zoned zone_len stats) head ps is = absurd is
 scan_kind leaf (kinds.LegacyStats zone_len stats) head ps is = absurd is
+scan_kind leaf (kinds.Pruning zone_len stats proof) head ps is = absurd is
 
 scan_shape : (nodes : List Node) → IsGoodTable nodes → (leaf : ℕ) → leaf < length nodes → IsScan leaf (plan_at nodes leaf) → (segment : ℕ) × HasShape nodes leaf (shapes.Leaf segment)
 scan_shape nodes good leaf below is =
@@ -175,6 +181,7 @@ read_kind read kinds.RowIdx head ps is = absurd is
 read_kind read (kinds.SegmentScan segment coding) head ps is = (coding, ap (λ (s : ℕ). kinds.SegmentScan s coding) is.1)
 read_kind read (kinds.Zoned zone_len stats) head ps is = absurd is
 read_kind read (kinds.LegacyStats zone_len stats) head ps is = absurd is
+read_kind read (kinds.Pruning zone_len stats proof) head ps is = absurd is
 
 -- a leaf that a row reads is one over the segment that it is read for
 pub read_shape : (nodes : List Node) → IsGoodTable nodes → (n : ℕ) → n < length nodes → (read : LeafRead) (handed : Handed) (row : ℕ) → Visits (IsLeafRead read) handed (plan_at nodes n) row → HasShape nodes read.leaf (shapes.Leaf read.segment)

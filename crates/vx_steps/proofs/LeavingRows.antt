@@ -97,6 +97,17 @@ whole_met nodes count whole child rows old new same meets =
         let here : row ≡ 0 + row = omega arith in
         (row, omega (arith, less, same), subst (λ (k : ℕ). RowReads nodes child k leaf) here v)
 
+-- all rows of zones
+pub zones_met : (nodes : List Node) (count child rows : ℕ) (old new : Sieve) → rows ≡ (node_at nodes child).rows → Meets (RowsRead nodes child 0 rows) old new → Meets (PartReads nodes count (parts.All child)) old new
+zones_met nodes count child rows old new same meets =
+    meets_as (RowsRead nodes child 0 rows) (PartReads nodes count (parts.All child)) old new up down meets
+  where
+    up : (leaf : ℕ) → RowsRead nodes child 0 rows leaf → PartReads nodes count (parts.All child) leaf
+    up leaf (row, less, v) = (row, all_true (node_at nodes child).rows row (omega (arith, less, same)), v)
+
+    down : (leaf : ℕ) → PartReads nodes count (parts.All child) leaf → RowsRead nodes child 0 rows leaf
+    down leaf (row, at, v) = (row, let less : row < (node_at nodes child).rows = past_true (node_at nodes child).rows row at in omega (arith, less, same), v)
+
 -- the next part was met, and those behind it are left
 pub next_met : (nodes : List Node) (count : ℕ) (left behind : List Part) (part made : Part) → left ≡ part ∷ behind → part ≡ made → (Goal : Sieve → Type 0) (old mid : Sieve) →
     ((new : Sieve) → Meets (PartsRead nodes count left) old new → Goal new) → Meets (PartReads nodes count made) old mid → (new : Sieve) → Meets (PartsRead nodes count behind) mid new → Goal new

@@ -2,6 +2,7 @@ pub mod AddedNeeds
 pub mod Advancing
 pub mod Agreeing
 pub mod AllReads
+pub mod AllRows
 pub mod Apart
 pub mod Arriving
 pub mod AskedKnown
@@ -56,10 +57,12 @@ pub mod PassedNeeds
 pub mod Passing
 pub mod PieceRows
 pub mod PlacedAsking
+pub mod PlacedLeaves
 pub mod PlacedVisits
 pub mod Placing
 pub mod Premises
 pub mod Prepared
+pub mod PrunedRows
 pub mod ReadVisits
 pub mod Readying
 pub mod Releasing
@@ -74,6 +77,7 @@ pub mod Shaping
 pub mod Slots
 pub mod SplitTakes
 pub mod SplitVisits
+pub mod Spots
 pub mod Standing
 pub mod StandingVisits
 pub mod StartedNeeds

@@ -1,5 +1,5 @@
 -- Rows ask for the whole values of each outermost take that they read.
-use Rattle.std.proofs.Common.{◌≡◌, ℕ, ◌+◌, ◌-◌, ◌<◌, ◌⊎◌, inl, inr, ⊎_elim, Bool, List, [], ◌∷◌, Option, Some, None, length, map, refl, sym, ap, ◌∙◌, subst, arith}
+use Rattle.std.proofs.Common.{◌≡◌, ℕ, zero, suc, ◌+◌, ◌-◌, ◌<◌, ◌⊎◌, inl, inr, ⊎_elim, Bool, List, [], ◌∷◌, Option, Some, None, length, map, refl, sym, ap, ◌∙◌, subst, arith}
 use Rattle.std.specs.Prelude.{nat_lt}
 use Rattle.std.specs.List.{slice_get, All, AllByRecursion}
 use Rattle.std.proofs.lemmas.List.Elements.{All-head, All-tail}
@@ -13,7 +13,7 @@ use Rattle.vx_picking.specs.Rows.{SomeRow}
 use Rattle.vx_plan.specs.declared.nodes.PlanKind.{PlanKind}
 use Rattle.vx_plan.specs.declared.nodes.PlanKind.TheVariants as kinds
 use Rattle.vx_plan.specs.Nodes.{Node, absent}
-use Rattle.vx_plan.specs.Plans.{Plan, no_plan, concat_plan, eval_plan, filter_plan, pack_plan, take_plan, share_plan, list_plan, row_idx_plan, scan_plan, zoned_plan, Plans, no_plans, plan, PlanValidity, all_valid, valid_as, plan_head, head_at, plan_at, plan_gap, plan_in, plan_grown_as}
+use Rattle.vx_plan.specs.Plans.{Plan, no_plan, concat_plan, eval_plan, filter_plan, pack_plan, take_plan, share_plan, list_plan, row_idx_plan, scan_plan, zoned_plan, pruning_plan, Plans, no_plans, plan, PlanValidity, all_valid, valid_as, plan_head, head_at, plan_at, plan_gap, plan_in, plan_grown_as}
 use Rattle.vx_plan.specs.PlanRows.{plan_derivation, plan_derivation_in, plan_derivations, plan_where_valid}
 use Rattle.vx_plan.specs.Rules.{node_at, nodes_at, IsMadeAs}
 use Rattle.vx_plan.specs.Tables.{IsGoodTable}
@@ -74,6 +74,28 @@ either_valid : (take offset : ℕ) (validity : PlanValidity) (row : ℕ) (d : De
 either_valid take offset all_valid row d any = inl any
 either_valid take offset (valid_as validity) row d any = any_either (IsDirect take) (reads_of directly d) (reads_of directly (plan_derivation offset validity row)) any
 
+-- one of so many rows that reads the take
+abbrev RowReads : ℕ → (ℕ → Derivation) → ℕ → Type 0
+RowReads take d end = (row : ℕ) × (row < end) × Reads take (d row)
+
+row_first : (take : ℕ) (d : ℕ → Derivation) (from count : ℕ) → Reads take (d from) → RowReads take d (from + suc count)
+row_first take d from count here =
+    let less : from < from + suc count = omega arith in
+    (from, less, here)
+
+row_behind : (take : ℕ) (d : ℕ → Derivation) (from count : ℕ) → RowReads take d (from + 1 + count) → RowReads take d (from + suc count)
+row_behind take d from count (row, less, reads) =
+    let more : row < from + suc count = omega (arith, less) in
+    (row, more, reads)
+
+row_direct : (take : ℕ) (d : ℕ → Derivation) (from count : ℕ) → AnyOf (IsDirect take) (reads_of_each directly (each_row d from count)) → RowReads take d (from + count)
+row_direct take d from zero any = absurd any
+row_direct take d from (suc count) any =
+    ⊎_elim
+    (λ (here : Reads take (d from)). row_first take d from count here)
+    (λ (later : AnyOf (IsDirect take) (reads_of_each directly (each_row d (from + 1) count))). row_behind take d from count (row_direct take d (from + 1) count later))
+    (any_either (IsDirect take) (reads_of directly (d from)) (reads_of_each directly (each_row d (from + 1) count)) any)
+
 mutual
   asked : (take offset : ℕ) (given : GivenValues) (p : Plan) (row : ℕ) → Reads take (plan_derivation offset p row) → (x : Option ℕ) × Visits (TakeOrShare take x) (Some given) p row
   asked take offset given (no_plan head) row any = absurd any
@@ -113,6 +135,11 @@ mutual
   asked take offset given (zoned_plan head zones content table) row any =
       let v = asked take offset given content row any in
       (v.0, inr v.1)
+  asked take offset given (pruning_plan head pruning table) row any =
+      let one : RowReads take (plan_derivation offset table) (0 + (plan_head table).rows) = row_direct take (plan_derivation offset table) 0 (plan_head table).rows any in
+      let less : one.0 < (plan_head table).rows = omega (arith, one.1) in
+      let v : (x : Option ℕ) × Visits (TakeOrShare take x) (Some given) table one.0 = asked take offset given table one.0 one.2 in
+      (v.0, inr (one.0, less, v.1))
 
   asked_in : (take offset : ℕ) (given : GivenValues) (ps : Plans) (row : ℕ) → Reads take (plan_derivation_in offset ps row) → (x : Option ℕ) × VisitsIn (TakeOrShare take x) (Some given) ps row
   asked_in take offset given no_plans row any = absurd any
@@ -162,6 +189,7 @@ take_kind kinds.RowIdx nodes good (Some given) head node ns take values row made
 take_kind (kinds.SegmentScan segment coding) nodes good (Some given) head node ns take values row made these v = absurd v
 take_kind (kinds.Zoned zone_len stats) nodes good (Some given) head node ns take values row made these v = absurd v
 take_kind (kinds.LegacyStats zone_len stats) nodes good (Some given) head node ns take values row made these v = absurd v
+take_kind (kinds.Pruning zone_len stats proof) nodes good (Some given) head node ns take values row made these v = absurd v
 
 -- the node of a take
 pub record IsTakeNode (nodes : List Node) (take values : ℕ) : Type 0 where
@@ -195,6 +223,7 @@ take_whole take values (Some given) (list_plan head elements offsets validity) r
 take_whole take values (Some given) (row_idx_plan head) row v = absurd v
 take_whole take values (Some given) (scan_plan head segment coding) row v = absurd v
 take_whole take values (Some given) (zoned_plan head zones content table) row v = absurd v
+take_whole take values (Some given) (pruning_plan head pruning table) row v = absurd v
 
 abbrev AskedValues : List Node → ℕ → GivenValues → Plan → ℕ → Type 0
 AskedValues nodes take given p row = (values : ℕ) × IsValuesOf nodes take values × Visits (IsWholeRead values) (Some given) p row

@@ -12,12 +12,13 @@ use Rattle.vx_plan.specs.declared.shapes.Shape.{Shape}
 use Rattle.vx_plan.specs.declared.shapes.Shape.TheVariants as shapes
 use Rattle.vx_plan.specs.Nodes.{Node}
 use Rattle.vx_plan.specs.Parts.{chunk_parts, first_place, parts_of, same_rows, some_rows}
-use Rattle.vx_plan.specs.Plans.{Plan, Plans, plan, plan_head, plan_at, plans_from, field_plans, last_validity, concat_plan, filter_plan, pack_plan, share_plan, take_plan}
+use Rattle.vx_plan.specs.Plans.{Plan, Plans, plan, plan_head, plan_at, plans_from, field_plans, last_validity, concat_plan, filter_plan, pack_plan, pruning_plan, share_plan, take_plan}
+use Rattle.vx_plan.specs.Reaches.{all_rows}
 use Rattle.vx_plan.specs.Rules.{node_at}
 use Rattle.vx_plan.specs.Shapes.{HasShape}
 use Rattle.vx_plan.specs.Tables.{AreIn, IsGoodTable}
 use Rattle.vx_plan.proofs.Collecting.{head_rows, shape_there}
-use Rattle.vx_plan.proofs.Parting.{chunks_left, fields_left, leaf_left, lists_left, look_up_left, numbers_left, over_left, same_left, shared_left, zoned_left}
+use Rattle.vx_plan.proofs.Parting.{chunks_left, fields_left, leaf_left, lists_left, look_up_left, numbers_left, over_left, pruned_left, same_left, shared_left, zoned_left}
 use Rattle.vx_steps.specs.declared.leaf_reads.LeafRead.{LeafRead}
 use Rattle.vx_steps.specs.Given.{Handed, handed_by}
 use Rattle.vx_steps.specs.KeptData.{Kept}
@@ -27,8 +28,8 @@ use Rattle.vx_steps.specs.Visits.{Test, Visits, VisitsIn, SomeVisit, IsLeafRead}
 use Rattle.vx_steps.proofs.ChunkRows.{concat_plan_at}
 use Rattle.vx_steps.proofs.Indexing.{take_all}
 use Rattle.vx_steps.proofs.Selecting.{adds_as, adds_none, adds_then, got_range, none_given, range_got}
-use Rattle.vx_steps.proofs.Shaping.{head_of, over_plan, share_plan_at, take_plan_at, zoned_law, same_law}
-use Rattle.vx_steps.proofs.Visiting.{any_packed, up_codes, up_over, up_same, up_shared, up_values, up_zoned, packed_any, AnyVisits, NoGap, RowVisits}
+use Rattle.vx_steps.proofs.Shaping.{head_of, over_plan, pruning_plan_at, share_plan_at, take_plan_at, zoned_law, same_law}
+use Rattle.vx_steps.proofs.Visiting.{any_packed, some_of_all, up_codes, up_over, up_same, up_shared, up_values, up_zoned, up_zones, packed_any, AnyVisits, NoGap, RowVisits}
 
 -- ---- lists of parts
 
@@ -183,6 +184,9 @@ parts_up nodes good given n known (shapes.Shared child) has start bits some P v 
     let over = share_plan_at nodes good n child known has in
     ⊎_elim (λ (w : IsUnderWhole nodes given n P child). up_shared nodes given n child start bits over some w.0 P w.1) (λ (none : ⊥). absurd none)
     (subst (PartsVisit P nodes given bits) (shared_left nodes n child known has start (length bits) first_place) v)
+parts_up nodes good given n known (shapes.Pruned table) has start bits some P v =
+    ⊎_elim (λ (r : Rows P nodes given table 0 (all_rows (node_at nodes table).rows)). up_zones nodes (handed_by nodes given) n table start bits (pruning_plan_at nodes good n table known has) some P r) (λ (none : ⊥). absurd none)
+    (subst (PartsVisit P nodes given bits) (pruned_left nodes n table known has start (length bits) first_place) v)
 parts_up nodes good given n known shapes.Lists has start bits some P v = absurd (subst (PartsVisit P nodes given bits) (lists_left nodes n known has start (length bits) first_place) v)
 parts_up nodes good given n known shapes.RowNumbers has start bits some P v = absurd (subst (PartsVisit P nodes given bits) (numbers_left nodes n known has start (length bits) first_place) v)
 
@@ -250,6 +254,16 @@ parts_down nodes good given n known (shapes.Shared child) has start bits P gap v
         let o = share_plan_at nodes good n child known has in
         let lt : other < (node_at nodes child).rows = rw o.child_head at less in
         inr (inl (none_given nodes given n n o.given none, (other, lt, w)))
+parts_down nodes good given n known (shapes.Pruned table) has start bits P gap v =
+    let over = pruning_plan_at nodes good n table known has in
+    subst (Downs nodes given n start bits P) (sym (pruned_left nodes n table known has start (length bits) first_place)) (by (subst (RowVisits P (handed_by nodes given) start bits) over.law v))
+  where
+    by : RowVisits P (handed_by nodes given) start bits (pruning_plan (head_of nodes n) (pruning_plan_at nodes good n table known has).pruning (plan_at nodes table)) → Downs nodes given n start bits P (parts.All table ∷ [])
+    by (place, at, inl own) = inl (own_row nodes given n start bits P (pruning_plan (head_of nodes n) (pruning_plan_at nodes good n table known has).pruning (plan_at nodes table)) (pruning_plan_at nodes good n table known has).law place at own)
+    by (place, at, inr (other, less, w)) =
+        let o = pruning_plan_at nodes good n table known has in
+        let lt : other < (node_at nodes table).rows = rw o.table_head at less in
+        inr (inl (some_of_all P (handed_by nodes given) (plan_at nodes table) (node_at nodes table).rows other lt w))
 parts_down nodes good given n known shapes.Lists has start bits P gap v =
     own_down nodes given n start bits P _ (shape_there nodes n shapes.Lists known has).over.law (λ row own. own) _ v
 parts_down nodes good given n known shapes.RowNumbers has start bits P gap v = own_down nodes given n start bits P _ (shape_there nodes n shapes.RowNumbers known has).law (λ row own. own) _ v
@@ -282,6 +296,7 @@ leaf_alone nodes n known shapes.Chunks has not read handed row own = by_law read
 leaf_alone nodes n known (shapes.Fields has_validity) has not read handed row own = by_law read handed row (plan_at nodes n) _ (shape_there nodes n (shapes.Fields has_validity) known has).law (λ h. h) own
 leaf_alone nodes n known (shapes.LookUp codes values) has not read handed row own = by_law read handed row (plan_at nodes n) _ (shape_there nodes n (shapes.LookUp codes values) known has).law (λ h. h) own
 leaf_alone nodes n known (shapes.Shared child) has not read handed row own = by_law read handed row (plan_at nodes n) _ (shape_there nodes n (shapes.Shared child) known has).law (λ h. h) own
+leaf_alone nodes n known (shapes.Pruned table) has not read handed row own = by_law read handed row (plan_at nodes n) _ (shape_there nodes n (shapes.Pruned table) known has).over.law (λ h. h) own
 leaf_alone nodes n known shapes.Lists has not read handed row own = by_law read handed row (plan_at nodes n) _ (shape_there nodes n shapes.Lists known has).over.law (λ h. h) own
 leaf_alone nodes n known shapes.RowNumbers has not read handed row own = by_law read handed row (plan_at nodes n) _ (shape_there nodes n shapes.RowNumbers known has).law (λ h. h) own
 

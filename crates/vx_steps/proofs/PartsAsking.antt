@@ -8,12 +8,13 @@ use Rattle.vx_plan.specs.declared.shapes.Shape.{Shape}
 use Rattle.vx_plan.specs.declared.shapes.Shape.TheVariants as shapes
 use Rattle.vx_plan.specs.Nodes.{Node}
 use Rattle.vx_plan.specs.Parts.{chunk_parts, first_place, parts_of, same_rows, some_rows}
-use Rattle.vx_plan.specs.Plans.{Plan, Plans, PlanValidity, no_plans, plan, all_valid, valid_as, no_plan, plan_head, plan_at, concat_plan, eval_plan, filter_plan, pack_plan, take_plan, share_plan, list_plan, row_idx_plan, scan_plan, zoned_plan}
+use Rattle.vx_plan.specs.Plans.{Plan, Plans, PlanValidity, no_plans, plan, all_valid, valid_as, no_plan, plan_head, plan_at, concat_plan, eval_plan, filter_plan, pack_plan, take_plan, share_plan, list_plan, row_idx_plan, scan_plan, zoned_plan, pruning_plan}
+use Rattle.vx_plan.specs.Reaches.{all_rows}
 use Rattle.vx_plan.specs.Rules.{node_at}
 use Rattle.vx_plan.specs.Shapes.{HasShape}
 use Rattle.vx_plan.specs.Tables.{IsGoodTable}
 use Rattle.vx_plan.proofs.Collecting.{shape_there}
-use Rattle.vx_plan.proofs.Parting.{chunks_left, fields_left, leaf_left, lists_left, look_up_left, numbers_left, over_left, same_left, shared_left, zoned_left}
+use Rattle.vx_plan.proofs.Parting.{chunks_left, fields_left, leaf_left, lists_left, look_up_left, numbers_left, over_left, pruned_left, same_left, shared_left, zoned_left}
 use Rattle.vx_steps.specs.Given.{handed_by}
 use Rattle.vx_steps.specs.KeptData.{Kept}
 use Rattle.vx_steps.specs.PartVisits.{PartVisits, PartsVisit}
@@ -48,6 +49,8 @@ mutual
   none_inside m (scan_plan head segment coding) row v = v
   none_inside m (zoned_plan head zones content table) row (inl v) = v
   none_inside m (zoned_plan head zones content table) row (inr v) = none_inside m content row v
+  none_inside m (pruning_plan head pruning table) row (inl v) = v
+  none_inside m (pruning_plan head pruning table) row (inr (other, less, v)) = none_inside m table other v
 
   none_inside_in : (m : ℕ) (ps : Plans) (row : ℕ) → VisitsIn (IsWholeRead m) None ps row → ⊥
   none_inside_in m no_plans row v = v
@@ -68,6 +71,7 @@ mutual
 -- a part asks for these whole values: it is whole, or its rows do
 abbrev pub PartAsks : List Node → List Kept → List Bool → Part → ℕ → Type 0
 PartAsks nodes given bits (parts.Rows rows) m = Asks nodes given rows.child rows.start (slice_range bits rows.from rows.to) m
+PartAsks nodes given bits (parts.All child) m = Asks nodes given child 0 (all_rows (node_at nodes child).rows) m
 PartAsks nodes given bits (parts.Whole number child) m = number ≡ m
 
 abbrev pub PartsAsk : List Node → List Kept → List Bool → List Part → ℕ → Type 0
@@ -79,12 +83,15 @@ PartsAsk nodes given bits (part ∷ ps) m = PartAsks nodes given bits part m ⊎
 abbrev IsWholeAmong : ℕ → List Part → Type 0
 IsWholeAmong m [] = ⊥
 IsWholeAmong m (parts.Rows rows ∷ ps) = IsWholeAmong m ps
+IsWholeAmong m (parts.All child ∷ ps) = IsWholeAmong m ps
 IsWholeAmong m (parts.Whole number child ∷ ps) = (number ≡ m) ⊎ IsWholeAmong m ps
 
 whole_or_visit : (nodes : List Node) (given : List Kept) (bits : List Bool) (ps : List Part) (m : ℕ) → PartsAsk nodes given bits ps m → IsWholeAmong m ps ⊎ PartsVisit (IsWholeRead m) nodes (Some given) bits ps
 whole_or_visit nodes given bits [] m none = absurd none
 whole_or_visit nodes given bits (parts.Rows rows ∷ ps) m (inl v) = inr (inl v)
 whole_or_visit nodes given bits (parts.Rows rows ∷ ps) m (inr a) = ⊎_elim (λ (w : IsWholeAmong m ps). inl w) (λ (v : PartsVisit (IsWholeRead m) nodes (Some given) bits ps). inr (inr v)) (whole_or_visit nodes given bits ps m a)
+whole_or_visit nodes given bits (parts.All child ∷ ps) m (inl v) = inr (inl v)
+whole_or_visit nodes given bits (parts.All child ∷ ps) m (inr a) = ⊎_elim (λ (w : IsWholeAmong m ps). inl w) (λ (v : PartsVisit (IsWholeRead m) nodes (Some given) bits ps). inr (inr v)) (whole_or_visit nodes given bits ps m a)
 whole_or_visit nodes given bits (parts.Whole number child ∷ ps) m (inl same) = inl (inl same)
 whole_or_visit nodes given bits (parts.Whole number child ∷ ps) m (inr a) = ⊎_elim (λ (w : IsWholeAmong m ps). inl (inr w)) (λ (v : PartsVisit (IsWholeRead m) nodes (Some given) bits ps). inr (inr v)) (whole_or_visit nodes given bits ps m a)
 
@@ -94,6 +101,9 @@ either_asks nodes given bits [] m (inr none) = none
 either_asks nodes given bits (parts.Rows rows ∷ ps) m (inl w) = inr (either_asks nodes given bits ps m (inl w))
 either_asks nodes given bits (parts.Rows rows ∷ ps) m (inr (inl v)) = inl v
 either_asks nodes given bits (parts.Rows rows ∷ ps) m (inr (inr v)) = inr (either_asks nodes given bits ps m (inr v))
+either_asks nodes given bits (parts.All child ∷ ps) m (inl w) = inr (either_asks nodes given bits ps m (inl w))
+either_asks nodes given bits (parts.All child ∷ ps) m (inr (inl v)) = inl v
+either_asks nodes given bits (parts.All child ∷ ps) m (inr (inr v)) = inr (either_asks nodes given bits ps m (inr v))
 either_asks nodes given bits (parts.Whole number child ∷ ps) m (inl (inl same)) = inl same
 either_asks nodes given bits (parts.Whole number child ∷ ps) m (inl (inr w)) = inr (either_asks nodes given bits ps m (inl w))
 either_asks nodes given bits (parts.Whole number child ∷ ps) m (inr (inl (none, (row, less, v)))) = absurd (none_inside m (plan_at nodes child) row v)
@@ -116,11 +126,13 @@ no_chunks m nodes (n ∷ ns) skip from count w =
 abbrev AreWholes : List Node → List Part → Type 0
 AreWholes nodes [] = Unit {0}
 AreWholes nodes (parts.Rows rows ∷ ps) = AreWholes nodes ps
+AreWholes nodes (parts.All child ∷ ps) = AreWholes nodes ps
 AreWholes nodes (parts.Whole number child ∷ ps) = IsWholeOf nodes number child × AreWholes nodes ps
 
 no_wholes : (nodes : List Node) (ps : List Part) → ((m : ℕ) → IsWholeAmong m ps → ⊥) → AreWholes nodes ps
 no_wholes nodes [] none = tt
 no_wholes nodes (parts.Rows rows ∷ ps) none = no_wholes nodes ps none
+no_wholes nodes (parts.All child ∷ ps) none = no_wholes nodes ps none
 no_wholes nodes (parts.Whole number child ∷ ps) none = absurd (none number (inl refl))
 
 -- ---- each shape
@@ -181,6 +193,8 @@ owned nodes good given n known (shapes.Fields has_validity) has start bits some 
     subst (Owns nodes given n start bits) (sym (fields_left nodes n has_validity known has start (length bits) first_place)) (no_own nodes given n start bits _ (map (same_rows start (length bits)) (node_at nodes n).children) (shape_there nodes n (shapes.Fields has_validity) known has).law (λ m row none. none) (λ m. no_fields m start (length bits) (node_at nodes n).children))
 owned nodes good given n known (shapes.LookUp codes values) has start bits some = subst (Owns nodes given n start bits) (sym (look_up_left nodes n codes values known has start (length bits) first_place)) (owns_values nodes given n codes values start bits some (take_plan_at nodes good n codes values known has))
 owned nodes good given n known (shapes.Shared child) has start bits some = subst (Owns nodes given n start bits) (sym (shared_left nodes n child known has start (length bits) first_place)) (owns_shared nodes given n child start bits some (share_plan_at nodes good n child known has) has)
+owned nodes good given n known (shapes.Pruned table) has start bits some =
+    subst (Owns nodes given n start bits) (sym (pruned_left nodes n table known has start (length bits) first_place)) (no_own nodes given n start bits _ (parts.All table ∷ []) (shape_there nodes n (shapes.Pruned table) known has).over.law (λ m row none. none) (λ m none. none))
 owned nodes good given n known shapes.Lists has start bits some =
     subst (Owns nodes given n start bits) (sym (lists_left nodes n known has start (length bits) first_place)) (no_own nodes given n start bits _ [] (shape_there nodes n shapes.Lists known has).over.law (λ m row none. none) (λ m none. none))
 owned nodes good given n known shapes.RowNumbers has start bits some =
@@ -222,6 +236,7 @@ part_asked nodes good given n known shape has start bits some part (front, behin
 wholes_behind : (nodes : List Node) (front ps : List Part) → AreWholes nodes (front ++ ps) → AreWholes nodes ps
 wholes_behind nodes [] ps are = are
 wholes_behind nodes (parts.Rows rows ∷ front) ps are = wholes_behind nodes front ps are
+wholes_behind nodes (parts.All child ∷ front) ps are = wholes_behind nodes front ps are
 wholes_behind nodes (parts.Whole number child ∷ front) ps are = wholes_behind nodes front ps are.1
 
 pub whole_part : (nodes : List Node) → IsGoodTable nodes → (n : ℕ) → n < length nodes → (shape : Shape) → HasShape nodes n shape → (start : ℕ) (bits : List Bool) → SelectsSome bits → (number child : ℕ) → IsPartAmong (parts.Whole number child) (parts_of nodes n start (length bits)) → IsWholeOf nodes number child

@@ -11,7 +11,7 @@ use Rattle.vx_base.specs.Data.{Datum}
 use Rattle.vx_picking.specs.Rows.{rows_of, AreOf, SelectsSome}
 use Rattle.vx_picking.proofs.SelectedRows.{rows_append, rows_none}
 use Rattle.vx_plan.specs.Nodes.{Node}
-use Rattle.vx_plan.specs.Plans.{Plan, Plans, PlanValidity, no_plans, plan, all_valid, valid_as, no_plan, plan_head, plan_at, concat_plan, eval_plan, filter_plan, pack_plan, take_plan, share_plan, list_plan, row_idx_plan, scan_plan, zoned_plan}
+use Rattle.vx_plan.specs.Plans.{Plan, Plans, PlanValidity, no_plans, plan, all_valid, valid_as, no_plan, plan_head, plan_at, concat_plan, eval_plan, filter_plan, pack_plan, take_plan, share_plan, list_plan, row_idx_plan, scan_plan, zoned_plan, pruning_plan}
 use Rattle.vx_plan.specs.Refs.{number_of}
 use Rattle.vx_rows.specs.Derivations.{Leaves}
 use Rattle.vx_rows.specs.Given.{GivenValues}
@@ -107,6 +107,8 @@ mutual
   visits_apart P given (scan_plan head segment coding) row v = inl v
   visits_apart P given (zoned_plan head zones content table) row (inl v) = inl (inl v)
   visits_apart P given (zoned_plan head zones content table) row (inr v) = or_left (λ a. inr a) (λ b. inr b) (visits_apart P given content row v)
+  visits_apart P given (pruning_plan head pruning table) row (inl v) = inl (inl v)
+  visits_apart P given (pruning_plan head pruning table) row (inr (other, less, v)) = or_left (λ a. inr (other, less, a)) (λ b. inr (other, less, b)) (visits_apart P given table other v)
 
   apart_in : (P : Test) (given : GivenValues) (ps : Plans) (row : ℕ) → VisitsIn P (Some given) ps row → VisitsIn (Direct P) (Some given) ps row ⊎ VisitsIn (Inside P) (Some given) ps row
   apart_in P given no_plans row v = absurd v

@@ -11,6 +11,7 @@ use Rattle.vx_plan.specs.Kinds.{coding_of}
 use Rattle.vx_plan.specs.Nodes.{Node}
 use Rattle.vx_plan.specs.Parts.{parts_of}
 use Rattle.vx_plan.specs.Plans.{filter_plan, plan_at, scan_plan}
+use Rattle.vx_plan.specs.Reaches.{all_rows}
 use Rattle.vx_plan.specs.Rules.{node_at}
 use Rattle.vx_plan.specs.Shapes.{HasShape}
 use Rattle.vx_plan.specs.Tables.{IsGoodTable}
@@ -34,6 +35,14 @@ pub rows_ask_none : (nodes : List Node) (given : List Kept) (bits : List Bool) (
 rows_ask_none nodes given bits all left behind part rows e same none far number asks = rest (subst (λ (ps : List Part). PartsAsk nodes given bits ps number) (e ∙ ap (λ (p : Part). p ∷ behind) same) (far number asks))
   where
     rest : PartsAsk nodes given bits (parts.Rows rows ∷ behind) number → PartsAsk nodes given bits behind number
+    rest (inl one) = absurd (none number one)
+    rest (inr more) = more
+
+-- one part more, none of whose rows asks for any
+pub zones_ask_none : (nodes : List Node) (given : List Kept) (bits : List Bool) (all left behind : List Part) (part : Part) (child : ℕ) → left ≡ part ∷ behind → part ≡ parts.All child → AskForNone nodes given child 0 (all_rows (node_at nodes child).rows) → AsksLeft nodes given bits all left → AsksLeft nodes given bits all behind
+zones_ask_none nodes given bits all left behind part child e same none far number asks = rest (subst (λ (ps : List Part). PartsAsk nodes given bits ps number) (e ∙ ap (λ (p : Part). p ∷ behind) same) (far number asks))
+  where
+    rest : PartsAsk nodes given bits (parts.All child ∷ behind) number → PartsAsk nodes given bits behind number
     rest (inl one) = absurd (none number one)
     rest (inr more) = more
 

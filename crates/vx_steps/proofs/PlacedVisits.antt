@@ -9,7 +9,7 @@ use Rattle.vx_plan.specs.declared.nodes.PlanKind.{PlanKind}
 use Rattle.vx_plan.specs.declared.nodes.PlanKind.TheVariants as kinds
 use Rattle.vx_plan.specs.Nodes.{Node, absent}
 use Rattle.vx_rows.specs.Heads.{Head}
-use Rattle.vx_plan.specs.Plans.{Plan, no_plan, concat_plan, eval_plan, filter_plan, pack_plan, take_plan, share_plan, list_plan, row_idx_plan, scan_plan, zoned_plan, Plans, no_plans, plan, PlanValidity, all_valid, valid_as, plan_head, head_at, plan_at, plan_gap, plan_in, plan_grown_as, plans_from, front_plans, last_plan, field_plans, last_validity}
+use Rattle.vx_plan.specs.Plans.{Plan, no_plan, concat_plan, eval_plan, filter_plan, pack_plan, take_plan, share_plan, list_plan, row_idx_plan, scan_plan, zoned_plan, pruning_plan, Plans, no_plans, plan, PlanValidity, all_valid, valid_as, plan_head, head_at, plan_at, plan_gap, plan_in, plan_grown_as, plans_from, front_plans, last_plan, field_plans, last_validity}
 use Rattle.vx_plan.specs.Rules.{node_at}
 use Rattle.vx_plan.specs.Tables.{IsGoodTable}
 use Rattle.vx_plan.proofs.Unfolding.{Known, known}
@@ -97,6 +97,8 @@ placed_kind (kinds.Zoned zone_len stats) P gap nodes head ns is each handed row 
 placed_kind (kinds.Zoned zone_len stats) P gap nodes head ns is each handed row (inr v) = inr (placed_in P gap nodes ns 0 each handed row v)
 placed_kind (kinds.LegacyStats zone_len stats) P gap nodes head ns is each handed row (inl v) = inl (v, is)
 placed_kind (kinds.LegacyStats zone_len stats) P gap nodes head ns is each handed row (inr v) = inr (placed_in P gap nodes ns 0 each handed row v)
+placed_kind (kinds.Pruning zone_len stats proof) P gap nodes head ns is each handed row (inl v) = inl (v, is)
+placed_kind (kinds.Pruning zone_len stats proof) P gap nodes head ns is each handed row (inr (other, less, v)) = inr (other, less, placed_in P gap nodes ns 0 each handed other v)
 
 all_placed : (P : Test) (nodes : List Node) (bound : ℕ) → ((n : ℕ) → n < bound → CanPlace nodes P n) → (ns : List ℕ) → All (λ n. n < bound) ns → CanPlaceAll nodes P ns
 all_placed P nodes bound each [] below = tt
@@ -142,6 +144,8 @@ mutual
   visit_mapped P Q f handed (scan_plan head segment coding) row v = f handed (scan_plan head segment coding) row v
   visit_mapped P Q f handed (zoned_plan head zones content table) row (inl v) = inl (f handed (zoned_plan head zones content table) row v)
   visit_mapped P Q f handed (zoned_plan head zones content table) row (inr v) = inr (visit_mapped P Q f handed content row v)
+  visit_mapped P Q f handed (pruning_plan head pruning table) row (inl v) = inl (f handed (pruning_plan head pruning table) row v)
+  visit_mapped P Q f handed (pruning_plan head pruning table) row (inr (other, less, v)) = inr (other, less, visit_mapped P Q f handed table other v)
 
   mapped_in : (P Q : Test) → Implies P Q → (handed : Handed) (ps : Plans) (row : ℕ) → VisitsIn P handed ps row → VisitsIn Q handed ps row
   mapped_in P Q f handed no_plans row v = v
@@ -193,6 +197,8 @@ mutual
   visit_seen P handed (scan_plan head segment coding) row v = record { handed = handed; at = scan_plan head segment coding; row = row; is = v }
   visit_seen P handed (zoned_plan head zones content table) row (inl v) = record { handed = handed; at = zoned_plan head zones content table; row = row; is = v }
   visit_seen P handed (zoned_plan head zones content table) row (inr v) = visit_seen P handed content row v
+  visit_seen P handed (pruning_plan head pruning table) row (inl v) = record { handed = handed; at = pruning_plan head pruning table; row = row; is = v }
+  visit_seen P handed (pruning_plan head pruning table) row (inr (other, less, v)) = visit_seen P handed table other v
 
   seen_in : (P : Test) (handed : Handed) (ps : Plans) (row : ℕ) → VisitsIn P handed ps row → IsSeen P
   seen_in P handed no_plans row v = absurd v

@@ -18,13 +18,14 @@ use Rattle.vx_plan.specs.declared.nodes.PlanKind.{PlanKind}
 use Rattle.vx_plan.specs.declared.nodes.PlanKind.TheVariants as kinds
 use Rattle.vx_plan.specs.Laws.{IsReadBy}
 use Rattle.vx_plan.specs.Nodes.{Node}
-use Rattle.vx_plan.specs.Plans.{Plan, no_plan, concat_plan, eval_plan, filter_plan, pack_plan, take_plan, share_plan, list_plan, row_idx_plan, scan_plan, zoned_plan, Plans, no_plans, plan, PlanValidity, all_valid, valid_as, plan_head}
+use Rattle.vx_plan.specs.Plans.{Plan, no_plan, concat_plan, eval_plan, filter_plan, pack_plan, take_plan, share_plan, list_plan, row_idx_plan, scan_plan, zoned_plan, pruning_plan, Plans, no_plans, plan, PlanValidity, all_valid, valid_as, plan_head}
 use Rattle.vx_plan.specs.PlanRows.{plan_derivation, plan_derivation_in, plan_derivations, plan_where_valid, plan_reads}
 use Rattle.vx_steps.specs.declared.leaf_reads.LeafRead.{LeafRead}
 use Rattle.vx_steps.specs.Given.{Handed, given_as, given_at, given_for, values_for, whole_at}
 use Rattle.vx_steps.specs.Laws.{HandsNone, VisitsSegment, IsRowOf, SomeRead}
 use Rattle.vx_steps.specs.Visits.{Test, Visits, VisitsIn, VisitsField, VisitsValidity, SomeVisit, IsLeafRead, IsListRead}
 use Rattle.vx_rows.proofs.ReadRows.{Meets}
+use Rattle.vx_steps.proofs.AllRows.{rows_with}
 use Rattle.vx_steps.proofs.VisitedReads.{RowReads, alone_same, leaf_found, none_served}
 
 -- ---- cells of a segment
@@ -119,6 +120,15 @@ whole_of Q way f count any = shown (row_of Q way f 0 count any)
         let e : 0 + row ≡ row = omega arith in
         (row, less, alone Q way (f row) (subst (λ (r : ℕ). Finds Q (reads_of way (f r))) e found))
 
+-- which of all rows has the read, with what is handed in
+of_rows : (Q : Found → Type 0) (way : Way) (v : GivenValues) (d : ℕ → Derivation) (count : ℕ) → Finds Q (reads_of_each way (each_with_given v (each_row d 0 count))) → (row : ℕ) × (row < count) × Finds Q (reads_of way (with_given v (d row)))
+of_rows Q way v d count any = shown (row_of Q way (λ (r : ℕ). with_given v (d r)) 0 count (subst (λ (ds : Derivations). Finds Q (reads_of_each way ds)) (rows_with v d 0 count) any))
+  where
+    shown : OfRow Q way (λ (r : ℕ). with_given v (d r)) 0 count → (row : ℕ) × (row < count) × Finds Q (reads_of way (with_given v (d row)))
+    shown (row, less, found) =
+        let e : 0 + row ≡ row = omega arith in
+        (row, less, subst (λ (r : ℕ). Finds Q (reads_of way (with_given v (d r)))) e found)
+
 -- ---- visits
 
 -- what a row itself has read is a visit of it, by some test of several
@@ -198,6 +208,10 @@ mutual
   found_visit P Q offset own handed (zoned_plan head zones content table) way row fit less any =
       let v = found_visit P Q offset own handed content way row fit.1 (subst (λ (rows : ℕ). row < rows) (sym fit.0) less) any in
       (v.0, inr v.1)
+  found_visit {X} P Q offset own handed (pruning_plan head pruning table) way row fit less any =
+      let one = of_rows Q way (values_for handed) (plan_derivation offset table) (plan_head table).rows any in
+      let v : (x : X) × Visits (P x) handed table one.0 = found_visit P Q offset own handed table way one.0 fit one.1 one.2 in
+      (v.0, inr (one.0, one.1, v.1))
 
   found_in : {X : Type 0} (P : X → Test) (Q : Found → Type 0) (offset : ℕ) → IsOwn P Q offset → (handed : Handed) (ps : Plans) (way : Way) (row : ℕ) → HaveFittingRows ps → RowReads Q way handed (plan_derivation_in offset ps row) → (x : X) × VisitsIn (P x) handed ps row
   found_in P Q offset own handed no_plans way row fit any = absurd any
@@ -276,6 +290,7 @@ none_as n kinds.RowIdx children = refl
 none_as n (kinds.SegmentScan segment coding) children = refl
 none_as n (kinds.Zoned zone_len stats) children = refl
 none_as n (kinds.LegacyStats zone_len stats) children = refl
+none_as n (kinds.Pruning zone_len stats proof) children = refl
 
 none_at : (n : ℕ) (node : Option Node) → given_at [] n node ≡ None
 none_at n None = refl

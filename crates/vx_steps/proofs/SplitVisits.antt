@@ -9,7 +9,7 @@ use Rattle.vx_rows.specs.Heads.{Head}
 use Rattle.vx_plan.specs.Laws.{IsReadBy}
 use Rattle.vx_plan.specs.Kinds.{coding_of}
 use Rattle.vx_plan.specs.Nodes.{Node}
-use Rattle.vx_plan.specs.Plans.{Plan, no_plan, concat_plan, eval_plan, filter_plan, pack_plan, take_plan, share_plan, list_plan, row_idx_plan, scan_plan, zoned_plan, plan_at, plan_coding, plan_head, plan_gap, head_at}
+use Rattle.vx_plan.specs.Plans.{Plan, no_plan, concat_plan, eval_plan, filter_plan, pack_plan, take_plan, share_plan, list_plan, row_idx_plan, scan_plan, zoned_plan, pruning_plan, plan_at, plan_coding, plan_head, plan_gap, head_at}
 use Rattle.vx_plan.specs.Rules.{node_at}
 use Rattle.vx_plan.specs.Tables.{IsGoodTable}
 use Rattle.vx_plan.proofs.Adding.{coding_in_table, head_in_table}
@@ -79,6 +79,7 @@ torn_own nodes good outside offset read torn handed way (scan_plan head segment 
     let here_torn : SpellNone outside (head_at read.leaf (node_at nodes read.leaf)) (leaf_coding nodes read.leaf) segment = subst (SpellNone outside (head_at read.leaf (node_at nodes read.leaf)) (leaf_coding nodes read.leaf)) (sym v.0.1) torn in
     inl (v.0.1, subst (λ (c : Coding). SpellNone outside head c segment) (sym coded) (subst (λ (h : Head). SpellNone outside h (leaf_coding nodes read.leaf) segment) (sym leaf) here_torn))
 torn_own nodes good outside offset read torn handed way (zoned_plan head zones content table) row v = absurd v.0
+torn_own nodes good outside offset read torn handed way (pruning_plan head pruning table) row v = absurd v.0
 
 leaf_gap : (read : LeafRead) (handed : Handed) (row : ℕ) → IsLeafRead read handed (plan_gap 0) row → ⊥
 leaf_gap read handed row v = v

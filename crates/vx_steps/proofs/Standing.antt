@@ -12,7 +12,7 @@ use Rattle.vx_plan.specs.declared.nodes.PlanKind.{PlanKind}
 use Rattle.vx_plan.specs.declared.nodes.PlanKind.TheVariants as kinds
 use Rattle.vx_plan.specs.Kinds.{HasKind, IsShare}
 use Rattle.vx_plan.specs.Nodes.{Node, absent}
-use Rattle.vx_plan.specs.Plans.{Plan, no_plan, concat_plan, eval_plan, filter_plan, pack_plan, take_plan, share_plan, list_plan, row_idx_plan, scan_plan, zoned_plan, Plans, no_plans, plan, PlanValidity, all_valid, valid_as, plan_head, head_at, plan_at, plan_gap, plan_in, plan_grown_as, plans_from, front_plans, last_plan, field_plans, last_validity}
+use Rattle.vx_plan.specs.Plans.{Plan, no_plan, concat_plan, eval_plan, filter_plan, pack_plan, take_plan, share_plan, list_plan, row_idx_plan, scan_plan, zoned_plan, pruning_plan, Plans, no_plans, plan, PlanValidity, all_valid, valid_as, plan_head, head_at, plan_at, plan_gap, plan_in, plan_grown_as, plans_from, front_plans, last_plan, field_plans, last_validity}
 use Rattle.vx_plan.specs.Rules.{node_at}
 use Rattle.vx_plan.specs.Tables.{IsGoodTable}
 use Rattle.vx_plan.proofs.Unfolding.{Known, known}
@@ -36,6 +36,7 @@ stands_self F (list_plan head elements offsets validity) is = inl is
 stands_self F (row_idx_plan head) is = is
 stands_self F (scan_plan head segment coding) is = is
 stands_self F (zoned_plan head zones content table) is = inl is
+stands_self F (pruning_plan head pruning table) is = inl is
 
 -- ---- one plan for another
 
@@ -65,6 +66,8 @@ mutual
   stands_mapped F G to (zoned_plan head zones content table) (inl s) = inl (to (zoned_plan head zones content table) s)
   stands_mapped F G to (zoned_plan head zones content table) (inr (inl s)) = inr (inl (stands_mapped F G to content s))
   stands_mapped F G to (zoned_plan head zones content table) (inr (inr s)) = inr (inr (stands_mapped F G to table s))
+  stands_mapped F G to (pruning_plan head pruning table) (inl s) = inl (to (pruning_plan head pruning table) s)
+  stands_mapped F G to (pruning_plan head pruning table) (inr s) = inr (stands_mapped F G to table s)
 
   among_mapped : (F G : Plan → Type 0) → ((p : Plan) → F p → G p) → (ps : Plans) → StandsAmong F ps → StandsAmong G ps
   among_mapped F G to no_plans s = s
@@ -144,6 +147,8 @@ found_kind (kinds.Zoned zone_len stats) F nodes head ns own each (inr (inr s)) =
 found_kind (kinds.LegacyStats zone_len stats) F nodes head ns own each (inl s) = own s
 found_kind (kinds.LegacyStats zone_len stats) F nodes head ns own each (inr (inl s)) = found_in F nodes ns 0 each s
 found_kind (kinds.LegacyStats zone_len stats) F nodes head ns own each (inr (inr s)) = found_in F nodes ns 1 each s
+found_kind (kinds.Pruning zone_len stats proof) F nodes head ns own each (inl s) = own s
+found_kind (kinds.Pruning zone_len stats proof) F nodes head ns own each (inr s) = found_in F nodes ns 0 each s
 
 all_found : (F : Plan → Type 0) (nodes : List Node) (bound : ℕ) → ((n : ℕ) → n < bound → CanFind F nodes n) → (ns : List ℕ) → All (λ n. n < bound) ns → CanFindAll F nodes ns
 all_found F nodes bound each [] below = tt
@@ -193,6 +198,8 @@ mutual
   visit_stands P F tells handed (scan_plan head segment coding) row v = tells handed (scan_plan head segment coding) row v
   visit_stands P F tells handed (zoned_plan head zones content table) row (inl v) = inl (tells handed (zoned_plan head zones content table) row v)
   visit_stands P F tells handed (zoned_plan head zones content table) row (inr v) = inr (inl (visit_stands P F tells handed content row v))
+  visit_stands P F tells handed (pruning_plan head pruning table) row (inl v) = inl (tells handed (pruning_plan head pruning table) row v)
+  visit_stands P F tells handed (pruning_plan head pruning table) row (inr (other, less, v)) = inr (visit_stands P F tells handed table other v)
 
   visit_stands_in : (P : Test) (F : Plan → Type 0) → Tells P F → (handed : Handed) (ps : Plans) (row : ℕ) → VisitsIn P handed ps row → StandsAmong F ps
   visit_stands_in P F tells handed no_plans row v = absurd v
@@ -224,6 +231,7 @@ share_kind kinds.RowIdx head ps s = absurd s
 share_kind (kinds.SegmentScan segment coding) head ps s = absurd s
 share_kind (kinds.Zoned zone_len stats) head ps s = absurd s
 share_kind (kinds.LegacyStats zone_len stats) head ps s = absurd s
+share_kind (kinds.Pruning zone_len stats proof) head ps s = absurd s
 
 is_share : (nodes : List Node) → IsGoodTable nodes → (n : ℕ) → n < length nodes → IsSharePlan (plan_at nodes n) → HasKind IsShare nodes n
 is_share nodes good n there s =
@@ -258,6 +266,7 @@ of_eval leaves offset at None (list_plan head elements offsets validity) row v =
 of_eval leaves offset at None (row_idx_plan head) row v = absurd v
 of_eval leaves offset at None (scan_plan head segment coding) row v = absurd v
 of_eval leaves offset at None (zoned_plan head zones content table) row v = absurd v
+of_eval leaves offset at None (pruning_plan head pruning table) row v = absurd v
 
 pub match_none : (b : Bool) (A B : Type 0) → (A → ⊥) → (B → ⊥) → MatchBool b A B → ⊥
 match_none true A B f g v = f v
@@ -284,6 +293,8 @@ mutual
   none_inside leaves offset at given (scan_plan head segment coding) row shares evals v = v
   none_inside leaves offset at given (zoned_plan head zones content table) row shares evals (inl v) = v
   none_inside leaves offset at given (zoned_plan head zones content table) row shares evals (inr v) = none_inside leaves offset at given content row (λ s. shares (inr (inl s))) (λ s. evals (inr (inl s))) v
+  none_inside leaves offset at given (pruning_plan head pruning table) row shares evals (inl v) = v
+  none_inside leaves offset at given (pruning_plan head pruning table) row shares evals (inr (other, less, v)) = none_inside leaves offset at given table other (λ s. shares (inr s)) (λ s. evals (inr s)) v
 
   none_inside_in : (leaves : Leaves) (offset at : ℕ) (given : GivenValues) (ps : Plans) (row : ℕ) → (StandsAmong IsSharePlan ps → ⊥) → (StandsAmong IsTakeOverEval ps → ⊥) → VisitsIn (IsFault leaves offset at) (Some given) ps row → ⊥
   none_inside_in leaves offset at given no_plans row shares evals v = v

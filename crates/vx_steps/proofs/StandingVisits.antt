@@ -1,7 +1,7 @@
 -- Visits of a plan that know where they stand.
 use Rattle.std.proofs.Common.{◌≡◌, ℕ, ◌-◌, ◌⊎◌, inl, inr, None, refl}
 use Rattle.std.specs.Prelude.{nat_lt}
-use Rattle.vx_plan.specs.Plans.{Plan, no_plan, concat_plan, eval_plan, filter_plan, pack_plan, take_plan, share_plan, list_plan, row_idx_plan, scan_plan, zoned_plan, Plans, no_plans, plan, PlanValidity, all_valid, valid_as, plan_head}
+use Rattle.vx_plan.specs.Plans.{Plan, no_plan, concat_plan, eval_plan, filter_plan, pack_plan, take_plan, share_plan, list_plan, row_idx_plan, scan_plan, zoned_plan, pruning_plan, Plans, no_plans, plan, PlanValidity, all_valid, valid_as, plan_head}
 use Rattle.vx_steps.specs.Below.{StandsIn, StandsAmong, StandsInValidity}
 use Rattle.vx_steps.specs.Given.{Handed}
 use Rattle.vx_steps.specs.Visits.{Test, Visits, VisitsIn, VisitsField, VisitsValidity}
@@ -41,6 +41,8 @@ mutual
   visit_within P top whole handed (scan_plan head segment coding) row from up v = own P top whole handed (scan_plan head segment coding) row from up v
   visit_within P top whole handed (zoned_plan head zones content table) row from up (inl v) = inl (own P top whole handed (zoned_plan head zones content table) row from up v)
   visit_within P top whole handed (zoned_plan head zones content table) row from up (inr v) = inr (visit_within P top whole handed content row from (λ q s. up q (inr (inl s))) v)
+  visit_within P top whole handed (pruning_plan head pruning table) row from up (inl v) = inl (own P top whole handed (pruning_plan head pruning table) row from up v)
+  visit_within P top whole handed (pruning_plan head pruning table) row from up (inr (other, less, v)) = inr (other, less, visit_within P top whole handed table other from (λ q s. up q (inr s)) v)
 
   within_in : (P : Test) (top : Handed) (whole : Plan) (handed : Handed) (ps : Plans) (row : ℕ) → IsFrom top handed → ((q : Plan) → StandsAmong (λ r. r ≡ q) ps → StandsIn (λ r. r ≡ q) whole) → VisitsIn P handed ps row → VisitsIn (Within top whole P) handed ps row
   within_in P top whole handed no_plans row from up v = v

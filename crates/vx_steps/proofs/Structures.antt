@@ -76,6 +76,7 @@ pack_of kinds.RowIdx t below count is types counts = absurd is
 pack_of (kinds.SegmentScan segment coding) t below count is types counts = absurd is
 pack_of (kinds.Zoned zone_len stats) t below count is types counts = absurd is
 pack_of (kinds.LegacyStats zone_len stats) t below count is types counts = absurd is
+pack_of (kinds.Pruning zone_len stats proof) t below count is types counts = absurd is
 
 pack_plan_at : (nodes : List Node) → IsGoodTable nodes → (n : ℕ) → HasKind IsPack nodes n → IsPackPlan nodes n (has_validity_of (node_at nodes n).kind)
 pack_plan_at nodes good n has =

@@ -6,14 +6,15 @@ use Rattle.std.specs.List.{slice_get}
 use Rattle.std.proofs.lemmas.Option.{slice_get-get_or}
 use Rattle.vx_base.specs.Columns.{ColumnData}
 use Rattle.vx_base.specs.Data.{Datum}
-use Rattle.vx_rows.specs.Derivations.{Derivation, packed, looked_up, worked_out, read_whole, Derivations, each_row, Leaves, derived}
+use Rattle.vx_rows.specs.Derivations.{Derivation, packed, looked_up, worked_out, read_whole, concluded, Derivations, each_row, Leaves, derived}
 use Rattle.vx_rows.specs.Given.{GivenValues, values_with, share_with, with_given, each_with_given}
 use Rattle.vx_rows.specs.Heads.{Head}
 use Rattle.vx_picking.specs.Rows.{rows_of, AreOf}
 use Rattle.vx_plan.specs.declared.nodes.PlanKind.{PlanKind}
 use Rattle.vx_plan.specs.declared.nodes.PlanKind.TheVariants as kinds
 use Rattle.vx_plan.specs.Nodes.{Node, absent}
-use Rattle.vx_plan.specs.Plans.{Plan, no_plan, concat_plan, eval_plan, filter_plan, pack_plan, take_plan, share_plan, list_plan, row_idx_plan, scan_plan, zoned_plan, Plans, no_plans, plan, PlanValidity, all_valid, valid_as, plan_head, head_at, plan_at, plan_gap, plan_grown_as}
+use Rattle.vx_plan.specs.Pruning.{is_pruned_at}
+use Rattle.vx_plan.specs.Plans.{Plan, no_plan, concat_plan, eval_plan, filter_plan, pack_plan, take_plan, share_plan, list_plan, row_idx_plan, scan_plan, zoned_plan, pruning_plan, Plans, no_plans, plan, PlanValidity, all_valid, valid_as, plan_head, head_at, plan_at, plan_gap, plan_grown_as}
 use Rattle.vx_plan.specs.PlanRows.{plan_derivation, plan_derivation_in, plan_derivations, plan_where_valid}
 use Rattle.vx_plan.specs.Rules.{node_at}
 use Rattle.vx_plan.specs.Tables.{IsGoodTable}
@@ -28,6 +29,7 @@ use Rattle.vx_steps.specs.Kept.{kept_at, values_of, whole_of}
 use Rattle.vx_steps.specs.Laws.{row_with}
 use Rattle.vx_steps.specs.Visits.{Test, Visits, VisitsIn, VisitsField, VisitsValidity, IsWholeRead}
 use Rattle.vx_steps.specs.Wholes.{IsThere, UsesGiven}
+use Rattle.vx_steps.proofs.AllRows.{rows_same}
 use Rattle.vx_steps.proofs.OutermostTakes.{IsTakeNode, IsTakeOver, take_gap, take_placed, take_whole}
 use Rattle.vx_steps.proofs.PlacedVisits.{Implies, IsPlaced, is_placed, visit_mapped}
 use Rattle.vx_steps.proofs.Shaping.{given_known}
@@ -72,6 +74,9 @@ mutual
   same_with f g offset (row_idx_plan head) row agree = refl
   same_with f g offset (scan_plan head segment coding) row agree = refl
   same_with f g offset (zoned_plan head zones content table) row agree = same_with f g offset content row (λ n x v. agree n x (inr v))
+  same_with f g offset (pruning_plan head pruning table) row agree =
+      ap (concluded (is_pruned_at pruning head.rows row))
+      (rows_same f g (plan_derivation offset table) 0 (plan_head table).rows (λ other lt. let less : other < (plan_head table).rows = omega arith in same_with f g offset table other (λ n x v. agree n x (inr (other, less, v)))))
 
   same_in : (f g : GivenValues) (offset : ℕ) (ps : Plans) (row : ℕ) → SameFor f g (λ n x. VisitsIn (Looks n x) (Some f) ps row) → with_given f (plan_derivation_in offset ps row) ≡ with_given g (plan_derivation_in offset ps row)
   same_in f g offset no_plans row agree = refl
@@ -112,6 +117,7 @@ share_whole n (Some given) (list_plan head elements offsets validity) row v = ab
 share_whole n (Some given) (row_idx_plan head) row v = absurd v
 share_whole n (Some given) (scan_plan head segment coding) row v = absurd v
 share_whole n (Some given) (zoned_plan head zones content table) row v = absurd v
+share_whole n (Some given) (pruning_plan head pruning table) row v = absurd v
 
 pub of_share : (kind : PlanKind) (handed : Handed) (head : Head) (ps : List Plan) (n row : ℕ) → IsShareOf n handed (plan_grown_as head kind ps) row → (head.number ≡ n) × (kind ≡ kinds.Share)
 of_share kind None head ps n row v = absurd v
@@ -126,6 +132,7 @@ of_share kinds.RowIdx (Some given) head ps n row v = absurd v
 of_share (kinds.SegmentScan segment coding) (Some given) head ps n row v = absurd v
 of_share (kinds.Zoned zone_len stats) (Some given) head ps n row v = absurd v
 of_share (kinds.LegacyStats zone_len stats) (Some given) head ps n row v = absurd v
+of_share (kinds.Pruning zone_len stats proof) (Some given) head ps n row v = absurd v
 
 -- for a share, what is kept for the share
 pub share_given : (nodes : List Node) → IsGoodTable nodes → (n : ℕ) → IsPlaced (IsShareOf n) nodes → (kept : List Kept) → given_for nodes kept n ≡ whole_of kept n

@@ -3,11 +3,11 @@ use Rattle.std.proofs.Common.{◌≡◌, ℕ, zero, suc, ◌+◌, ◌-◌, ◌<�
 use Rattle.std.specs.Prelude.{nat_lt}
 use Rattle.vx_base.specs.Data.{Datum}
 use Rattle.vx_expr.specs.Terms.{Term}
-use Rattle.vx_rows.specs.Derivations.{Derivation, nothing, of_leaf, list_row, given, packed, valid_where, looked_up, worked_out, read_whole, Derivations, each_row, Leaves}
+use Rattle.vx_rows.specs.Derivations.{Derivation, nothing, of_leaf, list_row, given, packed, valid_where, looked_up, worked_out, read_whole, concluded, Derivations, each_row, Leaves}
 use Rattle.vx_rows.specs.Reads.{directly}
-use Rattle.vx_rows.specs.Given.{values_with, share_with, with_given, each_with_given}
+use Rattle.vx_rows.specs.Given.{GivenValues, values_with, share_with, with_given, each_with_given}
 use Rattle.vx_rows.specs.Heads.{Head}
-use Rattle.vx_plan.specs.Plans.{Plan, no_plan, concat_plan, eval_plan, filter_plan, pack_plan, take_plan, share_plan, list_plan, row_idx_plan, scan_plan, zoned_plan, Plans, no_plans, plan, PlanValidity, all_valid, valid_as, plan_head}
+use Rattle.vx_plan.specs.Plans.{Plan, no_plan, concat_plan, eval_plan, filter_plan, pack_plan, take_plan, share_plan, list_plan, row_idx_plan, scan_plan, zoned_plan, pruning_plan, Plans, no_plans, plan, PlanValidity, all_valid, valid_as, plan_head}
 use Rattle.vx_plan.specs.PlanRows.{plan_derivation, plan_derivation_in, plan_derivations, plan_where_valid}
 use Rattle.vx_plan.specs.Refs.{number_of}
 use Rattle.vx_steps.specs.declared.errors.StepError.{StepError}
@@ -16,6 +16,7 @@ use Rattle.vx_steps.specs.Computed.{HasCause}
 use Rattle.vx_steps.specs.Given.{Handed, values_for}
 use Rattle.vx_steps.specs.Laws.{GivenFits, HasPart, HavePart, IsEvalRow, IsFaultyRow, IsReadCause, row_with}
 use Rattle.vx_steps.specs.Visits.{Test, Visits, VisitsIn, VisitsField, VisitsValidity, HasEvalFault}
+use Rattle.vx_steps.proofs.AllRows.{rows_with}
 use Rattle.vx_steps.proofs.CodeVisits.{code_found}
 use Rattle.vx_steps.proofs.Standing.{stands_mapped}
 use Rattle.vx_steps.proofs.StandingVisits.{visit_within, Within}
@@ -32,6 +33,7 @@ part_of F (valid_where d validity) is = inl is
 part_of F (looked_up dictionary row code values) is = inl is
 part_of F (worked_out t e d) is = inl is
 part_of F (read_whole share row d ds) is = inl is
+part_of F (concluded rule ds) is = inl is
 
 -- a row of several has the part
 part_in : (F : Derivation → Type 0) (f : ℕ → Derivation) (from count row : ℕ) → row < count → HasPart F (f (from + row)) → HavePart F (each_row f from count)
@@ -47,6 +49,11 @@ part_alone : (F : Derivation → Type 0) (f : ℕ → Derivation) (count row : �
 part_alone F f count row lt any =
     let e : row ≡ 0 + row = omega arith in
     part_in F f 0 count row lt (subst (λ (r : ℕ). HasPart F (f r)) e (subst (HasPart F) (alone_same (f row)) any))
+
+part_rows : (F : Derivation → Type 0) (v : GivenValues) (d : ℕ → Derivation) (count row : ℕ) → row < count → HasPart F (with_given v (d row)) → HavePart F (each_with_given v (each_row d 0 count))
+part_rows F v d count row lt any =
+    let e : row ≡ 0 + row = omega arith in
+    subst (HavePart F) (sym (rows_with v d 0 count)) (part_in F (λ (r : ℕ). with_given v (d r)) 0 count row lt (subst (λ (r : ℕ). HasPart F (with_given v (d r))) e any))
 
 front_part : (F : Derivation → Type 0) (handed : Handed) (offset : ℕ) (validity : PlanValidity) (row : ℕ) (d : Derivation) → HasPart F (with_given (values_for handed) d) → HasPart F (with_given (values_for handed) (plan_where_valid offset validity row d))
 front_part F handed offset all_valid row d any = any
@@ -84,6 +91,8 @@ mutual
   visit_part P F offset own handed (scan_plan head segment coding) row v = part_of F (row_with handed offset (scan_plan head segment coding) row) (own handed (scan_plan head segment coding) row v)
   visit_part P F offset own handed (zoned_plan head zones content table) row (inl v) = part_of F (row_with handed offset (zoned_plan head zones content table) row) (own handed (zoned_plan head zones content table) row v)
   visit_part P F offset own handed (zoned_plan head zones content table) row (inr v) = visit_part P F offset own handed content row v
+  visit_part P F offset own handed (pruning_plan head pruning table) row (inl v) = part_of F (row_with handed offset (pruning_plan head pruning table) row) (own handed (pruning_plan head pruning table) row v)
+  visit_part P F offset own handed (pruning_plan head pruning table) row (inr (other, less, v)) = inr (part_rows F (values_for handed) (plan_derivation offset table) (plan_head table).rows other less (visit_part P F offset own handed table other v))
 
   visit_part_in : (P : Test) (F : Derivation → Type 0) (offset : ℕ) → IsDerivedOwn P F offset → (handed : Handed) (ps : Plans) (row : ℕ) → VisitsIn P handed ps row → HasPart F (with_given (values_for handed) (plan_derivation_in offset ps row))
   visit_part_in P F offset own handed no_plans row v = absurd v
@@ -123,6 +132,7 @@ term_own leaves top offset whole at handed (list_plan head elements offsets vali
 term_own leaves top offset whole at handed (row_idx_plan head) row v = absurd v.0
 term_own leaves top offset whole at handed (scan_plan head segment coding) row v = absurd v.0
 term_own leaves top offset whole at handed (zoned_plan head zones content table) row v = absurd v.0
+term_own leaves top offset whole at handed (pruning_plan head pruning table) row v = absurd v.0
 
 pub term_worked : (leaves : Leaves) (handed : Handed) (offset : ℕ) (p : Plan) (row at : ℕ) → Visits (HasEvalFault leaves offset at) handed p row → HasPart (IsFaultyRow leaves handed offset p at) (row_with handed offset p row)
 term_worked leaves handed offset p row at v =

@@ -3,16 +3,17 @@ use Rattle.std.proofs.Common.{◌≡◌, ℕ, zero, suc, ◌+◌, ◌<◌, inl, 
 use Rattle.std.specs.Prelude.{if◌then◌else◌, nat_lt, ◌-◌}
 use Rattle.std.specs.Bool.{MatchBool}
 use Rattle.vx_base.specs.Data.{Datum}
-use Rattle.vx_rows.specs.Derivations.{Derivation, nothing, of_leaf, list_row, given, packed, valid_where, looked_up, worked_out, read_whole, Derivations, no_more, also, each_row}
+use Rattle.vx_rows.specs.Derivations.{Derivation, nothing, of_leaf, list_row, given, packed, valid_where, looked_up, worked_out, read_whole, concluded, Derivations, no_more, also, each_row}
 use Rattle.vx_rows.specs.Reads.{Way, inside, Found, reads_of, reads_of_each, Finds, IsIn}
 use Rattle.vx_rows.specs.Given.{GivenValues, values_with, share_with, with_given, each_with_given}
 use Rattle.vx_rows.proofs.ReadRows.{any_left, any_right, Meets}
-use Rattle.vx_plan.specs.Plans.{Plan, no_plan, concat_plan, eval_plan, filter_plan, pack_plan, take_plan, share_plan, list_plan, row_idx_plan, scan_plan, zoned_plan, Plans, no_plans, plan, PlanValidity, all_valid, valid_as, plan_head}
+use Rattle.vx_plan.specs.Plans.{Plan, no_plan, concat_plan, eval_plan, filter_plan, pack_plan, take_plan, share_plan, list_plan, row_idx_plan, scan_plan, zoned_plan, pruning_plan, Plans, no_plans, plan, PlanValidity, all_valid, valid_as, plan_head}
 use Rattle.vx_plan.specs.PlanRows.{plan_derivation, plan_derivation_in, plan_derivations, plan_where_valid}
 use Rattle.vx_steps.specs.declared.leaf_reads.LeafRead.{LeafRead}
 use Rattle.vx_steps.specs.Given.{Handed, values_for}
 use Rattle.vx_steps.specs.Laws.{IsRowOf}
 use Rattle.vx_steps.specs.Visits.{Test, Visits, VisitsIn, VisitsField, VisitsValidity, IsLeafRead, IsListRead}
+use Rattle.vx_steps.proofs.AllRows.{rows_with}
 
 -- ---- nothing handed in
 
@@ -33,6 +34,7 @@ mutual
       cc
   none_served values none (worked_out t e d) = ap (worked_out t e) (none_served values none d)
   none_served values none (read_whole share row d ds) = ap (λ (v : Option (List Datum)). share_with v row (read_whole share row d ds)) (none share)
+  none_served values none (concluded rule ds) = ap (concluded rule) (none_served_each values none ds)
 
   none_served_each : (values : GivenValues) → ((n : ℕ) → values n ≡ None) → (ds : Derivations) → each_with_given values ds ≡ ds
   none_served_each values none no_more = refl
@@ -68,6 +70,12 @@ whole_found : (Q : Found → Type 0) (way : Way) (f : ℕ → Derivation) (count
 whole_found Q way f count row lt any =
     let e : row ≡ 0 + row = omega arith in
     row_found Q way f 0 count row lt (subst (λ (r : ℕ). Finds Q (reads_of way (f r))) e (subst (λ (d : Derivation). Finds Q (reads_of way d)) (alone_same (f row)) any))
+
+-- a row of all has the read, with what is handed in, so all of them have
+pub found_rows : (Q : Found → Type 0) (way : Way) (v : GivenValues) (d : ℕ → Derivation) (count row : ℕ) → row < count → Finds Q (reads_of way (with_given v (d row))) → Finds Q (reads_of_each way (each_with_given v (each_row d 0 count)))
+found_rows Q way v d count row lt any =
+    let e : row ≡ 0 + row = omega arith in
+    subst (λ (ds : Derivations). Finds Q (reads_of_each way ds)) (sym (rows_with v d 0 count)) (row_found Q way (λ (r : ℕ). with_given v (d r)) 0 count row lt (subst (λ (r : ℕ). Finds Q (reads_of way (with_given v (d r)))) e any))
 
 -- of one or the other
 pub by_test : (b : Bool) (A B : Type 0) (F : Derivation → Type 0) (d e : Derivation) → (A → F d) → (B → F e) → MatchBool b A B → F (if b then d else e)
@@ -112,6 +120,8 @@ mutual
   visit_found P Q offset own handed (scan_plan head segment coding) way row v = own handed way (scan_plan head segment coding) row v
   visit_found P Q offset own handed (zoned_plan head zones content table) way row (inl here) = own handed way (zoned_plan head zones content table) row here
   visit_found P Q offset own handed (zoned_plan head zones content table) way row (inr below) = visit_found P Q offset own handed content way row below
+  visit_found P Q offset own handed (pruning_plan head pruning table) way row (inl here) = own handed way (pruning_plan head pruning table) row here
+  visit_found P Q offset own handed (pruning_plan head pruning table) way row (inr (other, less, below)) = found_rows Q way (values_for handed) (plan_derivation offset table) (plan_head table).rows other less (visit_found P Q offset own handed table way other below)
 
   visit_in : (P : Test) (Q : Found → Type 0) (offset : ℕ) → FindsOwn P Q offset → (handed : Handed) (ps : Plans) (way : Way) (row : ℕ) → VisitsIn P handed ps row → RowReads Q way handed (plan_derivation_in offset ps row)
   visit_in P Q offset own handed no_plans way row v = absurd v
@@ -146,6 +156,7 @@ leaf_own offset read handed way (list_plan head elements offsets validity) row v
 leaf_own offset read handed way (row_idx_plan head) row v = absurd v
 leaf_own offset read handed way (scan_plan head segment coding) row v = inl v.1
 leaf_own offset read handed way (zoned_plan head zones content table) row v = absurd v
+leaf_own offset read handed way (pruning_plan head pruning table) row v = absurd v
 
 pub leaf_found : (handed : Handed) (offset : ℕ) (p : Plan) (way : Way) (row : ℕ) (read : LeafRead) → Visits (IsLeafRead read) handed p row → RowReads (IsIn read.segment) way handed (plan_derivation offset p row)
 leaf_found handed offset p way row read v = visit_found (IsLeafRead read) (IsIn read.segment) offset (leaf_own offset read) handed p way row v
@@ -162,6 +173,7 @@ list_own offset n handed way (list_plan head elements offsets validity) row v = 
 list_own offset n handed way (row_idx_plan head) row v = absurd v
 list_own offset n handed way (scan_plan head segment coding) row v = absurd v
 list_own offset n handed way (zoned_plan head zones content table) row v = absurd v
+list_own offset n handed way (pruning_plan head pruning table) row v = absurd v
 
 pub list_found : (handed : Handed) (offset : ℕ) (p : Plan) (way : Way) (row n : ℕ) → Visits (IsListRead n) handed p row → RowReads (IsRowOf n) way handed (plan_derivation offset p row)
 list_found handed offset p way row n v = visit_found (IsListRead n) (IsRowOf n) offset (list_own offset n) handed p way row v

@@ -1,9 +1,10 @@
 -- Visits of a plan's selected rows and of its children's, whatever is tested.
-use Rattle.std.proofs.Common.{◌≡◌, ℕ, zero, suc, ◌<◌, ◌⊎◌, inl, inr, ⊎_elim, Bool, true, false, List, [], ◌∷◌, Option, Some, map, sym, subst}
+use Rattle.std.proofs.Common.{◌≡◌, ℕ, zero, suc, ◌+◌, ◌<◌, ◌⊎◌, inl, inr, ⊎_elim, Bool, true, false, List, [], ◌∷◌, Option, Some, map, refl, sym, subst, arith}
 use Rattle.std.specs.List.{slice_get}
 use Rattle.vx_picking.specs.Rows.{SelectsSome}
 use Rattle.vx_plan.specs.Nodes.{Node}
 use Rattle.vx_plan.specs.Plans.{Plan, plan_head, plan_at, plans_from, field_plans, last_validity, plan_gap, front_plans, last_plan, filter_plan}
+use Rattle.vx_plan.specs.Reaches.{all_rows}
 use Rattle.vx_plan.specs.Rules.{node_at}
 use Rattle.vx_steps.specs.Given.{Handed, handed_by}
 use Rattle.vx_steps.specs.KeptData.{Kept}
@@ -11,7 +12,7 @@ use Rattle.vx_steps.specs.Needs.{NoneGiven}
 use Rattle.vx_steps.specs.Visits.{Test, Visits, VisitsField, VisitsValidity, SomeVisit, SomeWholeVisit}
 use Rattle.vx_steps.proofs.ComputedRows.{VisitsUp}
 use Rattle.vx_steps.proofs.Selecting.{given_none}
-use Rattle.vx_steps.proofs.Shaping.{head_of, IsOverPlan, IsSharePlan, IsTakePlan, IsZonedPlan}
+use Rattle.vx_steps.proofs.Shaping.{head_of, IsOverPlan, IsPruningPlan, IsSharePlan, IsTakePlan, IsZonedPlan}
 
 abbrev pub RowVisits : Test → Handed → ℕ → List Bool → Plan → Type 0
 RowVisits P handed start bits p = SomeVisit P handed p start bits
@@ -41,6 +42,31 @@ pub up_shared : (nodes : List Node) (given : Option (List Kept)) (n child start 
 up_shared nodes given n child start bits over some none P w =
     let less : w.0 < (plan_head (plan_at nodes child)).rows = rw over.child_head w.1 in
     subst (RowVisits P (handed_by nodes given) start bits) (sym over.law) (some.0, some.1, inr (given_none nodes given n n over.given none, (w.0, less, w.2)))
+
+-- ---- all rows
+
+pub all_chosen : (count row : ℕ) → row < count → slice_get (all_rows count) row ≡ Some true
+all_chosen zero row less = absurd (omega arith)
+all_chosen (suc count) zero less = refl
+all_chosen (suc count) (suc row) less = all_chosen count row (omega arith)
+
+pub chosen_below : (count row : ℕ) → slice_get (all_rows count) row ≡ Some true → row < count
+chosen_below zero row at = absurd cc
+chosen_below (suc count) zero at = omega arith
+chosen_below (suc count) (suc row) at = let less : row < count = chosen_below count row at in omega arith
+
+pub some_of_all : (P : Test) (handed : Handed) (p : Plan) (count row : ℕ) → row < count → Visits P handed p row → SomeVisit P handed p 0 (all_rows count)
+some_of_all P handed p count row less v =
+    let e : row ≡ 0 + row = omega arith in
+    (row, all_chosen count row less, subst (Visits P handed p) e v)
+
+-- zones by which rows may be pruned
+pub up_zones : (nodes : List Node) (handed : Handed) (n table start : ℕ) (bits : List Bool) → IsPruningPlan nodes n table → SelectsSome bits → VisitsUp handed (plan_at nodes table) 0 (all_rows (node_at nodes table).rows) handed (plan_at nodes n) start bits
+up_zones nodes handed n table start bits over some P r =
+    let small : r.0 < (node_at nodes table).rows = chosen_below (node_at nodes table).rows r.0 r.1 in
+    let inside : 0 + r.0 < (node_at nodes table).rows = omega arith in
+    let less : 0 + r.0 < (plan_head (plan_at nodes table)).rows = rw over.table_head inside in
+    subst (RowVisits P handed start bits) (sym over.law) (some.0, some.1, inr (0 + r.0, less, r.2))
 
 -- ---- fields
 

@@ -1,7 +1,7 @@
 -- What is visited by one test is visited by a weaker one, and where nothing is handed in.
 use Rattle.std.proofs.Common.{ℕ, ◌-◌, inl, inr, None, refl}
 use Rattle.std.specs.Prelude.{nat_lt}
-use Rattle.vx_plan.specs.Plans.{Plan, no_plan, concat_plan, eval_plan, filter_plan, pack_plan, take_plan, share_plan, list_plan, row_idx_plan, scan_plan, zoned_plan, Plans, no_plans, plan, PlanValidity, all_valid, valid_as, plan_head}
+use Rattle.vx_plan.specs.Plans.{Plan, no_plan, concat_plan, eval_plan, filter_plan, pack_plan, take_plan, share_plan, list_plan, row_idx_plan, scan_plan, zoned_plan, pruning_plan, Plans, no_plans, plan, PlanValidity, all_valid, valid_as, plan_head}
 use Rattle.vx_steps.specs.declared.leaf_reads.LeafRead.{LeafRead}
 use Rattle.vx_steps.specs.Given.{Handed}
 use Rattle.vx_steps.specs.Leavings.{IsLeafOf}
@@ -34,6 +34,8 @@ mutual
   weaker_visit P Q weak handed (scan_plan head segment coding) row v = weak handed (scan_plan head segment coding) row v
   weaker_visit P Q weak handed (zoned_plan head zones content table) row (inl v) = inl (weak handed (zoned_plan head zones content table) row v)
   weaker_visit P Q weak handed (zoned_plan head zones content table) row (inr v) = inr (weaker_visit P Q weak handed content row v)
+  weaker_visit P Q weak handed (pruning_plan head pruning table) row (inl v) = inl (weak handed (pruning_plan head pruning table) row v)
+  weaker_visit P Q weak handed (pruning_plan head pruning table) row (inr (other, less, v)) = inr (other, less, weaker_visit P Q weak handed table other v)
 
   weaker_in : (P Q : Test) → Weakens P Q → (handed : Handed) (ps : Plans) (row : ℕ) → VisitsIn P handed ps row → VisitsIn Q None ps row
   weaker_in P Q weak handed no_plans row v = v
@@ -62,6 +64,7 @@ same_read read handed (list_plan head elements offsets validity) row v = v
 same_read read handed (row_idx_plan head) row v = v
 same_read read handed (scan_plan head segment coding) row v = v
 same_read read handed (zoned_plan head zones content table) row v = v
+same_read read handed (pruning_plan head pruning table) row v = v
 
 pub leaf_read : (read : LeafRead) → Weakens (IsLeafRead read) (IsLeafOf read.leaf)
 leaf_read read handed (no_plan head) row v = v
@@ -75,3 +78,4 @@ leaf_read read handed (list_plan head elements offsets validity) row v = v
 leaf_read read handed (row_idx_plan head) row v = v
 leaf_read read handed (scan_plan head segment coding) row v = v.0
 leaf_read read handed (zoned_plan head zones content table) row v = v
+leaf_read read handed (pruning_plan head pruning table) row v = v

@@ -10,7 +10,7 @@ use Rattle.vx_plan.specs.declared.nodes.PlanKind.{PlanKind}
 use Rattle.vx_plan.specs.declared.nodes.PlanKind.TheVariants as kinds
 use Rattle.vx_plan.specs.declared.shapes.Shape.TheVariants as shapes
 use Rattle.vx_plan.specs.Nodes.{Node, absent}
-use Rattle.vx_plan.specs.Plans.{Plan, no_plan, concat_plan, eval_plan, filter_plan, pack_plan, take_plan, share_plan, list_plan, row_idx_plan, scan_plan, zoned_plan, plan_head, head_at, plan_at, plan_grown_as}
+use Rattle.vx_plan.specs.Plans.{Plan, no_plan, concat_plan, eval_plan, filter_plan, pack_plan, take_plan, share_plan, list_plan, row_idx_plan, scan_plan, zoned_plan, pruning_plan, plan_head, head_at, plan_at, plan_grown_as}
 use Rattle.vx_plan.specs.Refs.{number_of}
 use Rattle.vx_plan.specs.Rules.{node_at, nodes_at, IsMadeAs}
 use Rattle.vx_plan.specs.Tables.{IsGoodTable}
@@ -57,6 +57,7 @@ second_plan kinds.RowIdx nodes node other ns head codes values made these is = a
 second_plan (kinds.SegmentScan segment coding) nodes node other ns head codes values made these is = absurd cc
 second_plan (kinds.Zoned zone_len stats) nodes node other ns head codes values made these is = absurd cc
 second_plan (kinds.LegacyStats zone_len stats) nodes node other ns head codes values made these is = absurd cc
+second_plan (kinds.Pruning zone_len stats proof) nodes node other ns head codes values made these is = absurd cc
 
 -- and that of their own number
 values_plan : (nodes : List Node) → IsGoodTable nodes → (m : ℕ) → m < length nodes → (head : Head) (codes values : Plan) → take_plan head codes values ≡ plan_at nodes m → (number : ℕ) → (plan_head values).number ≡ number → (number < length nodes) × (values ≡ plan_at nodes number)
@@ -126,6 +127,7 @@ asked_becomes nodes good P passes number w f none (list_plan head elements offse
 asked_becomes nodes good P passes number w f none (row_idx_plan head) row v = absurd v.0
 asked_becomes nodes good P passes number w f none (scan_plan head segment coding) row v = absurd v.0
 asked_becomes nodes good P passes number w f none (zoned_plan head zones content table) row v = absurd v.0
+asked_becomes nodes good P passes number w f none (pruning_plan head pruning table) row v = absurd v.0
 
 -- ---- selected rows
 

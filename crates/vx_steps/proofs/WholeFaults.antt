@@ -4,7 +4,7 @@ use Rattle.std.proofs.lemmas.Option.{slice_get_within}
 use Rattle.std.specs.Prelude.{nat_lt}
 use Rattle.vx_rows.specs.Derivations.{Leaves}
 use Rattle.vx_plan.specs.Nodes.{Node}
-use Rattle.vx_plan.specs.Plans.{Plan, Plans, PlanValidity, no_plans, plan, all_valid, valid_as, no_plan, plan_head, plan_at, concat_plan, eval_plan, filter_plan, pack_plan, take_plan, share_plan, list_plan, row_idx_plan, scan_plan, zoned_plan}
+use Rattle.vx_plan.specs.Plans.{Plan, Plans, PlanValidity, no_plans, plan, all_valid, valid_as, no_plan, plan_head, plan_at, concat_plan, eval_plan, filter_plan, pack_plan, take_plan, share_plan, list_plan, row_idx_plan, scan_plan, zoned_plan, pruning_plan}
 use Rattle.vx_plan.specs.Refs.{number_of}
 use Rattle.vx_plan.specs.Rules.{node_at}
 use Rattle.vx_steps.specs.declared.leaf_reads.LeafRead.{LeafRead}
@@ -47,6 +47,8 @@ mutual
   inside P (scan_plan head segment coding) row v = v
   inside P (zoned_plan head zones content table) row (inl v) = inl v
   inside P (zoned_plan head zones content table) row (inr v) = inr (inside P content row v)
+  inside P (pruning_plan head pruning table) row (inl v) = inl v
+  inside P (pruning_plan head pruning table) row (inr (other, less, v)) = inr (other, less, inside P table other v)
 
   inside_in : (P : Test) (ps : Plans) (row : ℕ) → VisitsIn P None ps row → VisitsIn (Inside P) None ps row
   inside_in P no_plans row v = v

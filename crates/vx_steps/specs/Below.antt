@@ -1,6 +1,6 @@
 -- What stands in a plan, and what stands below its takes.
 use Rattle.std.specs.Prelude.{◌⊎◌}
-use Rattle.vx_plan.specs.Plans.{Plan, no_plan, concat_plan, eval_plan, filter_plan, pack_plan, take_plan, share_plan, list_plan, row_idx_plan, scan_plan, zoned_plan, Plans, no_plans, plan, PlanValidity, all_valid, valid_as}
+use Rattle.vx_plan.specs.Plans.{Plan, no_plan, concat_plan, eval_plan, filter_plan, pack_plan, take_plan, share_plan, list_plan, row_idx_plan, scan_plan, zoned_plan, pruning_plan, Plans, no_plans, plan, PlanValidity, all_valid, valid_as}
 
 -- P of the plan, or of some plan below it, whether or not a row is derived from that
 abbrev mutual
@@ -16,6 +16,7 @@ abbrev mutual
   StandsIn P (row_idx_plan head) = P (row_idx_plan head)
   StandsIn P (scan_plan head segment coding) = P (scan_plan head segment coding)
   StandsIn P (zoned_plan head zones content table) = P (zoned_plan head zones content table) ⊎ (StandsIn P content ⊎ StandsIn P table)
+  StandsIn P (pruning_plan head pruning table) = P (pruning_plan head pruning table) ⊎ StandsIn P table
 
   pub StandsAmong : (Plan → Type 0) → Plans → Type 0
   StandsAmong P no_plans = ⊥

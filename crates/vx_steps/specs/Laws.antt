@@ -3,7 +3,7 @@ use Rattle.std.specs.List.{slice_get}
 use Rattle.std.specs.Prelude.{◌≡◌, ℕ, ◌+◌, ◌<◌, ◌≤◌, ◌⊎◌, [], Bool, List, Some, None, IfSome, IsSomeAnd, length}
 use Rattle.vx_expr.specs.Meaning.{meaning}
 use Rattle.vx_expr.specs.Rows.{no_bound}
-use Rattle.vx_rows.specs.Derivations.{Derivation, nothing, of_leaf, list_row, given, packed, valid_where, looked_up, worked_out, read_whole, Derivations, no_more, also, Leaves, derived}
+use Rattle.vx_rows.specs.Derivations.{Derivation, nothing, of_leaf, list_row, given, packed, valid_where, looked_up, worked_out, read_whole, concluded, Derivations, no_more, also, Leaves, derived}
 use Rattle.vx_rows.specs.Given.{GivenValues, with_given}
 use Rattle.vx_rows.specs.Reads.{directly, Found, a_code, a_list_row, Read, reads_of, Finds, FindsBy, IsIn, IsCodeOf, IsBadCode}
 use Rattle.vx_picking.specs.Rows.{SomeRow}
@@ -11,7 +11,7 @@ use Rattle.vx_plan.specs.FittingRows.{HasFittingRows}
 use Rattle.vx_plan.specs.Kinds.{HasKind, IsShare}
 use Rattle.vx_plan.specs.Laws.{IsReadBy}
 use Rattle.vx_plan.specs.Nodes.{Node}
-use Rattle.vx_plan.specs.Plans.{Plan, no_plan, concat_plan, eval_plan, filter_plan, pack_plan, take_plan, share_plan, list_plan, row_idx_plan, scan_plan, zoned_plan, Plans, no_plans, plan, PlanValidity, all_valid, valid_as, plan_at, plan_head}
+use Rattle.vx_plan.specs.Plans.{Plan, no_plan, concat_plan, eval_plan, filter_plan, pack_plan, take_plan, share_plan, list_plan, row_idx_plan, scan_plan, zoned_plan, pruning_plan, Plans, no_plans, plan, PlanValidity, all_valid, valid_as, plan_at, plan_head}
 use Rattle.vx_plan.specs.PlanRows.{plan_derivation, plan_reads}
 use Rattle.vx_plan.specs.Refs.{number_of}
 use Rattle.vx_plan.specs.Rules.{node_at}
@@ -103,6 +103,7 @@ abbrev mutual
   GivenFits handed (row_idx_plan head) = Unit {0}
   GivenFits handed (scan_plan head segment coding) = Unit {0}
   GivenFits handed (zoned_plan head zones content table) = GivenFits handed content
+  GivenFits handed (pruning_plan head pruning table) = GivenFits handed table
 
   pub GivenFitsEach : Handed → Plans → Type 0
   GivenFitsEach handed no_plans = Unit {0}
@@ -144,6 +145,7 @@ abbrev mutual
   HasPart P (looked_up dictionary row code values) = P (looked_up dictionary row code values) ⊎ (HasPart P code ⊎ HavePart P values)
   HasPart P (worked_out t e d) = P (worked_out t e d) ⊎ HasPart P d
   HasPart P (read_whole share row d ds) = P (read_whole share row d ds) ⊎ (HasPart P d ⊎ HavePart P ds)
+  HasPart P (concluded rule ds) = P (concluded rule ds) ⊎ HavePart P ds
 
   pub HavePart : (Derivation → Type 0) → Derivations → Type 0
   HavePart P no_more = ⊥

@@ -34,6 +34,7 @@ pub mod Pieces
 pub mod Placed
 pub mod Places
 pub mod PlanMarks
+pub mod Pruned
 pub mod ReadTable
 pub mod ReadTableData
 pub mod Releasing

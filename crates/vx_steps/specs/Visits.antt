@@ -8,7 +8,7 @@ use Rattle.vx_expr.specs.Rows.{no_bound}
 use Rattle.vx_rows.specs.Derivations.{Leaves}
 use Rattle.vx_rows.specs.Reads.{IsPlaceAmong}
 use Rattle.vx_picking.specs.Rows.{SomeRow}
-use Rattle.vx_plan.specs.Plans.{Plan, no_plan, concat_plan, eval_plan, filter_plan, pack_plan, take_plan, share_plan, list_plan, row_idx_plan, scan_plan, zoned_plan, Plans, no_plans, plan, PlanValidity, all_valid, valid_as, plan_head}
+use Rattle.vx_plan.specs.Plans.{Plan, no_plan, concat_plan, eval_plan, filter_plan, pack_plan, take_plan, share_plan, list_plan, row_idx_plan, scan_plan, zoned_plan, pruning_plan, Plans, no_plans, plan, PlanValidity, all_valid, valid_as, plan_head}
 use Rattle.vx_steps.specs.declared.leaf_reads.LeafRead.{LeafRead}
 use Rattle.vx_steps.specs.Given.{Handed, values_for, row_value}
 
@@ -17,7 +17,8 @@ Test = Handed → Plan → ℕ → Type 0
 
 -- A concat's row visits that of the child that holds it; a pack's visits each field and the validity; a take's the
 -- codes and, where no values are handed in, every row of the values; a share's, where none are, every row of the
--- child. While whole values are made, nothing that was handed in counts.
+-- child; whether a row's zone is pruned visits every row of the zones. While whole values are made, nothing that was handed
+-- in counts.
 abbrev mutual
   pub Visits : Test → Handed → Plan → ℕ → Type 0
   Visits P handed (no_plan head) row = P handed (no_plan head) row
@@ -35,6 +36,8 @@ abbrev mutual
   Visits P handed (row_idx_plan head) row = P handed (row_idx_plan head) row
   Visits P handed (scan_plan head segment coding) row = P handed (scan_plan head segment coding) row
   Visits P handed (zoned_plan head zones content table) row = P handed (zoned_plan head zones content table) row ⊎ Visits P handed content row
+  Visits P handed (pruning_plan head pruning table) row =
+      P handed (pruning_plan head pruning table) row ⊎ ((other : ℕ) × (other < (plan_head table).rows) × Visits P handed table other)
 
   -- of plans one after another
   pub VisitsIn : Test → Handed → Plans → ℕ → Type 0

@@ -2,6 +2,7 @@
 //! and outermost shares.
 
 ghost use Rattle.std.specs.Prelude.{◌+◌, ◌-◌, ◌<◌, ◌≤◌, [], length, map, slice_range, IfOk, OnOk};
+ghost use Rattle.vx_plan.specs.Reaches.{all_rows};
 ghost use Rattle.vx_plan.specs.Refs.{number_of};
 ghost use Rattle.vx_plan.specs.Rules.{node_at};
 ghost use Rattle.vx_plan.specs.Tables.{AreIn};
@@ -42,6 +43,7 @@ fn add_asked(
         match next.part {
             Part::Rows(rows) => add_rows_asked(alloc, table, rows, mask, asked)?,
             Part::Whole(whole, _) => asked.push(whole)?,
+            Part::All(child) => add_zones_asked(alloc, table, child, asked)?,
         }
         place = next.behind;
     }
@@ -72,6 +74,24 @@ fn add_rows_asked(
     }
     let some = mask.slice(alloc, rows.from..rows.to)?;
     add_asked(alloc, table, rows.child, rows.start, &some, asked)
+}
+
+/// Adds the numbers of the whole values that all rows of a plan ask for. Where none of them asks for any, no mask is made.
+#[cycle(asked)]
+fn add_zones_asked(
+    alloc: Global,
+    table: &PlanTable,
+    plan: u32,
+    asked: &mut Vec<u32>,
+) -> Result<(), AllocError>
+    requires { plan < length table.now }
+    ensures { OnOk result (Adds (Asks table.now [] plan 0 (all_rows (node_at table.now plan).rows)) asked.old.items asked.new.items) }
+{
+    if asks_none(table, plan) {
+        return Ok(());
+    }
+    let all = Mask::new_true(alloc, table.row_count(PlanRef(plan)))?;
+    add_asked(alloc, table, plan, 0, &all, asked)
 }
 
 /// The plans of these numbers, each once, in the order in which they come first.

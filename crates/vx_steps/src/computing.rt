@@ -7,7 +7,7 @@ ghost use Rattle.std.specs.Option.{option_copied};
 ghost use Rattle.vx_base.specs.ColumnCalls.{IsFitting};
 ghost use Rattle.vx_base.specs.Masks.{true_count};
 ghost use Rattle.vx_picking.specs.Rows.{SelectsSome};
-ghost use Rattle.vx_plan.specs.declared.shapes.Shape.TheVariants.{Chunks, Fields, LookUp, Over, Shared};
+ghost use Rattle.vx_plan.specs.declared.shapes.Shape.TheVariants.{Chunks, Fields, LookUp, Over, Pruned, Shared};
 ghost use Rattle.vx_plan.specs.Kinds.{HasKind, IsPack};
 ghost use Rattle.vx_plan.specs.Rules.{node_at};
 ghost use Rattle.vx_plan.specs.Shapes.{HasShape};
@@ -20,6 +20,7 @@ use crate::errors::StepError;
 use crate::kept::KeptColumns;
 use crate::leaf_columns::LeafColumns;
 use crate::picking::{joined, looked_up, picked_range, selects_none, structs, worked_out};
+use crate::pruned::pruned_of;
 use std::alloc::Global;
 use std::ops::Range;
 use vx_base::{Column, Mask};
@@ -50,12 +51,12 @@ impl<'a> Sources<'a> {
         self.made.find(plan)
     }
 
-    /// The column of a plan, where it scans a segment.
-    fn leaf(self, plan: u32) -> Option<&'a Column>
-        requires { plan < length self.table.now }
+    /// The column of a plan of a shape, where that is to scan a segment.
+    fn leaf(self, plan: u32, shape: Shape) -> Option<&'a Column>
+        requires { HasShape self.table.now plan shape }
         ensures { IfSome (option_copied result) (IsLeafColumn (held self.entry) plan) }
     {
-        match self.table.shape(PlanRef(plan)) {
+        match shape {
             Shape::Leaf(_) => self.leaves.find(plan),
             _ => None,
         }
@@ -92,6 +93,7 @@ pub(crate) fn column_of(
         Shape::Over(child) => eval_of(alloc, from, plan, child, start, mask),
         Shape::Shared(child) => share_of(alloc, from, plan, child, start, mask),
         Shape::RowNumbers => numbers_of(alloc, from, plan, start, mask),
+        Shape::Pruned(zones) => prune_of(alloc, from, plan, zones, start, mask),
         Shape::Lists => Err(StepError::Unsupported(PlanRef(plan))),
     }
 }
@@ -212,10 +214,11 @@ fn range_of(
     ensures rows { IfOk result (λ column. length column.values ≡ true_count (slice_range mask.now range.start range.end)) }
     ensures computed { Computes (held from.entry) plan start (slice_range mask.now range.start range.end) result }
 {
-    if let Shape::Same(child) = from.table.shape(PlanRef(plan)) {
+    let shape = from.table.shape(PlanRef(plan));
+    if let Shape::Same(child) = shape {
         return range_of(alloc, from, child, start, mask, selects_all, range);
     }
-    if let Some(column) = from.leaf(plan) {
+    if let Some(column) = from.leaf(plan, shape) {
         return Ok(picked_range(alloc, column, start, mask, selects_all, range)?);
     }
     let some = mask.slice(alloc, range)?;
@@ -357,6 +360,35 @@ fn share_of(
             let rows = rows?;
             Ok(rows)
         }
+        Err(error) => Err(error),
+    }
+}
+
+/// Of each selected row of a pruning plan whether its zone is pruned, by all rows of its zones.
+#[cycle(computing)]
+fn prune_of(
+    alloc: Global,
+    from: Sources<'_>,
+    plan: u32,
+    zones: u32,
+    start: u64,
+    mask: &Mask,
+) -> Result<Column, StepError>
+    requires good { IsGoodTable from.table.now }
+    requires known { plan < length from.table.now }
+    requires pruning { HasShape from.table.now plan (Pruned zones) }
+    requires inside { start + length mask.now ≤ (node_at from.table.now plan).rows }
+    requires some { SelectsSome mask.now }
+    requires held { IsHeld (held from) }
+    requires ready { AreReady (held from) plan start mask.now }
+    ensures dtype { IfOk result (λ column. column.dtype ≡ (node_at from.entry.table.now plan).dtype) }
+    ensures rows { IfOk result (λ column. length column.values ≡ true_count mask.now) }
+    ensures computed { Computes (held from.entry) plan start mask.now result }
+{
+    from.table.numbers_fit(PlanRef(plan));
+    let all = Mask::new_true(alloc, from.table.row_count(PlanRef(zones)))?;
+    match column_of(alloc, from, zones, 0, &all) {
+        Ok(told) => pruned_of(alloc, from.table, plan, told, start, mask),
         Err(error) => Err(error),
     }
 }

@@ -1,6 +1,6 @@
 //! What is found at the first step: up to which split each leaf is read, and which of the leaves that were handed in rows read.
 
-ghost use Rattle.std.specs.Prelude.{◌≡◌, ◌+◌, ◌<◌, ◌^◌, ℕ, length, true, IfSome, MatchOption, OnErr, OnOk};
+ghost use Rattle.std.specs.Prelude.{◌≡◌, ◌+◌, ◌<◌, ◌^◌, length, true, IfSome, OnErr, OnOk};
 ghost use Rattle.std.specs.List.{AllByRecursion};
 ghost use Rattle.vx_plan.specs.Rules.{node_at};
 ghost use Rattle.vx_steps.specs.Splits.{IsInside};
@@ -13,12 +13,12 @@ ghost use Rattle.vx_steps.specs.Running.{IsRunning, IsSound};
 use crate::jobs::{Job, Progress};
 use crate::later_reads::LaterReads;
 use crate::leaf_columns::LeafColumns;
-use crate::leaf_reads::LeafRead;
+use crate::leaf_reads::{LeafRead, leaf_at};
 use crate::leavings::{meet_row, row_behind};
 use crate::needed::Needed;
 use crate::placed_reads::{PlacedRead, placed_of};
 use std::alloc::{AllocError, Global};
-use vx_plan::{PlanRef, PlanTable, Shape};
+use vx_plan::PlanTable;
 
 /// Notes what the split of a number reads.
 fn note_split(needs: &[PlacedRead], number: usize, later: &mut LaterReads) -> Result<(), AllocError>
@@ -124,21 +124,8 @@ fn hold_leaf(
     Ok(())
 }
 
-/// The segment of a leaf, where the plan of that number is one.
-fn segment_of(table: &PlanTable, plan: u32) -> Option<u32>
-    ensures { MatchOption result ((segment : ℕ) → IsLeafOver table.now segment plan → ⊥) (λ segment. IsLeafOver table.now segment plan) }
-{
-    if plan >= table.len() {
-        return None;
-    }
-    if let Shape::Leaf(segment) = table.shape(PlanRef(plan)) {
-        return Some(segment);
-    }
-    None
-}
-
-/// The leaf whose column is stored at a place, and its segment, where there is one.
-fn leaf_at(table: &PlanTable, leaves: &LeafColumns, place: usize) -> Option<LeafRead>
+/// The leaf whose column is stored at a place, where there is one.
+fn stored_leaf(table: &PlanTable, leaves: &LeafColumns, place: usize) -> Option<LeafRead>
     ensures { IfSome result (λ read. IsLeafOver table.now read.segment read.leaf × IsKept leaves.now.all read.leaf) }
 {
     let columns = leaves.stored();
@@ -146,8 +133,11 @@ fn leaf_at(table: &PlanTable, leaves: &LeafColumns, place: usize) -> Option<Leaf
         return None;
     }
     let leaf = columns[place].node.0;
-    match segment_of(table, leaf) {
-        Some(segment) => Some(LeafRead { leaf, segment }),
+    if leaf >= table.len() {
+        return None;
+    }
+    match leaf_at(table, leaf) {
+        Some(read) => Some(read),
         None => None,
     }
 }
@@ -166,7 +156,7 @@ pub(crate) fn hold_handed(
     ensures keeps { KeepsStanding progress.old progress.new }
 {
     for place in 0..progress.store.columns.stored().len() {
-        if let Some(read) = leaf_at(table, &progress.store.columns, place) {
+        if let Some(read) = stored_leaf(table, &progress.store.columns, place) {
             hold_leaf(alloc, read.leaf, read.segment, job.splits.len(), progress)?;
         }
     }

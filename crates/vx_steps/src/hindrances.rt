@@ -63,6 +63,10 @@ fn hindrance_of_rows(
             let rows = table.row_count(PlanRef(child));
             hindrance_of_rows(table, child, 0, rows, places)
         }
+        Shape::Pruned(zones) => {
+            let rows = table.row_count(PlanRef(zones));
+            hindrance_of_rows(table, zones, 0, rows, places)
+        }
         Shape::Lists => Some(Hindrance::List(plan)),
         Shape::RowNumbers => None,
     }

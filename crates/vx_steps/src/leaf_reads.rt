@@ -1,10 +1,12 @@
 //! Which leaves the selected rows of a plan read.
 
-ghost use Rattle.std.specs.Prelude.{◌≡◌, ◌+◌, ◌-◌, ◌<◌, ◌≤◌, [], ◌∷◌, ◌++◌, length, option_map, OnOk};
+ghost use Rattle.std.specs.Prelude.{◌≡◌, ◌+◌, ◌-◌, ◌<◌, ◌≤◌, [], ◌∷◌, ◌++◌, length, option_map, IfSome, OnOk};
 ghost use Rattle.std.specs.Bool.{MatchBool};
-ghost use Rattle.vx_plan.specs.declared.parts.Part.TheVariants.{Rows};
+ghost use Rattle.vx_plan.specs.declared.parts.Part.TheVariants.{All, Rows};
+ghost use Rattle.vx_plan.specs.declared.shapes.Shape.TheVariants.{Leaf};
 ghost use Rattle.vx_plan.specs.Plans.{plan_at};
 ghost use Rattle.vx_plan.specs.Rules.{node_at};
+ghost use Rattle.vx_plan.specs.Shapes.{HasShape};
 ghost use Rattle.vx_steps.specs.Given.{handed_by};
 ghost use Rattle.vx_steps.specs.Needs.{Adds, AreLeaves, IsUnderWhole, NoneGiven};
 ghost use Rattle.vx_steps.specs.PartVisits.{PartVisits};
@@ -21,6 +23,22 @@ use vx_plan::{ChildRows, Part, PartPlace, PlanRef, PlanTable, Shape};
 pub struct LeafRead {
     pub(crate) leaf: u32,
     pub(crate) segment: u32,
+}
+
+/// The leaf of the number, where the plan is one.
+pub(crate) fn leaf_at(table: &PlanTable, plan: u32) -> Option<LeafRead>
+    requires { plan < length table.now }
+    ensures { IfSome result (λ leaf. (leaf.leaf ≡ plan) × HasShape table.now plan (Leaf leaf.segment)) }
+{
+    match table.shape(PlanRef(plan)) {
+        Shape::Leaf(segment) => {
+            Some(LeafRead {
+                leaf: plan,
+                segment,
+            })
+        }
+        _ => None,
+    }
 }
 
 /// Whether whole values were handed in for the number.
@@ -71,6 +89,7 @@ pub(crate) fn add_reads(
             Part::Whole(whole, child) => {
                 add_whole_reads(alloc, table, given, whole, child, reads)?
             }
+            Part::All(child) => add_all_reads(alloc, table, given, child, reads)?,
         }
         place = next.behind;
     }
@@ -99,6 +118,23 @@ fn add_row_reads(
     }
     let some = mask.slice(alloc, rows.from..rows.to)?;
     add_reads(alloc, table, given, rows.child, rows.start, &some, reads)
+}
+
+/// Adds the leaves that all rows of a plan read.
+#[cycle(leaf_reads)]
+fn add_all_reads(
+    alloc: Global,
+    table: &PlanTable,
+    given: Option<&KeptColumns>,
+    plan: u32,
+    reads: &mut Vec<LeafRead>,
+) -> Result<(), AllocError>
+    requires known { plan < length table.now }
+    ensures added { OnOk result (Adds (λ read. PartVisits (IsLeafRead read) table.now (option_map (λ kept. kept.now) given.entry) [] (All plan)) reads.old.items reads.new.items) }
+    ensures leaves { OnOk result (AreLeaves table.now reads.old.items → AreLeaves table.now reads.new.items) }
+{
+    let all = Mask::new_true(alloc, table.row_count(PlanRef(plan)))?;
+    add_reads(alloc, table, given, plan, 0, &all, reads)
 }
 
 /// Adds the leaves that all rows of a plan read, unless whole values were handed in for the number.

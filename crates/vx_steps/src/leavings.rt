@@ -152,6 +152,9 @@ fn meet_rows(table: &PlanTable, plan: u32, start: u64, count: u64, sieve: &mut S
             Part::Whole(_, child) => {
                 meet_rows(table, child, 0, table.row_count(PlanRef(child)), sieve)
             }
+            Part::All(child) => {
+                meet_rows(table, child, 0, table.row_count(PlanRef(child)), sieve)
+            }
         }
         place = next.behind;
     }

@@ -33,6 +33,7 @@ mod placed_reads;
 mod places;
 mod plan_marks;
 mod progress;
+mod pruned;
 mod reads;
 mod scan;
 mod segment_runs;

@@ -4,17 +4,17 @@ ghost use Rattle.std.specs.Prelude.{◌≡◌, ◌+◌, ◌-◌, ◌<◌, ◌≤
 ghost use Rattle.std.specs.List.{All};
 ghost use Rattle.std.specs.List.Sorted.{IsNonDecreasingBy, IsPermutation};
 ghost use Rattle.vx_picking.specs.Rows.{SelectsNone};
-ghost use Rattle.vx_plan.specs.declared.shapes.Shape.TheVariants.{Leaf};
 ghost use Rattle.vx_plan.specs.Nodes.{Node};
+ghost use Rattle.vx_plan.specs.Reaches.{all_rows};
 ghost use Rattle.vx_plan.specs.Rules.{node_at};
-ghost use Rattle.vx_plan.specs.Shapes.{HasShape};
 ghost use Rattle.vx_steps.specs.KeptData.{Kept};
 ghost use Rattle.vx_steps.specs.Needs.{AreLeaves};
 ghost use Rattle.vx_steps.specs.Pieces.{read_of, AreInOrder, ArePlaced};
-ghost use Rattle.vx_steps.specs.Placed.{up_to, AddsPlaced, AddsUnder, AreEnds, AskForNone, IsLeafUnder};
+ghost use Rattle.vx_steps.specs.declared.placed_reads.Spot.TheVariants.{Whichever};
+ghost use Rattle.vx_steps.specs.Placed.{ends_at, first_at, last_at, moved, up_to, AddsPlaced, AddsUnder, AreEnds, AskForNone, IsLeafUnder, SpotFits};
 
 use crate::kept::KeptColumns;
-use crate::leaf_reads::{LeafRead, add_whole_reads};
+use crate::leaf_reads::{LeafRead, add_whole_reads, leaf_at};
 use std::alloc::{AllocError, Global};
 use vx_base::Mask;
 use vx_plan::{ChildRows, Part, PartPlace, PlanRef, PlanTable, Shape};
@@ -41,6 +41,61 @@ pub(crate) struct PlacedNeeds {
 pub(crate) struct Ends {
     pub(crate) first: u64,
     pub(crate) last: u64,
+}
+
+/// Where rows stand: behind so many others; or, where all rows are asked for, whichever they are, at the places of the
+/// first and of the last row that ask for them.
+#[derive(Clone, Copy)]
+pub(crate) enum Spot {
+    Behind(u64),
+    Whichever(Ends),
+}
+
+impl Spot {
+    /// The place up to which the row at a place waits.
+    fn first_at(self, place: u64) -> u64
+        requires { SpotFits self (place + 1) }
+        ensures { result ≡ first_at self place }
+    {
+        match self {
+            Spot::Behind(base) => base + place,
+            Spot::Whichever(ends) => ends.first,
+        }
+    }
+
+    /// The place behind which it isn't needed.
+    fn last_at(self, place: u64) -> u64
+        requires { SpotFits self (place + 1) }
+        ensures { result ≡ last_at self place }
+    {
+        match self {
+            Spot::Behind(base) => base + place,
+            Spot::Whichever(ends) => ends.last,
+        }
+    }
+
+    /// The spot of rows that stand behind so many more.
+    fn moved(self, by: u64) -> Spot
+        requires { SpotFits self by }
+        ensures { result ≡ moved self by }
+    {
+        match self {
+            Spot::Behind(base) => Spot::Behind(base + by),
+            Spot::Whichever(ends) => Spot::Whichever(ends),
+        }
+    }
+
+    /// The places of the first and of the last of some rows.
+    fn ends_at(self, ends: Ends) -> Ends
+        requires first { SpotFits self (ends.first + 1) }
+        requires last { SpotFits self (ends.last + 1) }
+        ensures { result ≡ ends_at self ends }
+    {
+        Ends {
+            first: self.first_at(ends.first),
+            last: self.last_at(ends.last),
+        }
+    }
 }
 
 /// The places of the first and of the last selected row, where there is one.
@@ -108,22 +163,6 @@ fn add_need(
     Ok(())
 }
 
-/// The leaf of the number, where the plan is one.
-fn leaf_at(table: &PlanTable, plan: u32) -> Option<LeafRead>
-    requires { plan < length table.now }
-    ensures { IfSome result (λ leaf. (leaf.leaf ≡ plan) × HasShape table.now plan (Leaf leaf.segment)) }
-{
-    match table.shape(PlanRef(plan)) {
-        Shape::Leaf(segment) => {
-            Some(LeafRead {
-                leaf: plan,
-                segment,
-            })
-        }
-        _ => None,
-    }
-}
-
 /// The leaf whose rows are those of a plan, where the plan is a leaf, or a filter over one.
 fn leaf_under(table: &PlanTable, plan: u32) -> Option<LeafRead>
     requires { plan < length table.now }
@@ -148,33 +187,28 @@ fn add_leaf_rows(
     rows: ChildRows,
     mask: &Mask,
     selects_all: bool,
-    base: u64,
+    spot: Spot,
     needs: &mut Vec<PlacedRead>,
 ) -> Result<(), AllocError>
     requires all { IsTrue selects_all → All (λ bit. bit ≡ true) mask.now }
     requires forwards { rows.from ≤ rows.to }
     requires asked { rows.to ≤ length mask.now }
-    requires base { base + length mask.now < 2 ^ 64 }
-    ensures { OnOk result ((nodes : List Node) (given : List Kept) → rows.child < length nodes → IsLeafUnder nodes rows.child leaf → AddsPlaced nodes given rows.child rows.start (slice_range mask.now rows.from rows.to) (base + rows.from) needs.old.items needs.new.items) }
+    requires fits { SpotFits spot (length mask.now) }
+    ensures { OnOk result ((nodes : List Node) (given : List Kept) → rows.child < length nodes → IsLeafUnder nodes rows.child leaf → AddsPlaced nodes given rows.child rows.start (slice_range mask.now rows.from rows.to) (moved spot rows.from) needs.old.items needs.new.items) }
 {
-    let behind = base + rows.from;
+    let behind = spot.moved(rows.from);
     match ends_in(alloc, mask, selects_all, rows.from, rows.to) {
         Ok(Some(ends)) => {
-            add_need(
-                leaf.leaf,
-                leaf.segment,
-                behind + ends.first,
-                behind + ends.last,
-                needs,
-            )
+            let ends = behind.ends_at(ends);
+            add_need(leaf.leaf, leaf.segment, ends.first, ends.last, needs)
         }
         Ok(None) => Ok(()),
         Err(error) => Err(error),
     }
 }
 
-/// Adds the leaves that the selected rows of a plan read, and notes whether these ask for whole values. Its first row
-/// stands at a place behind the base.
+/// Adds the leaves that the selected rows of a plan read, and notes whether these ask for whole values. The rows stand at
+/// the spot.
 #[cycle(placed_reads)]
 pub(crate) fn add_placed(
     alloc: Global,
@@ -184,23 +218,23 @@ pub(crate) fn add_placed(
     start: u64,
     mask: &Mask,
     selects_all: bool,
-    base: u64,
+    spot: Spot,
     needs: &mut Vec<PlacedRead>,
     asks: &mut bool,
 ) -> Result<(), AllocError>
     requires known { plan < length table.now }
     requires all { IsTrue selects_all → All (λ bit. bit ≡ true) mask.now }
     requires inside { start + length mask.now ≤ (node_at table.now plan).rows }
-    requires base { base + length mask.now < 2 ^ 64 }
-    ensures added { OnOk result (AddsPlaced table.now given.now plan start mask.now base needs.old.items needs.new.items) }
+    requires fits { SpotFits spot (length mask.now) }
+    ensures added { OnOk result (AddsPlaced table.now given.now plan start mask.now spot needs.old.items needs.new.items) }
     ensures asks { OnOk result (asks.new ≡ false → (asks.old ≡ false) × AskForNone table.now given.now plan start mask.now) }
 {
     let ends = match ends_of(mask) {
-        Some(ends) => ends,
+        Some(ends) => spot.ends_at(ends),
         None => return Ok(()),
     };
     if let Shape::Leaf(segment) = table.shape(PlanRef(plan)) {
-        return add_need(plan, segment, base + ends.first, base + ends.last, needs);
+        return add_need(plan, segment, ends.first, ends.last, needs);
     }
     let mut place = PartPlace::first();
     while let Some(next) = table.next_part(PlanRef(plan), start, mask.len(), place) {
@@ -212,14 +246,15 @@ pub(crate) fn add_placed(
                 rows,
                 mask,
                 selects_all,
-                base,
+                spot,
                 needs,
                 asks,
             )?,
             Part::Whole(whole, child) => {
-                add_under(alloc, table, given, whole, child, base + ends.last, needs)?;
+                add_under(alloc, table, given, whole, child, ends.last, needs)?;
                 *asks = true;
             }
+            Part::All(child) => add_placed_zones(alloc, table, given, child, ends, needs, asks)?,
         }
         place = next.behind;
     }
@@ -236,7 +271,7 @@ fn add_placed_rows(
     rows: ChildRows,
     mask: &Mask,
     selects_all: bool,
-    base: u64,
+    spot: Spot,
     needs: &mut Vec<PlacedRead>,
     asks: &mut bool,
 ) -> Result<(), AllocError>
@@ -245,12 +280,12 @@ fn add_placed_rows(
     requires forwards { rows.from ≤ rows.to }
     requires asked { rows.to ≤ length mask.now }
     requires inside { rows.start + (rows.to - rows.from) ≤ (node_at table.now rows.child).rows }
-    requires base { base + length mask.now < 2 ^ 64 }
-    ensures added { OnOk result (AddsPlaced table.now given.now rows.child rows.start (slice_range mask.now rows.from rows.to) (base + rows.from) needs.old.items needs.new.items) }
+    requires fits { SpotFits spot (length mask.now) }
+    ensures added { OnOk result (AddsPlaced table.now given.now rows.child rows.start (slice_range mask.now rows.from rows.to) (moved spot rows.from) needs.old.items needs.new.items) }
     ensures asks { OnOk result (asks.new ≡ false → (asks.old ≡ false) × AskForNone table.now given.now rows.child rows.start (slice_range mask.now rows.from rows.to)) }
 {
     if let Some(leaf) = leaf_under(table, rows.child) {
-        return add_leaf_rows(alloc, leaf, rows, mask, selects_all, base, needs);
+        return add_leaf_rows(alloc, leaf, rows, mask, selects_all, spot, needs);
     }
     if rows.from == 0 && rows.to == mask.len() {
         return add_placed(
@@ -261,17 +296,39 @@ fn add_placed_rows(
             rows.start,
             mask,
             selects_all,
-            base,
+            spot,
             needs,
             asks,
         );
     }
     let some = mask.slice(alloc, rows.from..rows.to)?;
     let all = some.all_true();
-    let behind = base + rows.from;
+    let behind = spot.moved(rows.from);
     add_placed(
         alloc, table, given, rows.child, rows.start, &some, all, behind, needs, asks,
     )
+}
+
+/// Adds the leaves that all rows of a plan read, which rows ask for of which these are the places of the first and of the
+/// last one.
+#[cycle(placed_reads)]
+fn add_placed_zones(
+    alloc: Global,
+    table: &PlanTable,
+    given: &KeptColumns,
+    plan: u32,
+    ends: Ends,
+    needs: &mut Vec<PlacedRead>,
+    asks: &mut bool,
+) -> Result<(), AllocError>
+    requires { plan < length table.now }
+    ensures added { OnOk result (AddsPlaced table.now given.now plan 0 (all_rows (node_at table.now plan).rows) (Whichever ends) needs.old.items needs.new.items) }
+    ensures asks { OnOk result (asks.new ≡ false → (asks.old ≡ false) × AskForNone table.now given.now plan 0 (all_rows (node_at table.now plan).rows)) }
+{
+    let zones = Mask::new_true(alloc, table.row_count(PlanRef(plan)))?;
+    let all = zones.all_true();
+    let spot = Spot::Whichever(ends);
+    add_placed(alloc, table, given, plan, 0, &zones, all, spot, needs, asks)
 }
 
 /// Adds leaves for which all rows wait, and which no row behind the last place reads.
@@ -344,7 +401,7 @@ pub(crate) fn needs_of(
         start,
         mask,
         selects_all,
-        0,
+        Spot::Behind(0),
         &mut needs,
         &mut asks,
     )?;

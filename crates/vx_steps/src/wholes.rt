@@ -3,6 +3,7 @@
 
 ghost use Rattle.std.specs.Prelude.{◌≡◌, ◌+◌, ◌-◌, ◌<◌, ◌≤◌, length, slice_range, Err, None, IfErr, IfOk, IsTrue, OnOk};
 ghost use Rattle.std.specs.Bool.{MatchBool};
+ghost use Rattle.vx_plan.specs.Reaches.{all_rows};
 ghost use Rattle.vx_plan.specs.Rules.{node_at};
 ghost use Rattle.vx_plan.specs.Tables.{IsGoodTable};
 ghost use Rattle.vx_steps.specs.Computed.{AreReadyWhole, Computes};
@@ -150,6 +151,10 @@ pub(crate) fn ready_wholes(
                     Err(error) => return Err(error),
                 }
             }
+            Part::All(child) => match ready_zones(alloc, grounds, child, wholes) {
+                Ok(()) => {}
+                Err(error) => return Err(error),
+            },
         }
         place = next.behind;
     }
@@ -167,6 +172,31 @@ pub(crate) fn asks_none(table: &PlanTable, plan: u32) -> bool
         Shape::Same(child) => asks_none(table, child),
         _ => false,
     }
+}
+
+/// Makes the whole values that all rows of a plan ask for. Where none of them asks for any, no mask is made.
+#[cycle(wholes)]
+fn ready_zones(
+    alloc: Global,
+    grounds: Grounds<'_>,
+    plan: u32,
+    wholes: &mut Wholes,
+) -> Result<(), StepError>
+    requires known { plan < length grounds.table.now }
+    requires held { IsHeld (held_with grounds wholes.old) }
+    requires ready { AreReadyInside (held_with grounds wholes.old) plan 0 (all_rows (node_at grounds.table.now plan).rows) }
+    ensures made { KeepsValues grounds.entry.table.now grounds.entry.leaves.now.here grounds.entry.offset wholes.old.made wholes.new.made }
+    ensures used { UsesGiven grounds.entry.given.now wholes.old.used wholes.new.used }
+    ensures there { OnOk result (AreThere grounds.entry.table.now grounds.entry.given.now wholes.new plan 0 (all_rows (node_at grounds.entry.table.now plan).rows)) }
+    ensures asked { AddsAsked grounds.entry.table.now grounds.entry.given.now plan 0 (all_rows (node_at grounds.entry.table.now plan).rows) wholes.old wholes.new }
+    ensures cause { IfErr result (λ error. Computes (held_with grounds.entry wholes.old) plan 0 (all_rows (node_at grounds.entry.table.now plan).rows) (Err error)) }
+    ensures inside { IfErr result (λ error. FailsInside (held_with grounds.entry wholes.old) plan 0 (all_rows (node_at grounds.entry.table.now plan).rows) error) }
+{
+    if asks_none(grounds.table, plan) {
+        return Ok(());
+    }
+    let all = Mask::new_true(alloc, grounds.table.row_count(PlanRef(plan)))?;
+    ready_wholes(alloc, grounds, plan, 0, &all, wholes)
 }
 
 /// Makes the whole values that rows of a child ask for which the mask selects at their places.

@@ -10,6 +10,9 @@ decreases-add_asked l = 2 * l.plan
 abbrev pub decreases-add_rows_asked : goal.decreases-add_rows_asked
 decreases-add_rows_asked l = 2 * l.rows.child + 1
 
+abbrev pub decreases-add_zones_asked : goal.decreases-add_zones_asked
+decreases-add_zones_asked l = 2 * l.plan + 1
+
 abbrev pub invariant-add_asked-loop-next : goal.invariant-add_asked-loop-next
 invariant-add_asked-loop-next l = (new : List ℕ) → Adds (PartsAsk l.table [] l.mask (parts_left l.table l.plan l.start (length l.mask) l.place)) l.asked.items new → Adds (PartsAsk l.table [] l.mask (parts_of l.table l.plan l.start (length l.mask))) l.fn.asked.items new
 

@@ -1,4 +1,4 @@
-use Rattle.std.proofs.Common.{arith, ◌≡◌, ◌+◌, ◌<◌, ◌≤◌, ℕ, List, [], ◌∷◌, ◌++◌, Bool, Some, None, Result, true, replicate, length, map, refl, sym, ap, ◌∙◌, subst}
+use Rattle.std.proofs.Common.{arith, ◌≡◌, ◌+◌, ◌<◌, ◌≤◌, ℕ, List, [], ◌∷◌, ◌++◌, Bool, Some, None, Result, Ok, Err, true, replicate, length, map, refl, sym, ap, ◌∙◌, subst}
 use Rattle.std.proofs.lemmas.Result.{IfOk-weaker, err_from_is_err_and}
 use Rattle.vx_base.specs.Columns.{ColumnData}
 use Rattle.vx_base.specs.Masks.{true_count}
@@ -6,7 +6,8 @@ use Rattle.std.proofs.lemmas.List.{take_all, length-replicate}
 use Rattle.std.proofs.lemmas.List.Concat.{length-flat_map}
 use Rattle.std.proofs.lemmas.List.Sums.{sum_by_push}
 use Rattle.std.specs.Prelude.{slice_range, IfOk}
-use Rattle.vx_base.specs.Data.{DataType}
+use Rattle.vx_base.specs.declared.dtypes.Nullability.TheVariants.{NonNullable}
+use Rattle.vx_base.specs.Data.{DataType, bool_type}
 use Rattle.vx_picking.proofs.MaskRanges.{all_pushed, count_more, length_between}
 use Rattle.vx_picking.proofs.SelectedRows.{count_none, picked_count}
 use Rattle.vx_plan.specs.Plans.{plan_at, plan_head}
@@ -20,13 +21,15 @@ use Rattle.vx_plan.specs.Kinds.{has_validity_of}
 use Rattle.vx_steps.specs.Structs.{structs_at}
 use Rattle.vx_steps.proofs.Selecting.{past_true}
 use Rattle.vx_steps.specs.Computed.{whole_in, AreChunkParts, AreReady, Computes, ComputesWhole}
+use Rattle.vx_plan.specs.Reaches.{all_rows}
 use Rattle.vx_plan.specs.Rules.{node_at}
 use Rattle.vx_steps.specs.Held.{alone, held}
 use Rattle.vx_steps.proofs.ChunkRows.{chunk_dtype, concat_plan_at}
 use Rattle.vx_steps.proofs.ComputedChunks.{chunk_failed, chunk_values}
 use Rattle.vx_steps.proofs.ComputedRows.{codes_failed, empty_computed, eval_computed, eval_failed, leaf_computed, same_computed, share_computed, share_made, share_there, shared_failed, take_computed, values_failed, whole_computed, whole_made, whole_memory, whole_there, whole_typed, zoned_computed}
+use Rattle.vx_steps.proofs.PrunedRows.{all_counted, pruned_failed, pruned_result, pruning_kind, ready_zones, told_of_zones}
 use Rattle.vx_steps.proofs.Readying.{nothing_given, ready_chunk, ready_field, ready_same, ready_shared, ready_values, ready_whole, ready_zoned}
-use Rattle.vx_steps.proofs.Shaping.{eval_at, leaf_plan, over_plan, pack_plan_at, same_law, same_plan, share_plan_at, take_plan_at, zoned_law, zoned_like_plan}
+use Rattle.vx_steps.proofs.Shaping.{eval_at, leaf_plan, over_plan, pack_plan_at, pruning_plan_at, same_law, same_plan, share_plan_at, take_plan_at, zoned_law, zoned_like_plan}
 use Rattle.vx_steps.proofs.computing.+computing.Goals as goal
 
 looked_dtype : (codes values out c v : DataType) → out ≡ nullable_where (nullability_of c) v → c ≡ codes → v ≡ values → out ≡ nullable_where (nullability_of codes) values
@@ -317,6 +320,46 @@ pub share_of-returns-in-Err-clause-computed : goal.share_of-returns-in-Err-claus
 share_of-returns-in-Err-clause-computed g c =
     let over = share_plan_at c.args.from.table.now c.requires.good c.args.plan c.args.child c.requires.known c.requires.share in
     shared_failed (held c.args.from) c.args.plan c.args.child c.args.start c.args.mask.now c.in-Err.error over (sym c.in_default.ensures) c.requires.some c.in-Err.ensures.computed
+
+-- ---- whether zones are pruned
+
+pub prune_of-column_of-requires : goal.prune_of-column_of-requires
+prune_of-column_of-requires g c =
+    let over = pruning_plan_at c.args.from.table.now c.requires.good c.args.plan c.args.zones c.requires.known c.requires.pruning in
+    let lt : c.args.zones < c.args.plan = over.lower in
+    let bits : c.in_ok-all.all ≡ all_rows (node_at c.args.from.table.now c.args.zones).rows = c.in_ok-all.ensures ∙ ap (λ (rows : ℕ). replicate rows true) c.row_count.ensures in
+    let count : length c.in_ok-all.all ≡ (node_at c.args.from.table.now c.args.zones).rows = ap length bits ∙ length-replicate (node_at c.args.from.table.now c.args.zones).rows true in
+    let F : List Bool → Type 0 = λ bs. AreReady (held c.args.from) c.args.zones 0 bs in
+    (omega arith, (over.known, (omega arith, (c.requires.held, subst F (sym bits) (ready_zones (held c.args.from) c.args.plan c.args.zones c.args.start c.args.mask.now over c.requires.some c.requires.ready)))))
+
+pub prune_of-pruned_of-requires-clause-pruning : goal.prune_of-pruned_of-requires-clause-pruning
+prune_of-pruned_of-requires-clause-pruning g c =
+    pruning_kind c.args.from.table.now c.args.plan c.args.zones c.requires.known (pruning_plan_at c.args.from.table.now c.requires.good c.args.plan c.args.zones c.requires.known c.requires.pruning)
+
+pub prune_of-pruned_of-requires-clause-told : goal.prune_of-pruned_of-requires-clause-told
+prune_of-pruned_of-requires-clause-told g c =
+    let over = pruning_plan_at c.args.from.table.now c.requires.good c.args.plan c.args.zones c.requires.known c.requires.pruning in
+    let bits : c.in_ok-all.all ≡ all_rows (node_at c.args.from.table.now c.args.zones).rows = c.in_ok-all.ensures ∙ ap (λ (rows : ℕ). replicate rows true) c.row_count.ensures in
+    told_of_zones c.args.from.table.now c.args.plan c.args.zones c.in-Ok.told over c.in-Ok.ensures.dtype (c.in-Ok.ensures.rows ∙ ap true_count bits ∙ all_counted (node_at c.args.from.table.now c.args.zones).rows)
+
+pub prune_of-returns-in-Ok-clause-dtype : goal.prune_of-returns-in-Ok-clause-dtype
+prune_of-returns-in-Ok-clause-dtype g c =
+    let over = pruning_plan_at c.args.from.table.now c.requires.good c.args.plan c.args.zones c.requires.known c.requires.pruning in
+    IfOk-weaker c.pruned_of.result (λ column. column.dtype ≡ bool_type NonNullable) (λ column. column.dtype ≡ (node_at c.args.from.table.now c.args.plan).dtype) (λ column h. h ∙ sym over.truths) c.pruned_of.ensures.dtype
+
+pub prune_of-returns-in-Ok-clause-computed : goal.prune_of-returns-in-Ok-clause-computed
+prune_of-returns-in-Ok-clause-computed g c =
+    let over = pruning_plan_at c.args.from.table.now c.requires.good c.args.plan c.args.zones c.requires.known c.requires.pruning in
+    let bits : c.in_ok-all.all ≡ all_rows (node_at c.args.from.table.now c.args.zones).rows = c.in_ok-all.ensures ∙ ap (λ (rows : ℕ). replicate rows true) c.row_count.ensures in
+    let F : List Bool → Type 0 = λ bs. Computes (held c.args.from) c.args.zones 0 bs (Ok c.in-Ok.told) in
+    pruned_result (held c.args.from) c.args.plan c.args.zones c.args.start c.args.mask.now c.in-Ok.told c.pruned_of.result over c.requires.inside (c.in-Ok.ensures.rows ∙ ap true_count bits ∙ all_counted (node_at c.args.from.table.now c.args.zones).rows) (subst F bits c.in-Ok.ensures.computed) c.pruned_of.ensures.values c.pruned_of.ensures.memory
+
+pub prune_of-returns-clause-computed : goal.prune_of-returns-clause-computed
+prune_of-returns-clause-computed g c =
+    let over = pruning_plan_at c.args.from.table.now c.requires.good c.args.plan c.args.zones c.requires.known c.requires.pruning in
+    let bits : c.in_ok-all.all ≡ all_rows (node_at c.args.from.table.now c.args.zones).rows = c.in_ok-all.ensures ∙ ap (λ (rows : ℕ). replicate rows true) c.row_count.ensures in
+    let F : List Bool → Type 0 = λ bs. Computes (held c.args.from) c.args.zones 0 bs (Err c.in-Err.error) in
+    pruned_failed (held c.args.from) c.args.plan c.args.zones c.args.start c.args.mask.now c.in-Err.error over c.requires.some (subst F bits c.in-Err.ensures.computed)
 
 -- ---- structs
 

@@ -34,6 +34,9 @@ decreases-take_of l = 5 * l.plan
 abbrev pub decreases-share_of : goal.decreases-share_of
 decreases-share_of l = 5 * l.plan
 
+abbrev pub decreases-prune_of : goal.decreases-prune_of
+decreases-prune_of l = 5 * l.plan
+
 abbrev pub decreases-eval_of : goal.decreases-eval_of
 decreases-eval_of l = 5 * l.plan
 

@@ -15,7 +15,7 @@ loop-place-preserved c =
     let job = c.args.job.now in
     let old = c.loop-place.progress in
     let P : Progress → Type 0 = IsLookedThrough nodes job c.args.progress.now in
-    elim c.match-leaf_at.branch [
+    elim c.match-stored_leaf.branch [
       | in-Some+in_ok-hold_leaf w ↦
           let read = w.in-Some.read in
           let count : w.len.result ≡ length job.splits.items = search rules in

@@ -2,8 +2,8 @@ use Rattle.std.proofs.Common.{arith, ◌≡◌, ◌<◌}
 use Rattle.vx_plan.specs.Rules.{node_at}
 use Rattle.vx_plan.proofs.Collecting.{field_part}
 use Rattle.vx_steps.proofs.ChunkRows.{concat_plan_at}
-use Rattle.vx_steps.proofs.HinderedRows.{chunk_rows, chunks_done, chunks_more, field_more, field_rows, over_rows, pack_rows, same_rows, share_rows, take_rows, zoned_rows}
-use Rattle.vx_steps.proofs.Shaping.{over_plan, pack_plan_at, same_law, share_plan_at, take_plan_at, zoned_law}
+use Rattle.vx_steps.proofs.HinderedRows.{chunk_rows, chunks_done, chunks_more, field_more, field_rows, over_rows, pack_rows, pruned_rows, same_rows, share_rows, take_rows, zoned_rows}
+use Rattle.vx_steps.proofs.Shaping.{over_plan, pack_plan_at, pruning_plan_at, same_law, share_plan_at, take_plan_at, zoned_law}
 use Rattle.vx_steps.proofs.hindrances.+hindrances.Goals as goal
 
 pub hindrance_of_rows-returns-in-Same : goal.hindrance_of_rows-returns-in-Same
@@ -28,6 +28,11 @@ pub hindrance_of_rows-returns-in-Shared : goal.hindrance_of_rows-returns-in-Shar
 hindrance_of_rows-returns-in-Shared t c =
     let some : 0 < c.args.count = grind arith in
     share_rows c.args.places c.args.table.now c.args.plan c.in-Shared.child c.args.start c.args.count c.row_count-rows-in-Shared.result c.hindrance_of_rows-in-Shared.result (share_plan_at c.args.table.now c.in-Shared.ensures.good c.args.plan c.in-Shared.child c.requires.known c.in-Shared.ensures.shape) some c.row_count-rows-in-Shared.ensures c.hindrance_of_rows-in-Shared.ensures
+
+pub hindrance_of_rows-returns-in-Pruned : goal.hindrance_of_rows-returns-in-Pruned
+hindrance_of_rows-returns-in-Pruned t c =
+    let some : 0 < c.args.count = grind arith in
+    pruned_rows c.args.places c.args.table.now c.args.plan c.in-Pruned.zones c.args.start c.args.count c.row_count-rows-in-Pruned.result c.hindrance_of_rows-in-Pruned.result (pruning_plan_at c.args.table.now c.in-Pruned.ensures.good c.args.plan c.in-Pruned.zones c.requires.known c.in-Pruned.ensures.shape) some c.row_count-rows-in-Pruned.ensures c.hindrance_of_rows-in-Pruned.ensures
 
 pub hindrance_of_fields-hindrance_of_rows-requires : goal.hindrance_of_fields-hindrance_of_rows-requires
 hindrance_of_fields-hindrance_of_rows-requires t c =

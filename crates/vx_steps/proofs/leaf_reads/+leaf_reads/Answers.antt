@@ -3,6 +3,7 @@ use Rattle.std.specs.Prelude.{option_map, slice_range}
 use Rattle.std.proofs.lemmas.Result.{on_ok_weaker}
 use Rattle.vx_plan.specs.declared.parts.Part.TheVariants as parts
 use Rattle.vx_plan.specs.Parts.{parts_left, parts_of}
+use Rattle.vx_plan.specs.Reaches.{all_rows}
 use Rattle.vx_plan.specs.Rules.{node_at}
 use Rattle.vx_steps.specs.declared.leaf_reads.LeafRead.{LeafRead}
 use Rattle.vx_steps.specs.Given.{handed_by}
@@ -13,7 +14,7 @@ use Rattle.vx_steps.specs.Visits.{IsLeafRead}
 use Rattle.vx_steps.proofs.Parts.{all_rows_taken, next_adds, parts_done, parts_read}
 use Rattle.vx_steps.proofs.Selecting.{Reads, leaf_reads, whole_reads}
 use Rattle.vx_steps.proofs.Shaping.{leaf_plan}
-use Rattle.vx_steps.proofs.leaf_reads.+leaf_reads.Goals.{add_reads-in-Rows+in_ok-add_row_reads-in-Rows, add_reads-in-Whole+in_ok-add_whole_reads-in-Whole}
+use Rattle.vx_steps.proofs.leaf_reads.+leaf_reads.Goals.{add_reads-in-All+in_ok-add_all_reads-in-All, add_reads-in-Rows+in_ok-add_row_reads-in-Rows, add_reads-in-Whole+in_ok-add_whole_reads-in-Whole}
 use Rattle.vx_steps.proofs.leaf_reads.+leaf_reads.Goals as goal
 
 pub add_reads-returns-in-Leaf-clause-added : goal.add_reads-returns-in-Leaf-clause-added
@@ -34,6 +35,10 @@ add_reads-loop-next-preserved g c =
       | add_reads-in-Rows+in_ok-add_row_reads-in-Rows w ↦ rw w.reads-is (record {
         added = next_adds IsLeafRead nodes given c.args.mask.now left behind c.in-Some.next.part (parts.Rows w.in-Rows.rows) first w.in-Rows.is Goal c.loop-next.reads.items w.add_row_reads.new.reads.items c.loop-next.invariant.added w.in_ok-add_row_reads-in-Rows.ensures.added;
         leaves = λ h. w.in_ok-add_row_reads-in-Rows.ensures.leaves (c.loop-next.invariant.leaves h);
+      })
+      | add_reads-in-All+in_ok-add_all_reads-in-All w ↦ rw w.reads-is (record {
+        added = next_adds IsLeafRead nodes given c.args.mask.now left behind c.in-Some.next.part (parts.All w.in-All.child) first w.in-All.is Goal c.loop-next.reads.items w.add_all_reads.new.reads.items c.loop-next.invariant.added w.in_ok-add_all_reads-in-All.ensures.added;
+        leaves = λ h. w.in_ok-add_all_reads-in-All.ensures.leaves (c.loop-next.invariant.leaves h);
       })
       | add_reads-in-Whole+in_ok-add_whole_reads-in-Whole w ↦ rw w.reads-is (record {
         added = next_adds IsLeafRead nodes given c.args.mask.now left behind c.in-Some.next.part (parts.Whole w.in-Whole.whole w.in-Whole.child) first w.in-Whole.is Goal c.loop-next.reads.items w.add_whole_reads.new.reads.items c.loop-next.invariant.added w.in_ok-add_whole_reads-in-Whole.ensures.added;
@@ -64,6 +69,14 @@ add_row_reads-returns-clause-added g c =
     let nodes = c.args.table.now in
     let handed = handed_by nodes (option_map (λ kept. kept.now) c.args.given) in
     on_ok_weaker c.add_reads-2.result (λ h. let F : List Bool → Type 0 = λ bits. Adds (Reads nodes handed c.args.rows.child c.args.rows.start bits) c.args.reads.now.items c.add_reads-2.new.reads.items in subst F c.in_ok-some.ensures h) c.add_reads-2.ensures.added
+
+pub add_all_reads-returns-clause-added : goal.add_all_reads-returns-clause-added
+add_all_reads-returns-clause-added g c =
+    let nodes = c.args.table.now in
+    let handed = handed_by nodes (option_map (λ kept. kept.now) c.args.given) in
+    let bits : c.in_ok-all.all ≡ all_rows (node_at nodes c.args.plan).rows = c.in_ok-all.ensures ∙ ap (λ (rows : ℕ). replicate rows true) c.row_count.ensures in
+    let F : List Bool → Type 0 = λ b. Adds (Reads nodes handed c.args.plan 0 b) c.args.reads.now.items c.add_reads.new.reads.items in
+    on_ok_weaker c.add_reads.result (λ h. subst F bits h) c.add_reads.ensures.added
 
 pub add_whole_reads-returns-clause-added : goal.add_whole_reads-returns-clause-added
 add_whole_reads-returns-clause-added g c =

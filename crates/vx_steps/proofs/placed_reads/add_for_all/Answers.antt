@@ -3,7 +3,7 @@ use Rattle.vx_steps.specs.declared.leaf_reads.LeafRead.{LeafRead}
 use Rattle.vx_steps.specs.declared.placed_reads.PlacedRead.{PlacedRead}
 use Rattle.vx_steps.specs.Placed.{up_to}
 use Rattle.vx_steps.proofs.Indexing.{take_all}
-use Rattle.vx_steps.proofs.Placing.{one_more_for_all}
+use Rattle.vx_steps.proofs.PlacedLeaves.{one_more_for_all}
 use Rattle.vx_steps.proofs.placed_reads.add_for_all.Goals as goal
 
 pub loop-place-preserved : goal.loop-place-preserved

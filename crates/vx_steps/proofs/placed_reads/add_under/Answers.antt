@@ -2,7 +2,7 @@ use Rattle.std.proofs.Common.{◌≡◌, ◌++◌, [], List, map, ap, ◌∙◌}
 use Rattle.std.proofs.lemmas.Result.{on_ok_weaker}
 use Rattle.vx_steps.specs.declared.leaf_reads.LeafRead.{LeafRead}
 use Rattle.vx_steps.specs.Placed.{up_to}
-use Rattle.vx_steps.proofs.Placing.{under_is}
+use Rattle.vx_steps.proofs.PlacedLeaves.{under_is}
 use Rattle.vx_steps.proofs.placed_reads.add_under.Goals as goal
 
 pub returns : goal.returns

@@ -1,4 +1,4 @@
-use Rattle.vx_steps.proofs.Placing.{under_filter}
+use Rattle.vx_steps.proofs.PlacedLeaves.{under_filter}
 use Rattle.vx_steps.proofs.Shaping.{same_plan}
 use Rattle.vx_steps.proofs.placed_reads.leaf_under.Goals as goal
 

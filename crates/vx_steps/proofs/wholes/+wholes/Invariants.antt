@@ -10,6 +10,9 @@ decreases-ready_wholes l = 2 * l.plan
 abbrev pub decreases-ready_child_rows : goal.decreases-ready_child_rows
 decreases-ready_child_rows l = 2 * l.rows.child + 1
 
+abbrev pub decreases-ready_zones : goal.decreases-ready_zones
+decreases-ready_zones l = 2 * l.plan + 1
+
 abbrev pub invariant-ready_wholes-loop-next : goal.invariant-ready_wholes-loop-next
 invariant-ready_wholes-loop-next l = record {
   made : KeepsValues l.grounds.table.now l.grounds.leaves.now.here l.grounds.offset l.fn.wholes.made l.wholes.made;
