@@ -11,6 +11,7 @@ use Rattle.vx_reads.specs.Readable.{tree_head}
 use Rattle.vx_reads.specs.Reads.{file_bytes}
 use Rattle.vx_readers.specs.Evaluations.{needed_by, rows_by, Evaluation, HasAll, IsPending, IsReady, IsRefused}
 use Rattle.vx_readers.specs.States.{FilterFault, IsKept}
+use Rattle.vx_readers.proofs.Turning.{all_left}
 
 -- the expression is the same, so it is true or not all the same
 pub still_bool : (e next : Evaluation) (before after : SourceState) → IsPending e next before after → IsBool e.expression.dtype → IsBool next.expression.dtype
@@ -30,6 +31,7 @@ filter_ready e next kept before after all are =
       fine = all.goes.fine;
       ended = λ ticket at found. all.goes.only ticket at (all.none ticket) found;
       content = λ file told have. same (file_bytes file e.locations) (all.goes.told file told have);
+      leaves = all_left needed_by e next before after all;
     }
 
 pub filter_rows : (e next : Evaluation) (kept : List Bool) (before after : SourceState) → HasAll needed_by e next before after → length kept ≡ length next.mask → length kept ≡ length e.mask
@@ -44,7 +46,7 @@ filter_refused e next error before after all own fails = by error own (subst (F 
     by : (fault : ReaderError) → IsOfBytes fault → F fault (record e { reads = next.reads }) → IsRefused e fault before after (FilterFault e fault)
     by ReadFault own same = absurd own
     by (NoLocation segment) own same = absurd own
-    by (BadSegment segment) own same = record { touches = all.goes.touches; cause = λ file told have. same (file_bytes file e.locations) (all.goes.told file told have) }
-    by (BadCode node row) own same = record { touches = all.goes.touches; cause = λ file told have. same (file_bytes file e.locations) (all.goes.told file told have) }
-    by (EvalFault row) own same = record { touches = all.goes.touches; cause = λ file told have. same (file_bytes file e.locations) (all.goes.told file told have) }
-    by Memory own same = record { touches = all.goes.touches; cause = λ file told have. same (file_bytes file e.locations) (all.goes.told file told have) }
+    by (BadSegment segment) own same = record { touches = all.goes.touches; cause = λ file told have. same (file_bytes file e.locations) (all.goes.told file told have); leaves = all_left needed_by e next before after all }
+    by (BadCode node row) own same = record { touches = all.goes.touches; cause = λ file told have. same (file_bytes file e.locations) (all.goes.told file told have); leaves = all_left needed_by e next before after all }
+    by (EvalFault row) own same = record { touches = all.goes.touches; cause = λ file told have. same (file_bytes file e.locations) (all.goes.told file told have); leaves = all_left needed_by e next before after all }
+    by Memory own same = record { touches = all.goes.touches; cause = λ file told have. same (file_bytes file e.locations) (all.goes.told file told have); leaves = all_left needed_by e next before after all }

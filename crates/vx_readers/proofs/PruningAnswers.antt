@@ -7,6 +7,7 @@ use Rattle.vx_reads.specs.Errors.{IsOfBytes}
 use Rattle.vx_reads.specs.Reads.{file_bytes}
 use Rattle.vx_readers.specs.Evaluations.{zones_by, zones_needed_by, Evaluation, HasAll, IsReady, IsRefused}
 use Rattle.vx_readers.specs.States.{IsLeft, PruningFault}
+use Rattle.vx_readers.proofs.Turning.{all_left}
 use Rattle.vx_readers.specs.Unpruned.{AreUnprunedBy, PruningFails}
 
 pub pruning_ready : (e next : Evaluation) (kept : List Bool) (before after : SourceState) → HasAll zones_needed_by e next before after → AreUnprunedBy next.reads (zones_by next) next.expression.term next.start next.mask kept → IsReady e before after (IsLeft e kept)
@@ -19,6 +20,7 @@ pruning_ready e next kept before after all are =
       fine = all.goes.fine;
       ended = λ ticket at found. all.goes.only ticket at (all.none ticket) found;
       content = λ file told have. same (file_bytes file e.locations) (all.goes.told file told have);
+      leaves = all_left zones_needed_by e next before after all;
     }
 
 pub pruning_rows : (e next : Evaluation) (kept : List Bool) (before after : SourceState) → HasAll zones_needed_by e next before after → length kept ≡ length next.mask → length kept ≡ length e.mask
@@ -33,7 +35,7 @@ pruning_refused e next error before after all own fails = by error own (subst (F
     by : (fault : ReaderError) → IsOfBytes fault → F fault (record e { reads = next.reads }) → IsRefused e fault before after (PruningFault e fault)
     by ReadFault own same = absurd own
     by (NoLocation segment) own same = absurd own
-    by (BadSegment segment) own same = record { touches = all.goes.touches; cause = λ file told have. same (file_bytes file e.locations) (all.goes.told file told have) }
-    by (BadCode node row) own same = record { touches = all.goes.touches; cause = λ file told have. same (file_bytes file e.locations) (all.goes.told file told have) }
-    by (EvalFault row) own same = record { touches = all.goes.touches; cause = λ file told have. same (file_bytes file e.locations) (all.goes.told file told have) }
-    by Memory own same = record { touches = all.goes.touches; cause = λ file told have. same (file_bytes file e.locations) (all.goes.told file told have) }
+    by (BadSegment segment) own same = record { touches = all.goes.touches; cause = λ file told have. same (file_bytes file e.locations) (all.goes.told file told have); leaves = all_left zones_needed_by e next before after all }
+    by (BadCode node row) own same = record { touches = all.goes.touches; cause = λ file told have. same (file_bytes file e.locations) (all.goes.told file told have); leaves = all_left zones_needed_by e next before after all }
+    by (EvalFault row) own same = record { touches = all.goes.touches; cause = λ file told have. same (file_bytes file e.locations) (all.goes.told file told have); leaves = all_left zones_needed_by e next before after all }
+    by Memory own same = record { touches = all.goes.touches; cause = λ file told have. same (file_bytes file e.locations) (all.goes.told file told have); leaves = all_left zones_needed_by e next before after all }

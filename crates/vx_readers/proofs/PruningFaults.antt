@@ -1,6 +1,6 @@
 -- Why it isn't known which rows are pruned: of one range among others, of zones that can't be told, and of zones inside data.
-use Rattle.std.proofs.Common.{◌≡◌, ℕ, zero, suc, ◌+◌, ◌-◌, ◌<◌, ◌≤◌, inl, inr, Bool, true, false, List, [], ◌∷◌, Some, Result, Ok, Err, length, take, drop, refl, sym, ap, ◌∙◌, subst, arith}
-use Rattle.std.specs.Prelude.{slice_range, IfErr}
+use Rattle.std.proofs.Common.{◌≡◌, ℕ, zero, suc, ◌+◌, ◌-◌, ◌<◌, inl, inr, Bool, true, false, List, [], ◌∷◌, Some, take, drop, refl, sym, ◌∙◌, subst, arith}
+use Rattle.std.specs.Prelude.{slice_range}
 use Rattle.std.specs.List.{slice_get}
 use Rattle.vx_layout.specs.Kept.{all}
 use Rattle.vx_layout.specs.Rows.{derivation}
@@ -15,9 +15,8 @@ use Rattle.vx_reads.specs.declared.errors.ReaderError.{ReaderError}
 use Rattle.vx_reads.specs.declared.errors.ReaderError.TheVariants.{ReadFault, BadSegment, BadCode, EvalFault, NoLocation, Memory}
 use Rattle.vx_reads.specs.declared.reads.SegmentRead.{SegmentRead}
 use Rattle.vx_reads.specs.Computed.{HasCause}
-use Rattle.vx_reads.specs.Reads.{HaveBytes}
 use Rattle.vx_readers.specs.Unpruned.{PruningCause, PruningFails, SelectedFails, TableFails}
-use Rattle.vx_readers.specs.ZonesOver.{zone_over, zones_over, ZoneOver, ZonesBy}
+use Rattle.vx_readers.specs.ZonesOver.{zones_over, ZonesBy}
 use Rattle.vx_readers.specs.ZoneTables.{TableFailsBy}
 
 -- ---- places

@@ -1,13 +1,12 @@
 -- The structs that are not the zones of some data, child by child and node by node.
-use Rattle.std.proofs.Common.{◌≡◌, ℕ, zero, ◌+◌, ◌<◌, ◌≤◌, ◌⊎◌, inl, inr, List, Option, Some, None, length, refl, sym, ap, ◌∙◌, subst, arith}
+use Rattle.std.proofs.Common.{◌≡◌, ℕ, ◌+◌, ◌<◌, ◌≤◌, ◌⊎◌, inl, inr, List, Option, Some, None, length, refl, sym, ap, ◌∙◌, subst, arith}
 use Rattle.std.specs.Prelude.{IsSomeAnd}
 use Rattle.std.specs.List.{slice_get}
 use Rattle.std.proofs.lemmas.Bool.{cases_lt}
 use Rattle.std.proofs.lemmas.Option.{slice_get_within}
-use Rattle.vx_layout.specs.declared.nodes.LayoutKind.{LayoutKind}
 use Rattle.vx_layout.specs.Nodes.{Node}
 use Rattle.vx_layout.specs.Shape.{IsGoodTree}
-use Rattle.vx_reads.specs.Readable.{HasZones, IsZonedKind, IsZones}
+use Rattle.vx_reads.specs.Readable.{HasZones, IsZones}
 use Rattle.vx_readers.specs.StrayStructs.{AreZonesAt, AreZonesIn, IsChildAt, IsStray, IsStructAt, IsStructKind}
 use Rattle.vx_readers.proofs.OneParent.{has_parent, later_child, only_parent}
 

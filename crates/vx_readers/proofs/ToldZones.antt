@@ -1,12 +1,12 @@
 -- What a table of zones tells of each of them, by the bytes of its column, and of the zone of each row.
-use Rattle.std.proofs.Common.{◌≡◌, ℕ, zero, suc, ◌+◌, ◌-◌, ◌*◌, ◌/◌, ◌<◌, ◌≤◌, Bool, true, false, List, [], ◌∷◌, Option, Some, None, length, map, replicate, get_or, refl, sym, ap, ◌∙◌, subst, arith}
+use Rattle.std.proofs.Common.{◌≡◌, ℕ, zero, suc, ◌+◌, ◌-◌, ◌*◌, ◌/◌, ◌<◌, ◌≤◌, Bool, true, false, List, [], ◌∷◌, Option, Some, length, map, replicate, refl, sym, ap, ◌∙◌, subst, arith}
 use Rattle.std.specs.Prelude.{min, IsSome, is_some}
 use Rattle.std.specs.Int.{div_ceil}
 use Rattle.std.specs.List.{range_with_len, slice_get}
 use Rattle.std.specs.Option.{option_map_or}
 use Rattle.std.proofs.Math.Nat.{suc-mul}
 use Rattle.std.proofs.lemmas.Grind.{div_ceil_times}
-use Rattle.std.proofs.lemmas.Option.{get_or_from_slice_get, slice_get-get_or}
+use Rattle.std.proofs.lemmas.Option.{get_or_from_slice_get}
 use Rattle.vx_base.specs.Data.{DataType, Datum}
 use Rattle.vx_base.specs.Masks.{true_count}
 use Rattle.vx_expr.specs.declared.statistics.Statistic.{Statistic}
@@ -24,14 +24,13 @@ use Rattle.vx_picking.specs.Rows.{rows_of, AreOf}
 use Rattle.vx_picking.proofs.SelectedRows.{rows_all}
 use Rattle.vx_reads.specs.declared.reads.SegmentRead.{SegmentRead}
 use Rattle.vx_reads.specs.Computed.{row_value, AreRowsBy}
-use Rattle.vx_reads.specs.Reads.{HaveBytes}
 use Rattle.vx_reads.proofs.ByKind.{count_all}
 use Rattle.vx_zones.specs.Prunes.{prunes, pruned_zones}
 use Rattle.vx_zones.specs.Tables.{zone_of, zones_along, table_of, IsTable, TableData}
 use Rattle.vx_readers.specs.Unpruned.{prunes_over, told_by, zone_told}
 use Rattle.vx_readers.specs.ZoneRows.{zone_bit, zone_bits}
 use Rattle.vx_readers.specs.ZonesOver.{zone_at, zone_over, ZoneOver}
-use Rattle.vx_readers.specs.ZoneTables.{ArePruned, ArePrunedBy}
+use Rattle.vx_readers.specs.ZoneTables.{ArePrunedBy}
 use Rattle.vx_readers.proofs.AlikeZones.{zone_there}
 
 -- ---- the rows of a table

@@ -7,7 +7,7 @@ use Rattle.std.proofs.lemmas.Grind.{flat_map-append}
 use Rattle.std.proofs.lemmas.List.{drop-append-le, drop-drop, drop_all, length-append, length-drop, length-take, take-append-drop, take-append-le, take_all}
 use Rattle.std.proofs.lemmas.Option.{slice_get-get_or, slice_get_within}
 use Rattle.vx_base.specs.Columns.{ColumnData}
-use Rattle.vx_base.specs.Data.{DataType, Datum}
+use Rattle.vx_base.specs.Data.{Datum}
 use Rattle.vx_picking.proofs.MaskRanges.{all_pushed}
 use Rattle.vx_picking.proofs.SelectedRows.{drop_at}
 use Rattle.vx_reads.specs.Computed.{values_in}

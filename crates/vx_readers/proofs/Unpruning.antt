@@ -1,5 +1,5 @@
 -- Masks that lose the rows of pruned zones: row by row, of one range behind another, and of data that has zones.
-use Rattle.std.proofs.Common.{◌≡◌, ℕ, zero, suc, ◌+◌, ◌-◌, ◌<◌, ◌≤◌, Bool, true, false, ◌&&◌, ◌||◌, not, List, [], ◌∷◌, ◌++◌, Option, Some, None, Result, Ok, Err, length, take, drop, refl, sym, ap, ◌∙◌, subst, arith}
+use Rattle.std.proofs.Common.{◌≡◌, ℕ, suc, ◌+◌, ◌-◌, ◌<◌, ◌≤◌, Bool, true, false, ◌&&◌, ◌||◌, not, List, [], ◌∷◌, ◌++◌, Some, Result, Ok, Err, length, take, refl, sym, ap, ◌∙◌, subst, arith}
 use Rattle.std.specs.Prelude.{slice_range, IfErr, IfOk, IsSome}
 use Rattle.std.specs.List.{list_any, slice_get, AllByRecursion}
 use Rattle.std.proofs.lemmas.List.{length-take-le}
@@ -7,18 +7,16 @@ use Rattle.vx_base.specs.Masks.{without}
 use Rattle.vx_expr.specs.Terms.{Term}
 use Rattle.vx_layout.specs.Trees.{Tree, chunks, zoned, Forest}
 use Rattle.vx_rows.specs.Heads.{Head}
-use Rattle.vx_rows.specs.SegmentLeaves.{Bytes}
 use Rattle.vx_rows.specs.Zones.{Zones}
 use Rattle.vx_picking.specs.Rows.{selects_some}
 use Rattle.vx_picking.proofs.MaskRanges.{length_between, range_is}
 use Rattle.vx_reads.specs.declared.errors.ReaderError.{ReaderError}
 use Rattle.vx_reads.specs.declared.reads.SegmentRead.{SegmentRead}
-use Rattle.vx_reads.specs.Reads.{HaveBytes}
 use Rattle.vx_reads.specs.Truths.{EachRow}
 use Rattle.vx_reads.proofs.Knowing.{each_append, each_none, each_shift}
-use Rattle.vx_readers.specs.Unpruned.{is_pruned, prunes_over, told_by, unpruned, AreTold, AreUnprunedBy, IsUnpruned, PruningFails}
+use Rattle.vx_readers.specs.Unpruned.{is_pruned, prunes_over, told_by, unpruned, AreTold, AreUnprunedBy, PruningFails}
 use Rattle.vx_readers.specs.ZonesOver.{zone_over, zones_over, zones_over_in, ZoneOver, ZonesBy}
-use Rattle.vx_readers.specs.ZoneTables.{ArePruned, ArePrunedBy}
+use Rattle.vx_readers.specs.ZoneTables.{ArePrunedBy}
 
 -- ---- rows
 

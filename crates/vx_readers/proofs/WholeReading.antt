@@ -1,6 +1,7 @@
 -- Reading rows of a range: what an evaluation of them says of all rows; and columns one after another, one for each split.
 use Rattle.std.proofs.Common.{◌≡◌, ℕ, zero, suc, ◌+◌, ◌-◌, ◌<◌, ◌≤◌, ◌⊎◌, inl, inr, Bool, true, List, [], ◌∷◌, ◌++◌, Option, Some, None, Result, Ok, Err, length, drop, replicate, get_or, refl, sym, ap, ◌∙◌, subst, arith, append_assoc, append-nil}
 use Rattle.std.specs.Prelude.{IsSomeAnd}
+use Rattle.std.specs.Global.{Vec}
 use Rattle.std.specs.List.{slice_get, AllByRecursion}
 use Rattle.std.proofs.lemmas.Bool.{cases_lt}
 use Rattle.std.proofs.lemmas.List.{length-drop, length-replicate}
@@ -27,16 +28,19 @@ use Rattle.vx_reads.specs.Reads.{file_bytes, AsksOnly, IsRangeOf}
 use Rattle.vx_reads.proofs.Computing.{cause_up, FindsUp}
 use Rattle.vx_reads.proofs.ByKind.{count_all}
 use Rattle.vx_reads.proofs.Reaching.{needed_reached}
+use Rattle.vx_readers.specs.declared.layout_readers.Reader.{Reader}
 use Rattle.vx_readers.specs.declared.reading.ReadRowsError.{ReadRowsError}
 use Rattle.vx_readers.specs.declared.reading.ReadRowsError.TheVariants as errors
 use Rattle.vx_readers.specs.Begun.{BeginsOver}
 use Rattle.vx_readers.specs.Evaluations.{needed_by, rows_by, Evaluation, WhereTold}
 use Rattle.vx_readers.specs.ReaderData.{reader_head, ReaderData}
+use Rattle.vx_readers.specs.Readers.{reader_data}
 use Rattle.vx_readers.specs.Reading.{Ends, Leaves, ReadsRange}
 use Rattle.vx_readers.specs.States.{IsProjection, ProjectionFault}
-use Rattle.vx_readers.specs.WholeReads.{reader_rows, told_row, AreSplitColumns, AreWithin, IsReached, IsSplitColumn, IsToldFault, ReadsOnly, ReadsSplit, RowsFault, SplitEnds}
+use Rattle.vx_readers.specs.WholeReads.{reader_rows, told_row, told_splits, AreSplitColumns, AreWithin, BetweenEnds, IsReached, IsSplitColumn, IsToldFault, ReadsBetween, ReadsOnly, ReadsRows, ReadsSplit, RowsEnd, RowsFault, SplitEnds}
 use Rattle.vx_readers.proofs.RowsRead.{none_between}
-use Rattle.vx_split_rules.specs.Rules.{Spans}
+use Rattle.vx_split_rules.specs.declared.split_rules.SplitBy.{SplitBy}
+use Rattle.vx_split_rules.specs.Rules.{IsSplitBy, IsZeroSize, Spans}
 use Rattle.vx_splits.proofs.Runs.{apart_at}
 
 -- ---- rows of a range are rows of the reader
@@ -93,7 +97,7 @@ range_reached r start bits inside range is = by (slice_get (needed (subtree r.no
     by None at some = absurd some
     by (Some segment) at some = (segment, some, needed_finds r start bits segment is.0 inside at)
 
-leaves_only : (r : ReaderData) (start : ℕ) (bits : List Bool) (b : Bound) (e : Evaluation) (before after : SourceState) → BeginsOver r start bits b e → start + length bits ≤ (reader_head r).rows → Leaves e before after → ReadsOnly r before after
+leaves_only : (r : ReaderData) (start : ℕ) (bits : List Bool) (b : Bound) (e : Evaluation) (before after : SourceState) → BeginsOver needed_by r start bits b e → start + length bits ≤ (reader_head r).rows → Leaves e before after → ReadsOnly r before after
 leaves_only r start bits b e before after begun inside leaves =
     let P : Evaluation → Type 0 = λ n. AsksOnly (IsRangeOf n.locations (needed_by n)) before.asked after.asked in
     let asks : AsksOnly (IsRangeOf e.locations (needed_by e)) before.asked after.asked = subst (λ (segments : List ℕ). AsksOnly (IsRangeOf e.locations segments) before.asked after.asked) begun.begins.segments leaves.asks in
@@ -107,7 +111,7 @@ leaves_only r start bits b e before after begun inside leaves =
 
 -- ---- one split
 
-split_fault : (error : ReaderError) (limit : ℕ) (r : ReaderData) (start count : ℕ) (b : Bound) (e : Evaluation) (before after : SourceState) → BeginsOver r start (replicate count true) b e → start + count ≤ (reader_head r).rows → Ends limit (Err (errors.Reader error)) e before after → RowsFault r b error before after
+split_fault : (error : ReaderError) (limit : ℕ) (r : ReaderData) (start count : ℕ) (b : Bound) (e : Evaluation) (before after : SourceState) → BeginsOver needed_by r start (replicate count true) b e → start + count ≤ (reader_head r).rows → Ends limit (Err (errors.Reader error)) e before after → RowsFault r b error before after
 split_fault error limit r start count b e before after begun inside ends = by error ends
   where
     told : (fault : ReaderError) → WhereTold e before (ProjectionFault e fault) → IsToldFault r b fault before
@@ -129,7 +133,7 @@ split_fault error limit r start count b e before after begun inside ends = by er
     by (EvalFault row) h = told (EvalFault row) h
     by Memory h = h
 
-split_column : (r : ReaderData) (start end : ℕ) (b : Bound) (e : Evaluation) (column : ColumnData) (before : SourceState) → BeginsOver r start (replicate (end - start) true) b e → WhereTold e before (IsProjection e column.values) → column.dtype ≡ e.expression.dtype → length column.values ≡ true_count e.mask → IsSplitColumn r b before start end column
+split_column : (r : ReaderData) (start end : ℕ) (b : Bound) (e : Evaluation) (column : ColumnData) (before : SourceState) → BeginsOver needed_by r start (replicate (end - start) true) b e → WhereTold e before (IsProjection e column.values) → column.dtype ≡ e.expression.dtype → length column.values ≡ true_count e.mask → IsSplitColumn r b before start end column
 split_column r start end b e column before begun told typed counted = (
   typed ∙ ap (λ (n : Evaluation). n.expression.dtype) begun.is,
   counted ∙ ap (λ (n : Evaluation). true_count n.mask) begun.is ∙ count_all (end - start),
@@ -139,16 +143,16 @@ split_column r start end b e column before begun told typed counted = (
       subst (λ (rows : List ℕ). AreOf (told_row r b file) rows column.values) (rows_all start (end - start)) here),
 )
 
-pub split_read : (limit : ℕ) (result : Result ColumnData ReadRowsError) (r : ReaderData) (start end : ℕ) (b : Bound) (mask : List Bool) (e : Evaluation) (before after : SourceState) → mask ≡ replicate (end - start) true → start ≤ end → end ≤ (reader_head r).rows → BeginsOver r start mask b e → ReadsRange limit result e before after → ReadsSplit limit result r b start end before after
+pub split_read : (limit : ℕ) (result : Result ColumnData ReadRowsError) (r : ReaderData) (start end : ℕ) (b : Bound) (mask : List Bool) (e : Evaluation) (before after : SourceState) → mask ≡ replicate (end - start) true → start ≤ end → end ≤ (reader_head r).rows → BeginsOver needed_by r start mask b e → ReadsRange limit result e before after → ReadsSplit limit result r b start end before after
 split_read limit result r start end b mask e before after whole forwards inside begun reads =
     let few : length (replicate (end - start) true) ≡ end - start = length-replicate (end - start) true in
-    let over : BeginsOver r start (replicate (end - start) true) b e = subst (λ (bits : List Bool). BeginsOver r start bits b e) whole begun in
+    let over : BeginsOver needed_by r start (replicate (end - start) true) b e = subst (λ (bits : List Bool). BeginsOver needed_by r start bits b e) whole begun in
     record {
       reads = leaves_only r start (replicate (end - start) true) b e before after over (omega arith) reads.leaves;
       ends = by result over reads.ends;
     }
   where
-    by : (result : Result ColumnData ReadRowsError) → BeginsOver r start (replicate (end - start) true) b e → Ends limit result e before after → SplitEnds limit result r b start end before after
+    by : (result : Result ColumnData ReadRowsError) → BeginsOver needed_by r start (replicate (end - start) true) b e → Ends limit result e before after → SplitEnds limit result r b start end before after
     by (Ok column) over h = split_column r start end b e column before over h.0 h.1 h.2
     by (Err (errors.Reader error)) over h = split_fault error limit r start (end - start) b e before after over (omega arith) h
     by (Err errors.Stalled) over h = h
@@ -207,3 +211,23 @@ splits_start rows splits spans alone = by (cases_lt 0 rows)
     by (inr none) =
         let one : get_or splits 0 0 ≡ rows = ap (λ (ns : List ℕ). get_or ns 0 0) (alone none) in
         omega arith
+
+-- ---- what is read between the splits, or is not
+
+pub not_between : (limit : ℕ) (error : ReadRowsError) (r : ReaderData) (e : Bound) (start end : ℕ) (splits : List ℕ) (before after : SourceState) → SplitEnds limit (Err error) r e start end before after → BetweenEnds limit (Err error) r e splits before after
+not_between limit (errors.Reader error) r e start end splits before after ends = ends
+not_between limit errors.Stalled r e start end splits before after ends = ends
+not_between limit errors.ZeroSize r e start end splits before after ends = ends
+not_between limit errors.Memory r e start end splits before after ends = ends
+
+rows_end : (limit : ℕ) (rule : SplitBy) (result : Result (Vec ColumnData) ReadRowsError) (reader : Reader) (e : Bound) (splits : List ℕ) (before after : SourceState) → (IsZeroSize rule → ⊥) → IsSplitBy rule (told_splits reader) 0 (reader_head (reader_data reader)).rows splits
+    → BetweenEnds limit result (reader_data reader) e splits before after → RowsEnd limit rule result reader e before after
+rows_end limit rule (Ok columns) reader e splits before after some by ends = (some, (splits, by, ends))
+rows_end limit rule (Err (errors.Reader error)) reader e splits before after some by ends = ends
+rows_end limit rule (Err errors.Stalled) reader e splits before after some by ends = ends
+rows_end limit rule (Err errors.ZeroSize) reader e splits before after some by ends = absurd ends
+rows_end limit rule (Err errors.Memory) reader e splits before after some by ends = some
+
+pub rows_read : (limit : ℕ) (rule : SplitBy) (result : Result (Vec ColumnData) ReadRowsError) (reader : Reader) (e : Bound) (splits : List ℕ) (before after : SourceState) → (IsZeroSize rule → ⊥) → IsSplitBy rule (told_splits reader) 0 (reader_head (reader_data reader)).rows splits
+    → ReadsBetween limit result (reader_data reader) e splits before after → ReadsRows limit rule result reader e before after
+rows_read limit rule result reader e splits before after some by between = record { reads = between.reads; ends = rows_end limit rule result reader e splits before after some by between.ends }

@@ -16,7 +16,7 @@ use Rattle.vx_reads.specs.Came.{Begin}
 use Rattle.vx_reads.specs.Computed.{RowsBy}
 use Rattle.vx_reads.specs.Needed.{needed}
 use Rattle.vx_reads.specs.Readable.{tree_head, AreReadable}
-use Rattle.vx_reads.specs.Reads.{asked_also, file_bytes, segments_of, waiting_in, AreAsked, AreInFlight, GoOn, HasTicket, HaveBytes, SourceFault, Touches}
+use Rattle.vx_reads.specs.Reads.{asked_also, file_bytes, segments_of, waiting_in, AreAsked, AreInFlight, GoOn, HasTicket, HaveBytes, LeavesReads, SourceFault, Touches}
 use Rattle.vx_readers.specs.ZonesNeeded.{zones_needed}
 use Rattle.vx_readers.specs.ZonesOver.{zones_over, ZonesBy}
 
@@ -47,21 +47,13 @@ rows_by e = derivation (subtree e.nodes e.node) all
 abbrev pub zones_by : Evaluation → ZonesBy
 zones_by e = zones_over (subtree e.nodes e.node)
 
--- The rows lie in a node that is readable, the expression is bound to its dtype, and the reads are what the rows need.
-pub record IsSound (e : Evaluation) : Type 0 where
+-- The rows lie in a node that is readable, the expression is bound to its dtype, and the reads are what it needs.
+pub record IsSound (needs : Evaluation → List ℕ) (e : Evaluation) : Type 0 where
   pub known : e.node < length e.nodes
   pub readable : AreReadable e.nodes
   pub inside : e.start + length e.mask ≤ (tree_head e.nodes e.node).rows
   pub bound : IsBoundTo e.expression (tree_head e.nodes e.node).dtype
-  pub segments : segments_of e.reads ≡ needed_by e
-
--- The same of one that prunes: the reads are what the zones over the rows need.
-pub record IsSoundPruning (e : Evaluation) : Type 0 where
-  pub known : e.node < length e.nodes
-  pub readable : AreReadable e.nodes
-  pub inside : e.start + length e.mask ≤ (tree_head e.nodes e.node).rows
-  pub bound : IsBoundTo e.expression (tree_head e.nodes e.node).dtype
-  pub segments : segments_of e.reads ≡ zones_needed_by e
+  pub segments : segments_of e.reads ≡ needs e
 
 -- An evaluation that begins: it reads what it needs; whatever is in flight at a source, none of its reads is, and whatever
 -- the file, none of its bytes are another's.
@@ -100,6 +92,7 @@ pub record IsReady (e : Evaluation) (before after : SourceState) (Is : Bytes →
   pub fine : after.faults ≡ before.faults
   pub ended : (ticket : ℕ) (at : SegmentLocation) → location_of ticket after.in_flight ≡ Some at → (HasTicket e.reads ticket → ⊥) × (location_of ticket before.in_flight ≡ Some at)
   pub content : WhereTold e before Is
+  pub leaves : LeavesReads e.locations e.reads before after
 
 -- what a fault says: a fault of the source, or one of the bytes
 abbrev pub IsCaused : Evaluation → ReaderError → SourceState → SourceState → (Bytes → Type 0) → Type 0
@@ -107,6 +100,8 @@ IsCaused e ReadFault before after Fault = SourceFault e.locations (segments_of e
 IsCaused e (NoLocation segment) before after Fault = SourceFault e.locations (segments_of e.reads) (NoLocation segment) before after
 IsCaused e error before after Fault = WhereTold e before Fault
 
+-- There is no answer. Its reads went on up to a call that failed, if one did: the others of them stay in flight.
 pub record IsRefused (e : Evaluation) (error : ReaderError) (before after : SourceState) (Fault : Bytes → Type 0) : Type 0 where
   pub touches : Touches e.locations e.reads before after
   pub cause : IsCaused e error before after Fault
+  pub leaves : LeavesReads e.locations e.reads before after

@@ -26,7 +26,7 @@ abbrev pub OpenRefused : List Node → OpenError → Type 0
 OpenRefused nodes (Unsupported n) = IsFirstUnreadable nodes n × IsNotEmptyZoned nodes n
 OpenRefused nodes (ZeroZoneLength n) = IsFirstUnreadable nodes n × IsEmptyZoned nodes n
 
--- ---- a node alone
+-- ---- a node alone, as the search for the first node that isn't read looks at it; no promise cites this part
 
 -- no reader refuses the kind for itself; of a struct it is asked besides whether it is zones
 abbrev pub IsReadableAlone : LayoutKind → Type 0

@@ -51,17 +51,20 @@ ColumnPollGives (Ok (Ready column)) e before after = IsReady e before after (IsP
 ColumnPollGives (Ok (Pending next)) e before after = IsPending e next.evaluation before after
 ColumnPollGives (Err error) e before after = IsRefused e error before after (ProjectionFault e error)
 
+-- A mask as long as the rows, of which Is says which one it is, the state as it goes on, by Waits, or why there is no mask, by
+-- Fault: the one form of what a poll gives that ends with a mask.
+abbrev pub GivesMask : {S : Type 0} → (Evaluation → S → SourceState → SourceState → Type 0) → (Evaluation → List Bool → Bytes → Type 0) → (Evaluation → ReaderError → Bytes → Type 0) → Result (Progress (List Bool) S) ReaderError → Evaluation → SourceState → SourceState → Type 0
+GivesMask Waits Is Fault (Ok (Ready kept)) e before after = IsReady e before after (Is e kept) × (length kept ≡ length e.mask)
+GivesMask Waits Is Fault (Ok (Pending next)) e before after = Waits e next before after
+GivesMask Waits Is Fault (Err error) e before after = IsRefused e error before after (Fault e error)
+
 -- The mask's rows at which the expression is true, the evaluation as it goes on, or why there are none.
 abbrev pub FilterPollGives : Result (Progress (List Bool) Evaluation) ReaderError → Evaluation → SourceState → SourceState → Type 0
-FilterPollGives (Ok (Ready kept)) e before after = IsReady e before after (IsKept e kept) × (length kept ≡ length e.mask)
-FilterPollGives (Ok (Pending next)) e before after = IsPending e next before after
-FilterPollGives (Err error) e before after = IsRefused e error before after (FilterFault e error)
+FilterPollGives result e before after = GivesMask IsPending IsKept FilterFault result e before after
 
 -- The mask's rows over which no zone is pruned, the evaluation as it goes on, or why these are not known.
 abbrev pub PruningPollGives : Result (Progress (List Bool) Evaluation) ReaderError → Evaluation → SourceState → SourceState → Type 0
-PruningPollGives (Ok (Ready kept)) e before after = IsReady e before after (IsLeft e kept) × (length kept ≡ length e.mask)
-PruningPollGives (Ok (Pending next)) e before after = IsPending e next before after
-PruningPollGives (Err error) e before after = IsRefused e error before after (PruningFault e error)
+PruningPollGives result e before after = GivesMask IsPending IsLeft PruningFault result e before after
 
 -- ---- a mask that is known, filtered or pruned
 
@@ -72,32 +75,23 @@ IsMask mask (Filters e) = ⊥
 IsMask mask (Prunes e) = ⊥
 
 -- the reads that were started and have not ended are in flight at the source
-abbrev pub IsStarted : Masking → List (ℕ × SegmentLocation) → Type 0
-IsStarted (Known mask) in_flight = Unit {0}
-IsStarted (Filters e) in_flight = AreInFlight e.locations e.reads in_flight
-IsStarted (Prunes e) in_flight = AreInFlight e.locations e.reads in_flight
+abbrev pub ReadsAreInFlight : Masking → List (ℕ × SegmentLocation) → Type 0
+ReadsAreInFlight (Known mask) in_flight = Unit {0}
+ReadsAreInFlight (Filters e) in_flight = AreInFlight e.locations e.reads in_flight
+ReadsAreInFlight (Prunes e) in_flight = AreInFlight e.locations e.reads in_flight
 
--- the filter goes on
-abbrev pub FilterWaits : Evaluation → Masking → SourceState → SourceState → Type 0
-FilterWaits e (Known mask) before after = ⊥
-FilterWaits e (Filters next) before after = IsPending e next before after
-FilterWaits e (Prunes next) before after = ⊥
+-- the filter goes on, or the pruning
+abbrev pub MaskWaits : Masking → Masking → SourceState → SourceState → Type 0
+MaskWaits (Filters e) (Filters next) before after = IsPending e next before after
+MaskWaits (Prunes e) (Prunes next) before after = IsPending e next before after
+MaskWaits masking next before after = ⊥
 
+-- the same two, where the state goes on
 abbrev pub FilterGives : Result (Progress (List Bool) MaskState) ReaderError → Evaluation → SourceState → SourceState → Type 0
-FilterGives (Ok (Ready kept)) e before after = IsReady e before after (IsKept e kept) × (length kept ≡ length e.mask)
-FilterGives (Ok (Pending next)) e before after = FilterWaits e next.masking before after
-FilterGives (Err error) e before after = IsRefused e error before after (FilterFault e error)
-
--- the pruning goes on
-abbrev pub PruningWaits : Evaluation → Masking → SourceState → SourceState → Type 0
-PruningWaits e (Known mask) before after = ⊥
-PruningWaits e (Filters next) before after = ⊥
-PruningWaits e (Prunes next) before after = IsPending e next before after
+FilterGives result e before after = GivesMask (λ (old : Evaluation) (next : MaskState). MaskWaits (Filters old) next.masking) IsKept FilterFault result e before after
 
 abbrev pub PruningGives : Result (Progress (List Bool) MaskState) ReaderError → Evaluation → SourceState → SourceState → Type 0
-PruningGives (Ok (Ready kept)) e before after = IsReady e before after (IsLeft e kept) × (length kept ≡ length e.mask)
-PruningGives (Ok (Pending next)) e before after = PruningWaits e next.masking before after
-PruningGives (Err error) e before after = IsRefused e error before after (PruningFault e error)
+PruningGives result e before after = GivesMask (λ (old : Evaluation) (next : MaskState). MaskWaits (Prunes old) next.masking) IsLeft PruningFault result e before after
 
 -- A mask that is known is there at once, and the source stays as it was.
 abbrev pub MaskPollGives : Result (Progress (List Bool) MaskState) ReaderError → Masking → SourceState → SourceState → Type 0

@@ -1,4 +1,5 @@
--- Structs among the nodes of a layout that are not the zones of some data.
+-- Structs among the nodes of a layout that are not the zones of some data: what the search for the lowest of them speaks of. What is
+-- promised of a layout says it by `IsZones` (`vx_reads`), and cites nothing of this file.
 use Rattle.std.specs.Prelude.{◌≡◌, ℕ, List, Some, IsSomeAnd}
 use Rattle.std.specs.List.{slice_get}
 use Rattle.vx_layout.specs.declared.nodes.LayoutKind.{LayoutKind}

@@ -99,6 +99,18 @@ AreSplitColumns P (start ∷ end ∷ splits) (column ∷ columns) = P start end 
 abbrev pub AreWithin : ℕ → List ℕ → Type 0
 AreWithin rows splits = (place : ℕ) → 1 ≤ place → place < length splits → (get_or splits (place - 1) 0 ≤ get_or splits place 0) × (get_or splits place 0 ≤ rows)
 
+-- A column for each two neighbours of the splits, or why there are none.
+abbrev pub BetweenEnds : ℕ → Result (Vec ColumnData) ReadRowsError → ReaderData → Bound → List ℕ → SourceState → SourceState → Type 0
+BetweenEnds limit (Ok columns) r e splits before after = AreSplitColumns (IsSplitColumn r e before) splits columns.items
+BetweenEnds limit (Err (errors.Reader error)) r e splits before after = RowsFault r e error before after
+BetweenEnds limit (Err errors.Stalled) r e splits before after = RoseBy limit before.idle after.idle
+BetweenEnds limit (Err errors.ZeroSize) r e splits before after = ⊥
+BetweenEnds limit (Err errors.Memory) r e splits before after = Unit {0}
+
+pub record ReadsBetween (limit : ℕ) (result : Result (Vec ColumnData) ReadRowsError) (r : ReaderData) (e : Bound) (splits : List ℕ) (before after : SourceState) : Type 0 where
+  pub reads : ReadsOnly r before after
+  pub ends : BetweenEnds limit result r e splits before after
+
 -- the part is the rows of the whole column from the one to the other
 abbrev pub IsPartOf : ColumnData → ℕ → ℕ → ColumnData → Type 0
 IsPartOf whole start end part = (start ≤ end) × (end ≤ length whole.values) × (part.dtype ≡ whole.dtype) × (part.values ≡ slice_range whole.values start end)

@@ -1,8 +1,8 @@
--- What is so of zones, for each row of them.
+-- A truth value for each zone, as one for each row of the zones.
 use Rattle.std.specs.Prelude.{ℕ, ◌/◌, Bool, false, List, map, get_or}
 use Rattle.std.specs.List.{range_with_len}
 
--- whether it is so of the zone of a row, where zones have so many rows
+-- that of the zone of a row, where zones have so many rows
 abbrev pub zone_bit : List Bool → ℕ → ℕ → Bool
 zone_bit bits zone_len row = get_or bits (row / zone_len) false
 

@@ -20,7 +20,8 @@ abbrev pub zone_over : Head → Zones → Tree → ℕ → ZoneOver
 zone_over head zones table row = zone_at head zones table (row / zones.zone_len)
 
 -- The zone of the row in data that has zones, and those over the row inside that data. A row of chunks is one of the chunk
--- that holds it. A leaf has no zones, nor has a dictionary: what has zones below it has other rows.
+-- that holds it. A leaf has no zones, nor has a dictionary: zones of its values are of other rows, and those of its codes tell
+-- of codes.
 abbrev mutual
   pub zones_over : Tree → ℕ → List ZoneOver
   zones_over (missing head) row = []

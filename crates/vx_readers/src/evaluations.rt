@@ -42,7 +42,7 @@ impl<'a> Model for Evaluating<'a> {
     ghost use Rattle.std.specs.Coded.{codes};
     ghost use Rattle.vx_expr.specs.Bound.{coded_bound};
     ghost use Rattle.vx_layout.specs.NodeCodes.{coded_nodes};
-    ghost use Rattle.vx_readers.specs.Evaluations.{Evaluation, IsSound};
+    ghost use Rattle.vx_readers.specs.Evaluations.{needed_by, Evaluation, IsSound};
 
     ghost Value = { Evaluation };
 
@@ -50,7 +50,7 @@ impl<'a> Model for Evaluating<'a> {
 
     ghost view = { λ a. record { nodes = a.tree.now; node = a.node; start = a.start; mask = a.mask; expression = a.expression.now; locations = a.locations.now; reads = a.reads.items } };
 
-    ghost invariant = { λ a. IsSound (record { nodes = a.tree.now; node = a.node; start = a.start; mask = a.mask; expression = a.expression.now; locations = a.locations.now; reads = a.reads.items }) };
+    ghost invariant = { λ a. IsSound needed_by (record { nodes = a.tree.now; node = a.node; start = a.start; mask = a.mask; expression = a.expression.now; locations = a.locations.now; reads = a.reads.items }) };
 }
 
 /// An evaluation after a turn of its reads.

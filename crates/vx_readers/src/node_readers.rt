@@ -1,12 +1,13 @@
 //! What all readers have in common: a node of a tree that is readable, and where segments lie.
 
-ghost use Rattle.std.specs.Prelude.{◌≡◌, ◌↔◌, ℕ, [], ◌++◌, ◌-◌, ◌<◌, ◌≤◌, length, IfOk, IsFalse, OnErr, OnOk};
+ghost use Rattle.std.specs.Prelude.{◌≡◌, ◌↔◌, ℕ, [], ◌++◌, ◌-◌, ◌<◌, ◌≤◌, length, IfOk, IsFalse, IsTrue, OnErr, OnOk};
 ghost use Rattle.vx_base.specs.ColumnCalls.{IsBool};
 ghost use Rattle.vx_base.specs.Views.{data_type};
 ghost use Rattle.vx_expr.specs.Bound.{IsBoundTo};
 ghost use Rattle.vx_reads.specs.Readable.{AreReadable};
-ghost use Rattle.vx_readers.specs.Begun.{BeginsOver, FiltersOver, PrunesOver};
+ghost use Rattle.vx_readers.specs.Begun.{BeginsOver, FiltersOver, MayHaveZones, PrunesOver};
 ghost use Rattle.vx_readers.specs.ChunkEnds.{reader_ends, StandFirst};
+ghost use Rattle.vx_readers.specs.Evaluations.{needed_by};
 ghost use Rattle.vx_readers.specs.ReaderData.{reader_head};
 ghost use Rattle.vx_readers.specs.ZonesOver.{zones_over};
 ghost use Rattle.vx_layout.specs.Trees.{subtree};
@@ -54,7 +55,8 @@ impl<'a> Model for NodeReader<'a> {
 fn may_have_zones(tree: &LayoutTree, node: u32) -> bool
     requires known { node < length tree.now }
     requires readable { AreReadable tree.now }
-    ensures { IsFalse result → (row : ℕ) → zones_over (subtree tree.now node) row ≡ [] }
+    ensures none { IsFalse result → (row : ℕ) → zones_over (subtree tree.now node) row ≡ [] }
+    ensures some { IsTrue result → MayHaveZones (subtree tree.now node) }
 {
     match NodeParts::of(tree, node) {
         NodeParts::Leaf { .. } => false,
@@ -106,7 +108,7 @@ impl<'a> NodeReader<'a> {
         requires inside { rows.end ≤ (reader_head self.now).rows }
         requires masked { length mask ≡ rows.end - rows.start }
         requires bound { IsBoundTo expression.now (reader_head self.now).dtype }
-        ensures { IfOk result (λ state. BeginsOver self.now rows.start mask expression.now state.evaluation) }
+        ensures { IfOk result (λ state. BeginsOver needed_by self.now rows.start mask expression.now state.evaluation) }
     {
         match Evaluating::begin(
             alloc,

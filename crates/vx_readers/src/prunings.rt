@@ -38,7 +38,7 @@ impl<'a> Model for Pruning<'a> {
     ghost use Rattle.std.specs.Coded.{codes};
     ghost use Rattle.vx_expr.specs.Bound.{coded_bound};
     ghost use Rattle.vx_layout.specs.NodeCodes.{coded_nodes};
-    ghost use Rattle.vx_readers.specs.Evaluations.{Evaluation, IsSoundPruning};
+    ghost use Rattle.vx_readers.specs.Evaluations.{zones_needed_by, Evaluation, IsSound};
 
     ghost Value = { Evaluation };
 
@@ -46,7 +46,7 @@ impl<'a> Model for Pruning<'a> {
 
     ghost view = { λ a. record { nodes = a.tree.now; node = a.node; start = a.start; mask = a.mask; expression = a.proof; locations = a.locations.now; reads = a.reads.items } };
 
-    ghost invariant = { λ a. IsSoundPruning (record { nodes = a.tree.now; node = a.node; start = a.start; mask = a.mask; expression = a.proof; locations = a.locations.now; reads = a.reads.items }) };
+    ghost invariant = { λ a. IsSound zones_needed_by (record { nodes = a.tree.now; node = a.node; start = a.start; mask = a.mask; expression = a.proof; locations = a.locations.now; reads = a.reads.items }) };
 }
 
 impl<'a> Pruning<'a> {

@@ -6,6 +6,7 @@ ghost use Rattle.vx_base.specs.Views.{data_type};
 ghost use Rattle.vx_expr.specs.Bound.{IsBoundTo};
 ghost use Rattle.vx_readers.specs.Begun.{BeginsOver, FiltersOver, PrunesOver};
 ghost use Rattle.vx_readers.specs.ChunkEnds.{reader_ends};
+ghost use Rattle.vx_readers.specs.Evaluations.{needed_by};
 ghost use Rattle.vx_readers.specs.ReaderData.{reader_head, ReaderData};
 ghost use Rattle.vx_readers.specs.Readers.{pushes_empty, reader_data};
 
@@ -26,9 +27,9 @@ pub trait LayoutReader<'a>: RegistersSplits {
     fn dtype(&self) -> &DType
         ensures { data_type result.now ≡ (reader_head (borrowed self.now)).dtype };
 
-    /// The mask of a range without the rows of zones that the expression prunes, whatever the bound: the state in which
-    /// nothing was asked for. It reads zones alone, and nothing where the expression has no proof; a segment and a dictionary
-    /// have no zones.
+    /// The mask of a range without the rows of zones that the expression prunes at the greatest bound, `u64::MAX`, and so at
+    /// each one: the state in which nothing was asked for. It reads zones alone. Where the expression has no proof, and for a
+    /// segment and a dictionary, which have no zones, it is the mask itself and reads nothing.
     fn pruning_evaluation(
         &self,
         alloc: Global,
@@ -72,7 +73,7 @@ pub trait LayoutReader<'a>: RegistersSplits {
         requires inside { rows.end ≤ Self.all_rows self.now }
         requires masked { length mask ≡ rows.end - rows.start }
         requires bound { IsBoundTo expression.now (reader_head (borrowed self.now)).dtype }
-        ensures { IfOk result (λ state. BeginsOver (borrowed self.now) rows.start mask expression.now state.evaluation) };
+        ensures { IfOk result (λ state. BeginsOver needed_by (borrowed self.now) rows.start mask expression.now state.evaluation) };
 }
 
 impl<'a> RegistersSplits for FlatReader<'a> {

@@ -1,7 +1,7 @@
 //! States of evaluations, and their polls.
 
 ghost use Rattle.vx_reads.specs.Reads.{AreInFlight};
-ghost use Rattle.vx_readers.specs.States.{ColumnPollGives, IsMask, IsStarted, MaskPollGives};
+ghost use Rattle.vx_readers.specs.States.{ColumnPollGives, IsMask, MaskPollGives, ReadsAreInFlight};
 
 use crate::evaluations::{Evaluating, Turn};
 use crate::filterings::Filtering;
@@ -63,7 +63,7 @@ pub enum Masking<'a> {
     Known(Mask),
     /// An expression, at whose rows the mask is kept where it is true.
     Filters(Filtering<'a>),
-    /// An expression, of whose zones the mask loses those that it prunes.
+    /// A predicate: the mask loses the rows of zones that it prunes.
     Prunes(Pruning<'a>),
 }
 
@@ -89,7 +89,7 @@ impl<'a> MaskState<'a> {
         self,
         source: &mut S,
     ) -> Result<Progress<Mask, MaskState<'a>>, ReaderError>
-        requires { IsStarted self.masking (S.state source.old).in_flight }
+        requires { ReadsAreInFlight self.masking (S.state source.old).in_flight }
         ensures { MaskPollGives result self.entry.masking (S.state source.old) (S.state source.new) }
     {
         match self.masking {

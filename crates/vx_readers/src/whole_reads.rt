@@ -5,7 +5,7 @@ ghost use Rattle.vx_expr.specs.Bound.{IsBoundTo};
 ghost use Rattle.vx_expr.specs.Mentions.{uses_row_number};
 ghost use Rattle.vx_readers.specs.ReaderData.{reader_head};
 ghost use Rattle.vx_readers.specs.Readers.{reader_data};
-ghost use Rattle.vx_readers.specs.WholeReads.{AreSplitColumns, AreWithin, IsPartOf, ReadsRows, ReadsSplit};
+ghost use Rattle.vx_readers.specs.WholeReads.{AreSplitColumns, AreWithin, IsPartOf, ReadsBetween, ReadsRows, ReadsSplit};
 
 use crate::layout_readers::Reader;
 use crate::reader_traits::LayoutReader;
@@ -56,6 +56,32 @@ fn cut(alloc: Global, whole: ColumnPieces, splits: &[u64]) -> Result<Vec<Column>
     Ok(columns)
 }
 
+/// The expression's column over so many rows, from the first on, between each two neighbours of the splits. Where there are
+/// no two nothing is read.
+fn read_between<'a, S: SegmentSource>(
+    alloc: Global,
+    reader: &Reader<'a>,
+    rows: u64,
+    splits: &[u64],
+    projection: &'a BoundExpression,
+    source: &mut S,
+    idle_limit: u64,
+) -> Result<Vec<Column>, ReadRowsError>
+    requires inside { rows ≤ (reader_head (reader_data reader.now)).rows }
+    requires bound { IsBoundTo projection.now (reader_head (reader_data reader.now)).dtype }
+    requires first { get_or splits.now 0 0 ≡ 0 }
+    requires within { AreWithin rows splits.now }
+    ensures { ReadsBetween idle_limit result (reader_data reader.now) projection.now splits.now (S.state source.old) (S.state source.new) }
+{
+    if splits.len() < 2 {
+        return Ok(Vec::new(alloc));
+    }
+    match read_all(alloc, reader, 0..rows, projection, source, idle_limit) {
+        Ok(whole) => Ok(cut(alloc, whole, splits)?),
+        Err(error) => Err(error),
+    }
+}
+
 /// The expression's columns over all rows, one for each split: each segment that rows read is asked for once for each leaf,
 /// whatever the splits are. Where there is no split nothing is read. Nothing is left in flight at the source that it asked.
 pub fn read_rows<'a, S: SegmentSource>(
@@ -72,17 +98,12 @@ pub fn read_rows<'a, S: SegmentSource>(
     ensures { ReadsRows idle_limit splits.now result reader.now projection.now (S.state source.old) (S.state source.new) }
 {
     let rows = 0..reader.row_count();
-    let bounds = match splits.splits(alloc, reader, &rows, &[]) {
-        Ok(bounds) => bounds,
-        Err(SplitError::ZeroSize) => return Err(ReadRowsError::ZeroSize),
-        Err(SplitError::Memory) => return Err(ReadRowsError::Memory),
+    match splits.splits(alloc, reader, &rows, &[]) {
+        Ok(bounds) => read_between(
+            alloc, reader, rows.end, &bounds, projection, source, idle_limit,
+        ),
+        Err(SplitError::ZeroSize) => Err(ReadRowsError::ZeroSize),
+        Err(SplitError::Memory) => Err(ReadRowsError::Memory),
         Err(SplitError::OutOfRange) => unreachable!(),
-    };
-    if bounds.len() < 2 {
-        return Ok(Vec::new(alloc));
-    }
-    match read_all(alloc, reader, rows, projection, source, idle_limit) {
-        Ok(whole) => Ok(cut(alloc, whole, &bounds)?),
-        Err(error) => Err(error),
     }
 }

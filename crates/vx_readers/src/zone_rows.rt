@@ -1,4 +1,4 @@
-//! What is so of zones, for each row of them: not row by row, but zones that are alike at once.
+//! A truth value for each zone, as one for each row of the zones: not row by row, but those of a zone at once.
 
 ghost use Rattle.std.specs.Prelude.{◌≡◌, ◌+◌, ◌*◌, ◌<◌, ◌≤◌, ◌++◌, ◌^◌, length, replicate, IfOk};
 ghost use Rattle.vx_readers.specs.ZoneRows.{zone_bits};
@@ -28,7 +28,7 @@ fn append_alike(alloc: Global, bits: Mask, is: bool, count: u64) -> Result<Mask,
     }
 }
 
-/// For each of so many rows, from the first one on, whether it is so of its zone; zones have so many rows.
+/// The truth value of its zone for each of `count` rows, from the row `start` on; each zone has `zone_len` rows.
 pub(crate) fn zone_rows(
     alloc: Global,
     zones: &Mask,

@@ -7,7 +7,7 @@ use Rattle.vx_base.specs.Sources.{SourceState, asks_also, location_of, range_of}
 use Rattle.vx_reads.specs.declared.errors.ReaderError.{ReaderError}
 use Rattle.vx_reads.specs.declared.errors.ReaderError.TheVariants.{ReadFault, BadSegment, BadCode, EvalFault, NoLocation, Memory}
 use Rattle.vx_reads.specs.declared.reads.SegmentRead.{SegmentRead}
-use Rattle.vx_reads.specs.Reads.{segments_of, HasTicket, AreInFlight, AsksOnly, IsRangeOf, Touches, GoOn, SourceFault, Stops}
+use Rattle.vx_reads.specs.Reads.{segments_of, HasTicket, AreInFlight, AsksOnly, IsRangeOf, Touches, GoOn, SourceFault, LeavesReads, StopsWith}
 
 -- ---- one element of a list
 
@@ -140,11 +140,23 @@ fault_by locations (BadCode node row) one two before middle after first fault = 
 fault_by locations (EvalFault row) one two before middle after first fault = fault
 fault_by locations Memory one two before middle after first fault = tt
 
-pub stops_then : (locations : List SegmentLocation) (error : ReaderError) (one two : List SegmentRead) (before middle after : SourceState) → GoOn locations one two before middle → Stops locations error two middle after → Stops locations error one before after
-stops_then locations error one two before middle after first second = record {
-  touches = touches_then locations one two before middle after first second.touches;
-  fault = fault_by locations error one two before middle after first second.fault;
+abbrev leaves_then : (locations : List SegmentLocation) (one two : List SegmentRead) (before middle after : SourceState) → GoOn locations one two before middle → LeavesReads locations two middle after → LeavesReads locations one before after
+leaves_then locations one two before middle after first second = record {
+  reads = second.reads;
+  middle = second.middle;
+  went = goes_then locations one two second.reads before middle second.middle first second.went;
+  left = second.left;
 }
+
+pub stops_then : (locations : List SegmentLocation) (error : ReaderError) (one two new : List SegmentRead) (before middle after : SourceState) → GoOn locations one two before middle → StopsWith locations error two new middle after → StopsWith locations error one new before after
+stops_then locations error one two new before middle after first second = (
+  record {
+    touches = touches_then locations one two before middle after first second.0.touches;
+    fault = fault_by locations error one two before middle after first second.0.fault;
+    leaves = leaves_then locations one two before middle after first second.0.leaves;
+  },
+  second.1,
+)
 
 -- nothing was done yet
 pub begins : (locations : List SegmentLocation) (reads : List SegmentRead) (source : SourceState) → AreInFlight locations reads source.in_flight → GoOn locations reads reads source source

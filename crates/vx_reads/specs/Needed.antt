@@ -37,7 +37,7 @@ abbrev mutual
   needed_of_fields (member name t ms) no_trees start bits = []
   needed_of_fields (member name t ms) (tree first rest) start bits = needed first start bits ++ needed_of_fields ms rest start bits
 
--- of trees beside each other
+-- of trees beside each other, whatever their names: what the loop over the fields of a struct adds
 abbrev pub needed_of_each : Forest → ℕ → List Bool → List ℕ
 needed_of_each no_trees start bits = []
 needed_of_each (tree first rest) start bits = needed first start bits ++ needed_of_each rest start bits

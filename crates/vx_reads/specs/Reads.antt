@@ -1,10 +1,10 @@
 -- The reads of a state at its source.
-use Rattle.std.specs.Prelude.{◌≡◌, ℕ, ◌+◌, ◌<◌, ◌≤◌, Bool, true, false, List, [], ◌∷◌, ◌++◌, length, map, Option, Some, None, option_and_then, option_map, IfSome, IsSome, IsSomeAnd, Result, Ok, Err}
+use Rattle.std.specs.Prelude.{◌≡◌, ℕ, ◌+◌, ◌<◌, ◌≤◌, ◌⊎◌, Bool, true, false, List, [], ◌∷◌, ◌++◌, length, map, Option, Some, None, option_and_then, option_map, IfSome, IsSome, IsSomeAnd, Result, Ok, Err}
 use Rattle.std.specs.List.{slice_get, AllByRecursion}
 use Rattle.std.specs.Global.{Vec}
 use Rattle.vx_base.specs.declared.locations.SegmentLocation.{SegmentLocation}
 use Rattle.vx_base.specs.declared.locations.AskedRange.{AskedRange}
-use Rattle.vx_base.specs.Sources.{SourceState, Rose, RoseBy, Started, NotStarted, Ended, GoesOn, IsSegment, location_of, range_of, bytes_at}
+use Rattle.vx_base.specs.Sources.{SourceState, Rose, RoseBy, Started, NotStarted, Ended, GoesOn, IsSegment, location_of, range_of, bytes_at, without}
 use Rattle.vx_reads.specs.declared.errors.ReaderError.{ReaderError}
 use Rattle.vx_reads.specs.declared.errors.ReaderError.TheVariants.{ReadFault, BadSegment, BadCode, EvalFault, NoLocation, Memory}
 use Rattle.vx_reads.specs.declared.reads.ReadState.{ReadState}
@@ -100,9 +100,26 @@ SourceFault locations segments (NoLocation segment) before after = (place : ℕ)
 SourceFault locations segments Memory before after = Unit {0}
 SourceFault locations segments error before after = ⊥
 
+-- what is in flight is what was so, but for the read of one ticket of these at most
+abbrev pub LosesOneAtMost : List SegmentRead → List (ℕ × SegmentLocation) → List (ℕ × SegmentLocation) → Type 0
+LosesOneAtMost reads before after = (after ≡ before) ⊎ ((ticket : ℕ) × HasTicket reads ticket × (after ≡ without ticket before))
+
+-- The reads went on up to the call that failed, if one did, and were left so: of those that were in flight then all still are,
+-- but for the one whose poll failed.
+pub record LeavesReads (locations : List SegmentLocation) (old : List SegmentRead) (before after : SourceState) : Type 0 where
+  pub reads : List SegmentRead
+  pub middle : SourceState
+  pub went : GoOn locations old reads before middle
+  pub left : LosesOneAtMost reads middle.in_flight after.in_flight
+
 pub record Stops (locations : List SegmentLocation) (error : ReaderError) (old : List SegmentRead) (before after : SourceState) : Type 0 where
   pub touches : Touches locations old before after
   pub fault : SourceFault locations (segments_of old) error before after
+  pub leaves : LeavesReads locations old before after
+
+-- and these are the reads as they were left
+abbrev pub StopsWith : List SegmentLocation → ReaderError → List SegmentRead → List SegmentRead → SourceState → SourceState → Type 0
+StopsWith locations error old new before after = (stops : Stops locations error old before after) × (new ≡ stops.leaves.reads)
 
 -- ---- a call for one read
 
@@ -125,9 +142,9 @@ IsNotStarted locations old before after = IsSomeAnd (slice_get locations old.seg
 
 abbrev pub StartGivesOne : List SegmentLocation → Result (Unit {0}) ReaderError → SegmentRead → SegmentRead → SourceState → SourceState → Type 0
 StartGivesOne locations (Ok done) old new before after = StartsBy old.state locations old new before after
-StartGivesOne locations (Err ReadFault) old new before after = IsNotStarted locations old before after × Rose before.faults after.faults
-StartGivesOne locations (Err Memory) old new before after = IsNotStarted locations old before after × (after.faults ≡ before.faults)
-StartGivesOne locations (Err (NoLocation segment)) old new before after = (segment ≡ old.segment) × (slice_get locations old.segment ≡ None) × (after ≡ before)
+StartGivesOne locations (Err ReadFault) old new before after = IsNotStarted locations old before after × Rose before.faults after.faults × (new ≡ old)
+StartGivesOne locations (Err Memory) old new before after = IsNotStarted locations old before after × (after.faults ≡ before.faults) × (new ≡ old)
+StartGivesOne locations (Err (NoLocation segment)) old new before after = (segment ≡ old.segment) × (slice_get locations old.segment ≡ None) × (after ≡ before) × (new ≡ old)
 StartGivesOne locations (Err (BadSegment segment)) old new before after = ⊥
 StartGivesOne locations (Err (BadCode node row)) old new before after = ⊥
 StartGivesOne locations (Err (EvalFault row)) old new before after = ⊥
@@ -149,8 +166,8 @@ PollsBy (states.InFlight ticket) false old new before after = (bytes : Vec ℕ) 
 
 abbrev pub PollGivesOne : Result Bool ReaderError → SegmentRead → SegmentRead → SourceState → SourceState → Type 0
 PollGivesOne (Ok goes_on) old new before after = PollsBy old.state goes_on old new before after
-PollGivesOne (Err ReadFault) old new before after = IsSomeAnd (ticket_in old.state) (λ ticket. Ended ticket before after × Rose before.faults after.faults)
-PollGivesOne (Err Memory) old new before after = GoesOn before after × (after.idle ≡ before.idle)
+PollGivesOne (Err ReadFault) old new before after = IsSomeAnd (ticket_in old.state) (λ ticket. Ended ticket before after × Rose before.faults after.faults) × (new ≡ old)
+PollGivesOne (Err Memory) old new before after = GoesOn before after × (after.idle ≡ before.idle) × (new ≡ old)
 PollGivesOne (Err error) old new before after = ⊥
 
 -- ---- a call for all of them
@@ -200,7 +217,7 @@ pub record AllStarted (locations : List SegmentLocation) (old new : List Segment
 
 abbrev pub StartsAll : List SegmentLocation → Result (Unit {0}) ReaderError → List SegmentRead → List SegmentRead → SourceState → SourceState → Type 0
 StartsAll locations (Ok done) old new before after = AllStarted locations old new before after
-StartsAll locations (Err error) old new before after = Stops locations error old before after
+StartsAll locations (Err error) old new before after = StopsWith locations error old new before after
 
 -- Each read in flight is polled, and nothing is asked for; so many go on.
 pub record AllPolled (locations : List SegmentLocation) (waiting : ℕ) (old new : List SegmentRead) (before after : SourceState) : Type 0 where
@@ -212,7 +229,7 @@ pub record AllPolled (locations : List SegmentLocation) (waiting : ℕ) (old new
 
 abbrev pub PollsAll : List SegmentLocation → Result ℕ ReaderError → List SegmentRead → List SegmentRead → SourceState → SourceState → Type 0
 PollsAll locations (Ok waiting) old new before after = AllPolled locations waiting old new before after
-PollsAll locations (Err error) old new before after = Stops locations error old before after
+PollsAll locations (Err error) old new before after = StopsWith locations error old new before after
 
 -- Each read was asked for, those that were not so before and nothing else, and each one in flight was polled; so many go on.
 pub record ReadsPolled (locations : List SegmentLocation) (waiting : ℕ) (old new : List SegmentRead) (before after : SourceState) : Type 0 where
@@ -224,4 +241,4 @@ pub record ReadsPolled (locations : List SegmentLocation) (waiting : ℕ) (old n
 
 abbrev pub PollsReads : List SegmentLocation → Result ℕ ReaderError → List SegmentRead → List SegmentRead → SourceState → SourceState → Type 0
 PollsReads locations (Ok waiting) old new before after = ReadsPolled locations waiting old new before after
-PollsReads locations (Err error) old new before after = Stops locations error old before after
+PollsReads locations (Err error) old new before after = StopsWith locations error old new before after

@@ -1,105 +1,67 @@
 //! The column of the selected rows of a node, from the bytes of the segments that they need.
 
-ghost use Rattle.std.specs.Prelude.{◌≡◌, ◌+◌, ◌-◌, ◌<◌, ◌≤◌, ℕ, List, Some, length, drop, replicate, slice_range, true, All, IfErr, IfOk, IsSome, IsTrue, OnOk};
+ghost use Rattle.std.specs.Prelude.{◌≡◌, ◌+◌, ◌-◌, ◌<◌, ◌≤◌, length, drop, replicate, slice_range, true, IfErr, IfOk, OnErr, OnOk};
 ghost use Rattle.vx_base.specs.Masks.{true_count};
 ghost use Rattle.vx_layout.specs.Kept.{all};
 ghost use Rattle.vx_layout.specs.Rows.{derivation, derivation_in};
 ghost use Rattle.vx_layout.specs.Trees.{subtree};
-ghost use Rattle.vx_rows.specs.SegmentLeaves.{Bytes};
-ghost use Rattle.vx_reads.specs.Computed.{AddsRows, AreRowsBy, Fails, IsLeafBy, IsLeafFault};
-ghost use Rattle.vx_reads.specs.Came.{first_bytes, Begin};
+ghost use Rattle.vx_reads.specs.Computed.{AddsRows, AreRowsBy, Fails};
+ghost use Rattle.vx_reads.specs.Came.{Begin};
 ghost use Rattle.vx_reads.specs.Fielded.{AreColumnsBy};
 ghost use Rattle.vx_reads.specs.Needed.{needed, needed_in, needed_of_each, needed_of_range};
-ghost use Rattle.vx_reads.specs.Readable.{tree_head, trees_of, AreReadable, IsChunked, IsDict, IsLeafNode, IsStructNode};
+ghost use Rattle.vx_reads.specs.Readable.{tree_head, trees_of, AreReadable, IsChunked, IsDict, IsStructNode};
 ghost use Rattle.vx_reads.specs.Errors.{IsOfBytes};
 ghost use Rattle.vx_picking.specs.Rows.{selects_some};
 
 use crate::errors::ReaderError;
 use crate::faults::look_up_fault;
+use crate::leaf_columns::{leaf_column, take_bytes};
 use crate::needs::rows_here;
 use crate::parts::{NodeParts, dtype_at, empty_at, rows_at};
-use crate::pieces::ColumnPieces;
-use crate::reads::{ReadState, SegmentRead};
+use crate::reads::SegmentRead;
 use crate::structs::structs;
 use std::alloc::Global;
 use std::ops::Range;
-use vx_base::{Coding, Column, DecodeError, Mask, decode_as};
+use vx_base::{Column, Mask};
 use vx_layout::LayoutTree;
-use vx_picking::{looked_up, picked, selects_some};
+use vx_picking::{looked_up, selects_some};
 
-/// The bytes of the next read, which came.
-pub(crate) fn take_bytes<'a>(reads: &'a [SegmentRead], next: &mut usize) -> &'a [u8]
-    requires { IsSome (first_bytes (drop next.old reads.now)) }
-    ensures bytes { first_bytes (drop next.old reads.now) ≡ Some result.now }
-    ensures passed { next.new ≡ next.old + 1 }
-{
-    let place = *next;
-    match &reads[place].state {
-        ReadState::Came(bytes) => {
-            *next = place + 1;
-            bytes.as_slice()
-        }
-        _ => unreachable!(),
-    }
-}
-
-/// Whether each row of the column is selected.
-fn selects_all(column: &Column, mask: &Mask) -> bool
-    ensures rows { IsTrue result → length column.now.values ≡ length mask.now }
-    ensures all { IsTrue result → All (λ bit. bit ≡ true) mask.now }
-{
-    column.len() == mask.len() && mask.all_true()
-}
-
-/// The selected rows of a leaf, whose segment has these bytes. Where these are all of its rows none is copied.
-fn leaf_column(
+/// The selected rows of a node. `next` is the place of the first read that is theirs, and goes past the last one; after an
+/// error it is what it was.
+pub fn column_of(
     alloc: Global,
     tree: &LayoutTree,
     node: u32,
-    segment: u32,
-    coding: Coding,
     start: u64,
     mask: &Mask,
-    bytes: &[u8],
+    reads: &[SegmentRead],
+    next: &mut usize,
 ) -> Result<Column, ReaderError>
     requires known { node < length tree.now }
-    requires leaf { IsLeafNode tree.now node segment coding }
+    requires readable { AreReadable tree.now }
     requires inside { start + length mask.now ≤ (tree_head tree.now node).rows }
-    requires some { 0 < length mask.now }
+    requires ready { Begin (needed (subtree tree.now node) start mask.now) (drop next.old reads.now) }
     ensures dtype { IfOk result (λ column. column.dtype ≡ (tree_head tree.now node).dtype) }
     ensures rows { IfOk result (λ column. length column.values ≡ true_count mask.now) }
-    ensures values { IfOk result (λ column. IsLeafBy (tree_head tree.now node) segment coding bytes.now start mask.now column.values) }
-    ensures cause { IfErr result (IsLeafFault (tree_head tree.now node) segment coding bytes.now start (length mask.now)) }
+    ensures values { IfOk result (λ column. AreRowsBy reads.now (derivation (subtree tree.now node) all) start mask.now column.values) }
+    ensures cause { IfErr result (Fails reads.now (derivation (subtree tree.now node) all) start (length mask.now)) }
     ensures own { IfErr result IsOfBytes }
+    ensures passed { OnOk result (next.new ≡ next.old + length (needed (subtree tree.now node) start mask.now)) }
+    ensures stays { OnErr result (next.new ≡ next.old) }
 {
-    if !selects_some(mask) {
-        return Ok(empty_at(alloc, tree, node)?);
-    }
-    match decode_as(
-        alloc,
-        dtype_at(tree, node),
-        coding,
-        rows_at(tree, node),
-        bytes,
-    ) {
+    let mut place = *next;
+    match node_column(alloc, tree, node, start, mask, reads, &mut place) {
         Ok(column) => {
-            if selects_all(&column, mask) {
-                return Ok(column);
-            }
-            let _rows = column.len();
-            let made = picked(alloc, &column, start, mask);
-            drop(column);
-            let made = made?;
-            Ok(made)
+            *next = place;
+            Ok(column)
         }
-        Err(DecodeError::BadSegment) => Err(ReaderError::BadSegment(segment)),
-        Err(DecodeError::Memory) => Err(ReaderError::Memory),
+        Err(error) => Err(error),
     }
 }
 
-/// The selected rows of a node. `next` is the place of the first read that is theirs.
+/// The same, where `next` goes past the reads that were looked at.
 #[cycle(columns)]
-pub fn column_of(
+fn node_column(
     alloc: Global,
     tree: &LayoutTree,
     node: u32,
@@ -134,7 +96,7 @@ pub fn column_of(
             dict_column(alloc, tree, node, codes, values, start, mask, reads, next)
         }
         NodeParts::Zoned { content, .. } => {
-            column_of(alloc, tree, content, start, mask, reads, next)
+            node_column(alloc, tree, content, start, mask, reads, next)
         }
         NodeParts::Struct { fields } => {
             struct_column(alloc, tree, node, fields, start, mask, reads, next)
@@ -255,7 +217,7 @@ fn add_range(
 
 /// Adds the columns of the selected rows of a node: of chunks those of each, and of any other node one.
 #[cycle(columns)]
-fn add_parts(
+pub(crate) fn add_parts(
     alloc: Global,
     tree: &LayoutTree,
     node: u32,
@@ -281,7 +243,7 @@ fn add_parts(
         NodeParts::Zoned { content, .. } => {
             add_parts(alloc, tree, content, start, mask, reads, next, parts)
         }
-        _ => match column_of(alloc, tree, node, start, mask, reads, next) {
+        _ => match node_column(alloc, tree, node, start, mask, reads, next) {
             Ok(part) => {
                 parts.push(part)?;
                 Ok(())
@@ -289,35 +251,6 @@ fn add_parts(
             Err(error) => Err(error),
         },
     }
-}
-
-/// The selected rows of a node, in the columns that they come from. `next` is the place of the first read that is theirs.
-pub(crate) fn pieces_of(
-    alloc: Global,
-    tree: &LayoutTree,
-    node: u32,
-    start: u64,
-    mask: &Mask,
-    reads: &[SegmentRead],
-    next: &mut usize,
-) -> Result<ColumnPieces, ReaderError>
-    requires known { node < length tree.now }
-    requires readable { AreReadable tree.now }
-    requires inside { start + length mask.now ≤ (tree_head tree.now node).rows }
-    requires ready { Begin (needed (subtree tree.now node) start mask.now) (drop next.old reads.now) }
-    ensures dtype { IfOk result (λ column. column.dtype ≡ (tree_head tree.now node).dtype) }
-    ensures rows { IfOk result (λ column. length column.values ≡ true_count mask.now) }
-    ensures values { IfOk result (λ column. AreRowsBy reads.now (derivation (subtree tree.now node) all) start mask.now column.values) }
-    ensures cause { IfErr result (Fails reads.now (derivation (subtree tree.now node) all) start (length mask.now)) }
-    ensures own { IfErr result IsOfBytes }
-{
-    let mut parts = Vec::new(alloc);
-    match add_parts(alloc, tree, node, start, mask, reads, next, &mut parts) {
-        Ok(()) => {}
-        Err(error) => return Err(error),
-    }
-    let dtype = dtype_at(tree, node).copy(alloc)?;
-    Ok(ColumnPieces::of(dtype, parts))
 }
 
 /// The codes of the selected rows of a dictionary, and all of its values.
@@ -356,12 +289,12 @@ pub(crate) fn dict_parts(
     ensures own { IfErr result IsOfBytes }
     ensures passed { OnOk result (next.new ≡ next.old + length (needed (subtree tree.now node) start mask.now)) }
 {
-    let codes = match column_of(alloc, tree, codes, start, mask, reads, next) {
+    let codes = match node_column(alloc, tree, codes, start, mask, reads, next) {
         Ok(codes) => codes,
         Err(error) => return Err(error),
     };
     let all = Mask::new_true(alloc, rows_at(tree, values))?;
-    match column_of(alloc, tree, values, 0, &all, reads, next) {
+    match node_column(alloc, tree, values, 0, &all, reads, next) {
         Ok(values) => Ok(DictParts { codes, values }),
         Err(error) => {
             drop(codes);
@@ -437,7 +370,7 @@ fn field_columns(
 {
     let mut columns = Vec::new(alloc);
     for field in fields {
-        match column_of(alloc, tree, *field, start, mask, reads, next) {
+        match node_column(alloc, tree, *field, start, mask, reads, next) {
             Ok(column) => columns.push(column)?,
             Err(error) => return Err(error),
         }

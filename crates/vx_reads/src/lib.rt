@@ -16,6 +16,7 @@ mod errors;
 mod faults;
 mod filters;
 mod laws;
+mod leaf_columns;
 mod masks;
 mod needs;
 mod node_masks;

@@ -12,8 +12,8 @@ ghost use Rattle.vx_reads.specs.MaskRows.{AreKeptBy, ChunksFail, FilterFails, Ra
 ghost use Rattle.vx_reads.specs.Needed.{needed, needed_in, needed_of_range};
 ghost use Rattle.vx_reads.specs.Readable.{tree_head, trees_of, AreReadable, IsChunked};
 
-use crate::columns::take_bytes;
 use crate::errors::ReaderError;
+use crate::leaf_columns::take_bytes;
 use crate::needs::rows_here;
 use crate::node_masks::{dict_mask, leaf_mask, looked_mask};
 use crate::parts::{NodeParts, rows_at};

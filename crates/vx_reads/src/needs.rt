@@ -4,7 +4,7 @@ ghost use Rattle.std.specs.Prelude.{◌≡◌, ◌+◌, ◌-◌, ◌<◌, ◌≤
 ghost use Rattle.vx_layout.specs.Shape.{IsLater};
 ghost use Rattle.vx_layout.specs.Trees.{subtree};
 ghost use Rattle.vx_reads.specs.Needed.{needed, needed_in, needed_of_each, needed_of_range};
-ghost use Rattle.vx_reads.specs.Readable.{trees_of, AreReadable};
+ghost use Rattle.vx_reads.specs.Readable.{trees_of, AreReadable, IsDict};
 
 use crate::parts::{NodeParts, rows_at};
 use std::alloc::{AllocError, Global};
@@ -37,19 +37,39 @@ pub fn add_needs(
         NodeParts::Chunks { chunks } => add_chunk_needs(
             alloc, tree, chunks, node, start, mask, needs,
         ),
-        NodeParts::Dict { codes, values } => {
-            if !selects_some(mask) {
-                return Ok(());
-            }
-            add_needs(alloc, tree, codes, start, mask, needs)?;
-            let all = Mask::new_true(alloc, rows_at(tree, values))?;
-            add_needs(alloc, tree, values, 0, &all, needs)
-        }
+        NodeParts::Dict { codes, values } => add_dict_needs(
+            alloc, tree, node, codes, values, start, mask, needs,
+        ),
         NodeParts::Zoned { content, .. } => add_needs(alloc, tree, content, start, mask, needs),
         NodeParts::Struct { fields } => add_field_needs(
             alloc, tree, fields, node, start, mask, needs,
         ),
     }
+}
+
+/// Adds the segments that the selected rows of a dictionary need: those of its codes, and of all its values.
+#[cycle(needs)]
+fn add_dict_needs(
+    alloc: Global,
+    tree: &LayoutTree,
+    node: u32,
+    codes: u32,
+    values: u32,
+    start: u64,
+    mask: &Mask,
+    needs: &mut Vec<u32>,
+) -> Result<(), AllocError>
+    requires known { node < length tree.now }
+    requires readable { AreReadable tree.now }
+    requires dict { IsDict tree.now node codes values }
+    ensures { IfOk result (λ _. needs.new.items ≡ needs.old.items ++ needed (subtree tree.now node) start mask.now) }
+{
+    if !selects_some(mask) {
+        return Ok(());
+    }
+    add_needs(alloc, tree, codes, start, mask, needs)?;
+    let all = Mask::new_true(alloc, rows_at(tree, values))?;
+    add_needs(alloc, tree, values, 0, &all, needs)
 }
 
 /// Adds the segments that the selected rows of each field need.

@@ -1,4 +1,4 @@
-use Rattle.std.proofs.Common.{ℕ, ◌<◌, ◌≤◌}
+use Rattle.std.proofs.Common.{◌<◌, ◌≤◌}
 use Rattle.vx_readers.specs.StrayStructs.{IsStray}
 use Rattle.vx_readers.proofs.StrayChildren.{NoneAmong}
 use Rattle.vx_readers.proofs.stray_structs.lower_stray.Given as goal

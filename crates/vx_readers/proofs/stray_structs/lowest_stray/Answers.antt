@@ -1,4 +1,4 @@
-use Rattle.std.proofs.Common.{◌≡◌, ◌≤◌, length, sym, ap, ◌∙◌, arith}
+use Rattle.std.proofs.Common.{◌≤◌, length, sym, ap, ◌∙◌, arith}
 use Rattle.std.specs.List.{slice_get}
 use Rattle.vx_layout.specs.Nodes.{node_data}
 use Rattle.vx_readers.proofs.StrayChildren.{root_stray, stray_is, struct_zones}

@@ -1,4 +1,4 @@
-use Rattle.std.proofs.Common.{ℕ, ◌<◌, ◌≤◌, length}
+use Rattle.std.proofs.Common.{◌<◌, ◌≤◌, length}
 use Rattle.vx_readers.specs.StrayStructs.{IsStray}
 use Rattle.vx_readers.proofs.StrayChildren.{NoneBelow}
 use Rattle.vx_readers.proofs.stray_structs.lowest_stray.Given as goal

@@ -1,6 +1,5 @@
-use Rattle.std.proofs.Common.{◌≡◌, ◌+◌, ◌-◌, ◌%◌, ◌≤◌, ◌++◌, replicate, refl, sym, ap, ◌∙◌, arith, rules}
+use Rattle.std.proofs.Common.{◌+◌, ◌-◌, ◌%◌, ◌≤◌, refl, sym, ap, ◌∙◌, arith}
 use Rattle.std.specs.Prelude.{Some}
-use Rattle.vx_readers.specs.ZoneRows.{zone_bits}
 use Rattle.vx_readers.proofs.AlikeZones.{alike_anew, alike_still}
 use Rattle.vx_readers.proofs.zone_rows.zone_rows.Goals as goal
 use Rattle.vx_readers.proofs.zone_rows.zone_rows.Goals.{then-next-is+in_ok-rows-2, else-next-is}

@@ -1,10 +1,8 @@
 use Rattle.std.proofs.Common.{◌≡◌, ℕ, ◌+◌, ◌-◌, ◌<◌, Bool, true, false, List, [], ◌∷◌, ◌++◌, length, drop, get_or, replicate, refl, sym, ap, ◌∙◌, subst, arith, rules}
 use Rattle.std.specs.Prelude.{slice_range, All}
 use Rattle.vx_base.specs.Masks.{true_count}
-use Rattle.std.specs.List.{AllByRecursion}
 use Rattle.std.proofs.lemmas.List.{length-append, length-replicate}
 use Rattle.std.proofs.lemmas.List.Elements.{All-head, All-tail}
-use Rattle.vx_base.specs.Columns.{ColumnData}
 use Rattle.vx_base.specs.Data.{DataType}
 use Rattle.vx_layout.specs.Kept.{all}
 use Rattle.vx_layout.specs.Rows.{derivation, derivation_in, struct_members}
@@ -114,20 +112,20 @@ add_chunks-loop-chunk-preserved g c =
           c.loop-chunk.invariant.added (subst (λ (t : DataType). AddsRows c.args.reads.now t r2 c.loop-chunk.row (slice_range c.args.mask.now c.loop-chunk.done c.rows_here-here.result.end) c.loop-chunk.parts.items c.add_range.new.parts.items) typed (rw done_is at c.in-Ok.ensures.added));
     }
 
-pub column_of-returns-else-len-eq0-clause-values : goal.column_of-returns-else-len-eq0-clause-values
-column_of-returns-else-len-eq0-clause-values g c =
+pub node_column-returns-else-len-eq0-clause-values : goal.node_column-returns-else-len-eq0-clause-values
+node_column-returns-else-len-eq0-clause-values g c =
     leaf_values c.leaf_column.result (subtree c.args.tree.now c.args.node) (tree_head c.args.tree.now c.args.node) c.in-Leaf.segment c.in-Leaf.coding c.args.start c.args.next.now c.args.mask.now c.take_bytes-bytes.result.now c.args.reads.now c.in-Leaf.ensures.tree (omega (arith, c.len.ensures, c.if-len-eq0.false)) c.take_bytes-bytes.ensures.bytes c.requires.ready c.leaf_column.ensures.values
 
-pub column_of-returns-else-len-eq0-clause-cause : goal.column_of-returns-else-len-eq0-clause-cause
-column_of-returns-else-len-eq0-clause-cause g c =
+pub node_column-returns-else-len-eq0-clause-cause : goal.node_column-returns-else-len-eq0-clause-cause
+node_column-returns-else-len-eq0-clause-cause g c =
     leaf_cause c.leaf_column.result (subtree c.args.tree.now c.args.node) (tree_head c.args.tree.now c.args.node) c.in-Leaf.segment c.in-Leaf.coding c.args.start c.args.next.now c.args.mask.now c.take_bytes-bytes.result.now c.args.reads.now c.in-Leaf.ensures.tree (omega (arith, c.len.ensures, c.if-len-eq0.false)) c.take_bytes-bytes.ensures.bytes c.requires.ready c.leaf_column.ensures.cause
 
-pub column_of-returns-in-Chunks-clause-values : goal.column_of-returns-in-Chunks-clause-values
-column_of-returns-in-Chunks-clause-values g c =
+pub node_column-returns-in-Chunks-clause-values : goal.node_column-returns-in-Chunks-clause-values
+node_column-returns-in-Chunks-clause-values g c =
     chunks_values c.chunks_column.result (subtree c.args.tree.now c.args.node) (tree_head c.args.tree.now c.args.node) _ c.args.start c.args.mask.now c.args.reads.now c.in-Chunks.ensures.tree c.chunks_column.ensures.values
 
-pub column_of-returns-in-Chunks-clause-cause : goal.column_of-returns-in-Chunks-clause-cause
-column_of-returns-in-Chunks-clause-cause g c =
+pub node_column-returns-in-Chunks-clause-cause : goal.node_column-returns-in-Chunks-clause-cause
+node_column-returns-in-Chunks-clause-cause g c =
     chunks_cause c.chunks_column.result (subtree c.args.tree.now c.args.node) (tree_head c.args.tree.now c.args.node) _ c.args.start (length c.args.mask.now) c.args.reads.now c.in-Chunks.ensures.tree c.chunks_column.ensures.cause
 
 pub dict_column-returns-then-not-selects_some-clause-rows : goal.dict_column-returns-then-not-selects_some-clause-rows
@@ -140,8 +138,8 @@ dict_column-returns-then-not-selects_some-clause-values g c =
     let none : selects_some c.args.mask.now ≡ false = sym c.selects_some.ensures ∙ (search rules) in
     none_by c.args.reads.now (derivation (subtree c.args.tree.now c.args.node) all) c.args.start c.args.mask.now _ (none_rows c.args.start c.args.mask.now none) c.in_ok-empty_at.ensures.rows
 
-pub dict_parts-column_of-requires : goal.dict_parts-column_of-requires
-dict_parts-column_of-requires g c =
+pub dict_parts-node_column-requires : goal.dict_parts-node_column-requires
+dict_parts-node_column-requires g c =
     let values = subtree c.args.tree.now c.args.values in
     let codes = subtree c.args.tree.now c.args.codes in
     let needs = dict_needed (subtree c.args.tree.now c.args.node) (tree_head c.args.tree.now c.args.node) values codes c.args.start c.args.mask.now c.requires.dict.tree c.requires.some in
@@ -156,8 +154,8 @@ pub dict_parts-returns-in-Err-clause-cause : goal.dict_parts-returns-in-Err-clau
 dict_parts-returns-in-Err-clause-cause g c =
     codes_failed c.in-Err.error (subtree c.args.tree.now c.args.node) (tree_head c.args.tree.now c.args.node) (subtree c.args.tree.now c.args.values) (subtree c.args.tree.now c.args.codes) c.args.start (length c.args.mask.now) c.args.reads.now c.requires.dict.tree c.in-Err.ensures.cause
 
-pub dict_parts-column_of-requires-2 : goal.dict_parts-column_of-requires-2
-dict_parts-column_of-requires-2 g c =
+pub dict_parts-node_column-requires-2 : goal.dict_parts-node_column-requires-2
+dict_parts-node_column-requires-2 g c =
     let values = subtree c.args.tree.now c.args.values in
     let codes = subtree c.args.tree.now c.args.codes in
     let needs = dict_needed (subtree c.args.tree.now c.args.node) (tree_head c.args.tree.now c.args.node) values codes c.args.start c.args.mask.now c.requires.dict.tree c.requires.some in
@@ -168,23 +166,23 @@ dict_parts-column_of-requires-2 g c =
     let above = later.0 in
     let known = later.1 in
     let long = ap length all_is ∙ length-replicate (tree_head c.args.tree.now c.args.values).rows true in
-    (omega arith, (known, (c.requires.readable, (omega (arith, long), rw all_is (begin_next (needed codes c.args.start c.args.mask.now) (needed values 0 (replicate (tree_head c.args.tree.now c.args.values).rows true)) c.args.reads.now c.args.next.now c.column_of.new.next c.in-Ok.ensures.passed ready)))))
+    (omega arith, (known, (c.requires.readable, (omega (arith, long), rw all_is (begin_next (needed codes c.args.start c.args.mask.now) (needed values 0 (replicate (tree_head c.args.tree.now c.args.values).rows true)) c.args.reads.now c.args.next.now c.node_column.new.next c.in-Ok.ensures.passed ready)))))
 
-pub dict_parts-returns-in-Ok-column_of-clause-values_count : goal.dict_parts-returns-in-Ok-column_of-clause-values_count
-dict_parts-returns-in-Ok-column_of-clause-values_count g c =
+pub dict_parts-returns-in-Ok-node_column-clause-values_count : goal.dict_parts-returns-in-Ok-node_column-clause-values_count
+dict_parts-returns-in-Ok-node_column-clause-values_count g c =
     let all_is : c.in_ok-all.all ≡ replicate (tree_head c.args.tree.now c.args.values).rows true = c.in_ok-all.ensures ∙ ap (λ (k : ℕ). replicate k true) c.rows_at.ensures in
-    c.in-Ok-column_of.ensures.rows ∙ ap true_count all_is ∙ count_all (tree_head c.args.tree.now c.args.values).rows
+    c.in-Ok-node_column.ensures.rows ∙ ap true_count all_is ∙ count_all (tree_head c.args.tree.now c.args.values).rows
 
-pub dict_parts-returns-in-Ok-column_of-clause-values : goal.dict_parts-returns-in-Ok-column_of-clause-values
-dict_parts-returns-in-Ok-column_of-clause-values g c =
+pub dict_parts-returns-in-Ok-node_column-clause-values : goal.dict_parts-returns-in-Ok-node_column-clause-values
+dict_parts-returns-in-Ok-node_column-clause-values g c =
     let all_is : c.in_ok-all.all ≡ replicate (tree_head c.args.tree.now c.args.values).rows true = c.in_ok-all.ensures ∙ ap (λ (k : ℕ). replicate k true) c.rows_at.ensures in
-    subst (λ (every : List Bool). AreRowsBy c.args.reads.now (derivation (subtree c.args.tree.now c.args.values) all) 0 every c.in-Ok-column_of.values.values) all_is c.in-Ok-column_of.ensures.values
+    subst (λ (every : List Bool). AreRowsBy c.args.reads.now (derivation (subtree c.args.tree.now c.args.values) all) 0 every c.in-Ok-node_column.values.values) all_is c.in-Ok-node_column.ensures.values
 
 pub dict_parts-returns-clause-cause : goal.dict_parts-returns-clause-cause
 dict_parts-returns-clause-cause g c =
     let all_is : c.in_ok-all.all ≡ replicate (tree_head c.args.tree.now c.args.values).rows true = c.in_ok-all.ensures ∙ ap (λ (k : ℕ). replicate k true) c.rows_at.ensures in
     let long = ap length all_is ∙ length-replicate (tree_head c.args.tree.now c.args.values).rows true in
-    values_failed c.in-Err-column_of.error (subtree c.args.tree.now c.args.node) (tree_head c.args.tree.now c.args.node) (subtree c.args.tree.now c.args.values) (subtree c.args.tree.now c.args.codes) c.args.start (length c.args.mask.now) (length c.in_ok-all.all) c.args.reads.now c.requires.dict.tree (omega (arith, long)) (some_long c.args.mask.now c.requires.some) c.in-Err-column_of.ensures.cause
+    values_failed c.in-Err-node_column.error (subtree c.args.tree.now c.args.node) (tree_head c.args.tree.now c.args.node) (subtree c.args.tree.now c.args.values) (subtree c.args.tree.now c.args.codes) c.args.start (length c.args.mask.now) (length c.in_ok-all.all) c.args.reads.now c.requires.dict.tree (omega (arith, long)) (some_long c.args.mask.now c.requires.some) c.in-Err-node_column.ensures.cause
 
 pub dict_column-returns-in-Ok-made-clause-values : goal.dict_column-returns-in-Ok-made-clause-values
 dict_column-returns-in-Ok-made-clause-values g c =
@@ -212,8 +210,8 @@ pub add_parts-returns-in-Zoned-clause-cause : goal.add_parts-returns-in-Zoned-cl
 add_parts-returns-in-Zoned-clause-cause g c =
     zoned_failed c.add_parts.result (subtree c.args.tree.now c.args.node) (tree_head c.args.tree.now c.args.node) _ (subtree c.args.tree.now c.in-Zoned.content) _ c.args.start (length c.args.mask.now) c.args.reads.now c.in-Zoned.ensures.0.tree c.add_parts.ensures.cause
 
-pub column_of-column_of-requires : goal.column_of-column_of-requires
-column_of-column_of-requires g c =
+pub node_column-node_column-requires : goal.node_column-node_column-requires
+node_column-node_column-requires g c =
     let over = c.in-Zoned.ensures.0 in
     let later : IsLater c.args.tree.now c.args.node c.in-Zoned.content = All-head (IsLater c.args.tree.now c.args.node) c.in-Zoned.content (c.in-Zoned.zones ∷ []) over.later in
     let above = later.0 in
@@ -222,20 +220,20 @@ column_of-column_of-requires g c =
     let needs = zoned_needed (subtree c.args.tree.now c.args.node) (tree_head c.args.tree.now c.args.node) _ (subtree c.args.tree.now c.in-Zoned.content) _ c.args.start c.args.mask.now over.tree in
     (omega arith, (known, (c.requires.readable, (omega (arith, rows, c.requires.inside), subst (λ (ns : List ℕ). Begin ns (drop c.args.next.now c.args.reads.now)) needs c.requires.ready))))
 
-pub column_of-returns-in-Zoned-clause-dtype : goal.column_of-returns-in-Zoned-clause-dtype
-column_of-returns-in-Zoned-clause-dtype g c =
-    zoned_dtype c.column_of.result (tree_head c.args.tree.now c.in-Zoned.content).dtype (tree_head c.args.tree.now c.args.node).dtype c.in-Zoned.ensures.0.sound.1.dtype c.column_of.ensures.dtype
+pub node_column-returns-in-Zoned-clause-dtype : goal.node_column-returns-in-Zoned-clause-dtype
+node_column-returns-in-Zoned-clause-dtype g c =
+    zoned_dtype c.node_column.result (tree_head c.args.tree.now c.in-Zoned.content).dtype (tree_head c.args.tree.now c.args.node).dtype c.in-Zoned.ensures.0.sound.1.dtype c.node_column.ensures.dtype
 
-pub column_of-returns-in-Zoned-clause-values : goal.column_of-returns-in-Zoned-clause-values
-column_of-returns-in-Zoned-clause-values g c =
-    zoned_values c.column_of.result (subtree c.args.tree.now c.args.node) (tree_head c.args.tree.now c.args.node) _ (subtree c.args.tree.now c.in-Zoned.content) _ c.args.start c.args.mask.now c.args.reads.now c.in-Zoned.ensures.0.tree c.column_of.ensures.values
+pub node_column-returns-in-Zoned-clause-values : goal.node_column-returns-in-Zoned-clause-values
+node_column-returns-in-Zoned-clause-values g c =
+    zoned_values c.node_column.result (subtree c.args.tree.now c.args.node) (tree_head c.args.tree.now c.args.node) _ (subtree c.args.tree.now c.in-Zoned.content) _ c.args.start c.args.mask.now c.args.reads.now c.in-Zoned.ensures.0.tree c.node_column.ensures.values
 
-pub column_of-returns-in-Zoned-clause-cause : goal.column_of-returns-in-Zoned-clause-cause
-column_of-returns-in-Zoned-clause-cause g c =
-    zoned_cause c.column_of.result (subtree c.args.tree.now c.args.node) (tree_head c.args.tree.now c.args.node) _ (subtree c.args.tree.now c.in-Zoned.content) _ c.args.start (length c.args.mask.now) c.args.reads.now c.in-Zoned.ensures.0.tree c.column_of.ensures.cause
+pub node_column-returns-in-Zoned-clause-cause : goal.node_column-returns-in-Zoned-clause-cause
+node_column-returns-in-Zoned-clause-cause g c =
+    zoned_cause c.node_column.result (subtree c.args.tree.now c.args.node) (tree_head c.args.tree.now c.args.node) _ (subtree c.args.tree.now c.in-Zoned.content) _ c.args.start (length c.args.mask.now) c.args.reads.now c.in-Zoned.ensures.0.tree c.node_column.ensures.cause
 
-pub field_columns-column_of-requires : goal.field_columns-column_of-requires
-field_columns-column_of-requires g c =
+pub field_columns-node_column-requires : goal.field_columns-node_column-requires
+field_columns-node_column-requires g c =
     let nodes = c.args.tree.now in
     let field = get_or c.args.fields.now c.loop-field.field-index 0 in
     let lt : c.loop-field.field-index < length c.args.fields.now = c.loop-field-test.true in
@@ -267,7 +265,7 @@ field_columns-loop-field-preserved g c =
     let needs = fields_left nodes c.args.fields.now c.loop-field.field-index field c.args.start c.args.mask.now at in
     let went = c.in-Ok.ensures.passed in
     record {
-      ready = begin_next now rest c.args.reads.now c.loop-field.next c.column_of.new.next went (subst (λ (ns : List ℕ). Begin ns (drop c.loop-field.next c.args.reads.now)) needs c.loop-field.invariant.ready);
+      ready = begin_next now rest c.args.reads.now c.loop-field.next c.node_column.new.next went (subst (λ (ns : List ℕ). Begin ns (drop c.loop-field.next c.args.reads.now)) needs c.loop-field.invariant.ready);
       passed = (let all_needed = ap length needs ∙ length-append now rest in omega (arith, went, all_needed, c.loop-field.invariant.passed));
       columns = columns_more c.args.reads.now nodes c.args.start c.args.mask.now c.args.fields.now c.loop-field.field-index field c.loop-field.columns.items c.push.new.self.items c.in-Ok.column at c.in_ok-push-in-Ok.ensures.items c.loop-field.invariant.columns (record { dtype = c.in-Ok.ensures.dtype; rows = c.in-Ok.ensures.rows; values = c.in-Ok.ensures.values });
     }

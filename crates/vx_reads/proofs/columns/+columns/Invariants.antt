@@ -8,8 +8,8 @@ use Rattle.vx_reads.specs.Needed.{needed_in, needed_of_each}
 use Rattle.vx_reads.specs.Readable.{tree_head, trees_of}
 use Rattle.vx_reads.proofs.columns.+columns.Given as goal
 
-abbrev pub decreases-column_of : goal.decreases-column_of
-decreases-column_of l = 6 * (length l.tree.now - l.node) + 3
+abbrev pub decreases-node_column : goal.decreases-node_column
+decreases-node_column l = 6 * (length l.tree.now - l.node) + 3
 
 abbrev pub decreases-chunks_column : goal.decreases-chunks_column
 decreases-chunks_column l = 6 * (length l.tree.now - l.node) + 2

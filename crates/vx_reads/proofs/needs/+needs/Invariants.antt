@@ -6,6 +6,9 @@ use Rattle.vx_reads.proofs.needs.+needs.Given as goal
 abbrev pub decreases-add_needs : goal.decreases-add_needs
 decreases-add_needs l = 3 * (length l.tree.now - l.node) + 2
 
+abbrev pub decreases-add_dict_needs : goal.decreases-add_dict_needs
+decreases-add_dict_needs l = 3 * (length l.tree.now - l.node) + 1
+
 abbrev pub decreases-add_chunk_needs : goal.decreases-add_chunk_needs
 decreases-add_chunk_needs l = 3 * (length l.tree.now - l.node) + 1
 

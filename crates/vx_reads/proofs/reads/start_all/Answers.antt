@@ -13,8 +13,8 @@ returns-in-Err g c =
     let state = g.S.SegmentSource.state in
     let many = same_count c.loop-place.reads.items c.args.reads.now.items c.loop-place.invariant.goes.segments in
     let at : slice_get c.loop-place.reads.items c.loop-place.place ≡ Some c.index_mut.result.now = slice_get_read c.loop-place.reads.items _ c.loop-place.place c.index_mut.result.now refl (omega (arith, many, c.len-place-end.ensures, c.loop-place-test.true)) c.index_mut.ensures.value in
-    stops_then c.args.locations.now c.in-Err.error c.args.reads.now.items c.loop-place.reads.items (state c.args.source.now) (state c.loop-place.source) (state c.start.new.source) c.loop-place.invariant.goes
-    (stop_start c.args.locations.now c.loop-place.reads.items c.loop-place.place c.index_mut.result.now c.start.new.self c.in-Err.error (state c.loop-place.source) (state c.start.new.source) at c.in-Err.ensures)
+    stops_then c.args.locations.now c.in-Err.error c.args.reads.now.items c.loop-place.reads.items _ (state c.args.source.now) (state c.loop-place.source) (state c.start.new.source) c.loop-place.invariant.goes
+    (stop_start c.args.locations.now c.loop-place.reads.items c.loop-place.place c.index_mut.result.now c.start.new.self c.in-Err.error (state c.loop-place.source) (state c.start.new.source) at c.loop-place.invariant.goes.in_flight c.in-Err.ensures)
 
 pub loop-place-preserved : goal.loop-place-preserved
 loop-place-preserved g c =

@@ -1,4 +1,3 @@
-use Rattle.std.proofs.Common.{◌≡◌, length}
 use Rattle.vx_readers.specs.Evaluations.{zones_needed_by, HasAll}
 use Rattle.vx_readers.proofs.PruningAnswers.{pruning_ready, pruning_refused, pruning_rows}
 use Rattle.vx_readers.proofs.prunings.Pruning.poll.Goals as goal

@@ -1,4 +1,4 @@
-use Rattle.std.proofs.Common.{◌≡◌, ◌+◌, ◌≤◌, length, ap, arith}
+use Rattle.std.proofs.Common.{◌+◌, ◌≤◌, length, ap, arith}
 use Rattle.vx_base.specs.Columns.{ColumnData}
 use Rattle.vx_readers.proofs.Uncut.{piece_long, piece_off}
 use Rattle.vx_readers.proofs.uncut_rows.UncutRows.next_piece.Goals as goal

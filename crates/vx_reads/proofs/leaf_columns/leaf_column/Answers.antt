@@ -3,7 +3,7 @@ use Rattle.vx_reads.specs.Readable.{tree_head}
 use Rattle.vx_picking.specs.Rows.{selects_some}
 use Rattle.vx_reads.proofs.Computing.{leaf_long, leaf_none, leaf_read, leaf_rows, whole_picked}
 use Rattle.vx_picking.proofs.SelectedRows.{none_count, none_rows, picked_count}
-use Rattle.vx_reads.proofs.columns.leaf_column.Goals as goal
+use Rattle.vx_reads.proofs.leaf_columns.leaf_column.Goals as goal
 
 pub returns-then-not-selects_some-clause-rows : goal.returns-then-not-selects_some-clause-rows
 returns-then-not-selects_some-clause-rows c =
