@@ -6,7 +6,7 @@ use Rattle.std.specs.List.{slice_get}
 use Rattle.vx_expr.specs.Meaning.{meaning}
 use Rattle.vx_expr.specs.Rows.{no_bound}
 use Rattle.vx_expr.specs.Packs.{struct_row}
-use Rattle.vx_rows.specs.Derivations.{Derivation, nothing, of_leaf, list_row, given, packed, valid_where, looked_up, worked_out, read_whole, Derivations, no_more, also, Leaves, derivation_count, derived, derived_each}
+use Rattle.vx_rows.specs.Derivations.{Derivation, nothing, of_leaf, list_row, given, packed, valid_where, looked_up, worked_out, read_whole, concluded, Derivations, no_more, also, Leaves, derivation_count, derived, derived_each}
 use Rattle.vx_rows.specs.Given.{GivenValues, all_given, values_with, share_with, with_given, each_with_given, AreCertified, EachCertified}
 use Rattle.vx_rows.specs.Reads.{Way, inside, code_row, Found, a_code, reads_of, reads_of_each, Finds, IsPlaceAmong}
 use Rattle.vx_rows.proofs.ReadRows.{derived_count}
@@ -56,6 +56,7 @@ mutual
       let q : derived_each leaves (values_with (g dictionary) values) ≡ derived_each leaves (values_with (f dictionary) values) = values_added leaves values (f dictionary) (h dictionary) (g dictionary) (stand dictionary) are.1 in
       cc
   added leaves f h g stand (worked_out t e d) are = ap (option_and_then (λ (v : Datum). meaning t no_bound e v 0)) (added leaves f h g stand d are)
+  added leaves f h g stand (concluded rule ds) are = ap (option_and_then rule) (added_each leaves f h g stand ds are)
   added leaves f h g stand (read_whole share row d ds) are = share_added leaves row d (read_whole share row d ds) (f share) (h share) (g share) refl (stand share) are
 
   added_each : (leaves : Leaves) (f h g : GivenValues) → AllStand f h g → (ds : Derivations) → EachCertified leaves h ds → derived_each leaves (each_with_given g ds) ≡ derived_each leaves (each_with_given f ds)
@@ -111,6 +112,7 @@ mutual
       inr (no_more_in P (reads_of way (with_given g code)) (reads_of_each (inside dictionary way) (values_with (g dictionary) values)) (reads_of way (with_given f code)) (reads_of_each (inside dictionary way) (values_with (f dictionary) values))
       (found_added P A leaves f h g stand keeps code way (λ a. (are a).0)) (values_found P (inside dictionary way) values (f dictionary) (h dictionary) (g dictionary) (stand dictionary)) rest)) any
   found_added P A leaves f h g stand keeps (worked_out t e d) way are any = found_added P A leaves f h g stand keeps d way are any
+  found_added P A leaves f h g stand keeps (concluded rule ds) way are any = each_found P A leaves f h g stand keeps ds way are any
   found_added P A leaves f h g stand keeps (read_whole share row d ds) way are any = share_found P way row (read_whole share row d ds) (f share) (h share) (g share) (stand share) any
 
   each_found : (P : Found → Type 0) (A : Type 0) (leaves : Leaves) (f h g : GivenValues) → AllStand f h g → KeepsCodes P A leaves f h g → (ds : Derivations) (way : Way) → (A → EachCertified leaves h ds) → Finds P (reads_of_each way (each_with_given g ds)) → Finds P (reads_of_each way (each_with_given f ds))

@@ -11,7 +11,7 @@ use Rattle.vx_rows.specs.SegmentLeaves.{Bytes, leaves_of}
 use Rattle.vx_plan.specs.declared.nodes.PlanKind.{PlanKind}
 use Rattle.vx_plan.specs.declared.nodes.PlanKind.TheVariants as kinds
 use Rattle.vx_plan.specs.Nodes.{Node}
-use Rattle.vx_plan.specs.Plans.{Plan, no_plan, concat_plan, eval_plan, filter_plan, pack_plan, take_plan, share_plan, list_plan, row_idx_plan, scan_plan, zoned_plan, Plans, no_plans, plan, PlanValidity, all_valid, valid_as, plan_head}
+use Rattle.vx_plan.specs.Plans.{Plan, no_plan, concat_plan, eval_plan, filter_plan, pack_plan, take_plan, share_plan, list_plan, row_idx_plan, scan_plan, zoned_plan, pruning_plan, Plans, no_plans, plan, PlanValidity, all_valid, valid_as, plan_head}
 use Rattle.vx_plan.specs.PlanRows.{plan_derivation, plan_derivation_in, plan_derivations, plan_where_valid}
 use Rattle.vx_plan.specs.Refs.{number_of}
 use Rattle.vx_steps.specs.Given.{given_as, given_at, given_for, row_value, whole_at}
@@ -22,6 +22,7 @@ use Rattle.vx_steps.specs.Laws.{IsRowOf}
 use Rattle.vx_steps.specs.Offers.{Keeps}
 use Rattle.vx_steps.specs.ScanLaws.{IsTornIn}
 use Rattle.vx_steps.specs.Visits.{Test, Visits, VisitsIn, VisitsField, VisitsValidity, HasEvalFault}
+use Rattle.vx_steps.proofs.AllRows.{certified_at as all_certified_at}
 use Rattle.vx_steps.proofs.CertifiedValues.{row_certified}
 use Rattle.vx_steps.proofs.FreeVisits.{IsFaultAt}
 use Rattle.vx_steps.proofs.UsedValues.{selected_same}
@@ -123,6 +124,7 @@ kind_stands given more all n kinds.RowIdx children behind = inl refl
 kind_stands given more all n (kinds.SegmentScan segment coding) children behind = inl refl
 kind_stands given more all n (kinds.Zoned zone_len stats) children behind = inl refl
 kind_stands given more all n (kinds.LegacyStats zone_len stats) children behind = inl refl
+kind_stands given more all n (kinds.Pruning zone_len stats proof) children behind = inl refl
 
 node_stands : (given more all : List Kept) (n : ℕ) (node : Option Node) → AreBehind given more all → Stands (given_at given n node) (given_at more n node) (given_at all n node)
 node_stands given more all n None behind = inl refl
@@ -169,6 +171,8 @@ module _ (leaves : Leaves) (f h g : GivenValues) (offset : ℕ) (P : Test) (lack
     stays (scan_plan head segment coding) row are v = own (scan_plan head segment coding) row are v
     stays (zoned_plan head zones content table) row are (inl v) = inl (own (zoned_plan head zones content table) row are v)
     stays (zoned_plan head zones content table) row are (inr v) = inr (stays content row are v)
+    stays (pruning_plan head pruning table) row are (inl v) = inl (own (pruning_plan head pruning table) row are v)
+    stays (pruning_plan head pruning table) row are (inr (other, less, v)) = inr (other, less, stays table other (all_certified_at leaves h (plan_derivation offset table) (plan_head table).rows other less are) v)
 
     stays_in : (ps : Plans) (row : ℕ) → AreCertified leaves h (plan_derivation_in offset ps row) → VisitsIn P (Some g) ps row → VisitsIn P (Some f) ps row
     stays_in no_plans row are v = v
@@ -198,6 +202,7 @@ fault_stays leaves f h g offset at stand (list_plan head elements offsets validi
 fault_stays leaves f h g offset at stand (row_idx_plan head) row are v = absurd v
 fault_stays leaves f h g offset at stand (scan_plan head segment coding) row are v = absurd v
 fault_stays leaves f h g offset at stand (zoned_plan head zones content table) row are v = absurd v
+fault_stays leaves f h g offset at stand (pruning_plan head pruning table) row are v = absurd v
 
 -- ---- of a chunk
 

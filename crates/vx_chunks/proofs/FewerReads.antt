@@ -1,7 +1,7 @@
 -- What selected rows read of leaves and lists with values in place of whole ones, they read with none.
 use Rattle.std.proofs.Common.{ℕ, ◌+◌, inr, ⊎_elim, List, [], ◌++◌, Option, Some, None}
 use Rattle.std.specs.List.{slice_get}
-use Rattle.vx_rows.specs.Derivations.{Derivation, nothing, of_leaf, list_row, given, packed, valid_where, looked_up, worked_out, read_whole, Derivations, no_more, also}
+use Rattle.vx_rows.specs.Derivations.{Derivation, nothing, of_leaf, list_row, given, packed, valid_where, looked_up, worked_out, read_whole, concluded, Derivations, no_more, also}
 use Rattle.vx_rows.specs.Given.{GivenValues, values_with, share_with, with_given, each_with_given}
 use Rattle.vx_rows.specs.Reads.{Way, directly, inside, CodeRow, code_row, Found, a_code, Read, reads_of, reads_of_each, Finds, IsIn}
 use Rattle.vx_rows.proofs.ReadRows.{any_either, any_left, any_right}
@@ -55,6 +55,7 @@ mutual
       inr (no_more_in P (reads_of way (with_given handed code)) (reads_of_each (inside dictionary way) (values_with (handed dictionary) values)) (reads_of way code) (reads_of_each (inside dictionary way) values)
       (fewer P out handed code way) (values_read P (inside dictionary way) values (handed dictionary)) rest)) any
   fewer P out handed (worked_out t e d) way any = fewer P out handed d way any
+  fewer P out handed (concluded rule ds) way any = fewer_each P out handed ds way any
   fewer P out handed (read_whole share row d ds) way any = share_read P way row (read_whole share row d ds) (handed share) any
 
   fewer_each : (P : Found → Type 0) → NoCode P → (handed : GivenValues) (ds : Derivations) (way : Way) → Finds P (reads_of_each way (each_with_given handed ds)) → Finds P (reads_of_each way ds)

@@ -6,7 +6,7 @@ use Rattle.vx_rows.specs.Given.{GivenValues}
 use Rattle.vx_rows.specs.Reads.{directly}
 use Rattle.vx_plan.specs.declared.nodes.PlanKind.TheVariants as kinds
 use Rattle.vx_plan.specs.Nodes.{Node}
-use Rattle.vx_plan.specs.Plans.{Plan, no_plan, concat_plan, eval_plan, filter_plan, pack_plan, take_plan, share_plan, list_plan, row_idx_plan, scan_plan, zoned_plan, Plans, no_plans, plan, PlanValidity, all_valid, valid_as, plan_head, plan_at}
+use Rattle.vx_plan.specs.Plans.{Plan, no_plan, concat_plan, eval_plan, filter_plan, pack_plan, take_plan, share_plan, list_plan, row_idx_plan, scan_plan, zoned_plan, pruning_plan, Plans, no_plans, plan, PlanValidity, all_valid, valid_as, plan_head, plan_at}
 use Rattle.vx_plan.specs.Rules.{node_at}
 use Rattle.vx_plan.specs.Tables.{IsGoodTable}
 use Rattle.vx_steps.specs.declared.leaf_reads.LeafRead.{LeafRead}
@@ -57,6 +57,8 @@ mutual
   outside read f (scan_plan head segment coding) row lacks v = v
   outside read f (zoned_plan head zones content table) row lacks (inl v) = absurd v
   outside read f (zoned_plan head zones content table) row lacks (inr v) = inr (outside read f content row (λ l. lacks (inr l)) v)
+  outside read f (pruning_plan head pruning table) row lacks (inl v) = absurd v
+  outside read f (pruning_plan head pruning table) row lacks (inr (other, less, v)) = inr (other, less, outside read f table other (λ l. lacks (inr (other, less, l))) v)
 
   outside_in : (read : LeafRead) (f : GivenValues) (ps : Plans) (row : ℕ) → (VisitsIn (IsLacking f) (Some f) ps row → ⊥) → VisitsIn (IsLeafRead read) (Some f) ps row → VisitsIn (IsReadOutside read) (Some no_given) ps row
   outside_in read f no_plans row lacks v = absurd v
@@ -103,6 +105,7 @@ lack_of f (Some given) (list_plan head elements offsets validity) row v = absurd
 lack_of f (Some given) (row_idx_plan head) row v = absurd v
 lack_of f (Some given) (scan_plan head segment coding) row v = absurd v
 lack_of f (Some given) (zoned_plan head zones content table) row v = absurd v
+lack_of f (Some given) (pruning_plan head pruning table) row v = absurd v
 
 -- for a take, what is kept for its values
 pub take_given : (nodes : List Node) → IsGoodTable nodes → (n values : ℕ) → IsPlaced (IsTakeOver n values) nodes → (kept : List Kept) → given_for nodes kept n ≡ whole_of kept values
@@ -124,6 +127,7 @@ share_asks n given free (list_plan head elements offsets validity) row v = absur
 share_asks n given free (row_idx_plan head) row v = absurd v
 share_asks n given free (scan_plan head segment coding) row v = absurd v
 share_asks n given free (zoned_plan head zones content table) row v = absurd v
+share_asks n given free (pruning_plan head pruning table) row v = absurd v
 
 pub take_asks : (n values : ℕ) (given free : GivenValues) → Becomes (IsTakeOver n values) (IsWholeRead values) (Some given) (Some free)
 take_asks n values given free (no_plan head) row v = absurd v
@@ -137,6 +141,7 @@ take_asks n values given free (list_plan head elements offsets validity) row v =
 take_asks n values given free (row_idx_plan head) row v = absurd v
 take_asks n values given free (scan_plan head segment coding) row v = absurd v
 take_asks n values given free (zoned_plan head zones content table) row v = absurd v
+take_asks n values given free (pruning_plan head pruning table) row v = absurd v
 
 -- whole values are kept for all that the row asks for
 abbrev AllKept : List Node → List Kept → Plan → ℕ → Type 0

@@ -2,7 +2,7 @@
 use Rattle.std.proofs.Common.{◌≡◌, ℕ, ◌<◌, List, Some, None, length, sym, ap, ◌∙◌, subst}
 use Rattle.vx_rows.specs.Reads.{through}
 use Rattle.vx_plan.specs.Nodes.{Node}
-use Rattle.vx_plan.specs.Plans.{Plan, no_plan, concat_plan, eval_plan, filter_plan, pack_plan, take_plan, share_plan, list_plan, row_idx_plan, scan_plan, zoned_plan, plan_head, plan_at, plan_gap}
+use Rattle.vx_plan.specs.Plans.{Plan, no_plan, concat_plan, eval_plan, filter_plan, pack_plan, take_plan, share_plan, list_plan, row_idx_plan, scan_plan, zoned_plan, pruning_plan, plan_head, plan_at, plan_gap}
 use Rattle.vx_plan.specs.Tables.{IsGoodTable}
 use Rattle.vx_steps.specs.declared.leaf_reads.LeafRead.{LeafRead}
 use Rattle.vx_steps.specs.Given.{Handed, no_given}
@@ -34,6 +34,7 @@ over_seen take read (Some given) (list_plan head elements offsets validity) row 
 over_seen take read (Some given) (row_idx_plan head) row v = absurd v
 over_seen take read (Some given) (scan_plan head segment coding) row v = absurd v
 over_seen take read (Some given) (zoned_plan head zones content table) row v = absurd v
+over_seen take read (Some given) (pruning_plan head pruning table) row v = absurd v
 
 seen_over : (take : ℕ) (one other : LeafRead) (handed : Handed) (p : Plan) (row : ℕ) → IsReadThrough take one handed p row → IsOverAs take other p → IsReadThrough take other handed p row
 seen_over take one other None p row v is = v
@@ -48,6 +49,7 @@ seen_over take one other (Some given) (list_plan head elements offsets validity)
 seen_over take one other (Some given) (row_idx_plan head) row v is = v
 seen_over take one other (Some given) (scan_plan head segment coding) row v is = v
 seen_over take one other (Some given) (zoned_plan head zones content table) row v is = v
+seen_over take one other (Some given) (pruning_plan head pruning table) row v is = v
 
 no_gap : (take : ℕ) (read : LeafRead) (handed : Handed) (row : ℕ) → IsReadThrough take read handed (plan_gap 0) row → ⊥
 no_gap take read None row v = v

@@ -4,7 +4,7 @@ use Rattle.std.proofs.lemmas.Option.{slice_get-get_or}
 use Rattle.vx_rows.specs.Given.{GivenValues}
 use Rattle.vx_rows.specs.Reads.{through}
 use Rattle.vx_plan.specs.Nodes.{Node, absent}
-use Rattle.vx_plan.specs.Plans.{Plan, no_plan, concat_plan, eval_plan, filter_plan, pack_plan, take_plan, share_plan, list_plan, row_idx_plan, scan_plan, zoned_plan, plan_head, head_at, plan_at}
+use Rattle.vx_plan.specs.Plans.{Plan, no_plan, concat_plan, eval_plan, filter_plan, pack_plan, take_plan, share_plan, list_plan, row_idx_plan, scan_plan, zoned_plan, pruning_plan, plan_head, head_at, plan_at}
 use Rattle.vx_plan.specs.declared.nodes.PlanKind.TheVariants as kinds
 use Rattle.vx_plan.specs.Refs.{number_of}
 use Rattle.vx_plan.specs.Rules.{node_at}
@@ -45,6 +45,7 @@ whole_becomes n given free (list_plan head elements offsets validity) row v = ab
 whole_becomes n given free (row_idx_plan head) row v = absurd v
 whole_becomes n given free (scan_plan head segment coding) row v = absurd v
 whole_becomes n given free (zoned_plan head zones content table) row v = absurd v
+whole_becomes n given free (pruning_plan head pruning table) row v = absurd v
 
 pub asks_same : (plans : ScanPlans) (given other : List Kept) (chosen : SelectedRows) (n : ℕ) → ChunkAsks plans given chosen n → ChunkAsks plans other chosen n
 asks_same plans given other chosen n (place, at, v) =
@@ -93,6 +94,7 @@ through_looks take read (Some given) (list_plan head elements offsets validity) 
 through_looks take read (Some given) (row_idx_plan head) row v = absurd v
 through_looks take read (Some given) (scan_plan head segment coding) row v = absurd v
 through_looks take read (Some given) (zoned_plan head zones content table) row v = absurd v
+through_looks take read (Some given) (pruning_plan head pruning table) row v = absurd v
 
 pub record AsksThrough (nodes : List Node) (take : ℕ) (p : Plan) (row : ℕ) : Type 0 where
   pub number : ℕ

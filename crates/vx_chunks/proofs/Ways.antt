@@ -8,7 +8,7 @@ use Rattle.vx_rows.specs.Derivations.{Derivation, Derivations, packed, each_row}
 use Rattle.vx_rows.specs.Given.{GivenValues}
 use Rattle.vx_rows.specs.Reads.{Way, directly, through, Read, reads_of, reads_of_each, AnyOf, Finds, FindsBy, IsIn}
 use Rattle.vx_rows.proofs.ReadRows.{any_left, any_right, each_lies_through}
-use Rattle.vx_plan.specs.Plans.{Plan, no_plan, concat_plan, eval_plan, filter_plan, pack_plan, take_plan, share_plan, list_plan, row_idx_plan, scan_plan, zoned_plan, Plans, no_plans, plan, PlanValidity, all_valid, valid_as, plan_head}
+use Rattle.vx_plan.specs.Plans.{Plan, no_plan, concat_plan, eval_plan, filter_plan, pack_plan, take_plan, share_plan, list_plan, row_idx_plan, scan_plan, zoned_plan, pruning_plan, Plans, no_plans, plan, PlanValidity, all_valid, valid_as, plan_head}
 use Rattle.vx_plan.specs.PlanRows.{plan_derivation, plan_derivation_in, plan_derivations, plan_where_valid, plan_reads}
 use Rattle.vx_lower.proofs.TreeSizes.{zero_more}
 use Rattle.vx_steps.specs.declared.leaf_reads.LeafRead.{LeafRead}
@@ -50,6 +50,10 @@ mutual
   way_of read given (zoned_plan head zones content table) row (inr v) =
       let one = way_of read given content row v in
       (one.0, one.1, inr one.2)
+  way_of read given (pruning_plan head pruning table) row (inl v) = absurd v
+  way_of read given (pruning_plan head pruning table) row (inr (other, less, v)) =
+      let one = way_of read given table other v in
+      (one.0, one.1, inr (other, less, one.2))
   way_of read given (pack_plan head children validity) row (inl v) = absurd v
   way_of read given (pack_plan head children validity) row (inr (inl v)) =
       let one = way_field read given children row v in
@@ -104,6 +108,8 @@ mutual
   none_inside P out (filter_plan head child) row (inr v) = none_inside P out child row v
   none_inside P out (zoned_plan head zones content table) row (inl v) = out (zoned_plan head zones content table) row v
   none_inside P out (zoned_plan head zones content table) row (inr v) = none_inside P out content row v
+  none_inside P out (pruning_plan head pruning table) row (inl v) = out (pruning_plan head pruning table) row v
+  none_inside P out (pruning_plan head pruning table) row (inr (other, less, v)) = none_inside P out table other v
   none_inside P out (pack_plan head children validity) row (inl v) = out (pack_plan head children validity) row v
   none_inside P out (pack_plan head children validity) row (inr (inl v)) = none_field P out children row v
   none_inside P out (pack_plan head children validity) row (inr (inr v)) = none_validity P out validity row v
@@ -151,6 +157,8 @@ mutual
   opened P Q given own out (filter_plan head child) row (inr v) = inr (opened P Q given own out child row v)
   opened P Q given own out (zoned_plan head zones content table) row (inl v) = own (zoned_plan head zones content table) row v
   opened P Q given own out (zoned_plan head zones content table) row (inr v) = inr (opened P Q given own out content row v)
+  opened P Q given own out (pruning_plan head pruning table) row (inl v) = own (pruning_plan head pruning table) row v
+  opened P Q given own out (pruning_plan head pruning table) row (inr (other, less, v)) = inr (other, less, opened P Q given own out table other v)
   opened P Q given own out (pack_plan head children validity) row (inl v) = own (pack_plan head children validity) row v
   opened P Q given own out (pack_plan head children validity) row (inr (inl v)) = inr (inl (opened_field P Q given own out children row v))
   opened P Q given own out (pack_plan head children validity) row (inr (inr v)) = inr (inr (opened_validity P Q given own out validity row v))
@@ -190,6 +198,7 @@ own_leaf directly read given free (list_plan head elements offsets validity) row
 own_leaf directly read given free (row_idx_plan head) row v = absurd v
 own_leaf directly read given free (scan_plan head segment coding) row v = v
 own_leaf directly read given free (zoned_plan head zones content table) row v = absurd v
+own_leaf directly read given free (pruning_plan head pruning table) row v = absurd v
 own_leaf (through n) read given free (no_plan head) row v = absurd v
 own_leaf (through n) read given free (concat_plan head children) row v = absurd v
 own_leaf (through n) read given free (eval_plan head e child) row v = absurd v
@@ -201,6 +210,7 @@ own_leaf (through n) read given free (list_plan head elements offsets validity) 
 own_leaf (through n) read given free (row_idx_plan head) row v = absurd v
 own_leaf (through n) read given free (scan_plan head segment coding) row v = absurd v
 own_leaf (through n) read given free (zoned_plan head zones content table) row v = absurd v
+own_leaf (through n) read given free (pruning_plan head pruning table) row v = absurd v
 
 -- where nothing that is given stands in its place, what is read by a way is visited
 pub read_visited : (way : Way) (read : LeafRead) (given : GivenValues) → IsFree given way → (p : Plan) (row : ℕ) → ReadsBy way read p row → Visits (IsLeafRead read) (Some given) p row
@@ -230,6 +240,21 @@ row_found segment way f from (suc count) (suc row) lt any =
     any_right (λ (read : Read). IsIn segment read.found) (reads_of way (f from)) (reads_of_each way (each_row f (from + 1) count))
     (row_found segment way f (from + 1) count row (omega (arith, lt)) (subst (λ (r : ℕ). Finds (IsIn segment) (reads_of way (f r))) e any))
 
+row_by : (way : Way) (segment : ℕ) (f : ℕ → Derivation) (count row : ℕ) → row < count → FoundBy way segment (f row) → AnyOf (By way segment) (reads_of_each directly (each_row f 0 count))
+row_by way segment f count row lt any = from 0 count row lt (subst (λ (r : ℕ). FoundBy way segment (f r)) e any)
+  where
+    e : row ≡ 0 + row
+    e = omega arith
+
+    from : (first many place : ℕ) → place < many → FoundBy way segment (f (first + place)) → AnyOf (By way segment) (reads_of_each directly (each_row f first many))
+    from first zero place less one = absurd (omega (arith, less))
+    from first (suc many) zero less one =
+        let here : first + 0 ≡ first = omega arith in
+        any_left (By way segment) (reads_of directly (f first)) (reads_of_each directly (each_row f (first + 1) many)) (subst (λ (r : ℕ). FoundBy way segment (f r)) here one)
+    from first (suc many) (suc place) less one =
+        let next : first + suc place ≡ first + 1 + place = omega arith in
+        any_right (By way segment) (reads_of directly (f first)) (reads_of_each directly (each_row f (first + 1) many)) (from (first + 1) many place (omega (arith, less)) (subst (λ (r : ℕ). FoundBy way segment (f r)) next one))
+
 -- through the values of a take
 take_found : (read : LeafRead) (offset row : ℕ) (codes values : Plan) (n : ℕ) → SomeWholeVisit (IsLeafRead read) values (plan_head values).rows →
     AnyOf (By (through n) read.segment) (reads_of directly (plan_derivation offset codes row) ++ reads_of_each (through n) (each_row (plan_derivation offset values) 0 (plan_head values).rows))
@@ -253,6 +278,7 @@ own_found directly read offset (list_plan head elements offsets validity) row sh
 own_found directly read offset (row_idx_plan head) row shares v = absurd v
 own_found directly read offset (scan_plan head segment coding) row shares v = inl (refl, v.1)
 own_found directly read offset (zoned_plan head zones content table) row shares v = absurd v
+own_found directly read offset (pruning_plan head pruning table) row shares v = absurd v
 own_found (through n) read offset (no_plan head) row shares v = absurd v
 own_found (through n) read offset (concat_plan head children) row shares v = absurd v
 own_found (through n) read offset (eval_plan head e child) row shares v = absurd v
@@ -265,6 +291,7 @@ own_found (through n) read offset (list_plan head elements offsets validity) row
 own_found (through n) read offset (row_idx_plan head) row shares v = absurd v
 own_found (through n) read offset (scan_plan head segment coding) row shares v = absurd v
 own_found (through n) read offset (zoned_plan head zones content table) row shares v = absurd v
+own_found (through n) read offset (pruning_plan head pruning table) row shares v = absurd v
 
 front_by : (way : Way) (segment offset : ℕ) (validity : PlanValidity) (row : ℕ) (d : Derivation) → FoundBy way segment d → FoundBy way segment (plan_where_valid offset validity row d)
 front_by way segment offset all_valid row d any = any
@@ -281,6 +308,8 @@ mutual
   found_by way read offset (filter_plan head child) row shares (inr v) = found_by way read offset child row (λ s. shares (inr s)) v
   found_by way read offset (zoned_plan head zones content table) row shares (inl v) = own_found way read offset (zoned_plan head zones content table) row shares v
   found_by way read offset (zoned_plan head zones content table) row shares (inr v) = found_by way read offset content row (λ s. shares (inr (inl s))) v
+  found_by way read offset (pruning_plan head pruning table) row shares (inl v) = own_found way read offset (pruning_plan head pruning table) row shares v
+  found_by way read offset (pruning_plan head pruning table) row shares (inr (other, less, v)) = row_by way read.segment (plan_derivation offset table) (plan_head table).rows other less (found_by way read offset table other (λ s. shares (inr s)) v)
   found_by way read offset (pack_plan head children validity) row shares (inl v) = own_found way read offset (pack_plan head children validity) row shares v
   found_by way read offset (pack_plan head children validity) row shares (inr (inl v)) =
       front_by way read.segment offset validity row (packed (plan_derivations offset children row)) (found_field way read offset children row (λ s. shares (inr (inl s))) v)

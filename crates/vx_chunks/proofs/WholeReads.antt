@@ -10,7 +10,7 @@ use Rattle.vx_rows.specs.Heads.{Head}
 use Rattle.vx_rows.proofs.ReadRows.{any_either, any_right, found_anywhere}
 use Rattle.vx_plan.specs.FittingRows.{HasFittingRows}
 use Rattle.vx_plan.specs.Nodes.{Node, absent}
-use Rattle.vx_plan.specs.Plans.{Plan, no_plan, concat_plan, eval_plan, filter_plan, pack_plan, take_plan, share_plan, list_plan, row_idx_plan, scan_plan, zoned_plan, Plans, no_plans, plan, PlanValidity, all_valid, valid_as, plan_head, head_at, plan_at, plan_gap}
+use Rattle.vx_plan.specs.Plans.{Plan, no_plan, concat_plan, eval_plan, filter_plan, pack_plan, take_plan, share_plan, list_plan, row_idx_plan, scan_plan, zoned_plan, pruning_plan, Plans, no_plans, plan, PlanValidity, all_valid, valid_as, plan_head, head_at, plan_at, plan_gap}
 use Rattle.vx_plan.specs.PlanRows.{plan_derivation}
 use Rattle.vx_plan.specs.Rules.{node_at}
 use Rattle.vx_plan.specs.Tables.{IsGoodTable}
@@ -112,6 +112,12 @@ mutual
   visit_chosen P Q f handed (zoned_plan head zones content table) row (inr v) =
       let one = visit_chosen P Q f handed content row v in
       (one.0, inr one.1)
+  visit_chosen P Q f handed (pruning_plan head pruning table) row (inl v) =
+      let one = f handed (pruning_plan head pruning table) row v in
+      (one.0, inl one.1)
+  visit_chosen P Q f handed (pruning_plan head pruning table) row (inr (other, less, v)) =
+      let one = visit_chosen P Q f handed table other v in
+      (one.0, inr (other, less, one.1))
 
   chosen_in : {X : Type 0} (P : Test) (Q : X → Test) → Chooses P Q → (handed : Handed) (ps : Plans) (row : ℕ) → VisitsIn P handed ps row → (x : X) × VisitsIn (Q x) handed ps row
   chosen_in P Q f handed no_plans row v = absurd v
@@ -145,6 +151,7 @@ asked_by n (Some given) (list_plan head elements offsets validity) row v = absur
 asked_by n (Some given) (row_idx_plan head) row v = absurd v
 asked_by n (Some given) (scan_plan head segment coding) row v = absurd v
 asked_by n (Some given) (zoned_plan head zones content table) row v = absurd v
+asked_by n (Some given) (pruning_plan head pruning table) row v = absurd v
 
 pub asked_take : (n : ℕ) (handed : Handed) (p : Plan) (row : ℕ) → Visits (IsWholeRead n) handed p row → (take : ℕ) × Visits (IsWholeBy take n) handed p row
 asked_take n handed p row v = visit_chosen (IsWholeRead n) (λ take. IsWholeBy take n) (asked_by n) handed p row v
@@ -166,6 +173,7 @@ numbered_by take n (Some given) (list_plan head elements offsets validity) row v
 numbered_by take n (Some given) (row_idx_plan head) row v = absurd v
 numbered_by take n (Some given) (scan_plan head segment coding) row v = absurd v
 numbered_by take n (Some given) (zoned_plan head zones content table) row v = absurd v
+numbered_by take n (Some given) (pruning_plan head pruning table) row v = absurd v
 
 -- the plan of the take tells the number of its whole values
 pub take_tells : (nodes : List Node) → IsGoodTable nodes → (m : ℕ) → m < length nodes → (take n : ℕ) (handed : Handed) (row : ℕ) → Visits (IsWholeBy take n) handed (plan_at nodes m) row → whole_number (plan_at nodes take) ≡ n
@@ -202,6 +210,7 @@ read_own nodes good take n read reads given (list_plan head elements offsets val
 read_own nodes good take n read reads given (row_idx_plan head) row v = absurd v.0
 read_own nodes good take n read reads given (scan_plan head segment coding) row v = absurd v.0
 read_own nodes good take n read reads given (zoned_plan head zones content table) row v = absurd v.0
+read_own nodes good take n read reads given (pruning_plan head pruning table) row v = absurd v.0
 
 read_deep : (nodes : List Node) (take n : ℕ) (read : LeafRead) → Becomes (InTable nodes (IsWholeBy take n)) (IsReadThrough take read) None None
 read_deep nodes take n read p row v = absurd v.0
@@ -269,6 +278,7 @@ find_own nodes good n Q offset finds (Some given) way (list_plan head elements o
 find_own nodes good n Q offset finds (Some given) way (row_idx_plan head) row v = absurd v.0.0
 find_own nodes good n Q offset finds (Some given) way (scan_plan head segment coding) row v = absurd v.0.0
 find_own nodes good n Q offset finds (Some given) way (zoned_plan head zones content table) row v = absurd v.0.0
+find_own nodes good n Q offset finds (Some given) way (pruning_plan head pruning table) row v = absurd v.0.0
 
 -- with nothing handed in, a plan that asks sees that
 free_own : (nodes : List Node) (n : ℕ) (given : GivenValues) → HandsNone (Some given) → Becomes (InTable nodes (IsWholeRead n)) (AsksFree nodes n) (Some given) (Some given)
@@ -283,6 +293,7 @@ free_own nodes n given none (list_plan head elements offsets validity) row v = a
 free_own nodes n given none (row_idx_plan head) row v = absurd v.0
 free_own nodes n given none (scan_plan head segment coding) row v = absurd v.0
 free_own nodes n given none (zoned_plan head zones content table) row v = absurd v.0
+free_own nodes n given none (pruning_plan head pruning table) row v = absurd v.0
 
 free_deep : (nodes : List Node) (n : ℕ) → Becomes (InTable nodes (IsWholeRead n)) (AsksFree nodes n) None None
 free_deep nodes n p row v = absurd v.0

@@ -1,6 +1,6 @@
 //! Whole values by their plan, in a list of them: the first of a plan, and a copy of it behind others.
 
-ghost use Rattle.std.specs.Prelude.{◌≡◌, map, None, OnOk, option_copied};
+ghost use Rattle.std.specs.Prelude.{◌≡◌, map, None, OnErr, OnOk, option_copied};
 ghost use Rattle.vx_plan.specs.Refs.{number_of};
 ghost use Rattle.vx_steps.specs.Kept.{kept_at, kept_data};
 ghost use Rattle.vx_chunks.specs.KeptValues.{Gives};
@@ -30,7 +30,8 @@ pub fn give(
     entries: &[KeptValue],
     given: &mut Vec<KeptValue>,
 ) -> Result<(), AllocError>
-    ensures { OnOk result (Gives (number_of node) (data_of entries.now) (data_of given.old.items) (data_of given.new.items)) }
+    ensures gives { OnOk result (Gives (number_of node) (data_of entries.now) (data_of given.old.items) (data_of given.new.items)) }
+    ensures unchanged { OnErr result (given.new.items ≡ given.old.items) }
 {
     if let Some(column) = first_for(entries, node) {
         given.push(KeptValue {

@@ -5,7 +5,7 @@ use Rattle.vx_lower.specs.Numbered.{numbered, each_numbered, validity_numbered}
 use Rattle.vx_lower.specs.OldNumbers.{numbers_of, each_numbers_of, validity_numbers_of, old_number}
 use Rattle.vx_lower.specs.Sizes.{plan_size, plans_size}
 use Rattle.vx_lower.proofs.OldNumbers.{count_numbers, count_each, Gives, front, back, given_from}
-use Rattle.vx_plan.specs.Plans.{Plan, no_plan, concat_plan, eval_plan, filter_plan, pack_plan, take_plan, share_plan, list_plan, row_idx_plan, scan_plan, zoned_plan, Plans, no_plans, plan, PlanValidity, all_valid, valid_as}
+use Rattle.vx_plan.specs.Plans.{Plan, no_plan, concat_plan, eval_plan, filter_plan, pack_plan, take_plan, share_plan, list_plan, row_idx_plan, scan_plan, zoned_plan, pruning_plan, Plans, no_plans, plan, PlanValidity, all_valid, valid_as}
 use Rattle.vx_steps.specs.Below.{StandsIn, StandsAmong, StandsInValidity}
 use Rattle.vx_scan.specs.FilePlans.{IsTakeAs}
 
@@ -27,6 +27,7 @@ abbrev mutual
   takes_at k (row_idx_plan head) = 0
   takes_at k (scan_plan head segment coding) = 0
   takes_at k (zoned_plan head zones content table) = takes_at k content + takes_at k table
+  takes_at k (pruning_plan head pruning table) = takes_at k table
 
   pub takes_among : ℕ → Plans → ℕ
   takes_among k no_plans = 0
@@ -54,6 +55,7 @@ abbrev mutual
   TellsTakes f first (row_idx_plan head) = Unit {0}
   TellsTakes f first (scan_plan head segment coding) = Unit {0}
   TellsTakes f first (zoned_plan head zones content table) = TellsTakes f first content × TellsTakes f (first + plan_size content) table
+  TellsTakes f first (pruning_plan head pruning table) = TellsTakes f first table
 
   TellsAmong : (ℕ → ℕ) → ℕ → Plans → Type 0
   TellsAmong f first no_plans = Unit {0}
@@ -100,6 +102,7 @@ mutual
         told f first content (front f first (numbers_of content) (numbers_of table ++ head.number ∷ []) gives),
         told f (first + plan_size content) table (front f (first + plan_size content) (numbers_of table) (head.number ∷ []) behind),
       )
+  told f first (pruning_plan head pruning table) gives = told f first table (front f first (numbers_of table) (head.number ∷ []) gives)
 
   told_among : (f : ℕ → ℕ) (first : ℕ) (ps : Plans) → Gives f first (each_numbers_of ps) → TellsAmong f first ps
   told_among f first no_plans gives = tt
@@ -149,6 +152,8 @@ mutual
   some_take f k n first (zoned_plan head zones content table) tells is (inl s) = absurd s
   some_take f k n first (zoned_plan head zones content table) tells is (inr (inl s)) = let one = some_take f k n first content tells.0 is s in omega (arith, one)
   some_take f k n first (zoned_plan head zones content table) tells is (inr (inr s)) = let one = some_take f k n (first + plan_size content) table tells.1 is s in omega (arith, one)
+  some_take f k n first (pruning_plan head pruning table) tells is (inl s) = absurd s
+  some_take f k n first (pruning_plan head pruning table) tells is (inr s) = some_take f k n first table tells is s
 
   some_among : (f : ℕ → ℕ) (k n first : ℕ) (ps : Plans) → TellsAmong f first ps → f n ≡ k → StandsOne n first ps → 1 ≤ takes_among k ps
   some_among f k n first no_plans tells is s = absurd s
@@ -234,6 +239,9 @@ mutual
   one_take f k m n first (zoned_plan head zones content table) tells is also most (inr (inr s)) (inr (inl t)) =
       absurd (let a = some_take f k n first content tells.0 also t in let b = some_take f k m (first + plan_size content) table tells.1 is s in omega (arith, a, b, most))
   one_take f k m n first (zoned_plan head zones content table) tells is also most (inr (inr s)) (inr (inr t)) = one_take f k m n (first + plan_size content) table tells.1 is also (omega (arith, most)) s t
+  one_take f k m n first (pruning_plan head pruning table) tells is also most (inl s) t = absurd s
+  one_take f k m n first (pruning_plan head pruning table) tells is also most (inr s) (inl t) = absurd t
+  one_take f k m n first (pruning_plan head pruning table) tells is also most (inr s) (inr t) = one_take f k m n first table tells is also most s t
 
   one_among : (f : ℕ → ℕ) (k m n first : ℕ) (ps : Plans) → TellsAmong f first ps → f m ≡ k → f n ≡ k → takes_among k ps ≤ 1 → StandsOne m first ps → StandsOne n first ps → m ≡ n
   one_among f k m n first no_plans tells is also most s t = absurd s

@@ -1,5 +1,5 @@
 -- A row that asks for whole values reads a code of an outermost dictionary.
-use Rattle.std.proofs.Common.{◌≡◌, ℕ, zero, suc, ◌+◌, ◌-◌, inl, inr, Bool, true, false, List, [], ◌∷◌, Some, map, refl, ap, subst}
+use Rattle.std.proofs.Common.{◌≡◌, ℕ, zero, suc, ◌+◌, ◌-◌, ◌<◌, inl, inr, Bool, true, false, List, [], ◌∷◌, Some, map, refl, ap, subst, arith}
 use Rattle.std.specs.Prelude.{if◌then◌else◌, nat_lt, IsSomeAnd}
 use Rattle.std.specs.List.{slice_get, AllByRecursion}
 use Rattle.std.specs.Bool.{MatchBool}
@@ -9,7 +9,7 @@ use Rattle.vx_rows.specs.Reads.{directly, inside, Found, a_leaf_row, a_code, a_l
 use Rattle.vx_rows.specs.Renumbered.{found_renumbered, read_renumbered, way_renumbered}
 use Rattle.vx_rows.proofs.ReadRows.{any_left, any_right}
 use Rattle.vx_lower.specs.Projected.{scan_reads}
-use Rattle.vx_plan.specs.Plans.{Plan, no_plan, concat_plan, eval_plan, filter_plan, pack_plan, take_plan, share_plan, list_plan, row_idx_plan, scan_plan, zoned_plan, Plans, no_plans, plan, PlanValidity, all_valid, valid_as, plan_head}
+use Rattle.vx_plan.specs.Plans.{Plan, no_plan, concat_plan, eval_plan, filter_plan, pack_plan, take_plan, share_plan, list_plan, row_idx_plan, scan_plan, zoned_plan, pruning_plan, Plans, no_plans, plan, PlanValidity, all_valid, valid_as, plan_head}
 use Rattle.vx_plan.specs.PlanRows.{plan_derivation, plan_derivation_in, plan_derivations, plan_where_valid, plan_reads}
 use Rattle.vx_splits.specs.declared.selected_rows.SelectedRows.{SelectedRows}
 use Rattle.vx_splits.specs.Trimmed.{chosen_rows}
@@ -53,6 +53,22 @@ left_valid offset (valid_as validity) row d (take, any) = (take, any_left (IsDir
 right_valid : (offset : ℕ) (validity : Plan) (row : ℕ) (d : Derivation) → Reads (plan_derivation offset validity row) → Reads (plan_where_valid offset (valid_as validity) row d)
 right_valid offset validity row d (take, any) = (take, any_right (IsDirect take) (reads_of directly d) (reads_of directly (plan_derivation offset validity row)) any)
 
+-- what one of the rows reads, all of them read
+rows_read : (f : ℕ → Derivation) (count row : ℕ) → row < count → Reads (f row) → ReadsEach (each_row f 0 count)
+rows_read f count row lt (take, any) = (take, from 0 count row lt (subst (λ (r : ℕ). AnyOf (IsDirect take) (reads_of directly (f r))) e any))
+  where
+    e : row ≡ 0 + row
+    e = omega arith
+
+    from : (first many place : ℕ) → place < many → AnyOf (IsDirect take) (reads_of directly (f (first + place))) → AnyOf (IsDirect take) (reads_of_each directly (each_row f first many))
+    from first zero place less one = absurd (omega (arith, less))
+    from first (suc many) zero less one =
+        let here : first + 0 ≡ first = omega arith in
+        any_left (IsDirect take) (reads_of directly (f first)) (reads_of_each directly (each_row f (first + 1) many)) (subst (λ (r : ℕ). AnyOf (IsDirect take) (reads_of directly (f r))) here one)
+    from first (suc many) (suc place) less one =
+        let next : first + suc place ≡ first + 1 + place = omega arith in
+        any_right (IsDirect take) (reads_of directly (f first)) (reads_of_each directly (each_row f (first + 1) many)) (from (first + 1) many place (omega (arith, less)) (subst (λ (r : ℕ). AnyOf (IsDirect take) (reads_of directly (f r))) next one))
+
 mutual
   asked_reads : (n offset : ℕ) (given : GivenValues) (p : Plan) (row : ℕ) → HasNoShare p → Visits (IsWholeRead n) (Some given) p row → Reads (plan_derivation offset p row)
   asked_reads n offset given (no_plan head) row none v = absurd v
@@ -79,6 +95,8 @@ mutual
   asked_reads n offset given (scan_plan head segment coding) row none v = absurd v
   asked_reads n offset given (zoned_plan head zones content table) row none (inl v) = absurd v
   asked_reads n offset given (zoned_plan head zones content table) row none (inr v) = asked_reads n offset given content row (λ s. none (inr (inl s))) v
+  asked_reads n offset given (pruning_plan head pruning table) row none (inl v) = absurd v
+  asked_reads n offset given (pruning_plan head pruning table) row none (inr (other, less, v)) = rows_read (plan_derivation offset table) (plan_head table).rows other less (asked_reads n offset given table other (λ s. none (inr s)) v)
 
   asked_in : (n offset : ℕ) (given : GivenValues) (ps : Plans) (row : ℕ) → ¬ (StandsAmong IsSharePlan ps) → VisitsIn (IsWholeRead n) (Some given) ps row → Reads (plan_derivation_in offset ps row)
   asked_in n offset given no_plans row none v = absurd v

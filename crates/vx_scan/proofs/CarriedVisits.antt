@@ -1,13 +1,14 @@
 -- What a row visits with some whole values handed in, carried over to others.
-use Rattle.std.proofs.Common.{◌≡◌, ℕ, ◌-◌, inl, inr, Bool, true, false, None, Some, ap, subst}
+use Rattle.std.proofs.Common.{◌≡◌, ℕ, zero, suc, ◌+◌, ◌-◌, ◌<◌, inl, inr, Bool, true, false, List, Option, None, Some, ap, subst, arith}
 use Rattle.std.specs.Prelude.{if◌then◌else◌, nat_lt}
 use Rattle.std.specs.Bool.{MatchBool}
-use Rattle.vx_base.specs.Data.{DataType}
+use Rattle.vx_base.specs.Data.{DataType, Datum}
 use Rattle.vx_expr.specs.Terms.{Term}
-use Rattle.vx_rows.specs.Derivations.{Derivation, packed, valid_where, looked_up, worked_out, Derivations, also, each_row, Leaves, derived}
+use Rattle.vx_rows.specs.Derivations.{Derivation, packed, valid_where, looked_up, worked_out, concluded, Derivations, no_more, also, each_row, Leaves, derived}
 use Rattle.vx_rows.specs.Given.{GivenValues, values_with, with_given, each_with_given}
-use Rattle.vx_plan.specs.Plans.{Plan, no_plan, concat_plan, eval_plan, filter_plan, pack_plan, take_plan, share_plan, list_plan, row_idx_plan, scan_plan, zoned_plan, Plans, no_plans, plan, PlanValidity, all_valid, valid_as, plan_head}
+use Rattle.vx_plan.specs.Plans.{Plan, no_plan, concat_plan, eval_plan, filter_plan, pack_plan, take_plan, share_plan, list_plan, row_idx_plan, scan_plan, zoned_plan, pruning_plan, Plans, no_plans, plan, PlanValidity, all_valid, valid_as, plan_head}
 use Rattle.vx_plan.specs.PlanRows.{plan_derivation, plan_derivation_in, plan_derivations, plan_where_valid}
+use Rattle.vx_plan.specs.Pruning.{is_pruned_at}
 use Rattle.vx_steps.specs.Visits.{Test, Visits, VisitsIn, VisitsField, VisitsValidity, HasEvalFault}
 use Rattle.vx_steps.proofs.FreeVisits.{Becomes, IsFaultAt, freed, hands_none}
 
@@ -34,6 +35,13 @@ first_in one other ones others same = cc
 rest_in : (one other : Derivation) (ones others : Derivations) → also one ones ≡ also other others → ones ≡ others
 rest_in one other ones others same = cc
 
+abbrev below : Derivation → Derivations
+below (concluded rule ds) = ds
+below d = no_more
+
+concluded_in : (rule : List Datum → Option Datum) (ones others : Derivations) → concluded rule ones ≡ concluded rule others → ones ≡ others
+concluded_in rule ones others same = ap below same
+
 -- ---- visits
 
 -- Where no values are handed in, none are with the others; and where rows are derived alike, if they need be, what the
@@ -44,6 +52,20 @@ module _ (offset : ℕ) (f g : GivenValues) (P Q : Test) (A : Type 0) (lacks : (
   -- the row is derived alike, if it need be
   abbrev IsAlike : Derivation → Type 0
   IsAlike d = A → with_given f d ≡ with_given g d
+
+  rows_in : (d : ℕ → Derivation) (from count row : ℕ) → row < count → each_with_given f (each_row d from count) ≡ each_with_given g (each_row d from count) → with_given f (d (from + row)) ≡ with_given g (d (from + row))
+  rows_in d from zero row less same = absurd (omega (arith, less))
+  rows_in d from (suc count) zero less same =
+      let here : from ≡ from + 0 = omega arith in
+      subst (λ (r : ℕ). with_given f (d r) ≡ with_given g (d r)) here (first_in (with_given f (d from)) (with_given g (d from)) (each_with_given f (each_row d (from + 1) count)) (each_with_given g (each_row d (from + 1) count)) same)
+  rows_in d from (suc count) (suc row) less same =
+      let next : from + 1 + row ≡ from + suc row = omega arith in
+      subst (λ (r : ℕ). with_given f (d r) ≡ with_given g (d r)) next (rows_in d (from + 1) count row (omega (arith, less)) (rest_in (with_given f (d from)) (with_given g (d from)) (each_with_given f (each_row d (from + 1) count)) (each_with_given g (each_row d (from + 1) count)) same))
+
+  row_in : (d : ℕ → Derivation) (count row : ℕ) → row < count → each_with_given f (each_row d 0 count) ≡ each_with_given g (each_row d 0 count) → with_given f (d row) ≡ with_given g (d row)
+  row_in d count row less same =
+      let here : 0 + row ≡ row = omega arith in
+      subst (λ (r : ℕ). with_given f (d r) ≡ with_given g (d r)) here (rows_in d 0 count row less same)
 
   match_alike : (b : Bool) (d e : Derivation) (V W X Y : Type 0) → (IsAlike d → V → X) → (IsAlike e → W → Y) → IsAlike (if b then d else e) → MatchBool b V W → MatchBool b X Y
   match_alike true d e V W X Y one other alike v = one alike v
@@ -80,6 +102,11 @@ module _ (offset : ℕ) (f g : GivenValues) (P Q : Test) (A : Type 0) (lacks : (
     carried (scan_plan head segment coding) row alike v = own (scan_plan head segment coding) row alike v
     carried (zoned_plan head zones content table) row alike (inl v) = inl (own (zoned_plan head zones content table) row alike v)
     carried (zoned_plan head zones content table) row alike (inr v) = inr (carried content row alike v)
+    carried (pruning_plan head pruning table) row alike (inl v) = inl (own (pruning_plan head pruning table) row alike v)
+    carried (pruning_plan head pruning table) row alike (inr (other, less, v)) =
+        let d : ℕ → Derivation = plan_derivation offset table in
+        let all : Derivations = each_row d 0 (plan_head table).rows in
+        inr (other, less, carried table other (λ a. row_in d (plan_head table).rows other less (concluded_in (is_pruned_at pruning head.rows row) (each_with_given f all) (each_with_given g all) (alike a))) v)
 
     carried_in : (ps : Plans) (row : ℕ) → IsAlike (plan_derivation_in offset ps row) → VisitsIn P (Some f) ps row → VisitsIn Q (Some g) ps row
     carried_in no_plans row alike v = v
@@ -116,3 +143,4 @@ fault_alike leaves offset at f g (list_plan head elements offsets validity) row 
 fault_alike leaves offset at f g (row_idx_plan head) row alike v = v
 fault_alike leaves offset at f g (scan_plan head segment coding) row alike v = v
 fault_alike leaves offset at f g (zoned_plan head zones content table) row alike v = v
+fault_alike leaves offset at f g (pruning_plan head pruning table) row alike v = v

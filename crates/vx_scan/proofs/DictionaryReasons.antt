@@ -3,7 +3,7 @@ use Rattle.std.proofs.Common.{◌≡◌, ℕ, inl, inr, Some, None, List, [], �
 use Rattle.std.specs.List.{flat_map, AllByRecursion}
 use Rattle.vx_base.specs.declared.locations.AskedRange.{AskedRange}
 use Rattle.vx_lower.specs.Projected.{Projection}
-use Rattle.vx_plan.specs.Plans.{Plan, no_plan, concat_plan, eval_plan, filter_plan, pack_plan, take_plan, share_plan, list_plan, row_idx_plan, scan_plan, zoned_plan}
+use Rattle.vx_plan.specs.Plans.{Plan, no_plan, concat_plan, eval_plan, filter_plan, pack_plan, take_plan, share_plan, list_plan, row_idx_plan, scan_plan, zoned_plan, pruning_plan}
 use Rattle.vx_rows.specs.Reads.{Way, directly, through, AnyOf}
 use Rattle.vx_rows.specs.Renumbered.{way_renumbered}
 use Rattle.vx_steps.specs.declared.leaf_reads.LeafRead.{LeafRead}
@@ -34,6 +34,7 @@ take_seen n read (Some given) (list_plan head elements offsets validity) row v =
 take_seen n read (Some given) (row_idx_plan head) row v = absurd v
 take_seen n read (Some given) (scan_plan head segment coding) row v = absurd v
 take_seen n read (Some given) (zoned_plan head zones content table) row v = absurd v
+take_seen n read (Some given) (pruning_plan head pruning table) row v = absurd v
 
 any_stands : (way : Way) (read : LeafRead) (p : Plan) (take : ℕ) → way ≡ through take → (rows : List ℕ) → AnyOf (ReadsBy way read p) rows → StandsIn (IsTakeAs take) p
 any_stands way read p take is [] any = absurd any

@@ -10,7 +10,7 @@ use Rattle.vx_lower.specs.Numbered.{numbered, each_numbered, validity_numbered}
 use Rattle.vx_lower.specs.Projected.{Projection, kept_of}
 use Rattle.vx_lower.specs.RowIndex.{row_index_plan_from_by}
 use Rattle.vx_lower.specs.Sizes.{plan_size, plans_size, plan_validity_size}
-use Rattle.vx_plan.specs.Plans.{Plan, no_plan, concat_plan, eval_plan, filter_plan, pack_plan, take_plan, share_plan, list_plan, row_idx_plan, scan_plan, zoned_plan, Plans, no_plans, plan, PlanValidity, all_valid, valid_as, plan_head}
+use Rattle.vx_plan.specs.Plans.{Plan, no_plan, concat_plan, eval_plan, filter_plan, pack_plan, take_plan, share_plan, list_plan, row_idx_plan, scan_plan, zoned_plan, pruning_plan, Plans, no_plans, plan, PlanValidity, all_valid, valid_as, plan_head}
 use Rattle.vx_rows.specs.Reads.{Way, directly, through}
 use Rattle.vx_steps.specs.declared.leaf_reads.LeafRead.{LeafRead}
 use Rattle.vx_steps.specs.Leavings.{IsLeafOf}
@@ -68,6 +68,8 @@ mutual
   number_from leaf first (zoned_plan head zones content table) row (inl v) = absurd v
   number_from leaf first (zoned_plan head zones content table) row (inr v) =
       wider first (plan_size content) first (1 + (plan_size content + plan_size table)) leaf (omega arith) (omega arith) (number_from leaf first content row v)
+  number_from leaf first (pruning_plan head pruning table) row (inl v) = absurd v
+  number_from leaf first (pruning_plan head pruning table) row (inr (other, less, v)) = wider first (plan_size table) first (1 + plan_size table) leaf (omega arith) (omega arith) (number_from leaf first table other v)
 
   in_from : (leaf first : ℕ) (ps : Plans) (row : ℕ) → ReadsIn leaf (each_numbered first ps) row → IsFrom first (plans_size ps) leaf
   in_from leaf first no_plans row v = absurd v
@@ -148,6 +150,8 @@ mutual
   row_between leaf first (zoned_plan head zones content table) one row two low high (inl v) w = absurd v
   row_between leaf first (zoned_plan head zones content table) one row two low high (inr v) (inl w) = absurd w
   row_between leaf first (zoned_plan head zones content table) one row two low high (inr v) (inr w) = inr (row_between leaf first content one row two low high v w)
+  row_between leaf first (pruning_plan head pruning table) one row two low high (inl v) w = absurd v
+  row_between leaf first (pruning_plan head pruning table) one row two low high (inr v) w = inr v
 
   in_between : (leaf first : ℕ) (ps : Plans) (one row two : ℕ) → one ≤ row → row ≤ two → ReadsIn leaf (each_numbered first ps) one → ReadsIn leaf (each_numbered first ps) two → ReadsIn leaf (each_numbered first ps) row
   in_between leaf first no_plans one row two low high v w = v

@@ -9,7 +9,7 @@ use Rattle.vx_rows.specs.Reads.{Way, directly, inside, CodeRow, code_row, Found,
 use Rattle.vx_rows.proofs.ReadRows.{any_either}
 use Rattle.vx_lower.specs.Projected.{Projection}
 use Rattle.vx_lower.specs.RowIndex.{row_index_plan_from_by}
-use Rattle.vx_plan.specs.Plans.{Plan, no_plan, concat_plan, eval_plan, filter_plan, pack_plan, take_plan, share_plan, list_plan, row_idx_plan, scan_plan, zoned_plan, Plans, no_plans, plan, PlanValidity, all_valid, valid_as, plan_head}
+use Rattle.vx_plan.specs.Plans.{Plan, no_plan, concat_plan, eval_plan, filter_plan, pack_plan, take_plan, share_plan, list_plan, row_idx_plan, scan_plan, zoned_plan, pruning_plan, Plans, no_plans, plan, PlanValidity, all_valid, valid_as, plan_head}
 use Rattle.vx_plan.specs.PlanRows.{plan_derivation, plan_derivation_in, plan_derivations, plan_where_valid, plan_reads}
 use Rattle.vx_steps.specs.Below.{StandsIn, StandsAmong, StandsInValidity}
 use Rattle.vx_steps.specs.Laws.{IsRowOf, IsBadCodeAt}
@@ -86,6 +86,9 @@ mutual
   found_stands P F shows offset way (scan_plan head segment coding) row (inl here) = absurd (shows.leaf_rows (record { dtype = head.dtype; coding = coding; rows = head.rows; segment = segment; row = row }) here)
   found_stands P F shows offset way (scan_plan head segment coding) row (inr none) = absurd none
   found_stands P F shows offset way (zoned_plan head zones content table) row any = inr (inl (found_stands P F shows offset way content row any))
+  found_stands P F shows offset way (pruning_plan head pruning table) row any =
+      let one : (other : ℕ) × Has P way (plan_derivation offset table other) = some_row P way (plan_derivation offset table) 0 (plan_head table).rows any in
+      inr (found_stands P F shows offset way table one.0 one.1)
 
   found_in : (P : Found → Type 0) (F : Plan → Type 0) → Shows P F → (offset : ℕ) (way : Way) (ps : Plans) (row : ℕ) → Has P way (plan_derivation_in offset ps row) → StandsAmong F ps
   found_in P F shows offset way no_plans row any = absurd any

@@ -5,6 +5,7 @@ use Rattle.std.specs.List.{All}
 use Rattle.std.proofs.lemmas.List.Elements.{All-head, All-tail}
 use Rattle.std.proofs.lemmas.Option.{slice_get-get_or}
 use Rattle.vx_base.specs.Data.{DataType, bool_type, int_type, utf8_type, struct_type, list_type}
+use Rattle.vx_expr.specs.declared.statistics.Statistic.{Statistic}
 use Rattle.vx_expr.specs.Bound.{Bound}
 use Rattle.vx_expr.specs.Mentions.{is_root, uses_root, uses_row_number}
 use Rattle.vx_plan.specs.declared.rules.PlanRule.TheVariants as rules
@@ -13,7 +14,7 @@ use Rattle.vx_plan.specs.declared.nodes.PlanKind.TheVariants as kinds
 use Rattle.vx_plan.specs.ChildNames.{child_name}
 use Rattle.vx_plan.specs.Nodes.{Node, absent}
 use Rattle.vx_rows.specs.Heads.{Head}
-use Rattle.vx_plan.specs.Plans.{Plan, no_plan, concat_plan, eval_plan, filter_plan, pack_plan, take_plan, share_plan, list_plan, row_idx_plan, scan_plan, zoned_plan, Plans, no_plans, plan, head_at, plan_at, plan_grown_as, plan_in, plans_from, front_plans, last_plan, field_plans, last_validity}
+use Rattle.vx_plan.specs.Plans.{Plan, no_plan, concat_plan, eval_plan, filter_plan, pack_plan, take_plan, share_plan, list_plan, row_idx_plan, scan_plan, zoned_plan, pruning_plan, Plans, no_plans, plan, head_at, plan_at, plan_grown_as, plan_in, plans_from, front_plans, last_plan, field_plans, last_validity}
 use Rattle.vx_plan.specs.Rules.{node_at, nodes_at, Asks, IsMadeAs}
 use Rattle.vx_plan.specs.Shapes.{zoned_kind}
 use Rattle.vx_plan.specs.Tables.{IsGoodTable}
@@ -44,6 +45,7 @@ node_of (list_plan head elements offsets validity) = under (kinds.ListPack false
 node_of (row_idx_plan head) = under kinds.RowIdx head
 node_of (scan_plan head segment coding) = under (kinds.SegmentScan segment coding) head
 node_of (zoned_plan head zones content table) = under (zoned_kind zones.is_legacy zones.zone_len zones.statistics) head
+node_of (pruning_plan head pruning table) = under (kinds.Pruning pruning.zone_len pruning.statistics pruning.predicate) head
 
 abbrev plan_list : Plans → List Plan
 plan_list no_plans = []
@@ -61,6 +63,7 @@ children_of (list_plan head elements offsets validity) = elements ∷ offsets �
 children_of (row_idx_plan head) = []
 children_of (scan_plan head segment coding) = []
 children_of (zoned_plan head zones content table) = content ∷ table ∷ []
+children_of (pruning_plan head pruning table) = table ∷ []
 
 abbrev line_of : ℕ → List ℕ → List ℕ → List ℕ
 line_of depth name words = indent depth ++ (name ++ (codes ":" ++ (((codes " " ++ words) ++ []) ++ codes "\n")))
@@ -90,6 +93,7 @@ same_line kinds.RowIdx t rows children offsets number ps = refl
 same_line (kinds.SegmentScan segment coding) t rows children offsets number ps = refl
 same_line (kinds.Zoned zone_len stats) t rows children offsets number ps = refl
 same_line (kinds.LegacyStats zone_len stats) t rows children offsets number ps = refl
+same_line (kinds.Pruning zone_len stats proof) t rows children offsets number ps = refl
 
 same_name : (kind : PlanKind) (t : DataType) (rows : ℕ) (children offsets : List ℕ) (number : ℕ) (ps : List Plan) (place : ℕ) → child_name (record { kind = kind; dtype = t; rows = rows; children = children; offsets = offsets }) place ≡ child_name (node_of (plan_grown_as (record { number = number; dtype = t; rows = rows }) kind ps)) place
 same_name kinds.Concat t rows children offsets number ps place = refl
@@ -103,6 +107,7 @@ same_name kinds.RowIdx t rows children offsets number ps place = refl
 same_name (kinds.SegmentScan segment coding) t rows children offsets number ps place = refl
 same_name (kinds.Zoned zone_len stats) t rows children offsets number ps place = refl
 same_name (kinds.LegacyStats zone_len stats) t rows children offsets number ps place = refl
+same_name (kinds.Pruning zone_len stats proof) t rows children offsets number ps place = refl
 
 list_from : (ps : List Plan) → plan_list (plans_from ps) ≡ ps
 list_from [] = refl
@@ -153,6 +158,11 @@ zoned_list nodes node (n ∷ []) made = absurd made
 zoned_list nodes node (n ∷ m ∷ []) made = refl
 zoned_list nodes node (n ∷ m ∷ k ∷ ns) made = absurd made
 
+pruned_list : (nodes : List Node) (zone_len : ℕ) (stats : List Statistic) (proof : Bound) (node : Node) (ns : List ℕ) → IsMadeAs (kinds.Pruning zone_len stats proof) node (nodes_at nodes ns) → plan_in (map (plan_at nodes) ns) 0 ∷ [] ≡ map (plan_at nodes) ns
+pruned_list nodes zone_len stats proof node [] made = absurd made
+pruned_list nodes zone_len stats proof node (n ∷ []) made = refl
+pruned_list nodes zone_len stats proof node (n ∷ m ∷ ns) made = absurd made
+
 listed : (has_validity : Bool) (nodes : List Node) (node : Node) (ns : List ℕ) → IsMadeAs (kinds.ListPack has_validity) node (nodes_at nodes ns) →
     plan_in (map (plan_at nodes) ns) 0 ∷ plan_in (map (plan_at nodes) ns) 1 ∷ validity_list (last_validity has_validity (map (plan_at nodes) ns)) ≡ map (plan_at nodes) ns
 listed false nodes node [] made = absurd made
@@ -181,6 +191,7 @@ same_children kinds.RowIdx nodes head node made fits = none_left nodes node.chil
 same_children (kinds.SegmentScan segment coding) nodes head node made fits = none_left nodes node.children made
 same_children (kinds.Zoned zone_len stats) nodes head node made fits = zoned_list nodes node node.children made
 same_children (kinds.LegacyStats zone_len stats) nodes head node made fits = zoned_list nodes node node.children made
+same_children (kinds.Pruning zone_len stats proof) nodes head node made fits = pruned_list nodes zone_len stats proof node node.children made
 
 -- ---- so it has its lines
 

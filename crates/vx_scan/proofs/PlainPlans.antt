@@ -12,7 +12,7 @@ use Rattle.vx_layout.specs.Trees.{Tree, missing, leaf, chunks, fields, dict, lis
 use Rattle.vx_lower.specs.Lowered.{lowered, lowered_in, lowered_fields, lowered_validity, with_zones, kept_head, tell}
 use Rattle.vx_lower.specs.Numbered.{numbered, each_numbered, validity_numbered}
 use Rattle.vx_lower.specs.Sizes.{plan_size, plans_size}
-use Rattle.vx_plan.specs.Plans.{Plan, plan_head, no_plan, concat_plan, eval_plan, filter_plan, pack_plan, take_plan, share_plan, list_plan, row_idx_plan, scan_plan, zoned_plan, Plans, no_plans, plan, PlanValidity, all_valid, valid_as}
+use Rattle.vx_plan.specs.Plans.{Plan, plan_head, no_plan, concat_plan, eval_plan, filter_plan, pack_plan, take_plan, share_plan, list_plan, row_idx_plan, scan_plan, zoned_plan, pruning_plan, Plans, no_plans, plan, PlanValidity, all_valid, valid_as}
 use Rattle.vx_plan.specs.PlanRows.{plan_derivation, plan_derivation_in, plan_derivations}
 use Rattle.vx_rows.specs.Derivations.{Derivation, Leaves, each_row}
 use Rattle.vx_rows.specs.Heads.{Head}
@@ -32,6 +32,7 @@ abbrev mutual
   IsPlain (row_idx_plan head) = ⊥
   IsPlain (scan_plan head segment coding) = Unit {0}
   IsPlain (zoned_plan head zones content table) = IsPlain content × IsPlain table
+  IsPlain (pruning_plan head pruning table) = ⊥
 
   pub ArePlain : Plans → Type 0
   ArePlain no_plans = Unit {0}
@@ -88,6 +89,7 @@ mutual
   numbered_plain first (row_idx_plan head) is = absurd is
   numbered_plain first (scan_plan head segment coding) is = tt
   numbered_plain first (zoned_plan head zones content table) is = (numbered_plain first content is.0, numbered_plain (first + plan_size content) table is.1)
+  numbered_plain first (pruning_plan head pruning table) is = absurd is
 
   each_plain : (first : ℕ) (ps : Plans) → ArePlain ps → ArePlain (each_numbered first ps)
   each_plain first no_plans is = tt
@@ -128,6 +130,7 @@ mutual
   plain_sound leaves offset (row_idx_plan head) is row any = is
   plain_sound leaves offset (scan_plan head segment coding) is row any = any
   plain_sound leaves offset (zoned_plan head zones content table) is row any = plain_sound leaves offset content is.0 row any
+  plain_sound leaves offset (pruning_plan head pruning table) is row any = is
 
   in_sound : (leaves : Leaves) (offset : ℕ) (ps : Plans) → ArePlain ps → (row : ℕ) → HasPart (IsFaultyTerm leaves) (plan_derivation_in offset ps row) → ⊥
   in_sound leaves offset no_plans is row any = any

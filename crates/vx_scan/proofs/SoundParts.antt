@@ -19,7 +19,7 @@ use Rattle.vx_lower.proofs.LoweredRows.{lowered_all, zones_same}
 use Rattle.vx_lower.proofs.LoweredValues.{lowered_kept}
 use Rattle.vx_plan.specs.Plans.{Plan, Plans, plan, take_plan, plan_head}
 use Rattle.vx_plan.specs.PlanRows.{plan_derivation, plan_derivation_in}
-use Rattle.vx_rows.specs.Derivations.{Derivation, nothing, of_leaf, list_row, given, packed, valid_where, looked_up, worked_out, read_whole, Derivations, no_more, also, Leaves, derived}
+use Rattle.vx_rows.specs.Derivations.{Derivation, nothing, of_leaf, list_row, given, packed, valid_where, looked_up, worked_out, read_whole, concluded, Derivations, no_more, also, Leaves, derived}
 use Rattle.vx_rows.specs.Renumbered.{renumbered, each_renumbered}
 use Rattle.vx_rows.specs.Whole.{GiveFitting}
 use Rattle.vx_rows.proofs.Renumbering.{same_worth}
@@ -50,6 +50,8 @@ mutual
   part_also P Q also_is (read_whole share row d ds) (inl here) = inl (also_is (read_whole share row d ds) here)
   part_also P Q also_is (read_whole share row d ds) (inr (inl below)) = inr (inl (part_also P Q also_is d below))
   part_also P Q also_is (read_whole share row d ds) (inr (inr below)) = inr (inr (parts_also P Q also_is ds below))
+  part_also P Q also_is (concluded rule ds) (inl here) = inl (also_is (concluded rule ds) here)
+  part_also P Q also_is (concluded rule ds) (inr below) = inr (parts_also P Q also_is ds below)
 
   parts_also : (P Q : Derivation → Type 0) → ((d : Derivation) → P d → Q d) → (ds : Derivations) → HavePart P ds → HavePart Q ds
   parts_also P Q also_is no_more is = is
@@ -83,6 +85,8 @@ mutual
   part_renumbered leaves f (read_whole share row d ds) (inl here) = inl here
   part_renumbered leaves f (read_whole share row d ds) (inr (inl below)) = inr (inl (part_renumbered leaves f d below))
   part_renumbered leaves f (read_whole share row d ds) (inr (inr below)) = inr (inr (parts_renumbered leaves f ds below))
+  part_renumbered leaves f (concluded rule ds) (inl here) = inl here
+  part_renumbered leaves f (concluded rule ds) (inr below) = inr (parts_renumbered leaves f ds below)
 
   parts_renumbered : (leaves : Leaves) (f : ℕ → ℕ) (ds : Derivations) → HavePart (IsFaultyTerm leaves) ds → HavePart (IsFaultyTerm leaves) (each_renumbered f ds)
   parts_renumbered leaves f no_more is = is
@@ -108,6 +112,8 @@ mutual
   part_back leaves f (read_whole share row d ds) (inl here) = inl here
   part_back leaves f (read_whole share row d ds) (inr (inl below)) = inr (inl (part_back leaves f d below))
   part_back leaves f (read_whole share row d ds) (inr (inr below)) = inr (inr (parts_back leaves f ds below))
+  part_back leaves f (concluded rule ds) (inl here) = inl here
+  part_back leaves f (concluded rule ds) (inr below) = inr (parts_back leaves f ds below)
 
   parts_back : (leaves : Leaves) (f : ℕ → ℕ) (ds : Derivations) → HavePart (IsFaultyTerm leaves) (each_renumbered f ds) → HavePart (IsFaultyTerm leaves) ds
   parts_back leaves f no_more is = is

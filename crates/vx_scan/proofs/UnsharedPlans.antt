@@ -19,7 +19,7 @@ use Rattle.vx_lower.specs.RowIndex.{head_with, row_index_plan_from_by}
 use Rattle.vx_lower.specs.Sizes.{plan_size, plans_size}
 use Rattle.vx_rows.specs.Heads.{Head}
 use Rattle.vx_rows.specs.Zones.{Zones}
-use Rattle.vx_plan.specs.Plans.{Plan, no_plan, concat_plan, eval_plan, filter_plan, pack_plan, take_plan, share_plan, list_plan, row_idx_plan, scan_plan, zoned_plan, Plans, no_plans, plan, PlanValidity, all_valid, valid_as, plan_head}
+use Rattle.vx_plan.specs.Plans.{Plan, no_plan, concat_plan, eval_plan, filter_plan, pack_plan, take_plan, share_plan, list_plan, row_idx_plan, scan_plan, zoned_plan, pruning_plan, Plans, no_plans, plan, PlanValidity, all_valid, valid_as, plan_head}
 use Rattle.vx_steps.specs.Below.{StandsIn, StandsAmong, StandsInValidity, IsSharePlan, IsEvalPlan, IsTakeOverEval, HasNoShare, HasNoEvalBelowTake}
 use Rattle.vx_scan.specs.PlanTexts.{held_tree, IsProjectionPlan, IsProjectionPlanBy}
 
@@ -53,6 +53,8 @@ module _ (P : Plan → Type 0) (own : (first : ℕ) (p : Plan) → P (numbered f
     unnumbered first (zoned_plan head zones content table) (inl s) = inl (own first (zoned_plan head zones content table) s)
     unnumbered first (zoned_plan head zones content table) (inr (inl s)) = inr (inl (unnumbered first content s))
     unnumbered first (zoned_plan head zones content table) (inr (inr s)) = inr (inr (unnumbered (first + plan_size content) table s))
+    unnumbered first (pruning_plan head pruning table) (inl s) = inl (own first (pruning_plan head pruning table) s)
+    unnumbered first (pruning_plan head pruning table) (inr s) = inr (unnumbered first table s)
 
     each_unnumbered : (first : ℕ) (ps : Plans) → StandsAmong P (each_numbered first ps) → StandsAmong P ps
     each_unnumbered first no_plans s = s
@@ -75,6 +77,7 @@ own_share first (list_plan head elements offsets validity) s = s
 own_share first (row_idx_plan head) s = s
 own_share first (scan_plan head segment coding) s = s
 own_share first (zoned_plan head zones content table) s = s
+own_share first (pruning_plan head pruning table) s = s
 
 own_eval : (first : ℕ) (p : Plan) → IsEvalPlan (numbered first p) → IsEvalPlan p
 own_eval first (no_plan head) s = s
@@ -88,6 +91,7 @@ own_eval first (list_plan head elements offsets validity) s = s
 own_eval first (row_idx_plan head) s = s
 own_eval first (scan_plan head segment coding) s = s
 own_eval first (zoned_plan head zones content table) s = s
+own_eval first (pruning_plan head pruning table) s = s
 
 own_below : (first : ℕ) (p : Plan) → IsTakeOverEval (numbered first p) → IsTakeOverEval p
 own_below first (no_plan head) s = s
@@ -102,6 +106,7 @@ own_below first (list_plan head elements offsets validity) s = s
 own_below first (row_idx_plan head) s = s
 own_below first (scan_plan head segment coding) s = s
 own_below first (zoned_plan head zones content table) s = s
+own_below first (pruning_plan head pruning table) s = s
 
 -- ---- lowered trees
 
@@ -191,6 +196,7 @@ bare_share (list_plan head elements offsets validity) is s = s
 bare_share (row_idx_plan head) is s = s
 bare_share (scan_plan head segment coding) is s = s
 bare_share (zoned_plan head zones content table) is s = s
+bare_share (pruning_plan head pruning table) is s = s
 
 bare_eval : (p : Plan) → IsBare p → IsEvalPlan p → ⊥
 bare_eval (no_plan head) is s = s
@@ -204,6 +210,7 @@ bare_eval (list_plan head elements offsets validity) is s = s
 bare_eval (row_idx_plan head) is s = s
 bare_eval (scan_plan head segment coding) is s = s
 bare_eval (zoned_plan head zones content table) is s = s
+bare_eval (pruning_plan head pruning table) is s = s
 
 bare_below : (p : Plan) → IsBare p → IsTakeOverEval p → ⊥
 bare_below (no_plan head) is s = s
@@ -217,6 +224,7 @@ bare_below (list_plan head elements offsets validity) is s = s
 bare_below (row_idx_plan head) is s = s
 bare_below (scan_plan head segment coding) is s = s
 bare_below (zoned_plan head zones content table) is s = s
+bare_below (pruning_plan head pruning table) is s = s
 
 -- any fields may be kept
 abbrev AnyFields : KeptFields → Type 0

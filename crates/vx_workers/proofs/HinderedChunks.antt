@@ -6,7 +6,7 @@ use Rattle.std.proofs.lemmas.Option.{slice_get_within}
 use Rattle.vx_rows.specs.Derivations.{Derivation}
 use Rattle.vx_rows.specs.Heads.{Head}
 use Rattle.vx_rows.specs.Reads.{directly, Found, reads_of, Finds, IsIn}
-use Rattle.vx_plan.specs.Plans.{Plan, no_plan, concat_plan, eval_plan, filter_plan, pack_plan, take_plan, share_plan, list_plan, row_idx_plan, scan_plan, zoned_plan, plan_head}
+use Rattle.vx_plan.specs.Plans.{Plan, no_plan, concat_plan, eval_plan, filter_plan, pack_plan, take_plan, share_plan, list_plan, row_idx_plan, scan_plan, zoned_plan, pruning_plan, plan_head}
 use Rattle.vx_plan.specs.PlanRows.{plan_derivation}
 use Rattle.vx_plan.specs.Refs.{number_of}
 use Rattle.vx_plan.specs.Tables.{IsGoodTable}
@@ -43,6 +43,7 @@ list_hinders places list handed (list_plan head elements offsets validity) row v
 list_hinders places list handed (row_idx_plan head) row v = v
 list_hinders places list handed (scan_plan head segment coding) row v = absurd v
 list_hinders places list handed (zoned_plan head zones content table) row v = v
+list_hinders places list handed (pruning_plan head pruning table) row v = v
 
 hinders_list : (places list : ℕ) → Implies (IsHindrance places (hindrances.List list)) (IsListRead list)
 hinders_list places list handed (no_plan head) row v = v
@@ -56,6 +57,7 @@ hinders_list places list handed (list_plan head elements offsets validity) row v
 hinders_list places list handed (row_idx_plan head) row v = v
 hinders_list places list handed (scan_plan head segment coding) row v = absurd v
 hinders_list places list handed (zoned_plan head zones content table) row v = v
+hinders_list places list handed (pruning_plan head pruning table) row v = v
 
 leaf_hinders : (places leaf segment : ℕ) → places ≤ segment → Implies (IsLeafRead (record { leaf = leaf; segment = segment })) (IsHindrance places (hindrances.Segment segment))
 leaf_hinders places leaf segment past handed (no_plan head) row v = v
@@ -69,6 +71,7 @@ leaf_hinders places leaf segment past handed (list_plan head elements offsets va
 leaf_hinders places leaf segment past handed (row_idx_plan head) row v = v
 leaf_hinders places leaf segment past handed (scan_plan head at coding) row v = (v.1, subst (λ (n : ℕ). places ≤ n) (sym v.1) past)
 leaf_hinders places leaf segment past handed (zoned_plan head zones content table) row v = v
+leaf_hinders places leaf segment past handed (pruning_plan head pruning table) row v = v
 
 -- a leaf over the segment, which has no place
 record Unplaced (places segment : ℕ) : Type 0 where
@@ -90,6 +93,7 @@ hinders_leaf places segment handed (list_plan head elements offsets validity) ro
 hinders_leaf places segment handed (row_idx_plan head) row v = absurd v
 hinders_leaf places segment handed (scan_plan head at coding) row v = (record { leaf = head.number; past = subst (λ (n : ℕ). places ≤ n) v.0 v.1 }, (refl, v.0))
 hinders_leaf places segment handed (zoned_plan head zones content table) row v = absurd v
+hinders_leaf places segment handed (pruning_plan head pruning table) row v = absurd v
 
 -- ---- what the plan's own definition reads
 

@@ -22,6 +22,7 @@ use Rattle.vx_workers.specs.declared.worker_states.Piece.{Piece}
 use Rattle.vx_workers.specs.Borrowing.{RecordsOutcome, RunsShared}
 use Rattle.vx_workers.specs.Hindered.{IsRefused}
 use Rattle.vx_workers.specs.Merges.{no_memory}
+use Rattle.vx_workers.specs.Room.{MakesRoom}
 use Rattle.vx_workers.specs.Borrowers.{borrower_chunks, FaultsBorrowing, IsBorrower, IsBorrowerBy, RestsOnValues}
 use Rattle.vx_workers.specs.Unhindered.{IsUnhindered}
 use Rattle.vx_workers.specs.Workers.{numbers_of, AreDone, Ends, Fails, IsFreshWorker, Worked}
@@ -56,6 +57,20 @@ works_none shares claims plans chunks worker source fresh = record {
   ran = ran_none shares plans chunks worker.claimed.items worker.handed source fresh.leaves fresh.made fresh.claimed;
   lists = lists_none plans chunks worker.pieces.items worker.borrowers.items source fresh.pieces fresh.borrowers;
 }
+
+-- room for a further chunk changes nothing of it
+pub with_room : (shares : Bool) (claims : Claims) (plans : ScanPlans) (chunks : List SelectedRows) (made : Bool) (old worker : WorkerState) (before now : SourceState) → Working shares claims plans chunks old before now → MakesRoom made old worker → Working shares claims plans chunks worker before now
+with_room shares claims plans chunks made old worker before now working room =
+    subst (λ (one : WorkerState). Working shares claims plans chunks one before now) (sym room.stays) (record {
+      own = working.own;
+      parts = working.parts;
+      claimed = room.claimed ∙ working.claimed;
+      done = rw (room.claimed, room.pieces, room.borrowers) working.done;
+      alone = λ off. room.borrowers ∙ working.alone off;
+      error = working.error;
+      ran = rw room.claimed working.ran;
+      lists = rw (room.pieces, room.borrowers) working.lists;
+    })
 
 -- ---- one chunk more
 

@@ -8,5 +8,6 @@ pub mod Joins
 pub mod Limits
 pub mod Merges
 pub mod Reasons
+pub mod Room
 pub mod Unhindered
 pub mod Workers

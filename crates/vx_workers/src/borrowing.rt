@@ -1,7 +1,7 @@
 //! The run of a chunk by a worker that shares whole values with others: what the chunk asks for and the worker lacks is
 //! looked for in the cache, and what the run made is put there.
 
-ghost use Rattle.std.specs.Prelude.{◌≡◌, ◌<◌, length, map, IsTrue, IfOk, IfSome};
+ghost use Rattle.std.specs.Prelude.{◌≡◌, ◌<◌, [], length, map, IsTrue, IfOk, IfSome};
 ghost use Rattle.std.specs.Bool.{MatchBool};
 ghost use Rattle.std.specs.List.{AllByRecursion};
 ghost use Rattle.vx_plan.specs.Refs.{number_of};
@@ -11,6 +11,7 @@ ghost use Rattle.vx_steps.specs.Kept.{kept_data};
 ghost use Rattle.vx_steps.specs.Offers.{IsForPlan};
 ghost use Rattle.vx_drive.specs.Plans.{ArePlans, IsChunkOf};
 ghost use Rattle.vx_chunks.specs.Outcomes.{data_of, CanHandOn, IsGivenOrMade};
+ghost use Rattle.vx_base.specs.Sources.{Cleared};
 ghost use Rattle.vx_workers.specs.Borrowing.{AreHad, AreOfPlans, BorrowsOne, RecordsOutcome, RestsOn, RunsShared};
 ghost use Rattle.vx_workers.specs.Borrowers.{AreBorrowed, RestsOnValues};
 
@@ -240,6 +241,28 @@ fn rested_on(
     given
 }
 
+/// What a chunk gives that is refused before it runs: what was handed on to it is handed on by it. Nothing is left in
+/// flight at the source.
+pub(crate) fn refuse<S: SegmentSource>(
+    alloc: Global,
+    error: ScanError,
+    source: &mut S,
+    handed: HandedOn,
+) -> Shared
+    ensures ran { result.ran ≡ record { piece = Err error; handed = handed } }
+    ensures borrowed { result.borrowed.items ≡ [] }
+    ensures cleared { Cleared (S.state source.old) (S.state source.new) }
+{
+    source.clear();
+    Shared {
+        ran: Ran {
+            piece: Err(error),
+            handed,
+        },
+        borrowed: Vec::new(alloc),
+    }
+}
+
 /// Runs a chunk with what earlier chunks of the worker handed on, and, where values are shared, with whole values that it
 /// borrows from the cache for those that it asks for and the worker lacks. Those that the worker has then are put into
 /// the cache. Whatever it answers, nothing is in flight at the source afterwards.
@@ -266,14 +289,7 @@ pub(crate) fn run_shared<R: Wait, S: SegmentSource>(
     }
     let made = handed.made.as_slice();
     let Ok(borrowed) = borrowed_for(rt, alloc, plans, chosen, made, common.cache) else {
-        source.clear();
-        return Shared {
-            ran: Ran {
-                piece: Err(ScanError::Memory),
-                handed,
-            },
-            borrowed: Vec::new(alloc),
-        };
+        return refuse(alloc, ScanError::Memory, source, handed);
     };
     let Borrowed {
         asked,

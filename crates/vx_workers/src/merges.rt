@@ -1,6 +1,6 @@
 //! The states of all workers, before the fork and after the joins.
 
-ghost use Rattle.std.specs.Prelude.{◌≡◌, ◌≤◌, [], None, IfOk, length};
+ghost use Rattle.std.specs.Prelude.{◌≡◌, ◌≤◌, [], None, IfOk, OnErr, length};
 ghost use Rattle.std.specs.List.{All};
 ghost use Rattle.vx_claims.specs.Claims.{IsSeatOf, IsFresh, parts, claimed};
 ghost use Rattle.vx_claims.specs.Limits.{all_parts};
@@ -24,7 +24,8 @@ pub fn open_workers(
 ) -> Result<Vec<WorkerState>, AllocError>
     requires seat { IsFresh claims.now all_parts seat.old }
     requires count { count ≤ most_workers }
-    ensures { IfOk result (λ worker_states. OpensWorkers claims.now count worker_states.items seat.new) }
+    ensures opened { IfOk result (λ worker_states. OpensWorkers claims.now count worker_states.items seat.new) }
+    ensures unchanged { OnErr result (seat.new ≡ seat.old) }
 {
     let mut worker_states: Vec<WorkerState> = Vec::with_capacity(alloc, count)?;
     for _i in 0..count {
@@ -37,7 +38,7 @@ pub fn open_workers(
             handed: nothing_handed(alloc),
             error: None,
         };
-        worker_states.push(worker)?;
+        worker_states.push_reserved(worker);
     }
     Ok(worker_states)
 }

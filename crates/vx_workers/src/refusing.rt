@@ -5,12 +5,12 @@ ghost use Rattle.vx_drive.specs.Plans.{ArePlans, IsChunkOf};
 ghost use Rattle.vx_chunks.specs.Outcomes.{CanHandOn};
 ghost use Rattle.vx_workers.specs.Hindered.{RunsIfUnhindered, TellsHindrance};
 
-use crate::borrowing::{Shared, run_shared};
+use crate::borrowing::{Shared, refuse, run_shared};
 use crate::commons::Common;
 use std::alloc::Global;
 use std::sync::Wait;
 use vx_base::SegmentSource;
-use vx_chunks::{HandedOn, Ran};
+use vx_chunks::HandedOn;
 use vx_drive::{ScanError, ScanPlans};
 use vx_plan::PlanRef;
 use vx_splits::SelectedRows;
@@ -50,12 +50,5 @@ pub(crate) fn run_unhindered<R: Wait, S: SegmentSource>(
     let Some(error) = hindrance_of(common.plans, chosen) else {
         return run_shared(rt, alloc, common, chosen, source, handed);
     };
-    source.clear();
-    Shared {
-        ran: Ran {
-            piece: Err(error),
-            handed,
-        },
-        borrowed: Vec::new(alloc),
-    }
+    refuse(alloc, error, source, handed)
 }

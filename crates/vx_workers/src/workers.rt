@@ -5,6 +5,7 @@ ghost use Rattle.std.specs.List.{All};
 ghost use Rattle.std.specs.Thread.{IsSync, IsSend};
 ghost use Rattle.vx_chunks.specs.Lent.{EachSourceBy};
 ghost use Rattle.vx_workers.specs.Common.{CanWork, WorkedOn};
+ghost use Rattle.vx_workers.specs.Room.{MakesRoom};
 ghost use Rattle.vx_workers.specs.Workers.{IsFreshWorker};
 
 use crate::borrowing::{Shared, record_outcome};
@@ -16,6 +17,15 @@ use std::sync::Wait;
 use std::thread::{Threads, join_mut};
 use vx_base::SegmentSource;
 use vx_chunks::{Ran, nothing_handed};
+
+/// Makes room for the number of a further chunk and for what comes of it, and says whether there was memory for it.
+fn makes_room(worker: &mut WorkerState) -> bool
+    ensures { MakesRoom result worker.old worker.new }
+{
+    worker.claimed.reserve(1).is_ok()
+        && worker.pieces.reserve(1).is_ok()
+        && worker.borrowers.reserve(1).is_ok()
+}
 
 /// Claims chunks and runs them on the source, until none is left or one fails. What a chunk decoded and made is handed on
 /// to the next one of this worker, so that it reads no whole values twice, and no leaf that stays with it. Where values are
@@ -35,10 +45,7 @@ fn work<R: Wait, S: SegmentSource>(
     let chunks = common.chunks;
     common.plans.table.keeps_rules();
     'working: loop {
-        if worker.claimed.reserve(1).is_err()
-            || worker.pieces.reserve(1).is_err()
-            || worker.borrowers.reserve(1).is_err()
-        {
+        if !makes_room(worker) {
             worker.error = Some(want_of_memory());
             return;
         }
@@ -101,6 +108,27 @@ fn spread_over<R: Threads + Wait + Sync, S: SegmentSource + Send>(
     let Some((source, sources)) = sources.split_first_mut() else {
         unreachable!()
     };
+    spread_from(rt, common, threads, worker, source, worker_states, sources);
+}
+
+/// The first worker and the others, by so many threads at most.
+#[cycle(spreading)]
+fn spread_from<R: Threads + Wait + Sync, S: SegmentSource + Send>(
+    rt: &R,
+    common: &Common<'_>,
+    threads: usize,
+    worker: &mut WorkerState,
+    source: &mut S,
+    worker_states: &mut [WorkerState],
+    sources: &mut [S],
+)
+    requires common { CanWork common.now }
+    requires worker { IsFreshWorker common.now.claims.now worker.old }
+    requires worker_states { All (IsFreshWorker common.now.claims.now) worker_states.old }
+    requires sources { length sources.old ≡ length worker_states.old }
+    ensures first { WorkedOn common.now worker.new (S.state source.old) (S.state source.new) }
+    ensures others { EachSourceBy (WorkedOn common.now) worker_states.new (map S.state sources.old) (map S.state sources.new) }
+{
     if threads <= 1 || worker_states.is_empty() {
         work(rt, common, worker, source);
         spread_over(rt, common, threads, worker_states, sources);

@@ -62,8 +62,9 @@ loop-plan-preserved g c =
     let plan : PlanRef = get_or asked c.loop-plan.plan-index (record { 0 = 0 }) in
     let at : slice_get asked c.loop-plan.plan-index ≡ Some plan = slice_get-get_or asked c.loop-plan.plan-index (record { 0 = 0 }) c.loop-plan-test.true in
     let asks : ChunkAsks c.args.plans.now [] c.args.chosen.now (number_of plan) = asked_got c.args.plans.now c.args.chosen.now asked c.in-Ok.asked.items c.loop-plan.plan-index plan at c.deref-plan-items.ensures.value (c.in-Ok.ensures {u = tt}).asked in
+    let told : record { gives : Gives (number_of plan) (data_of c.deref.result.now) (data_of c.loop-plan.given.items) (data_of c.give.new.given.items); unchanged : Unit {0} } = c.in-Ok-give.ensures in
     let gives : Gives (number_of plan) (data_of c.certify.new.right.items) (data_of c.loop-plan.given.items) (data_of c.give.new.given.items) =
-    subst (λ (values : List KeptValue). Gives (number_of plan) (data_of values) (data_of c.loop-plan.given.items) (data_of c.give.new.given.items)) c.deref.ensures.value (c.in-Ok-give.ensures {u = tt}) in
+    subst (λ (values : List KeptValue). Gives (number_of plan) (data_of values) (data_of c.loop-plan.given.items) (data_of c.give.new.given.items)) c.deref.ensures.value told.gives in
     giving_next c.args.plans.now c.args.chosen.now asked (data_of c.args.right.now.items) (data_of c.loop-plan.right.items) (data_of c.certify.new.right.items) (data_of c.loop-plan.given.items) (data_of c.give.new.given.items) c.loop-plan.plan-index plan
     (g.S.SegmentSource.state c.args.source.now) (g.S.SegmentSource.state c.loop-plan.source) (g.S.SegmentSource.state c.certify.new.source) at asks c.loop-plan.invariant (c.in-Ok-certify.ensures {u = tt}).certifies (c.in-Ok-certify.ensures {u = tt}).there gives
 

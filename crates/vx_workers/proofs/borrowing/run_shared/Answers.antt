@@ -1,8 +1,7 @@
-use Rattle.std.proofs.Common.{Bool, ℕ, List, [], Err, ap, map, refl, subst, sym}
+use Rattle.std.proofs.Common.{Bool, ℕ, List, [], ap, map, refl, subst, sym}
 use Rattle.vx_plan.specs.declared.children.PlanRef.{PlanRef}
 use Rattle.vx_plan.specs.Refs.{number_of}
 use Rattle.vx_steps.specs.declared.kept.KeptValue.{KeptValue}
-use Rattle.vx_drive.specs.declared.errors.ScanError.TheVariants.{Memory}
 use Rattle.vx_chunks.specs.declared.outcomes.Ran.{Ran}
 use Rattle.vx_chunks.specs.Outcomes.{data_of}
 use Rattle.vx_chunks.proofs.HandedRuns.{lacks_on}
@@ -18,9 +17,10 @@ returns-then-not-common g c =
 
 pub returns-in_default : goal.returns-in_default
 returns-in_default g c =
-    let ran : Ran = record { piece = Err Memory; handed = c.args.handed } in
-    shared_none c.args.common.now.shares c.args.common.now.plans.now c.args.chosen.now c.args.handed [] (record { ran = ran; borrowed = c.new-in_default.result }) (g.S.SegmentSource.state c.args.source.now) (g.S.SegmentSource.state c.clear.new.self)
-    refl c.new-in_default.ensures.items (lacks_on c.args.common.now.plans.now c.args.chosen.now c.args.handed [] ran (g.S.SegmentSource.state c.args.source.now) (g.S.SegmentSource.state c.clear.new.self) c.requires.handed refl refl c.clear.ensures)
+    let before = g.S.SegmentSource.state c.args.source.now in
+    let after = g.S.SegmentSource.state c.refuse.new.source in
+    shared_none c.args.common.now.shares c.args.common.now.plans.now c.args.chosen.now c.args.handed [] c.refuse.result before after refl c.refuse.ensures.borrowed
+    (lacks_on c.args.common.now.plans.now c.args.chosen.now c.args.handed [] c.refuse.result.ran before after c.requires.handed (ap (λ (ran : Ran). ran.piece) c.refuse.ensures.ran) (ap (λ (ran : Ran). ran.handed) c.refuse.ensures.ran) c.refuse.ensures.cleared)
 
 pub returns : goal.returns
 returns g c =

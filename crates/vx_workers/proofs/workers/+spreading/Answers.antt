@@ -14,18 +14,10 @@ first_and_others-join_mut-requires-send-F g t c κs within =
     let s : IsSend (param 1 g.row.S) = search rules in
     param_send 1 _ (arg_send _ no _ (send_closure _ _ _ _ _ (shr_send _ _ _ r) (shr_send _ _ _ (sync_common _)) (mut_send _ _ _ send_worker) (mut_send _ _ _ s)))
 
-pub spread_over-work-requires-clause-worker : goal.spread_over-work-requires-clause-worker
-spread_over-work-requires-clause-worker g t c =
+pub spread_over-spread_from-requires-clause-worker : goal.spread_over-spread_from-requires-clause-worker
+spread_over-spread_from-requires-clause-worker g t c κs within =
     All-head (IsFreshWorker c.args.common.now.claims.now) c.in-Some.worker.now c.in-Some.worker_states.now (subst (All (IsFreshWorker c.args.common.now.claims.now)) c.in-Some.ensures.cases.0 c.requires.worker_states)
 
-pub spread_over-spread_over-requires-clause-worker_states : goal.spread_over-spread_over-requires-clause-worker_states
-spread_over-spread_over-requires-clause-worker_states g t c κs within =
-    All-tail (IsFreshWorker c.args.common.now.claims.now) c.in-Some.worker.now c.in-Some.worker_states.now (subst (All (IsFreshWorker c.args.common.now.claims.now)) c.in-Some.ensures.cases.0 c.requires.worker_states)
-
-pub spread_over-first_and_others-requires-clause-worker : goal.spread_over-first_and_others-requires-clause-worker
-spread_over-first_and_others-requires-clause-worker g t c κs within =
-    All-head (IsFreshWorker c.args.common.now.claims.now) c.in-Some.worker.now c.in-Some.worker_states.now (subst (All (IsFreshWorker c.args.common.now.claims.now)) c.in-Some.ensures.cases.0 c.requires.worker_states)
-
-pub spread_over-first_and_others-requires-clause-worker_states : goal.spread_over-first_and_others-requires-clause-worker_states
-spread_over-first_and_others-requires-clause-worker_states g t c κs within =
+pub spread_over-spread_from-requires-clause-worker_states : goal.spread_over-spread_from-requires-clause-worker_states
+spread_over-spread_from-requires-clause-worker_states g t c κs within =
     All-tail (IsFreshWorker c.args.common.now.claims.now) c.in-Some.worker.now c.in-Some.worker_states.now (subst (All (IsFreshWorker c.args.common.now.claims.now)) c.in-Some.ensures.cases.0 c.requires.worker_states)
