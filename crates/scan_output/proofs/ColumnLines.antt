@@ -1,9 +1,9 @@
 -- The lines of a range of rows, one row at a time.
-use Rattle.std.proofs.Common.{◌≡◌, ℕ, zero, suc, ◌+◌, ◌<◌, ◌≤◌, Bool, if◌then◌else◌, List, [], ◌∷◌, ◌++◌, length, map, get_or, Some, refl, sym, ap, ◌∙◌, append_assoc, arith, codes}
+use Rattle.std.proofs.Common.{◌≡◌, ℕ, zero, suc, ◌+◌, ◌<◌, ◌≤◌, Bool, if◌then◌else◌, List, [], ◌∷◌, ◌++◌, length, map, get_or, Some, refl, sym, ap, ◌∙◌, append_assoc, arith}
 use Rattle.std.specs.List.{slice_get, slice_range}
 use Rattle.std.proofs.lemmas.List.{append-nil, length-map}
 use Rattle.std.proofs.lemmas.Option.{slice_get_within, get_or_from_slice_get, slice_get-get_or}
-use Rattle.scan_output.specs.RowText.{line, lines, row_text}
+use Rattle.scan_output.specs.RowText.{line, lines}
 use Rattle.scan_output.proofs.Ranges.{range_more, range_none}
 use Rattle.vx_base.specs.Data.{DataType, Datum, null}
 use Rattle.vx_base.specs.Slots.{where_valid}
@@ -39,12 +39,6 @@ slot_more t mask slots from row bit v before after start low valid at pushed so_
 
 pub read_at : {X : Type 0} (xs : List X) (row : ℕ) (x : X) → row < length xs → x ≡ get_or xs row x → slice_get xs row ≡ Some x
 read_at {X} xs row x lt here = slice_get-get_or xs row x lt ∙ ap (λ (y : X). Some y) (sym here)
-
--- a cell and a newline
-pub cell_more : (t : DataType) (values : List Datum) (from row : ℕ) (v : Datum) (before text after start : List ℕ) → from ≤ row → slice_get values row ≡ Some v → text ≡ before ++ row_text t v → after ≡ text ++ codes "\n"
-    → before ≡ start ++ lines t (slice_range values from row) → after ≡ start ++ lines t (slice_range values from (row + 1))
-cell_more t values from row v before text after start low at written ended so_far =
-    line_more t values from row v before after start low at (ended ∙ ap (λ (b : List ℕ). b ++ codes "\n") written ∙ append_assoc before (row_text t v) (codes "\n")) so_far
 
 -- ---- the first row and the last
 

@@ -3,7 +3,7 @@
 ghost use Rattle.std.specs.Prelude.{◌≡◌, ◌<◌, ◌++◌, length, map, OnOk};
 ghost use Rattle.vx_arrays.specs.Fields.{field_at};
 ghost use Rattle.scan_output.specs.FieldLeads.{lead_data, leads_from, leads_in};
-ghost use Rattle.scan_output.specs.RowText.{fields_text, row_text};
+ghost use Rattle.scan_output.specs.RowText.{fields_text, line, row_text};
 ghost use Rattle.vx_base.specs.Cells.{cell_datum, struct_at};
 ghost use Rattle.vx_base.specs.Views.{data_type};
 
@@ -98,7 +98,7 @@ fn append_struct(
 
 /// Appends the text of a value. The leads are those of the dtype.
 #[cycle(cells)]
-pub(crate) fn append_cell(
+fn append_cell(
     alloc: Global,
     dtype: &DType,
     leads: &[Lead],
@@ -115,4 +115,20 @@ pub(crate) fn append_cell(
         Cell::Text(text) => append_string(out, text.as_bytes()),
         Cell::Struct(parts, row) => append_struct(alloc, dtype, leads, parts, row, out),
     }
+}
+
+/// Appends the line of a value: its text and a newline. The leads are those of the dtype.
+pub(crate) fn append_cell_line(
+    alloc: Global,
+    dtype: &DType,
+    leads: &[Lead],
+    cell: Cell<'_>,
+    out: &mut Vec<u8>,
+) -> Result<(), AllocError>
+    requires { map lead_data leads.now ≡ leads_in (data_type dtype.now) }
+    ensures { OnOk result (out.new.items ≡ out.old.items ++ line (data_type dtype.now) (cell_datum cell.entry)) }
+{
+    append_cell(alloc, dtype, leads, cell, out)?;
+    out.push(b'\n')?;
+    Ok(())
 }

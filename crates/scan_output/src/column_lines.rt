@@ -1,13 +1,13 @@
 //! The lines of a column's rows: of runs the line of each value once, leaves that lie packed in one loop each, all other
 //! rows cell by cell.
 
-ghost use Rattle.std.specs.Prelude.{◌≡◌, ◌≤◌, ◌++◌, length, map, slice_range, OnOk};
+ghost use Rattle.std.specs.Prelude.{◌≡◌, ◌≤◌, ◌++◌, length, map, slice_range, OnOk, OnErr};
 ghost use Rattle.vx_arrays.specs.Numbers.{numbers_in};
 ghost use Rattle.scan_output.specs.RowText.{lines};
 ghost use Rattle.vx_base.specs.Data.{DataType, number, text, truth};
 ghost use Rattle.vx_base.specs.Slots.{where_valid};
 
-use crate::cell_texts::append_cell;
+use crate::cell_texts::append_cell_line;
 use crate::field_leads::leads_of;
 use crate::printed_numbers::Printed;
 use crate::run_lines::append_run_lines;
@@ -122,8 +122,7 @@ fn append_cells(
     let dtype = column.dtype();
     let leads = leads_of(alloc, dtype)?;
     for row in rows.start..rows.end {
-        append_cell(alloc, dtype, &leads, column.cell(row), out)?;
-        out.push(b'\n')?;
+        append_cell_line(alloc, dtype, &leads, column.cell(row), out)?;
     }
     Ok(())
 }
@@ -151,8 +150,9 @@ fn append_packed_lines(
     }
 }
 
-/// Appends a line for each row of a range: the text of the row's value, and a newline.
-pub fn append_row_lines(
+/// Appends a line for each row of a range: the text of the row's value, and a newline. Where memory runs out, a front of the
+/// lines may stand there.
+pub(crate) fn add_row_lines(
     alloc: Global,
     column: &Column,
     rows: Range<u64>,
@@ -168,14 +168,47 @@ pub fn append_row_lines(
     }
 }
 
-/// Appends a line for each row of a column: the text of the row's value, and a newline.
+/// The same for each row of a column.
 #[tactic(auto, using(vx_arrays::proofs::PackedRows::whole_range))]
-pub fn append_column_lines(
+pub(crate) fn add_column_lines(
     alloc: Global,
     column: &Column,
     out: &mut Vec<u8>,
 ) -> Result<(), AllocError>
     ensures { OnOk result (out.new.items ≡ out.old.items ++ lines column.now.dtype column.now.values) }
 {
-    append_row_lines(alloc, column, 0..column.len(), out)
+    add_row_lines(alloc, column, 0..column.len(), out)
+}
+
+/// Appends a line for each row of a range: the text of the row's value, and a newline. All lines, or nothing where memory
+/// runs out.
+pub fn append_row_lines(
+    alloc: Global,
+    column: &Column,
+    rows: Range<u64>,
+    out: &mut Vec<u8>,
+) -> Result<(), AllocError>
+    requires forwards { rows.start ≤ rows.end }
+    requires inside { rows.end ≤ length column.now.values }
+    ensures ok { OnOk result (out.new.items ≡ out.old.items ++ lines column.now.dtype (slice_range column.now.values rows.start rows.end)) }
+    ensures err { OnErr result (out.new.items ≡ out.old.items) }
+{
+    let mut text = Vec::new(alloc);
+    add_row_lines(alloc, column, rows, &mut text)?;
+    out.append(&mut text)
+}
+
+/// Appends a line for each row of a column: the text of the row's value, and a newline. All lines, or nothing where memory
+/// runs out.
+pub fn append_column_lines(
+    alloc: Global,
+    column: &Column,
+    out: &mut Vec<u8>,
+) -> Result<(), AllocError>
+    ensures ok { OnOk result (out.new.items ≡ out.old.items ++ lines column.now.dtype column.now.values) }
+    ensures err { OnErr result (out.new.items ≡ out.old.items) }
+{
+    let mut text = Vec::new(alloc);
+    add_column_lines(alloc, column, &mut text)?;
+    out.append(&mut text)
 }

@@ -4,7 +4,7 @@ ghost use Rattle.std.specs.Prelude.{◌≡◌, ◌++◌, ◌<◌, ◌≤◌, len
 ghost use Rattle.scan_output.specs.RowWriting.{batch_lines, lines_of, BufferGives};
 ghost use Rattle.scan_output.specs.Writing.{WritingGives};
 
-use crate::column_lines::append_row_lines;
+use crate::column_lines::add_row_lines;
 use crate::writing::write_all;
 use std::alloc::Global;
 use vx_base::{Column, Sink, StreamError};
@@ -43,7 +43,7 @@ fn write_batch<K: Sink>(
     let mut row: u64 = 0;
     while row < batch.len() {
         let end = batch.len().min(row.saturating_add(ROWS_AT_ONCE));
-        match append_row_lines(alloc, batch, row..end, buffer) {
+        match add_row_lines(alloc, batch, row..end, buffer) {
             Ok(()) => {}
             Err(_) => return Err(StreamError::Memory),
         }

@@ -11,7 +11,7 @@ ghost use Rattle.vx_base.specs.Runs.{spread};
 ghost use Rattle.vx_base.specs.Slots.{where_valid};
 ghost use Rattle.vx_base.specs.Views.{data_type};
 
-use crate::cell_texts::append_cell;
+use crate::cell_texts::append_cell_line;
 use crate::field_leads::leads_of;
 use crate::printed_numbers::Printed;
 use crate::value_lines::{append_number_line, append_text_line, append_truth_line};
@@ -193,8 +193,7 @@ fn append_cell_runs(
     while row < rows.end {
         let end = ends[run].min(rows.end);
         let from = out.len();
-        append_cell(alloc, dtype, &leads, values.cell(run), out)?;
-        out.push(b'\n')?;
+        append_cell_line(alloc, dtype, &leads, values.cell(run), out)?;
         append_again(from, end - row - 1, &mut buffer, out)?;
         row = end;
         run += 1;

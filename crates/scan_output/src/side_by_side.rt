@@ -7,7 +7,7 @@ ghost use Rattle.scan_output.specs.RowWriting.{batch_lines};
 ghost use Rattle.scan_output.specs.SideBySide.{texts_joined};
 ghost use Rattle.scan_output.specs.Writing.{WritingGives};
 
-use crate::column_lines::append_column_lines;
+use crate::column_lines::add_column_lines;
 use crate::row_writing::write_batches;
 use crate::writing::write_all;
 use std::alloc::{AllocError, Global};
@@ -24,7 +24,7 @@ fn fill_text(alloc: Global, batches: &[Column], text: &mut Vec<u8>) -> Result<()
 {
     text.clear();
     for batch in batches {
-        append_column_lines(alloc, batch, text)?;
+        add_column_lines(alloc, batch, text)?;
     }
     Ok(())
 }

@@ -1,5 +1,5 @@
 use Rattle.scan_output.proofs.RunLines.{range_of_runs}
-use Rattle.scan_output.proofs.column_lines.append_row_lines.Goals as goal
+use Rattle.scan_output.proofs.column_lines.add_row_lines.Goals as goal
 
 pub append_run_lines-requires-clause-range : goal.append_run_lines-requires-clause-range
 append_run_lines-requires-clause-range c =
