@@ -1,29 +1,39 @@
--- Which files a command names, and what a run over files and standard output may answer. They tell no bytes and no
+-- Which files are opened for a command, and what a run over files and standard output may answer. They tell no bytes and no
 -- ranges, and each begins with nothing read, asked or written and no fault.
-use Rattle.std.specs.Prelude.{ℕ, zero, suc, List, [], ◌∷◌, Option, Some, None}
+use Rattle.std.specs.Prelude.{ℕ, zero, suc, Bool, true, false, List, [], ◌∷◌, Option, Some, None}
 use Rattle.vx_base.specs.FileSources.{IsOpen}
 use Rattle.vx_base.specs.Sources.{SourceState}
 use Rattle.vx_base.specs.Streams.{ReadState, WriteState}
 use Rattle.vx_base.specs.declared.file_sources.FileSource.{FileSource}
-use Rattle.scan_commands.specs.Commanded.{Runs}
+use Rattle.scan_commands.specs.Commanded.{have_sources, Runs}
 use Rattle.scan_commands.specs.Runs.{LentIo}
 use Rattle.scan_words.specs.declared.commands.Command.{Command}
 use Rattle.scan_words.specs.declared.commands.Command.TheVariants.{Scan, Read, Tree, Demo}
 use Rattle.scan_words.specs.Words.{command_of}
 
+-- how many sources a run is lent
+abbrev pub source_count : ℕ
+source_count = 8
+
 -- ---- names
 
--- the file of the segments that a command names; words that ask nothing name none
+-- a name that counts, or none
+abbrev pub if_counted : Bool → List ℕ → Option (List ℕ)
+if_counted true name = Some name
+if_counted false name = None
+
+-- the file of the segments that is opened for a command. For words that ask nothing, and for more workers than there are
+-- sources, none is opened
 abbrev pub segments_named : Option Command → Option (List ℕ)
-segments_named (Some (Scan segments request workers unordered idle)) = Some segments
+segments_named (Some (Scan segments request workers unordered idle)) = if_counted (have_sources workers source_count) segments
 segments_named (Some (Read segments request split idle)) = Some segments
 segments_named (Some (Tree request)) = None
 segments_named (Some (Demo number)) = None
 segments_named None = None
 
--- the file of the request that it names
+-- the file of the request that is opened for it
 abbrev pub request_named : Option Command → Option (List ℕ)
-request_named (Some (Scan segments request workers unordered idle)) = Some request
+request_named (Some (Scan segments request workers unordered idle)) = if_counted (have_sources workers source_count) request
 request_named (Some (Read segments request split idle)) = Some request
 request_named (Some (Tree request)) = Some request
 request_named (Some (Demo number)) = None
@@ -51,10 +61,6 @@ HasNoFile source = ¬ IsOpen source
 -- a sink to which nothing was written
 abbrev pub unwritten : WriteState
 unwritten = record { written = None; faults = 0 }
-
--- how many sources a run is lent
-abbrev pub source_count : ℕ
-source_count = 8
 
 -- what a run over files begins with
 abbrev pub untouched : LentIo

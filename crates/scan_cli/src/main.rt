@@ -6,8 +6,8 @@ ghost use Rattle.std.specs.Prelude.{◌≡◌, ◌≢◌, ◌⊎◌, ◌<◌, �
 ghost use Rattle.std.specs.IoError.{error_kind};
 ghost use Rattle.std.specs.List.{AllByRecursion};
 ghost use Rattle.std.specs.Process.{exit_status};
-ghost use Rattle.scan_cli.specs.Files.{are_unasked, source_count, request_named, segments_named, HasNoFile, IsStatusOf};
-ghost use Rattle.scan_commands.specs.Commanded.{Runs};
+ghost use Rattle.scan_cli.specs.Files.{are_unasked, if_counted, source_count, request_named, segments_named, HasNoFile, IsStatusOf};
+ghost use Rattle.scan_commands.specs.Commanded.{have_sources, Runs};
 ghost use Rattle.scan_commands.specs.Statuses.{memory_status, usage_status};
 ghost use Rattle.scan_words.specs.Limits.{most_workers};
 ghost use Rattle.scan_words.specs.Words.{command_of};
@@ -18,8 +18,9 @@ use scan_commands::{DONE, OUT_OF_MEMORY, USAGE};
 use scan_words::{Command, WordsError, words_of};
 use std::alloc::{AllocError, Global};
 use std::env;
-use std::fs::File;
+use std::fs::{self, File, OpenOptions};
 use std::io::{self, ErrorKind};
+use std::os::unix::fs::FileTypeExt;
 use std::process::ExitCode;
 use std::sync::Wait;
 use std::thread::Threads;
@@ -53,13 +54,31 @@ fn words_said(rt: &HostRuntime) -> Result<Vec<String>, u8>
     Ok(words)
 }
 
-/// The files that words name: the one of the segments, and the one of the request.
+/// The files that are opened: the one of the segments, and the one of the request.
 struct FileNames {
     segments: Option<Text>,
     request: Option<Text>,
 }
 
-/// The files that the words name. Words at fault name none. The error is for want of memory alone.
+/// Whether so many workers have a source each, where a number of them is said.
+fn are_served(workers: Option<u64>) -> bool
+    ensures { result ≡ have_sources workers source_count }
+{
+    match workers {
+        Some(workers) => workers <= SOURCES as u64,
+        None => true,
+    }
+}
+
+/// The name where it counts, else none.
+fn if_counted(counts: bool, name: Text) -> Option<Text>
+    ensures { result ≡ if_counted counts name }
+{
+    if counts { Some(name) } else { None }
+}
+
+/// The files that are opened for the words: those that they name, and none for words at fault, nor for more workers than
+/// there are sources. The error is for want of memory alone.
 fn files_named(alloc: Global, words: &[String]) -> Result<FileNames, AllocError>
     ensures segments { IfOk result (λ files. files.segments ≡ segments_named (command_of (map string_bytes words.now))) }
     ensures request { IfOk result (λ files. files.request ≡ request_named (command_of (map string_bytes words.now))) }
@@ -69,9 +88,13 @@ fn files_named(alloc: Global, words: &[String]) -> Result<FileNames, AllocError>
             Command::Scan {
                 segments,
                 request,
+                workers,
                 ..
             },
-        ) => (Some(segments), Some(request)),
+        ) => {
+            let served = are_served(workers);
+            (if_counted(served, segments), if_counted(served, request))
+        }
         Ok(
             Command::Read {
                 segments,
@@ -86,6 +109,15 @@ fn files_named(alloc: Global, words: &[String]) -> Result<FileNames, AllocError>
     Ok(FileNames { segments, request })
 }
 
+impl Drop for FileNames {
+    fn drop(self) {
+        let FileNames {
+            segments: _,
+            request: _,
+        } = self;
+    }
+}
+
 /// Runs the words on the files that they name and on standard output; `threads` starts the threads of the workers. The error
 /// is for want of memory before the run.
 fn run_files<R: AllocGlobal + Threads + Wait + Sync>(
@@ -95,11 +127,43 @@ fn run_files<R: AllocGlobal + Threads + Wait + Sync>(
 ) -> Result<ExitCode, AllocError>
     ensures { IfOk result (λ code. IsStatusOf (map string_bytes words.now) (exit_status code)) }
 {
-    let FileNames { segments, request } = files_named(rt.alloc(), words)?;
-    let mut sources = file_sources(rt, segments.as_ref().map(Text::as_str))?;
-    let mut request = ReadSource::new(rt.alloc(), opened(rt, request.as_ref().map(Text::as_str))?);
+    let files = files_named(rt.alloc(), words)?;
+    let code = run_named(rt, threads, words, &files);
+    drop(files);
+    code
+}
+
+/// Runs the words on the files of these names and on standard output. The error is for want of memory before the run.
+fn run_named<R: AllocGlobal + Threads + Wait + Sync>(
+    rt: &HostRuntime,
+    threads: &R,
+    words: &[String],
+    files: &FileNames,
+) -> Result<ExitCode, AllocError>
+    ensures { IfOk result (λ code. IsStatusOf (map string_bytes words.now) (exit_status code)) }
+{
+    let mut sources = file_sources(rt, files.segments.as_ref().map(Text::as_str))?;
+    match opened(rt, files.request.as_ref().map(Text::as_str)) {
+        Ok(request) => Ok(run_opened(rt, threads, words, request, &mut sources)),
+        Err(error) => Err(error),
+    }
+}
+
+/// Runs the words on the file of the request, where there is one, on sources of which nothing was asked, and on standard
+/// output.
+fn run_opened<R: AllocGlobal + Threads + Wait + Sync>(
+    rt: &HostRuntime,
+    threads: &R,
+    words: &[String],
+    request: Option<File>,
+    sources: &mut [FileSource],
+) -> ExitCode
+    requires { map file_state sources.old ≡ are_unasked source_count }
+    ensures { IsStatusOf (map string_bytes words.now) (exit_status result) }
+{
+    let mut request = ReadSource::new(rt.alloc(), request);
     let mut out = WriteSink::new(io::writer(rt));
-    Ok(answered(rt, threads, words, &mut request, &mut sources, &mut out))
+    answered(rt, threads, words, &mut request, sources, &mut out)
 }
 
 /// The sources that a run is lent, of the segment file of that name. The error is for want of memory alone.
@@ -120,9 +184,21 @@ fn opened(rt: &HostRuntime, name: Option<&str>) -> Result<Option<File>, AllocErr
     ensures { IsNone name.entry → result ≡ Ok None }
 {
     match name {
-        Some(name) => if_opened(File::open(rt, name)),
+        Some(name) => if_opened(open_at_once(rt, name)),
         None => Ok(None),
     }
+}
+
+/// Opens a file for reading, and never waits for that. To open a named pipe for reading alone waits until somebody writes to
+/// it. So a pipe is opened for both before, and kept so until then: one that nobody writes to is open too, and has ended.
+fn open_at_once(rt: &HostRuntime, name: &str) -> io::Result<File> {
+    if !fs::metadata(rt, name)?.file_type().is_fifo() {
+        return File::open(rt, name);
+    }
+    let both = OpenOptions::new().read(true).write(true).open(rt, name)?;
+    let file = File::open(rt, name);
+    drop(both);
+    file
 }
 
 /// The file that was opened, if it was. The error is for want of memory alone.
