@@ -2,10 +2,10 @@
 
 ghost use Rattle.std.specs.Prelude.{◌<◌};
 
-use std::fs::File;
-use std::io;
+use std::fs::{File, OpenOptions};
 use std::io::{ErrorKind, Read, Write};
 use std::process::Abort;
+use std::{fs, io};
 use vx_base::{ReadSource, Sink, Source, StreamError, WriteSink};
 
 const FAILED: Result<usize, StreamError> = Err(StreamError::Failed);
@@ -93,6 +93,24 @@ fn reads_nothing_without_a_reader(rt: HostRuntime) {
     fails(&rt, &mut source, 2);
 }
 
+#[test]
+fn reads_no_folder(rt: HostRuntime) {
+    let mut source = ReadSource::new(rt.alloc(), fs::open(&rt, ".").ok());
+    fails(&rt, &mut source, 1);
+    fails(&rt, &mut source, 2);
+}
+
+#[test]
+fn reads_devices_in_pieces(rt: HostRuntime) {
+    let zeros = fs::open(&rt, "/dev/zero").expect(&rt, "a device");
+    let mut source = ReadSource::new(rt.alloc(), Some(zeros));
+    gives(&rt, &mut source, 3, &[0, 0, 0]);
+    gives(&rt, &mut source, 1, &[0]);
+    let nothing = fs::open(&rt, "/dev/null").expect(&rt, "a device");
+    let mut source = ReadSource::new(rt.alloc(), Some(nothing));
+    gives(&rt, &mut source, 3, &[]);
+}
+
 /// Asserts what the next write answers, and how many failed then.
 fn takes<O: Write + Drop>(
     rt: &impl Abort,
@@ -136,4 +154,12 @@ fn counts_writes_that_take_nothing(rt: HostRuntime) {
     takes(&rt, &mut sink, &[1], FAILED, 1);
     takes(&rt, &mut sink, &[], Ok(0), 1);
     takes(&rt, &mut sink, &[1, 2], FAILED, 2);
+}
+
+#[test]
+fn fails_on_a_full_device(rt: HostRuntime) {
+    let full = OpenOptions::new().write(true).open(&rt, "/dev/full");
+    let mut sink = WriteSink::new(full.expect(&rt, "a device"));
+    takes(&rt, &mut sink, &[1, 2], FAILED, 1);
+    takes(&rt, &mut sink, &[1], FAILED, 2);
 }

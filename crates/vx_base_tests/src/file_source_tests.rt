@@ -122,9 +122,39 @@ fn refuses_what_is_no_regular_file(rt: HostRuntime) {
     let path = "vx_base_refuses.bytes";
     fs::write(&rt, path, [10u8].as_slice()).expect(&rt, "a file");
     refuses(&rt, rt.alloc(), None);
+    refuses(&rt, rt.alloc(), Some(""));
     refuses(&rt, rt.alloc(), Some("vx_base_no_such_file.bytes"));
     refuses(&rt, rt.alloc(), Some("."));
     refuses(&rt, rt.alloc(), Some("/dev/null"));
+    refuses(&rt, rt.alloc(), Some("/dev/zero"));
     refuses(&rt, rt.alloc(), Some("vx_base_refuses.bytes/inside"));
+    fs::remove_file(&rt, path).expect(&rt, "the file");
+}
+
+/// A name of so many letters.
+fn long_name(rt: &impl Abort, alloc: Global, letters: usize) -> String {
+    let mut name = String::new(alloc);
+    for _letter in 0..letters {
+        name.push('a').expect(rt, "memory");
+    }
+    name
+}
+
+#[test]
+fn refuses_a_name_of_5000_bytes(rt: HostRuntime) {
+    let name = long_name(&rt, rt.alloc(), 5000);
+    refuses(&rt, rt.alloc(), Some(name.as_str()));
+}
+
+#[test]
+fn sees_a_file_shrink_and_not_grow(rt: HostRuntime) {
+    let path = "vx_base_sees_a_file_shrink.bytes";
+    let mut source = opened(&rt, rt.alloc(), path, &[10, 11, 12]);
+    fs::write(&rt, path, [20u8, 21].as_slice()).expect(&rt, "a shorter file");
+    gives(&rt, &mut source, place(0, 2), &[20, 21]);
+    fails(&rt, &mut source, place(1, 2), 1);
+    fs::write(&rt, path, [30u8, 31, 32, 33].as_slice()).expect(&rt, "a longer file");
+    gives(&rt, &mut source, place(0, 3), &[30, 31, 32]);
+    fails(&rt, &mut source, place(1, 3), 2);
     fs::remove_file(&rt, path).expect(&rt, "the file");
 }

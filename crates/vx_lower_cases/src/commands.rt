@@ -2,11 +2,14 @@
 //! proof takes it apart there alone.
 
 ghost use Rattle.std.specs.Prelude.{◌<◌, length};
+ghost use Rattle.vx_expr.specs.Bound.{IsBoundTo};
 ghost use Rattle.vx_plan.specs.Refs.{number_of};
+ghost use Rattle.vx_plan.specs.Rules.{node_at};
 
 use crate::texts::write_text;
 use std::alloc::{AllocError, Global};
 use std::mem::replace;
+use vx_base::DType;
 use vx_expr::{BoundExpression, bind};
 use vx_expr_notation::spelled;
 use vx_layout::LayoutTree;
@@ -75,6 +78,52 @@ fn write_over(
     written
 }
 
+/// Makes the pruning plan of a zoned root by the predicate, and appends its text.
+fn write_pruning(
+    alloc: Global,
+    plans: &mut Lowered,
+    predicate: &BoundExpression,
+    out: &mut String,
+) -> Result<(), AllocError>
+    requires known { number_of plans.old.root < length plans.old.table }
+    requires room { length plans.old.table < 1000000 }
+    requires bound { IsBoundTo predicate.now (node_at plans.old.table (number_of plans.old.root)).dtype }
+{
+    let Some(zoned) = plans.table.as_zoned(plans.root) else {
+        return out.push_str(" no zones");
+    };
+    let made = match predicate.dtype() {
+        DType::Bool(_) => zoned.with_pruning(alloc, &mut plans.table, predicate),
+        _ => return out.push_str(" no predicate"),
+    };
+    match made {
+        Ok(Some(made)) => write_text(alloc, &plans.table, made.into_plan(), "prune", "", out),
+        Ok(None) => out.push_str(" none"),
+        Err(error) => write_refused(&plans.table, error, out),
+    }
+}
+
+/// Makes the pruning plan of a zoned root by the predicate that the words spell, and appends its text.
+fn write_pruned(
+    alloc: Global,
+    plans: &mut Lowered,
+    words: &str,
+    out: &mut String,
+) -> Result<(), AllocError>
+    requires known { number_of plans.old.root < length plans.old.table }
+    requires room { length plans.old.table < 1000000 }
+{
+    let expr = spelled(alloc, words)?;
+    let bound = bind(alloc, &expr, plans.table.dtype(plans.root));
+    drop(expr);
+    let written = match &bound {
+        Ok(bound) => write_pruning(alloc, plans, bound, out),
+        Err(_) => out.push_str(" isn't bound"),
+    };
+    drop(bound);
+    written
+}
+
 /// Appends the text of a share of the root.
 fn write_shared(alloc: Global, plans: &mut Lowered, out: &mut String) -> Result<(), AllocError>
     requires known { number_of plans.old.root < length plans.old.table }
@@ -102,6 +151,7 @@ fn write_on_plans(
         "plans" => write!(out, " {count} plans"),
         "over" | "line" => write_over(alloc, plans, command, words, out),
         "share" => write_shared(alloc, plans, out),
+        "prune" => write_pruned(alloc, plans, words, out),
         _ => write_text(alloc, &plans.table, plans.root, command, words, out),
     }
 }

@@ -1,13 +1,14 @@
 //! Commands that ask for a plan.
 
 ghost use Rattle.std.specs.Prelude.{◌<◌, length};
+ghost use Rattle.vx_plan.specs.Kinds.{HasKind, IsZoned};
 ghost use Rattle.vx_plan.specs.Refs.{number_of};
 
 use std::alloc::{AllocError, Global};
-use vx_base::{Coding, Fields};
+use vx_base::{Coding, DType, Fields};
 use vx_expr::{BoundExpression, Statistic, Statistics};
 use vx_notation::dtype_text;
-use vx_plan::{PlanRef, PlanTable};
+use vx_plan::{PlanRef, PlanTable, ZonedPlan};
 
 /// The kind, dtype and rows of a plan.
 fn write_kind(
@@ -146,6 +147,16 @@ fn write_many(table: &PlanTable, plan: PlanRef, out: &mut String) -> Result<(), 
     Ok(())
 }
 
+/// Appends the dtype of the rows that a predicate is over.
+fn write_dtype(alloc: Global, dtype: &DType, out: &mut String) -> Result<(), AllocError> {
+    let Ok(text) = dtype_text(alloc, dtype) else {
+        return Err(AllocError);
+    };
+    let written = write!(out, " over {text}");
+    drop(text);
+    written
+}
+
 /// Appends what plans of zones are called, their length, their zones, and the statistics as one sign each.
 fn write_stats(
     name: &str,
@@ -166,13 +177,48 @@ fn write_stats(
     Ok(())
 }
 
+/// What is got from a pruning plan: the predicate by which it prunes, and the dtype of the rows that this is over.
+fn write_proof(
+    alloc: Global,
+    table: &PlanTable,
+    zoned: ZonedPlan,
+    out: &mut String,
+) -> Result<(), AllocError>
+    requires { HasKind IsZoned table.now (number_of zoned.plan) }
+{
+    match (
+        zoned.is_pruning(table),
+        zoned.pruning_proof(table),
+        zoned.pruning_column_dtype(table),
+    ) {
+        (true, Some(proof), Some(dtype)) => {
+            let text = proof.predicate().text(alloc)?;
+            let Ok(text) = String::from_utf8(text) else {
+                return out.push_str(" prune by a name that is no text");
+            };
+            let written = write!(out, " prune {text}");
+            drop(text);
+            written?;
+            write_dtype(alloc, dtype, out)
+        }
+        (false, None, None) => Ok(()),
+        _ => out.push_str(" half a pruning plan"),
+    }
+}
+
 /// What is got from a plan of zones; else nothing.
-fn write_zones(table: &PlanTable, plan: PlanRef, out: &mut String) -> Result<(), AllocError>
+fn write_zones(
+    alloc: Global,
+    table: &PlanTable,
+    plan: PlanRef,
+    out: &mut String,
+) -> Result<(), AllocError>
     requires { number_of plan < length table.now }
 {
     let data = if let Some(zoned) = table.as_zoned(plan) {
         let (len, zones) = (zoned.zone_len(table), zoned.zones_plan(table));
         write_stats("zoned", len, zones, zoned.stats(table), out)?;
+        write_proof(alloc, table, zoned, out)?;
         zoned.data_plan(table)
     } else if let Some(legacy) = table.as_legacy_stats(plan) {
         let (len, zones) = (legacy.zone_len(table), legacy.zones_plan(table));
@@ -198,7 +244,7 @@ pub(crate) fn write_parts(
 {
     write_one(alloc, table, plan, out)?;
     write_many(table, plan, out)?;
-    write_zones(table, plan, out)
+    write_zones(alloc, table, plan, out)
 }
 
 /// All plans of a table of fewer than a hundred, one behind the other.

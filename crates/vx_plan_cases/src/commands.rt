@@ -5,7 +5,7 @@ ghost use Rattle.std.specs.Prelude.{◌<◌, length};
 ghost use Rattle.vx_plan.specs.Refs.{number_of};
 
 use crate::asking::{state_text, write_parts, write_plan};
-use crate::making::made;
+use crate::making::{made, pruning};
 use crate::reaching::{write_reached, write_rooted};
 use crate::words::{number_at, numbers_of, plan_at};
 use std::alloc::{AllocError, Global};
@@ -30,6 +30,19 @@ fn write_refused(
     }
 }
 
+/// That there is no plan to be made, where the table is still the one that was told so.
+fn write_none(
+    alloc: Global,
+    table: &PlanTable,
+    before: &str,
+    out: &mut String,
+) -> Result<(), AllocError> {
+    let after = state_text(alloc, table)?;
+    let is_same = after.as_str() == before;
+    drop(after);
+    out.push_str(if is_same { "none" } else { "another table" })
+}
+
 /// The number of the new plan, or the rule that it breaks; the table is then the one that it was.
 fn write_added(
     alloc: Global,
@@ -45,6 +58,30 @@ fn write_added(
     let before = state_text(alloc, table)?;
     let written = match made(alloc, table, command, numbers, rest) {
         Ok(plan) => write!(out, "{}", plan.0),
+        Err(error) => write_refused(alloc, table, before.as_str(), error, out),
+    };
+    drop(before);
+    written
+}
+
+/// The number of the new pruning plan, and `none` where there is none to be made; the table is then the one that it was.
+fn write_pruning(
+    alloc: Global,
+    table: &mut PlanTable,
+    numbers: &[u64],
+    rest: &str,
+    out: &mut String,
+) -> Result<(), AllocError> {
+    if table.len() >= 4294967292 {
+        return Ok(());
+    }
+    let Ok(plan) = plan_at(table, numbers, 0) else {
+        return Ok(());
+    };
+    let before = state_text(alloc, table)?;
+    let written = match pruning(alloc, table, plan, rest) {
+        Ok(Some(plan)) => write!(out, "{}", plan.0),
+        Ok(None) => write_none(alloc, table, before.as_str(), out),
         Err(error) => write_refused(alloc, table, before.as_str(), error, out),
     };
     drop(before);
@@ -130,6 +167,7 @@ fn write_of_numbers(
         "len" => write!(out, "{} plans", table.len()),
         "memory" => write!(out, "{}", PlanError::Memory),
         "at" => write_rooted(numbers, rest, out),
+        "prune" => write_pruning(alloc, table, numbers, rest, out),
         "plan" | "parts" | "child" | "children" | "reach" => {
             write_asked(alloc, table, command, numbers, rest, out)
         }

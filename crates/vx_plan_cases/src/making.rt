@@ -1,6 +1,8 @@
 //! Commands that add a plan.
 
-ghost use Rattle.std.specs.Prelude.{◌<◌, length};
+ghost use Rattle.std.specs.Prelude.{◌<◌, length, IfOk};
+ghost use Rattle.vx_base.specs.Views.{data_type};
+ghost use Rattle.vx_expr.specs.Bound.{IsBoundTo};
 ghost use Rattle.vx_plan.specs.Limits.{most_before_four};
 ghost use Rattle.vx_plan.specs.Refs.{number_of};
 
@@ -45,7 +47,9 @@ fn scan(
 }
 
 /// The expression that is spelled so, bound to a dtype.
-fn bound_to(alloc: Global, dtype: &DType, words: &str) -> Result<BoundExpression, PlanError> {
+fn bound_to(alloc: Global, dtype: &DType, words: &str) -> Result<BoundExpression, PlanError>
+    ensures { IfOk result (λ bound. IsBoundTo bound (data_type dtype.now)) }
+{
     let expr = spelled(alloc, words)?;
     let bound = bind(alloc, &expr, dtype);
     drop(expr);
@@ -114,6 +118,32 @@ fn zones(
         return Ok(ZonedPlan::new(alloc, table, column, zones, len, stats)?.into_plan());
     }
     Ok(LegacyStatsPlan::new(alloc, table, column, zones, len, stats)?.into_plan())
+}
+
+/// The pruning plan of a plan of zones, by the predicate that is spelled so; none where there is none to be made.
+pub(crate) fn pruning(
+    alloc: Global,
+    table: &mut PlanTable,
+    plan: PlanRef,
+    words: &str,
+) -> Result<Option<PlanRef>, PlanError>
+    requires room { length table.old < most_before_four }
+    requires known { number_of plan < length table.old }
+{
+    let Some(zoned) = table.as_zoned(plan) else {
+        return Err(UNREAD);
+    };
+    let predicate = bound_to(alloc, table.dtype(plan), words)?;
+    let made = match predicate.dtype() {
+        DType::Bool(_) => zoned.with_pruning(alloc, table, &predicate),
+        _ => Err(UNREAD),
+    };
+    drop(predicate);
+    match made {
+        Ok(Some(pruning)) => Ok(Some(pruning.into_plan())),
+        Ok(None) => Ok(None),
+        Err(error) => Err(error),
+    }
 }
 
 /// The plans as chunks, of the dtype.

@@ -14,7 +14,7 @@ use Rattle.vx_readers.specs.declared.states.Masking.{Masking}
 use Rattle.vx_readers.specs.declared.states.Masking.TheVariants.{Known, Filters, Prunes}
 use Rattle.vx_readers.specs.Evaluations.{Evaluation, IsPending}
 use Rattle.vx_readers.specs.declared.progress.Progress.TheVariants.{Ready, Pending}
-use Rattle.vx_readers.specs.States.{ColumnPollGives, FilterWaits, IsStarted, MaskPollGives, PruningWaits}
+use Rattle.vx_readers.specs.States.{ColumnPollGives, MaskPollGives, MaskWaits, ReadsAreInFlight}
 use Rattle.vx_base.specs.Columns.{ColumnData}
 use Rattle.vx_reads.specs.declared.errors.ReaderError.{ReaderError}
 use Rattle.vx_readers_cases.specs.declared.running.Running.{Running}
@@ -67,7 +67,7 @@ no_reads ticket (place, is) = cc
 
 -- ---- evaluations
 
-still_mask : (locations : List SegmentLocation) (reads : List SegmentRead) (before after : SourceState) → Touches locations reads before after → (masking : Masking) → IsStarted masking before.in_flight → ((ticket : ℕ) → HasTicket reads ticket → HasTicket (mask_reads masking) ticket → ⊥) → IsStarted masking after.in_flight
+still_mask : (locations : List SegmentLocation) (reads : List SegmentRead) (before after : SourceState) → Touches locations reads before after → (masking : Masking) → ReadsAreInFlight masking before.in_flight → ((ticket : ℕ) → HasTicket reads ticket → HasTicket (mask_reads masking) ticket → ⊥) → ReadsAreInFlight masking after.in_flight
 still_mask locations reads before after touches (Known mask) is apart = tt
 still_mask locations reads before after touches (Filters e) is apart = still locations reads e.locations e.reads before after touches is apart
 still_mask locations reads before after touches (Prunes e) is apart = still locations reads e.locations e.reads before after touches is apart
@@ -77,7 +77,7 @@ spares locations reads before after touches (Column state) is apart = still loca
 spares locations reads before after touches (Mask state) is apart = still_mask locations reads before after touches state.masking is apart
 spares locations reads before after touches Over is apart = tt
 
-parted_mask : (locations : List SegmentLocation) (reads new : List SegmentRead) (before after : SourceState) → GoOn locations reads new before after → (masking : Masking) → IsStarted masking before.in_flight → ((ticket : ℕ) → HasTicket reads ticket → HasTicket (mask_reads masking) ticket → ⊥) → (ticket : ℕ) → HasTicket new ticket → HasTicket (mask_reads masking) ticket → ⊥
+parted_mask : (locations : List SegmentLocation) (reads new : List SegmentRead) (before after : SourceState) → GoOn locations reads new before after → (masking : Masking) → ReadsAreInFlight masking before.in_flight → ((ticket : ℕ) → HasTicket reads ticket → HasTicket (mask_reads masking) ticket → ⊥) → (ticket : ℕ) → HasTicket new ticket → HasTicket (mask_reads masking) ticket → ⊥
 parted_mask locations reads new before after goes (Known mask) is apart ticket mine theirs = no_reads ticket theirs
 parted_mask locations reads new before after goes (Filters e) is apart ticket mine theirs = parted locations reads new e.locations e.reads before after goes is apart ticket mine theirs
 parted_mask locations reads new before after goes (Prunes e) is apart ticket mine theirs = parted locations reads new e.locations e.reads before after goes is apart ticket mine theirs
@@ -125,11 +125,11 @@ column_goes state next before after pending = record {
 
 -- what a mask that goes on leaves
 record MaskGoes (old new : Masking) (before after : SourceState) : Type 0 where
-  runs : IsStarted new after.in_flight
+  runs : ReadsAreInFlight new after.in_flight
   spares : (other : Running) → IsRunning other before.in_flight → ((ticket : ℕ) → HasTicket (mask_reads old) ticket → HasTicket (reads_of other) ticket → ⊥) → IsRunning other after.in_flight
   apart : (other : Running) → IsRunning other before.in_flight → ((ticket : ℕ) → HasTicket (mask_reads old) ticket → HasTicket (reads_of other) ticket → ⊥) → (ticket : ℕ) → HasTicket (mask_reads new) ticket → HasTicket (reads_of other) ticket → ⊥
 
-filter_goes : (e : Evaluation) (new : Masking) (before after : SourceState) → FilterWaits e new before after → MaskGoes (Filters e) new before after
+filter_goes : (e : Evaluation) (new : Masking) (before after : SourceState) → MaskWaits (Filters e) new before after → MaskGoes (Filters e) new before after
 filter_goes e (Known mask) before after waits = absurd waits
 filter_goes e (Prunes next) before after waits = absurd waits
 filter_goes e (Filters next) before after pending = record {
@@ -138,7 +138,7 @@ filter_goes e (Filters next) before after pending = record {
   apart = λ other is apart. parts e.locations e.reads next.reads before after pending.goes other is apart;
 }
 
-pruning_goes : (e : Evaluation) (new : Masking) (before after : SourceState) → PruningWaits e new before after → MaskGoes (Prunes e) new before after
+pruning_goes : (e : Evaluation) (new : Masking) (before after : SourceState) → MaskWaits (Prunes e) new before after → MaskGoes (Prunes e) new before after
 pruning_goes e (Known mask) before after waits = absurd waits
 pruning_goes e (Filters next) before after waits = absurd waits
 pruning_goes e (Prunes next) before after pending = record {
@@ -194,7 +194,7 @@ none_started locations reads flights ticket mine =
     let found = located_one locations [] (slice_get reads mine.0) ticket mine.1 (flights.located mine.0) in
     none_there ticket found.0 found.1
 
-none_filtered : (masking : Masking) → IsStarted masking [] → (ticket : ℕ) → HasTicket (mask_reads masking) ticket → ⊥
+none_filtered : (masking : Masking) → ReadsAreInFlight masking [] → (ticket : ℕ) → HasTicket (mask_reads masking) ticket → ⊥
 none_filtered (Known mask) is ticket mine = no_reads ticket mine
 none_filtered (Filters e) is ticket mine = none_started e.locations e.reads is ticket mine
 none_filtered (Prunes e) is ticket mine = none_started e.locations e.reads is ticket mine

@@ -6,7 +6,7 @@ use Rattle.vx_reads.specs.declared.reads.SegmentRead.{SegmentRead}
 use Rattle.vx_reads.specs.Reads.{AreInFlight, HasTicket}
 use Rattle.vx_readers.specs.declared.states.Masking.{Masking}
 use Rattle.vx_readers.specs.declared.states.Masking.TheVariants.{Known, Filters, Prunes}
-use Rattle.vx_readers.specs.States.{IsStarted}
+use Rattle.vx_readers.specs.States.{ReadsAreInFlight}
 use Rattle.vx_readers_cases.specs.declared.running.Running.{Running}
 use Rattle.vx_readers_cases.specs.declared.running.Running.TheVariants.{Column, Mask, Over}
 
@@ -25,7 +25,7 @@ reads_of Over = []
 -- the reads that it started and that have not ended are in flight
 abbrev pub IsRunning : Running → List (ℕ × SegmentLocation) → Type 0
 IsRunning (Column state) flights = AreInFlight state.evaluation.locations state.evaluation.reads flights
-IsRunning (Mask state) flights = IsStarted state.masking flights
+IsRunning (Mask state) flights = ReadsAreInFlight state.masking flights
 IsRunning Over flights = Unit {0}
 
 -- whatever is in flight at a source, none of its reads is

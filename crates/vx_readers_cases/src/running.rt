@@ -3,7 +3,7 @@
 ghost use Rattle.std.specs.Prelude.{IfOk};
 ghost use Rattle.vx_outside.specs.ScriptSources.{script_state};
 ghost use Rattle.vx_readers_cases.specs.Running.{GoesOn, IsRunning};
-ghost use Rattle.vx_readers.specs.States.{IsStarted};
+ghost use Rattle.vx_readers.specs.States.{ReadsAreInFlight};
 ghost use Rattle.vx_reads.specs.Reads.{AreInFlight};
 
 use crate::answers::{write_column, write_error, write_mask};
@@ -61,7 +61,7 @@ fn poll_mask<'a>(
     source: &mut ScriptSource,
     out: &mut String,
 ) -> Result<Running<'a>, AllocError>
-    requires { IsStarted state.masking (script_state source.old).in_flight }
+    requires { ReadsAreInFlight state.masking (script_state source.old).in_flight }
     ensures { IfOk result (λ next. GoesOn (Running.Mask state.entry) next (script_state source.old) (script_state source.new)) }
 {
     match state.poll(source) {

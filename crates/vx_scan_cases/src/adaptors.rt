@@ -177,7 +177,7 @@ pub(crate) fn write_adaptor(
     words: &str,
     out: &mut String,
 ) -> Result<(), AllocError> {
-    let Some(plans) = lowered_of(alloc, case_state.nodes) else {
+    let Some(plans) = lowered_of(alloc, case_state) else {
         return out.push_str(" no tree;");
     };
     let written = write_told(alloc, &plans, case_state.places, words, out);

@@ -18,11 +18,11 @@ use vx_scan::{ChunkOutcome, ScanPlans, run_chunk};
 use vx_splits::{SelectedRows, WorkScope};
 use vx_steps::{KeptValue, Split};
 
-/// What the chunks of the tree share; none where its nodes are no tree.
+/// What the chunks of the plan share; none where there is no plan.
 pub(crate) fn plans_of(alloc: Global, case_state: CaseState<'_>) -> Option<ScanPlans>
     ensures { IfSome result ArePlans }
 {
-    let Lowered { table, root } = lowered_of(alloc, case_state.nodes)?;
+    let Lowered { table, root } = lowered_of(alloc, case_state)?;
     let locations = places_of(alloc, case_state.places);
     let Ok(ranges) = segment_ranges(alloc, &locations) else {
         drop(table);

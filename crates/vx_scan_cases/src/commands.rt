@@ -4,9 +4,10 @@ use crate::adaptors::write_adaptor;
 use crate::answers::write_text;
 use crate::caches::write_cache;
 use crate::chunks::write_chunk;
+use crate::runs::{write_lent, write_run};
 use crate::scans::{write_dtype, write_scan, write_selected};
 use crate::shares::write_shared;
-use crate::trees::write_tree;
+use crate::trees::write_plan;
 use crate::values::{write_asks, write_values};
 use crate::workers::{write_book, write_executed, write_prepared};
 use std::alloc::AllocError;
@@ -14,7 +15,8 @@ use std::sync::Wait;
 use std::thread::Threads;
 
 /// The file in words: the nodes of its tree, where its segments lie, its bytes, and the script that its source keeps
-/// to; how often that may answer that a read goes on; and how many rows of a scan are read at most, where a number is said.
+/// to; how often that may answer that a read goes on; how many rows of a scan are read at most, where a number is said; and
+/// the predicate by which zones are pruned, where one is said.
 #[derive(Clone, Copy)]
 pub(crate) struct CaseState<'a> {
     pub(crate) nodes: &'a str,
@@ -23,12 +25,17 @@ pub(crate) struct CaseState<'a> {
     pub(crate) script: &'a str,
     pub(crate) limit: u64,
     pub(crate) most: &'a str,
+    pub(crate) predicate: &'a str,
 }
 
 /// Keeps what a line says of the file.
 fn set<'a>(case_state: &mut CaseState<'a>, command: &str, words: &'a str) {
     match command {
-        "tree" => case_state.nodes = words,
+        "tree" => {
+            case_state.nodes = words;
+            case_state.predicate = "";
+        }
+        "prune" => case_state.predicate = words,
         "at" => case_state.places = words,
         "file" => case_state.bytes = words,
         "script" => case_state.script = words,
@@ -49,7 +56,8 @@ fn write_answer<R: AllocGlobal + Threads + Wait + Sync>(
     let alloc = rt.alloc();
     match command {
         "at" | "file" | "script" | "limit" | "most" => Ok(()),
-        "tree" => write_tree(alloc, words, out),
+        "tree" => write_plan(alloc, case_state, "no tree", out),
+        "prune" => write_plan(alloc, case_state, "none", out),
         "dtype" => write_dtype(alloc, case_state, out),
         "scan" => write_scan(rt, case_state, out),
         "select" => write_selected(rt, case_state, words, out),
@@ -59,6 +67,8 @@ fn write_answer<R: AllocGlobal + Threads + Wait + Sync>(
         "prepare" => write_prepared(alloc, case_state, words, out),
         "execute" => write_executed(rt, case_state, words, out),
         "share" => write_shared(rt, case_state, words, out),
+        "run" => write_run(rt, case_state, words, out),
+        "lend" => write_lent(rt, case_state, words, out),
         "book" => write_book(alloc, words, out),
         "cache" => write_cache(rt, words, out),
         "adaptor" => write_adaptor(alloc, case_state, words, out),
@@ -80,6 +90,7 @@ pub(crate) fn write_lines<R: AllocGlobal + Threads + Wait + Sync>(
         script: "",
         limit: 1000000,
         most: "",
+        predicate: "",
     };
     for line in lines.lines() {
         out.push_str(line)?;

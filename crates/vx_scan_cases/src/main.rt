@@ -11,6 +11,7 @@ mod caches;
 mod chunks;
 mod commands;
 mod files;
+mod runs;
 mod scans;
 mod shares;
 mod splits;

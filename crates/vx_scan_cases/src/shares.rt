@@ -103,7 +103,7 @@ fn write_lent<R: AllocGlobal + Threads + Wait + Sync>(
 }
 
 /// Runs a prepared scan over so many sources of the file and a cache that has the given values.
-fn write_over<R: AllocGlobal + Threads + Wait + Sync>(
+pub(crate) fn write_over<R: AllocGlobal + Threads + Wait + Sync>(
     rt: &R,
     case_state: CaseState<'_>,
     prepared: &Prepared,

@@ -128,7 +128,7 @@ fn write_run<R: AllocGlobal + Threads + Wait + Sync>(
 }
 
 /// Runs a prepared scan over so many sources of the file.
-fn write_over<R: AllocGlobal + Threads + Wait + Sync>(
+pub(crate) fn write_over<R: AllocGlobal + Threads + Wait + Sync>(
     rt: &R,
     case_state: CaseState<'_>,
     prepared: &Prepared,

@@ -2,7 +2,9 @@
 //! the proof takes it apart there alone.
 
 ghost use Rattle.std.specs.Prelude.{◌<◌, length};
+ghost use Rattle.vx_expr.specs.Bound.{IsBoundTo};
 ghost use Rattle.vx_plan.specs.Refs.{number_of};
+ghost use Rattle.vx_plan.specs.Rules.{node_at};
 
 use crate::answers::{write_columns, write_error};
 use crate::scans::write_scan;
@@ -10,6 +12,7 @@ use crate::segments::{Segment, take_segments};
 use crate::splits::write_splits;
 use std::alloc::{AllocError, Global};
 use std::mem::replace;
+use vx_base::DType;
 use vx_expr::{BoundExpression, bind};
 use vx_expr_notation::spelled;
 use vx_lower::{Lowered, plan_row_idx_expression};
@@ -77,6 +80,52 @@ fn write_over(
     written
 }
 
+/// Plans whether zones are pruned by the predicate, over a zoned root.
+fn write_pruning(
+    alloc: Global,
+    plans: &mut Lowered,
+    predicate: &BoundExpression,
+    out: &mut String,
+) -> Result<(), AllocError>
+    requires known { number_of plans.old.root < length plans.old.table }
+    requires room { length plans.old.table < 1000000 }
+    requires bound { IsBoundTo predicate.now (node_at plans.old.table (number_of plans.old.root)).dtype }
+{
+    let Some(zoned) = plans.table.as_zoned(plans.root) else {
+        return out.push_str(" no zones");
+    };
+    let made = match predicate.dtype() {
+        DType::Bool(_) => zoned.with_pruning(alloc, &mut plans.table, predicate),
+        _ => return out.push_str(" no predicate"),
+    };
+    match made {
+        Ok(Some(made)) => write_planned(plans, Ok(made.into_plan()), out),
+        Ok(None) => out.push_str(" none"),
+        Err(error) => write_planned(plans, Err(error), out),
+    }
+}
+
+/// Plans whether zones are pruned by the predicate that the words spell, over a zoned root.
+fn write_pruned(
+    alloc: Global,
+    plans: &mut Lowered,
+    words: &str,
+    out: &mut String,
+) -> Result<(), AllocError>
+    requires known { number_of plans.old.root < length plans.old.table }
+    requires room { length plans.old.table < 1000000 }
+{
+    let expr = spelled(alloc, words)?;
+    let bound = bind(alloc, &expr, plans.table.dtype(plans.root));
+    drop(expr);
+    let written = match &bound {
+        Ok(bound) => write_pruning(alloc, plans, bound, out),
+        Err(_) => out.push_str(" isn't bound"),
+    };
+    drop(bound);
+    written
+}
+
 /// Plans a share of the root.
 fn write_shared(alloc: Global, plans: &mut Lowered, out: &mut String) -> Result<(), AllocError>
     requires known { number_of plans.old.root < length plans.old.table }
@@ -122,6 +171,7 @@ fn write_on_plans(
     match command {
         "over" => write_over(alloc, &mut case_state.plans, words, out),
         "share" => write_shared(alloc, &mut case_state.plans, out),
+        "prune" => write_pruned(alloc, &mut case_state.plans, words, out),
         "scan" => write_scan(
             alloc,
             &case_state.plans,
