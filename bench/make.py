@@ -7,7 +7,8 @@
 `csv` writes OUT.seg and OUT.json, which `scan_cli scan OUT.seg OUT.json` prints. The first line of the CSV file names
 the columns. A column's dtype is told by --dtype (`bool`, `u8` to `u64`, `i8` to `i64`, `utf8`, with `?` where it takes
 nulls), or guessed: `bool` where each cell is `true` or `false`, `i64` where each is a whole number that fits, else
-`utf8`. An empty cell is a null, in a text too unless --empty-text is set. Columns are cut into chunks of 65536 rows. How
+`utf8`. An empty cell is a null, in a text too unless --empty-text is set; a blank line is an error
+(the lone empty cell of a table of one column is written `""`). Columns are cut into chunks of 65536 rows. How
 the chunks of a column are coded is told by --coding: `runs` (a value for each run of equal rows, and where the run ends),
 `constant` (one value for all rows of a chunk, which have to be equal) or `plain` (a value for each row). Where it isn't
 told they are plain, and a chunk of texts is stored by a dictionary if that takes fewer bytes.
