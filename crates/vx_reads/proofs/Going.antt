@@ -1,5 +1,6 @@
 -- The source after little, and after one step behind another; and elements of lists.
 use Rattle.std.proofs.Common.{◌≡◌, ◌≢◌, ℕ, zero, suc, ◌≤◌, ◌⊎◌, inl, inr, List, [], ◌∷◌, ◌++◌, Option, Some, None, slice_set, refl, sym, ap, ◌∙◌, subst, arith, append-nil, append_assoc}
+use Rattle.std.specs.Prelude.{IsSome, IsSomeAnd}
 use Rattle.std.specs.List.{slice_get, AllByRecursion}
 use Rattle.vx_base.specs.declared.locations.SegmentLocation.{SegmentLocation}
 use Rattle.vx_base.specs.declared.locations.AskedRange.{AskedRange}
@@ -7,7 +8,7 @@ use Rattle.vx_base.specs.Sources.{SourceState, asks_also, location_of, range_of}
 use Rattle.vx_reads.specs.declared.errors.ReaderError.{ReaderError}
 use Rattle.vx_reads.specs.declared.errors.ReaderError.TheVariants.{ReadFault, BadSegment, BadCode, EvalFault, NoLocation, Memory}
 use Rattle.vx_reads.specs.declared.reads.SegmentRead.{SegmentRead}
-use Rattle.vx_reads.specs.Reads.{segments_of, HasTicket, AreInFlight, AsksOnly, IsRangeOf, Touches, GoOn, SourceFault, LeavesReads, StopsWith}
+use Rattle.vx_reads.specs.Reads.{bytes_in, segments_of, ticket_at, HasTicket, CameAt, AreInFlight, AsksOnly, IsRangeOf, Touches, GoOn, SourceFault, LeavesReads, StopsWith}
 
 -- ---- one element of a list
 
@@ -96,6 +97,7 @@ waits locations reads before after located same asked file faults idle = record 
   new_ones = λ ticket at foreign is. foreign;
   told = λ file is have. have;
   only = λ ticket at foreign is. (foreign, sym (ap (location_of ticket) same) ∙ is);
+  going = λ place ticket is. inl is;
   kept = λ place read at came. at;
   fine = faults;
 }
@@ -118,6 +120,17 @@ touches_then locations one two before middle after first second =
       idle = omega (arith, waited, second.idle);
     }
 
+came_still : (two three : List SegmentRead) → ((place : ℕ) (read : SegmentRead) → slice_get two place ≡ Some read → IsSome (bytes_in read.state) → slice_get three place ≡ Some read) → (place : ℕ) (o : Option SegmentRead) → slice_get two place ≡ o → IsSomeAnd o (λ (read : SegmentRead). IsSome (bytes_in read.state)) → CameAt three place
+came_still two three kept place None e came = absurd came
+came_still two three kept place (Some read) e came =
+    let F : Option SegmentRead → Type 0 = λ o. IsSomeAnd o (λ (read : SegmentRead). IsSome (bytes_in read.state)) in
+    subst F (sym (kept place read e came)) came
+
+-- a read that is in flight still, or came, is so after further steps
+going_then : (locations : List SegmentLocation) (two three : List SegmentRead) (middle after : SourceState) → GoOn locations two three middle after → (place ticket : ℕ) → (ticket_at two place ≡ Some ticket) ⊎ CameAt two place → (ticket_at three place ≡ Some ticket) ⊎ CameAt three place
+going_then locations two three middle after second place ticket (inl still) = second.going place ticket still
+going_then locations two three middle after second place ticket (inr came) = inr (came_still two three second.kept place (slice_get two place) refl came)
+
 pub goes_then : (locations : List SegmentLocation) (one two three : List SegmentRead) (before middle after : SourceState) → GoOn locations one two before middle → GoOn locations two three middle after → GoOn locations one three before after
 goes_then locations one two three before middle after first second = record {
   touches = touches_then locations one two before middle after first second.touches;
@@ -126,6 +139,7 @@ goes_then locations one two three before middle after first second = record {
   new_ones = λ ticket at foreign is. (let f = foreign_then locations one two before middle first ticket at foreign is in second.new_ones ticket at f.0 f.1);
   told = λ file is have. second.told file (first.touches.file ∙ is) (first.told file is have);
   only = λ ticket at foreign is. (let f = second.only ticket at foreign is in first.only ticket at f.0 f.1);
+  going = λ place ticket is. going_then locations two three middle after second place ticket (first.going place ticket is);
   kept = λ place read at came. second.kept place read (first.kept place read at came) came;
   fine = second.fine ∙ first.fine;
 }

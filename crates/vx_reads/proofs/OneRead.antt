@@ -8,7 +8,7 @@ use Rattle.vx_base.specs.Sources.{SourceState, Started, Ended, IsSegment, locati
 use Rattle.vx_reads.specs.declared.reads.ReadState.{ReadState}
 use Rattle.vx_reads.specs.declared.reads.ReadState.TheVariants as states
 use Rattle.vx_reads.specs.declared.reads.SegmentRead.{SegmentRead}
-use Rattle.vx_reads.specs.Reads.{bytes_in, ticket_in, read_with, segments_of, ticket_at, file_bytes, HasTicket, IsInFlight, AreInFlight, HasBytes, HaveBytes, AsksOnly, IsRangeOf, GoOn, IsStarted, IsEnded, IsSame, StartsBy, PollsBy, IsAtSource}
+use Rattle.vx_reads.specs.Reads.{bytes_in, ticket_in, read_with, segments_of, ticket_at, file_bytes, HasTicket, CameAt, IsInFlight, AreInFlight, HasBytes, HaveBytes, AsksOnly, IsRangeOf, GoOn, IsStarted, IsEnded, IsSame, StartsBy, PollsBy, IsAtSource}
 use Rattle.vx_reads.proofs.Going.{at_set, set_same, set_there, segments_set, segment_there, asks_none, asks_one, some_in, waits, begins}
 use Rattle.vx_reads.proofs.Flights.{gone_without, located_others, located_still, located_without}
 
@@ -70,6 +70,12 @@ no_bytes reads place j old read at none same there came =
     cc
 
 -- where a read that has no bytes yet is written, those that have some stay
+-- a read beside the one that is written, which was not in flight, is in flight still
+going_set : (reads : List SegmentRead) (place j t : ℕ) (new : SegmentRead) → ticket_at reads place ≡ None → ticket_at reads j ≡ Some t →
+    ((j ≡ place) × (slice_get (slice_set reads place new) j ≡ Some new)) ⊎ ((j ≢ place) × (slice_get (slice_set reads place new) j ≡ slice_get reads j)) → (ticket_at (slice_set reads place new) j ≡ Some t) ⊎ CameAt (slice_set reads place new) j
+going_set reads place j t new none has (inl (same, is)) = absurd (none_some (ticket_at reads place) t none (ap (ticket_at reads) (sym same) ∙ has))
+going_set reads place j t new none has (inr (differ, is)) = inl (ap (option_and_then (λ (read : SegmentRead). ticket_in read.state)) is ∙ has)
+
 kept_set : (reads : List SegmentRead) (place j : ℕ) (old new read : SegmentRead) → slice_get reads place ≡ Some old → bytes_in old.state ≡ None → slice_get reads j ≡ Some read → IsSome (bytes_in read.state) →
     ((j ≡ place) × (slice_get (slice_set reads place new) j ≡ Some new)) ⊎ ((j ≢ place) × (slice_get (slice_set reads place new) j ≡ slice_get reads j)) → slice_get (slice_set reads place new) j ≡ Some read
 kept_set reads place j old new read at none there came (inl (same, is)) = absurd (no_bytes reads place j old read at none same there came)
@@ -112,6 +118,7 @@ go_started locations reads place old new before after at asked located is =
       new_ones = λ other at2 foreign found has_it. not_new other at2 ticket ticket_is started.fresh foreign found has_it.0 has_it.1 (at_set reads place has_it.0 old new at);
       told = λ file is have. λ j. bytes_in_list file j ticket new_is have (at_set reads place j old new at);
       only = λ other at2 foreign found. only_in other at2 ticket where_is ticket_is started.in_flight foreign found;
+      going = λ j t has. going_set reads place j t new (ticket_of reads place old at ∙ ap ticket_in asked) has (at_set reads place j old new at);
       kept = λ j read there came. kept_set reads place j old new read at (ap bytes_in asked) there came (at_set reads place j old new at);
       fine = started.faults;
     }
@@ -207,10 +214,19 @@ go_ended locations reads place old new ticket before after at asked located byte
       new_ones = λ other at2 foreign found has_it. not_new other new_is foreign has_it.0 has_it.1 (at_set reads place has_it.0 old new at);
       told = λ file told have. λ j. bytes_in_list file j new_is l.0 l.1 (subst (λ (o : Option (List ℕ)). IfSome o (λ told. bytes_at told l.0 ≡ Some bytes.items)) told read_is.told) have (at_set reads place j old new at);
       only = λ other at2 foreign found. only_in other at2 has_mine ended.in_flight foreign found;
+      going = λ j t has. going_in j t new_is has (at_set reads place j old new at);
       kept = λ j read there came. kept_set reads place j old new read at (ap bytes_in asked) there came (at_set reads place j old new at);
       fine = faults;
     }
   where
+    going_in : (j t : ℕ) → new ≡ read_with old.segment (states.Came bytes) → ticket_at reads j ≡ Some t → ((j ≡ place) × (slice_get (slice_set reads place new) j ≡ Some new)) ⊎ ((j ≢ place) × (slice_get (slice_set reads place new) j ≡ slice_get reads j)) → (ticket_at (slice_set reads place new) j ≡ Some t) ⊎ CameAt (slice_set reads place new) j
+    going_in j t new_is has (inl (same, is)) =
+        let F : Option SegmentRead → Type 0 = λ o. IsSomeAnd o (λ (read : SegmentRead). IsSome (bytes_in read.state)) in
+        let G : SegmentRead → Type 0 = λ read. IsSome (bytes_in read.state) in
+        let came : IsSome (bytes_in (read_with old.segment (states.Came bytes)).state) = refl in
+        inr (subst F (sym is) (subst G (sym new_is) came))
+    going_in j t new_is has (inr (differ, is)) = inl (ap (option_and_then (λ (read : SegmentRead). ticket_in read.state)) is ∙ has)
+
     only_in : (other : ℕ) (at2 : SegmentLocation) → ticket_at reads place ≡ Some ticket → after.in_flight ≡ without ticket before.in_flight → (HasTicket (slice_set reads place new) other → ⊥) → location_of other after.in_flight ≡ Some at2 → (HasTicket reads other → ⊥) × (location_of other before.in_flight ≡ Some at2)
     only_in other at2 mine flights foreign found =
         let gone : location_of ticket after.in_flight ≡ None = ap (location_of ticket) flights ∙ gone_without before.in_flight ticket in

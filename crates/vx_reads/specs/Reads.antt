@@ -36,6 +36,10 @@ segments_of reads = map (λ (read : SegmentRead). read.segment) reads
 abbrev pub ticket_at : List SegmentRead → ℕ → Option ℕ
 ticket_at reads place = option_and_then (λ (read : SegmentRead). ticket_in read.state) (slice_get reads place)
 
+-- the read at a place came
+abbrev pub CameAt : List SegmentRead → ℕ → Type 0
+CameAt reads place = IsSomeAnd (slice_get reads place) (λ (read : SegmentRead). IsSome (bytes_in read.state))
+
 -- the ticket is that of one of the reads
 abbrev pub HasTicket : List SegmentRead → ℕ → Type 0
 HasTicket reads ticket = (place : ℕ) × (ticket_at reads place ≡ Some ticket)
@@ -81,8 +85,8 @@ pub record Touches (locations : List SegmentLocation) (reads : List SegmentRead)
   pub faults : before.faults ≤ after.faults
   pub idle : before.idle ≤ after.idle
 
--- The reads went on, and no call failed: they are of the same segments, those in flight are so at the source, and what came
--- is the file's and stays. Nothing else is in flight but what was so before, and is none of theirs.
+-- The reads went on, and no call failed: they are of the same segments, those in flight are so at the source, what was in flight
+-- is so still, under its ticket, or came, and what came is the file's and stays. Nothing else is in flight but what was so before, and is none of theirs.
 pub record GoOn (locations : List SegmentLocation) (old new : List SegmentRead) (before after : SourceState) : Type 0 where
   pub touches : Touches locations old before after
   pub segments : segments_of new ≡ segments_of old
@@ -90,6 +94,7 @@ pub record GoOn (locations : List SegmentLocation) (old new : List SegmentRead) 
   pub new_ones : (ticket : ℕ) (at : SegmentLocation) → (HasTicket old ticket → ⊥) → location_of ticket before.in_flight ≡ Some at → HasTicket new ticket → ⊥
   pub told : (file : List ℕ) → before.file ≡ Some file → HaveBytes (file_bytes file locations) old → HaveBytes (file_bytes file locations) new
   pub only : (ticket : ℕ) (at : SegmentLocation) → (HasTicket new ticket → ⊥) → location_of ticket after.in_flight ≡ Some at → (HasTicket old ticket → ⊥) × (location_of ticket before.in_flight ≡ Some at)
+  pub going : (place ticket : ℕ) → ticket_at old place ≡ Some ticket → (ticket_at new place ≡ Some ticket) ⊎ CameAt new place
   pub kept : (place : ℕ) (read : SegmentRead) → slice_get old place ≡ Some read → IsSome (bytes_in read.state) → slice_get new place ≡ Some read
   pub fine : after.faults ≡ before.faults
 
