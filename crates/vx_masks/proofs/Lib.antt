@@ -1,7 +1,9 @@
+pub mod AllRows
 pub mod Built
 pub mod Bytes
 pub mod Chosen
 pub mod Extracted
+pub mod FewRows
 pub mod Found
 pub mod Held
 pub mod Joined

@@ -1,4 +1,5 @@
 pub mod Bytes
+pub mod Forms
 pub mod Masks
 pub mod Rows
 pub mod Words

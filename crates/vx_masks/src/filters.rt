@@ -4,7 +4,8 @@ ghost use Rattle.std.specs.Prelude.{◌≡◌, ◌+◌, ◌-◌, ◌++◌, ◌^�
 ghost use Rattle.vx_masks.specs.Masks.{chosen};
 ghost use Rattle.vx_masks.specs.Words.{low_bits};
 
-use crate::masks::Mask;
+use crate::masks::{Form, Mask};
+use crate::word_masks::WordMask;
 use std::alloc::{AllocError, Global};
 
 /// Adds the values that the word chooses of those from a place on, one by one.
@@ -49,8 +50,8 @@ fn push_rows<T: Copy>(
     }
 }
 
-/// The values at the rows that the mask chooses, in order.
-pub fn filter<T: Copy>(alloc: Global, mask: &Mask, values: &[T]) -> Result<Vec<T>, AllocError>
+/// The values at the rows that these words choose, in order.
+fn filter_words<T: Copy>(alloc: Global, mask: &WordMask, values: &[T]) -> Result<Vec<T>, AllocError>
     requires { length values.now ≡ length mask.now }
     ensures { IfOk result (λ kept. kept.items ≡ chosen mask.now values.now) }
 {
@@ -59,4 +60,20 @@ pub fn filter<T: Copy>(alloc: Global, mask: &Mask, values: &[T]) -> Result<Vec<T
         push_rows(&mut kept, *word, values, 64 * index)?;
     }
     Ok(kept)
+}
+
+/// The values at the rows that the mask chooses, in order.
+#[tactic(auto, using(crate::proofs::AllRows::all_chosen))]
+pub fn filter<T: Copy>(alloc: Global, mask: &Mask, values: &[T]) -> Result<Vec<T>, AllocError>
+    requires { length values.now ≡ length mask.now }
+    ensures { IfOk result (λ kept. kept.items ≡ chosen mask.now values.now) }
+{
+    match mask.form() {
+        Form::Words(words) => filter_words(alloc, words, values),
+        Form::All(_, _) => Ok(Vec::from_slice(alloc, values)?),
+        Form::Few(_, _, _) => {
+            let words = mask.spread(alloc)?;
+            filter_words(alloc, &words, values)
+        }
+    }
 }

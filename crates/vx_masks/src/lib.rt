@@ -4,6 +4,7 @@
 
 mod by_hand;
 mod deposits;
+mod few_rows;
 mod filters;
 mod joins;
 pub mod kernels;
@@ -11,6 +12,8 @@ mod masks;
 mod pairs;
 mod parts;
 mod shared_words;
+mod two_masks;
+mod word_masks;
 
 pub use by_hand::{bytes_by_hand, masks_by_hand};
 pub use filters::filter;

@@ -7,8 +7,9 @@ ghost use Rattle.vx_masks.specs.Rows.{taken};
 ghost use Rattle.vx_masks.specs.Words.{low_bits, number_of};
 
 use crate::joins::{push_part, push_shifted};
-use crate::masks::{Mask, closed, words_for};
+use crate::masks::Mask;
 use crate::parts::{part_len, word_or_zero};
+use crate::word_masks::{WordMask, closed, words_for};
 use std::alloc::{AllocError, Global};
 
 /// The bits of the value at which those of the mask are set, behind one another.
@@ -57,9 +58,9 @@ fn same_words(ones: &[u64], others: &[u64]) -> bool
     ones == others
 }
 
-impl Mask {
+impl WordMask {
     /// Whether the masks have as many rows and choose the same. It takes no memory.
-    pub fn same(&self, other: &Mask) -> bool
+    pub(crate) fn same(&self, other: &WordMask) -> bool
         ensures { IsTrue result ↔ (self.now ≡ other.now) }
     {
         let ones = self.words();
@@ -72,15 +73,15 @@ impl Mask {
 
     /// No rows, with room for so many. It takes all memory that they need.
     #[tactic(auto, using(crate::proofs::Built::built_none))]
-    pub fn with_room(alloc: Global, rows: u64) -> Result<Mask, AllocError>
+    pub(crate) fn with_room(alloc: Global, rows: u64) -> Result<WordMask, AllocError>
         ensures { IfOk result (λ mask. mask ≡ []) }
     {
         let words = Vec::with_capacity(alloc, words_for(rows) as usize)?;
-        Ok(Mask::of_words(words, 0))
+        Ok(WordMask::of_words(words, 0))
     }
 
     /// The rows that one of the masks chooses.
-    pub fn either(&self, alloc: Global, other: &Mask) -> Result<Mask, AllocError>
+    pub(crate) fn either(&self, alloc: Global, other: &WordMask) -> Result<WordMask, AllocError>
         requires { length other.now ≡ length self.now }
         ensures { IfOk result (λ mask. mask ≡ either self.now other.now) }
     {
@@ -90,11 +91,11 @@ impl Mask {
         for (index, word) in ones.iter().enumerate() {
             words.push(*word | others[index])?;
         }
-        Ok(Mask::of_words(words, self.len()))
+        Ok(WordMask::of_words(words, self.len()))
     }
 
     /// The rows that this mask chooses and the other doesn't.
-    pub fn without(&self, alloc: Global, other: &Mask) -> Result<Mask, AllocError>
+    pub(crate) fn without(&self, alloc: Global, other: &WordMask) -> Result<WordMask, AllocError>
         requires { length other.now ≡ length self.now }
         ensures { IfOk result (λ mask. mask ≡ without self.now other.now) }
     {
@@ -104,12 +105,12 @@ impl Mask {
         for (index, word) in ones.iter().enumerate() {
             words.push(*word ^ (*word & others[index]))?;
         }
-        Ok(Mask::of_words(words, self.len()))
+        Ok(WordMask::of_words(words, self.len()))
     }
 
     /// The rows of this mask, and then those of the other. What room this mask has is used. There is no
     /// memory for more rows than 64 bits count.
-    pub fn append(self, other: &Mask) -> Result<Mask, AllocError>
+    pub(crate) fn append(self, other: &WordMask) -> Result<WordMask, AllocError>
         ensures { IfOk result (λ mask. mask ≡ self ++ other.now) }
     {
         match self.len().checked_add(other.len()) {
@@ -119,7 +120,7 @@ impl Mask {
     }
 
     /// The rows of this mask, and then those of the other, where 64 bits count them.
-    fn append_few(self, other: &Mask) -> Result<Mask, AllocError>
+    fn append_few(self, other: &WordMask) -> Result<WordMask, AllocError>
         requires { length self + length other.now < 2 ^ 64 }
         ensures { IfOk result (λ mask. mask ≡ self ++ other.now) }
     {
@@ -135,7 +136,7 @@ impl Mask {
     }
 
     /// The rows of this mask that the other chooses.
-    pub fn filter(&self, alloc: Global, mask: &Mask) -> Result<Mask, AllocError>
+    pub(crate) fn filter(&self, alloc: Global, mask: &WordMask) -> Result<WordMask, AllocError>
         requires { length mask.now ≡ length self.now }
         ensures { IfOk result (λ kept. kept ≡ chosen mask.now self.now) }
     {
@@ -153,7 +154,9 @@ impl Mask {
         let kept = closed(words, rest, len)?;
         Ok(kept)
     }
+}
 
+impl Mask {
     /// The rows at these places, and false at a place past the last row.
     #[tactic(auto, using(crate::proofs::Built::built_none, crate::proofs::Built::built_all, crate::proofs::Built::built_rows))]
     pub fn take(&self, alloc: Global, places: &[usize]) -> Result<Mask, AllocError>
@@ -167,6 +170,7 @@ impl Mask {
             let end = start + part_len(len, index);
             words.push(taken_word(self, &places[start as usize..end as usize]))?;
         }
-        Ok(Mask::of_words(words, len))
+        let words = WordMask::of_words(words, len);
+        Ok(Mask::in_words(words))
     }
 }

@@ -1,6 +1,0 @@
-use Rattle.std.proofs.Common.{true, replicate}
-use Rattle.vx_masks.proofs.Built.{Built}
-use Rattle.vx_masks.proofs.masks.Mask.all_of.Given as goal
-
-abbrev pub invariant-loop-index : goal.invariant-loop-index
-invariant-loop-index l = Built (replicate l.len true) l.index l.words.items

@@ -1,6 +1,0 @@
-use Rattle.std.proofs.Common.{take}
-use Rattle.vx_masks.proofs.Marks.{Marks}
-use Rattle.vx_masks.proofs.masks.Mask.from_indices.Given as goal
-
-abbrev pub invariant-loop-index : goal.invariant-loop-index
-invariant-loop-index l = Marks l.len (take l.index-index l.indices) l.words.items
