@@ -3,6 +3,7 @@ pub mod ColumnCalls
 pub mod Columns
 pub mod Data
 pub mod Falls
+pub mod FieldLists
 pub mod Fits
 pub mod Leaf
 pub mod Limits

@@ -1,17 +1,18 @@
 //! Dtypes: what a column's values are. A dtype is a leaf (truth values, whole numbers of eight kinds,
-//! texts), a struct of named fields, or a list of elements; each of them takes nulls or doesn't.
+//! texts), a struct of named fields, or a list of elements; each of them takes nulls or doesn't. Copies of a struct's
+//! fields share them.
 
 ghost use Rattle.std.specs.Prelude.{◌≡◌, ◌≤◌, ◌↔◌, Some, IsTrue, IsNone, IfOk, IfSome, length, map, position, slice_get};
-ghost use Rattle.std.specs.Int.{byte_len};
 ghost use Rattle.std.specs.Str.{bytes_eq};
 ghost use Rattle.vx_types.specs.ColumnCalls.{made_nullable};
-ghost use Rattle.vx_types.specs.Fits.{least_of, greatest_of, nullability_of, takes_null};
-ghost use Rattle.vx_types.specs.Slots.{width_of};
+ghost use Rattle.vx_types.specs.FieldLists.{listed};
+ghost use Rattle.vx_types.specs.Fits.{nullability_of, takes_null};
 ghost use Rattle.vx_types.specs.Views.{data_type, members_of, field_data, fields_in};
 
 use crate::texts::Text;
 use std::alloc::{AllocError, Global};
 use std::marker::Model;
+use std::sync::Arc;
 
 /// Whether a dtype takes nulls.
 #[derive(Clone, Copy, Debug, PartialEq, Eq)]
@@ -33,49 +34,6 @@ pub enum IntKind {
     I64,
 }
 
-impl IntKind {
-    /// The bytes that a number takes in a segment: 1, 2, 4 or 8.
-    pub fn width(&self) -> u64
-        ensures { result ≡ byte_len (width_of self.now) }
-    {
-        match self {
-            IntKind::U8 | IntKind::I8 => 1,
-            IntKind::U16 | IntKind::I16 => 2,
-            IntKind::U32 | IntKind::I32 => 4,
-            IntKind::U64 | IntKind::I64 => 8,
-        }
-    }
-
-    /// The least number of the kind.
-    pub fn least(&self) -> i128
-        ensures { result ≡ least_of self.now }
-    {
-        match self {
-            IntKind::U8 | IntKind::U16 | IntKind::U32 | IntKind::U64 => 0,
-            IntKind::I8 => -128,
-            IntKind::I16 => -32768,
-            IntKind::I32 => -2147483648,
-            IntKind::I64 => -9223372036854775808,
-        }
-    }
-
-    /// The greatest number of the kind.
-    pub fn greatest(&self) -> i128
-        ensures { result ≡ greatest_of self.now }
-    {
-        match self {
-            IntKind::U8 => 255,
-            IntKind::U16 => 65535,
-            IntKind::U32 => 4294967295,
-            IntKind::U64 => 18446744073709551615,
-            IntKind::I8 => 127,
-            IntKind::I16 => 32767,
-            IntKind::I32 => 2147483647,
-            IntKind::I64 => 9223372036854775807,
-        }
-    }
-}
-
 /// A field of a struct dtype.
 #[cycle(dtypes)]
 #[derive(Debug, Drop)]
@@ -84,17 +42,17 @@ pub struct Field {
     pub dtype: DType,
 }
 
-/// The fields of a struct dtype, in order, seen as its members.
+/// Fields of a struct dtype in memory of their own, seen as its members.
 #[cycle(dtypes)]
 #[derive(Debug, Drop)]
-pub struct Fields {
+struct OwnFields {
     fields: Vec<Field>,
 }
 
-impl Model for Fields {
+impl Model for OwnFields {
     ghost use Rattle.vx_types.specs.Data.{Members};
     ghost use Rattle.vx_types.specs.Codes.{coded_members};
-    ghost use Rattle.vx_types.specs.Sizes.{members_size};
+    ghost use Rattle.vx_types.specs.Sizes.{own_fields_size};
 
     ghost Value = { Members };
 
@@ -104,12 +62,50 @@ impl Model for Fields {
 
     ghost view = { λ a. members_of a.fields.items };
 
-    ghost size = { members_size };
+    ghost size = { own_fields_size };
 
     ghost use Rattle.std.proofs.Common.{arith};
     ghost use Rattle.vx_types.specs.Falls.{most_le_size};
 
     ghost size_decreases = { λ a h. omega (arith, most_le_size a.fields.items) };
+}
+
+/// The fields of a struct dtype, and who has them.
+#[cycle(dtypes)]
+#[derive(Debug, Drop)]
+enum FieldList {
+    /// This dtype alone.
+    Alone(OwnFields),
+    /// Other dtypes too, perhaps.
+    Shared(Arc<OwnFields, Global>),
+}
+
+/// The fields of a struct dtype, in order, seen as its members.
+#[cycle(dtypes)]
+#[derive(Debug, Drop)]
+pub struct Fields {
+    list: FieldList,
+}
+
+impl Model for Fields {
+    ghost use Rattle.vx_types.specs.Data.{Members};
+    ghost use Rattle.vx_types.specs.Codes.{coded_members};
+    ghost use Rattle.vx_types.specs.Sizes.{fields_size};
+
+    ghost Value = { Members };
+
+    ghost coded = { coded_members };
+
+    ghost use Rattle.vx_types.specs.FieldLists.{listed};
+
+    ghost view = { λ a. listed a.list };
+
+    ghost size = { fields_size };
+
+    ghost use Rattle.std.proofs.Common.{arith};
+    ghost use Rattle.vx_types.specs.Falls.{list_le_size};
+
+    ghost size_decreases = { λ a h. omega (arith, list_le_size a.list) };
 }
 
 /// The dtype of a list's elements, seen as that dtype.
@@ -122,7 +118,7 @@ pub struct Element {
 impl Model for Element {
     ghost use Rattle.vx_types.specs.Data.{DataType};
     ghost use Rattle.vx_types.specs.Codes.{coded_type};
-    ghost use Rattle.vx_types.specs.Sizes.{type_size};
+    ghost use Rattle.vx_types.specs.Sizes.{element_size};
 
     ghost Value = { DataType };
 
@@ -132,7 +128,7 @@ impl Model for Element {
 
     ghost view = { λ a. data_type a.dtype.value };
 
-    ghost size = { type_size };
+    ghost size = { element_size };
 
     ghost use Rattle.std.proofs.Common.{arith};
     ghost use Rattle.vx_types.specs.Falls.{deep_le_size};
@@ -176,19 +172,70 @@ fn place_of(fields: &[Field], name: &str) -> Option<usize>
     fields.iter().position(|field| field.name.as_str() == name)
 }
 
+impl OwnFields {
+    /// The fields, in order. It takes no memory.
+    fn items(&self) -> &[Field]
+        ensures { members_of result.now ≡ self.now }
+    {
+        self.fields.as_slice()
+    }
+
+    /// The same fields in memory of their own.
+    #[cycle(copy)]
+    fn copy(&self, alloc: Global) -> Result<OwnFields, AllocError>
+        ensures { IfOk result (λ copied. copied ≡ self.now) }
+    {
+        let items = self.items();
+        let mut fields = Vec::with_capacity(alloc, items.len())?;
+        for field in items {
+            let name = field.name.copy(alloc)?;
+            let dtype = field.dtype.copy(alloc)?;
+            fields.push(Field { name, dtype })?;
+        }
+        Ok(OwnFields { fields })
+    }
+
+    /// The fields behind a handle. It moves them, and takes memory for the handle alone.
+    fn share(self, alloc: Global) -> Result<Fields, AllocError>
+        ensures { IfOk result (λ fields. fields ≡ self) }
+    {
+        let shared = Arc::new(alloc, self)?;
+        Ok(Fields {
+            list: FieldList::Shared(shared),
+        })
+    }
+}
+
 impl Fields {
     /// Fields in the order of the list. It takes no memory.
     pub fn from_vec(items: Vec<Field>) -> Fields
         ensures { result ≡ members_of items.items }
     {
-        Fields { fields: items }
+        let fields = OwnFields { fields: items };
+        Fields {
+            list: FieldList::Alone(fields),
+        }
     }
 
     /// The fields, in order. It takes no memory.
     pub fn items(&self) -> &[Field]
         ensures { members_of result.now ≡ self.now }
     {
-        self.fields.as_slice()
+        match &self.list {
+            FieldList::Alone(fields) => fields.items(),
+            FieldList::Shared(fields) => fields.items(),
+        }
+    }
+
+    /// The same fields, which copies share from now on. It moves them, and takes memory for a handle alone.
+    pub fn share(self, alloc: Global) -> Result<Fields, AllocError>
+        ensures { IfOk result (λ fields. fields ≡ self) }
+    {
+        let Fields { list } = self;
+        match list {
+            FieldList::Alone(fields) => fields.share(alloc),
+            list => Ok(Fields { list }),
+        }
     }
 
     /// How many fields there are.
@@ -239,19 +286,21 @@ impl Fields {
         true
     }
 
-    /// The same fields in memory of their own.
+    /// The same fields, which further copies share. Where these are shared already it takes no memory, and costs the same
+    /// for any number of fields.
     #[cycle(copy)]
     pub fn copy(&self, alloc: Global) -> Result<Fields, AllocError>
         ensures { IfOk result (λ copied. copied ≡ self.now) }
     {
-        let items = self.items();
-        let mut fields = Vec::with_capacity(alloc, items.len())?;
-        for field in items {
-            let name = field.name.copy(alloc)?;
-            let dtype = field.dtype.copy(alloc)?;
-            fields.push(Field { name, dtype })?;
+        match &self.list {
+            FieldList::Alone(fields) => fields.copy(alloc)?.share(alloc),
+            FieldList::Shared(fields) => {
+                let shared = Arc::try_clone(fields)?;
+                Ok(Fields {
+                    list: FieldList::Shared(shared),
+                })
+            }
         }
-        Ok(Fields { fields })
     }
 }
 
@@ -311,7 +360,7 @@ impl DType {
         }
     }
 
-    /// The same dtype, which takes nulls, in memory of its own.
+    /// The same dtype, which takes nulls; fields are copied as by `copy`.
     pub fn as_nullable(&self, alloc: Global) -> Result<DType, AllocError>
         ensures { IfOk result (λ nullable. data_type nullable ≡ made_nullable (data_type self.now)) }
     {
@@ -332,7 +381,7 @@ impl DType {
         }
     }
 
-    /// The same dtype in memory of its own.
+    /// The same dtype. The fields of a struct are shared by all further copies, and take memory for the first one alone.
     #[cycle(copy)]
     pub fn copy(&self, alloc: Global) -> Result<DType, AllocError>
         ensures { IfOk result (λ copied. data_type copied ≡ data_type self.now) }

@@ -9,6 +9,7 @@ mod dtype_kinds;
 mod dtype_texts;
 pub mod dtypes;
 mod field_names;
+mod int_kinds;
 mod texts;
 pub mod values;
 
