@@ -1,22 +1,23 @@
-pub mod CutTexts
-mod MovedTexts
-mod HeldRows
-mod JoinedArrays
-pub mod LookedUp
-mod ViewedArrays
-pub mod MappedRows
-pub mod PackedArrays
-pub mod PackedRows
 mod ArrayRanges
 mod ArrayRows
+pub mod BufferRows
+pub mod CutTexts
+pub mod Fronts
+pub mod HeldRows
+mod JoinedArrays
+pub mod LookedUp
+pub mod MappedRows
+mod MovedTexts
 pub mod NullSlots
+pub mod PackedArrays
+pub mod PackedRows
 mod PickedRows
 pub mod SameRows
 mod SharedArrays
-pub mod BufferRows
 mod SpelledNumbers
-mod TextBounds
+pub mod TextBounds
 mod TextRows
 pub mod ValidRows
 pub mod ValueRows
+mod ViewedArrays
 pub mod WrittenRows

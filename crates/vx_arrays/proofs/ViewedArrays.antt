@@ -1,17 +1,18 @@
 -- Arrays that are looked at where they stand.
-use Rattle.std.proofs.Common.{◌≡◌, ℕ, zero, suc, ◌<◌, Bool, true, false, List, [], ◌∷◌, length, map, get_or, Option, Some, None, Bor, refl, sym, ap, subst, ◌∙◌, arith}
-use Rattle.std.specs.Prelude.{slice_get, IfSome}
+use Rattle.std.proofs.Common.{◌≡◌, ℕ, zero, suc, ◌<◌, ◌≤◌, Bool, true, false, List, [], ◌∷◌, length, map, get_or, Option, Some, None, Bor, refl, sym, ap, subst, ◌∙◌, arith}
+use Rattle.std.specs.Prelude.{◌↔◌, slice_get, IfSome, IsSome}
 use Rattle.std.specs.Slice.{IsItemAt}
 use Rattle.std.proofs.lemmas.List.{length-map}
 use Rattle.vx_types.specs.Columns.{ColumnData}
 use Rattle.vx_types.specs.Data.{Datum, truth, number, text, structure, Items}
+use Rattle.vx_types.specs.Names.{names_in}
 use Rattle.vx_types.specs.ValueViews.{data_in}
 use Rattle.vx_masks.specs.Rows.{NullsHold}
 use Rattle.vx_arrays.specs.declared.arrays.Buffers.{Buffers}
 use Rattle.vx_arrays.specs.declared.arrays.Buffers.TheVariants as variants
 use Rattle.vx_arrays.specs.declared.numbers.Numbers.{Numbers}
 use Rattle.vx_arrays.specs.Numbers.{numbers_in}
-use Rattle.vx_arrays.specs.ArrayRows.{beside, rows_of, StructRows, struct_rows, HaveRows}
+use Rattle.vx_arrays.specs.ArrayRows.{beside, members_in, rows_of, StructRows, struct_rows, HaveRows}
 use Rattle.vx_arrays.specs.Buffers.{IsArray}
 use Rattle.vx_arrays.proofs.ArrayRows.{struct_len}
 
@@ -71,3 +72,21 @@ array_there rows arrays items structs i None e view h at = tt
 array_there rows arrays items structs i (Some x) e view h at =
     let here = items_there rows items i x.now at.3.0 at.1 (subst (λ (ps : List ColumnData). HaveRows rows ps) (sym e) h) in
     ap (λ (s : StructRows). map (λ vs. slice_get (data_in vs) i) s.rows) (sym view) ∙ ap (λ (ps : List ColumnData). map (λ vs. slice_get (data_in vs) i) (rows_of rows ps)) (sym e) ∙ here
+
+-- ---- how many arrays there are
+member_count : (arrays : List ColumnData) → length (names_in (members_in arrays)) ≡ length arrays
+member_count [] = refl
+member_count (array ∷ arrays) = ap suc (member_count arrays)
+
+pub place_there : (rows : ℕ) (arrays items : List ColumnData) (structs : StructRows) (i : ℕ) (r : Option (Bor ColumnData)) → items ≡ arrays → struct_rows rows arrays ≡ structs → IsItemAt items i r → IsSome r ↔ (i < length (names_in structs.members))
+place_there rows arrays items structs i r e view at =
+    let count : length (names_in structs.members) ≡ length items = ap (λ (s : StructRows). length (names_in s.members)) (sym view) ∙ member_count arrays ∙ ap length (sym e) in
+    by r at count
+  where
+    by : (r : Option (Bor ColumnData)) → IsItemAt items i r → length (names_in structs.members) ≡ length items → IsSome r ↔ (i < length (names_in structs.members))
+    by None at count =
+        let past : length items ≤ i = at.3 in
+        (λ h. absurd cc, λ l. absurd (omega (arith, past, count, l)))
+    by (Some x) at count =
+        let there : i < length items = at.3.0 in
+        (λ h. omega (arith, there, count), λ l. refl)

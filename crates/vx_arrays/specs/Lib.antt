@@ -4,6 +4,7 @@ pub mod ArrayViews
 pub mod Buffers
 pub mod Cells
 pub mod Fields
+pub mod Fronts
 pub mod LookUps
 pub mod Numbers
 pub mod PackedColumns

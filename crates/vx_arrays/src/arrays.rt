@@ -191,10 +191,7 @@ impl Array {
         ensures { IfOk result (λ places. places.items ≡ code_places past self.now.values) }
     {
         match &self.buffers {
-            Buffers::Numbers(numbers) => {
-                let places = numbers.places(alloc, &self.validity, past)?;
-                Ok(places)
-            }
+            Buffers::Numbers(numbers) => numbers.places(alloc, &self.validity, past),
             _ => unreachable!(),
         }
     }
@@ -205,10 +202,7 @@ impl Array {
         ensures { IfOk result (λ mask. mask ≡ map truth_in self.now.values) }
     {
         match &self.buffers {
-            Buffers::Truths(truths) => {
-                let mask = truths.copy(alloc)?;
-                Ok(mask)
-            }
+            Buffers::Truths(truths) => truths.copy(alloc),
             _ => unreachable!(),
         }
     }

@@ -1,7 +1,7 @@
 //! The kinds of whole numbers as types: what each of the eight kinds gives, so that numbers of a kind are
 //! written and proved once.
 
-ghost use Rattle.std.specs.Prelude.{◌≡◌, ◌≤◌, ◌↔◌, ◌++◌, ℤ, pos, length, map, IsTrue, OnOk};
+ghost use Rattle.std.specs.Prelude.{◌≡◌, ◌≤◌, ◌↔◌, ◌++◌, ℤ, pos, length, map, IsTrue, OnOk, OnErr};
 ghost use Rattle.std.specs.List.{AllByRecursion};
 ghost use Rattle.std.specs.Int.{byte_len};
 ghost use Rattle.vx_types.specs.declared.dtypes.IntKind.{IntKind};
@@ -31,9 +31,10 @@ pub trait Kind: Copy {
         requires { byte_len (width_of kind) ≤ length bytes.now }
         ensures { bytes.now ≡ number_bytes kind (number result.0) ++ result.1.now };
 
-    /// Writes the bytes of the number.
+    /// Writes the bytes of the number, or none of them where there is no room.
     fn write(self, bytes: &mut Vec<u8>) -> Result<(), AllocError>
-        ensures { OnOk result (bytes.new.items ≡ bytes.old.items ++ number_bytes kind (number self)) };
+        ensures written { OnOk result (bytes.new.items ≡ bytes.old.items ++ number_bytes kind (number self)) }
+        ensures unchanged { OnErr result (bytes.new.items ≡ bytes.old.items) };
 
     /// The whole number, which lies inside the kind.
     fn to_i128(self) -> i128

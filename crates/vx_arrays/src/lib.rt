@@ -6,6 +6,7 @@
 mod arrays;
 mod by_hand;
 mod cells;
+mod first_bytes;
 mod kinds;
 mod numbers;
 mod of_values;
@@ -17,6 +18,7 @@ mod texts;
 pub use arrays::{Array, ArrayView, Buffers, ChildArrays, SharedArray};
 pub use by_hand::{places_by_hand, structs_by_hand, texts_by_hand};
 pub use cells::Cell;
+pub use first_bytes::front_of;
 pub use kinds::Kind;
 pub use numbers::Numbers;
 pub use primitives::Primitive;

@@ -1,6 +1,6 @@
 //! Whole numbers of one of the eight kinds. Each call is that of the numbers of the kind.
 
-ghost use Rattle.std.specs.Prelude.{◌≡◌, ◌≤◌, ◌<◌, ◌↔◌, ◌-◌, ◌*◌, ◌++◌, [], length, slice_get, slice_range, pos, Some, IsTrue, IfOk, OnOk};
+ghost use Rattle.std.specs.Prelude.{◌≡◌, ◌≤◌, ◌<◌, ◌↔◌, ◌-◌, ◌*◌, ◌++◌, [], length, slice_get, slice_range, pos, Some, IsTrue, IfOk, OnOk, OnErr};
 ghost use Rattle.std.specs.List.{AllByRecursion, flat_map};
 ghost use Rattle.std.specs.Int.{byte_len};
 ghost use Rattle.vx_types.specs.Fits.{IsInside};
@@ -167,11 +167,14 @@ impl Numbers {
         of_each_kind!(self, numbers => numbers.get(row))
     }
 
-    /// Copies other numbers of the same kind behind these. It takes no memory where there is room for them.
+    /// Copies other numbers of the same kind behind these, or none of them where there is no room. It takes no memory
+    /// where there is.
     pub fn append(&mut self, other: &Numbers) -> Result<(), AllocError>
         requires { kind_in other.now ≡ kind_in self.old }
         ensures kind { OnOk result (kind_in self.new ≡ kind_in self.old) }
         ensures numbers { OnOk result (numbers_in self.new ≡ numbers_in self.old ++ numbers_in other.now) }
+        ensures same_kind { OnErr result (kind_in self.new ≡ kind_in self.old) }
+        ensures unchanged { OnErr result (numbers_in self.new ≡ numbers_in self.old) }
     {
         match (self, other) {
             (Numbers::U8(numbers), Numbers::U8(other)) => numbers.append(other),
@@ -226,9 +229,10 @@ impl Numbers {
         for_kind!(kind, Primitive::with_room(alloc, rows))
     }
 
-    /// Writes the bytes of all numbers, lowest byte first.
+    /// Writes the bytes of all numbers, lowest byte first, or none of them where there is no room.
     pub fn write(&self, bytes: &mut Vec<u8>) -> Result<(), AllocError>
-        ensures { OnOk result (bytes.new.items ≡ bytes.old.items ++ flat_map (number_bytes (kind_in self.now)) (numbers_in self.now)) }
+        ensures written { OnOk result (bytes.new.items ≡ bytes.old.items ++ flat_map (number_bytes (kind_in self.now)) (numbers_in self.now)) }
+        ensures unchanged { OnErr result (bytes.new.items ≡ bytes.old.items) }
     {
         of_each_kind!(self, numbers => numbers.write(bytes))
     }

@@ -119,8 +119,7 @@ fn item_of(alloc: Global, items: &[Value], place: usize) -> Result<Value, AllocE
     ensures { IfOk result (λ found. datum found ≡ field_at place (structure (items_of items.now))) }
 {
     if place < items.len() {
-        let found = items[place].copy(alloc)?;
-        Ok(found)
+        items[place].copy(alloc)
     } else {
         Ok(Value::Null)
     }

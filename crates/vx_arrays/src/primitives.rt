@@ -1,6 +1,6 @@
 //! Numbers of one kind, in a vector of the kind's type.
 
-ghost use Rattle.std.specs.Prelude.{◌≡◌, ◌≤◌, ◌<◌, ◌↔◌, ◌-◌, ◌*◌, ◌++◌, [], length, map, slice_get, slice_range, pos, Some, IsTrue, IfOk, OnOk};
+ghost use Rattle.std.specs.Prelude.{◌≡◌, ◌≤◌, ◌<◌, ◌↔◌, ◌-◌, ◌*◌, ◌++◌, [], length, map, slice_get, slice_range, pos, Some, IsTrue, IfOk, OnOk, OnErr};
 ghost use Rattle.std.specs.List.{AllByRecursion, flat_map};
 ghost use Rattle.std.specs.Int.{byte_len};
 ghost use Rattle.vx_types.specs.Fits.{IsInside};
@@ -120,9 +120,10 @@ impl<T: Kind> Primitive<T> {
         Ok(Primitive { numbers })
     }
 
-    /// Copies other numbers behind these. It takes no memory where there is room for them.
+    /// Copies other numbers behind these, or none of them where there is no room. It takes no memory where there is.
     pub fn append(&mut self, other: &Primitive<T>) -> Result<(), AllocError>
-        ensures { OnOk result (self.new ≡ self.old ++ other.now) }
+        ensures appended { OnOk result (self.new ≡ self.old ++ other.now) }
+        ensures unchanged { OnErr result (self.new ≡ self.old) }
     {
         self.numbers.extend_from_slice(other.as_slice())
     }
@@ -168,13 +169,18 @@ impl<T: Kind> Primitive<T> {
         Ok(Primitive { numbers })
     }
 
-    /// Writes the bytes of all numbers, lowest byte first.
+    /// Writes the bytes of all numbers, lowest byte first. Where one finds no room, none stays written.
     pub fn write(&self, bytes: &mut Vec<u8>) -> Result<(), AllocError>
-        ensures { OnOk result (bytes.new.items ≡ bytes.old.items ++ flat_map (number_bytes T.kind) self.now) }
+        ensures written { OnOk result (bytes.new.items ≡ bytes.old.items ++ flat_map (number_bytes T.kind) self.now) }
+        ensures unchanged { OnErr result (bytes.new.items ≡ bytes.old.items) }
     {
+        let before = bytes.len();
         let numbers = self.as_slice();
         for number in numbers {
-            number.write(bytes)?;
+            if let Err(error) = number.write(bytes) {
+                bytes.truncate(before);
+                return Err(error);
+            }
         }
         Ok(())
     }

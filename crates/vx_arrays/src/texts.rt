@@ -1,14 +1,16 @@
 //! Texts in one buffer, cut at their ends.
 
-ghost use Rattle.std.specs.Prelude.{◌≡◌, ◌≤◌, ◌<◌, ◌^◌, ◌+◌, ◌-◌, ◌↔◌, ◌++◌, ◌∷◌, [], length, map, slice_get, slice_index_or, slice_range, Some, IsTrue, IsNone, IfOk, IfSome, OnOk};
+ghost use Rattle.std.specs.Prelude.{◌≡◌, ◌≤◌, ◌<◌, ◌^◌, ◌+◌, ◌-◌, ◌↔◌, ◌++◌, ◌∷◌, [], length, map, slice_get, slice_index_or, slice_range, option_map, Some, IsTrue, IsNone, IfOk, IfSome, OnOk, OnErr};
 ghost use Rattle.std.specs.List.{AllByRecursion, flat_map};
 ghost use Rattle.std.specs.Str.{IsUtf8};
 ghost use Rattle.std.specs.Int.{w32, to_le_bytes};
 ghost use Rattle.vx_types.specs.Limits.{text_limit};
 ghost use Rattle.vx_masks.specs.Masks.{chosen};
 ghost use Rattle.vx_masks.specs.Rows.{taken, Holds, NullsHold};
+ghost use Rattle.vx_arrays.specs.Fronts.{front_number};
 ghost use Rattle.vx_arrays.specs.Texts.{cut, moved, start_in, AreEnds, AreTexts};
 
+use crate::first_bytes::front_in;
 use crate::rows::leaves_none;
 use std::alloc::{AllocError, Global};
 use std::marker::Model;
@@ -82,7 +84,7 @@ fn push_ends(
 }
 
 /// Where the text of a row begins: where the one before it ends.
-fn start_of(ends: &[usize], row: usize) -> usize
+pub(crate) fn start_of(ends: &[usize], row: usize) -> usize
     requires { row ≤ length ends.now }
     ensures { result ≡ start_in ends.now row }
 {
@@ -126,8 +128,7 @@ fn push_texts(
     let from = start_of(more, rows.start);
     let to = start_of(more, rows.end);
     let base = push_bytes(bytes, others, from, to)?;
-    push_ends(ends, &more[rows.start..rows.end], from, to, base)?;
-    Ok(())
+    push_ends(ends, &more[rows.start..rows.end], from, to, base)
 }
 
 /// Puts a text behind the others where told.
@@ -250,6 +251,16 @@ impl Texts {
         text_in(self.bytes.as_slice(), self.ends.as_slice(), row)
     }
 
+    /// The front of the text of a row, counted from 0: its first 16 bytes as a number, the first of them the highest,
+    /// with zeros behind fewer. It takes no memory.
+    #[inline(always)]
+    pub fn front(&self, row: usize) -> u128
+        requires { row < length self.now }
+        ensures { option_map front_number (slice_get self.now row) ≡ Some result }
+    {
+        front_in(self.bytes.as_slice(), self.ends.as_slice(), row)
+    }
+
     /// The text of a row, and the empty text past the last row.
     fn text_or_none(&self, row: usize) -> &str
         ensures { result.now ≡ slice_index_or self.now row [] }
@@ -329,23 +340,45 @@ impl Texts {
         true
     }
 
-    /// Writes the lengths of all texts, in four bytes each.
-    pub fn write_lengths(&self, bytes: &mut Vec<u8>) -> Result<(), AllocError>
+    /// Writes the lengths of all texts, in four bytes each. Where one finds no room, none stays written.
+    fn write_lengths(&self, bytes: &mut Vec<u8>) -> Result<(), AllocError>
         requires { AllByRecursion (λ text. length text < text_limit) self.now }
-        ensures { OnOk result (bytes.new.items ≡ bytes.old.items ++ flat_map (λ text. to_le_bytes w32 (length text)) self.now) }
+        ensures written { OnOk result (bytes.new.items ≡ bytes.old.items ++ flat_map (λ text. to_le_bytes w32 (length text)) self.now) }
+        ensures unchanged { OnErr result (bytes.new.items ≡ bytes.old.items) }
     {
+        let before = bytes.len();
         for row in 0..self.len() {
             let len = self.text(row).len();
-            bytes.extend_from_slice(&(len as u32).to_le_bytes())?;
+            if let Err(error) = bytes.extend_from_slice(&(len as u32).to_le_bytes()) {
+                bytes.truncate(before);
+                return Err(error);
+            }
         }
         Ok(())
     }
 
-    /// Writes all texts, one behind the other.
-    pub fn write_bytes(&self, bytes: &mut Vec<u8>) -> Result<(), AllocError>
-        ensures { OnOk result (bytes.new.items ≡ bytes.old.items ++ flat_map (λ text. text) self.now) }
+    /// Writes all texts, one behind the other, or none of them where there is no room.
+    fn write_bytes(&self, bytes: &mut Vec<u8>) -> Result<(), AllocError>
+        ensures written { OnOk result (bytes.new.items ≡ bytes.old.items ++ flat_map (λ text. text) self.now) }
+        ensures unchanged { OnErr result (bytes.new.items ≡ bytes.old.items) }
     {
         bytes.extend_from_slice(self.bytes.as_slice())?;
+        Ok(())
+    }
+
+    /// Writes the lengths of all texts, in four bytes each, and behind them all texts. Where there is no room for all
+    /// of it, nothing stays written.
+    pub(crate) fn write_all(&self, bytes: &mut Vec<u8>) -> Result<(), AllocError>
+        requires { AllByRecursion (λ text. length text < text_limit) self.now }
+        ensures written { OnOk result (bytes.new.items ≡ bytes.old.items ++ (flat_map (λ text. to_le_bytes w32 (length text)) self.now ++ flat_map (λ text. text) self.now)) }
+        ensures unchanged { OnErr result (bytes.new.items ≡ bytes.old.items) }
+    {
+        let before = bytes.len();
+        self.write_lengths(bytes)?;
+        if let Err(error) = self.write_bytes(bytes) {
+            bytes.truncate(before);
+            return Err(error);
+        }
         Ok(())
     }
 

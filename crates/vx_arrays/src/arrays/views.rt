@@ -1,6 +1,7 @@
 //! What the rows of an array hold, looked at where it stands.
 
-ghost use Rattle.std.specs.Prelude.{◌≡◌, Some, map, slice_get, IfSome};
+ghost use Rattle.std.specs.Prelude.{◌≡◌, ◌<◌, ◌↔◌, Some, length, map, slice_get, IfSome, IsSome};
+ghost use Rattle.vx_types.specs.Names.{names_in};
 ghost use Rattle.vx_types.specs.ValueViews.{data_in};
 ghost use Rattle.vx_arrays.specs.ArrayViews.{view_type, view_values, IsArrayView};
 
@@ -20,9 +21,10 @@ pub enum ArrayView<'a> {
 }
 
 impl ChildArrays {
-    /// The array at a place, where it stands. None where there is none. It takes no memory.
+    /// The array at a place, where it stands. None where there are no more than so many. It takes no memory.
     pub fn array(&self, place: usize) -> Option<&Array>
-        ensures { IfSome result (λ array. map (λ vs. slice_get (data_in vs) place) self.now.rows ≡ map Some array.now.values) }
+        ensures found { IfSome result (λ array. map (λ vs. slice_get (data_in vs) place) self.now.rows ≡ map Some array.now.values) }
+        ensures there { IsSome result ↔ (place < length (names_in self.now.members)) }
     {
         match self.arrays.as_slice().get(place) {
             Some(shared) => Some(shared.array()),

@@ -1,5 +1,6 @@
 use Rattle.std.proofs.Common.{◌∙◌, ◌++◌, ℕ, List, map, subst, sym, arith}
 use Rattle.std.specs.List.{slice_range}
+use Rattle.std.proofs.lemmas.Result.{on_ok_weaker}
 use Rattle.vx_arrays.specs.Texts.{cut, start_in, moved, AreTexts}
 use Rattle.vx_arrays.proofs.MovedTexts.{range_bytes, texts_behind, are_behind}
 use Rattle.vx_arrays.proofs.texts.push_texts.Goals as goal
@@ -24,16 +25,20 @@ returns-clause-texts c =
     let range = range_bytes c.args.others.now c.args.more.now c.args.rows.start c.args.rows.end c.requires.forwards c.requires.inside c.requires.others in
     let base = c.in_ok-base.ensures.begin in
     let bytes = c.in_ok-base.ensures.pushed ∙ (λ i. c.args.bytes.now.items ++ slice_range c.args.others.now (c.start_of-from.ensures i) (c.start_of-to.ensures i)) in
-    let ends = c.in_ok-push_ends.ensures ∙ (λ i. c.args.ends.now.items ++ map (moved (base i) (c.start_of-from.ensures i)) (slice_range c.args.more.now c.args.rows.start c.args.rows.end)) in
+    on_ok_weaker c.push_ends.result
+    (λ pushed.
+    let ends = pushed ∙ (λ i. c.args.ends.now.items ++ map (moved (base i) (c.start_of-from.ensures i)) (slice_range c.args.more.now c.args.rows.start c.args.rows.end)) in
     subst (λ (bs : List ℕ). AreTexts bs c.push_ends.new.ends.items) (sym bytes)
     (subst (λ (es : List ℕ). AreTexts (c.args.bytes.now.items ++ slice_range c.args.others.now (start_in c.args.more.now c.args.rows.start) (start_in c.args.more.now c.args.rows.end)) es) (sym ends)
-    (are_behind c.args.bytes.now.items c.args.ends.now.items c.args.others.now c.args.more.now c.args.rows.start c.args.rows.end range c.requires.texts))
+    (are_behind c.args.bytes.now.items c.args.ends.now.items c.args.others.now c.args.more.now c.args.rows.start c.args.rows.end range c.requires.texts))) c.push_ends.ensures
 
 pub returns-clause-pushed : goal.returns-clause-pushed
 returns-clause-pushed c =
     let range = range_bytes c.args.others.now c.args.more.now c.args.rows.start c.args.rows.end c.requires.forwards c.requires.inside c.requires.others in
     let base = c.in_ok-base.ensures.begin in
     let bytes = c.in_ok-base.ensures.pushed ∙ (λ i. c.args.bytes.now.items ++ slice_range c.args.others.now (c.start_of-from.ensures i) (c.start_of-to.ensures i)) in
-    let ends = c.in_ok-push_ends.ensures ∙ (λ i. c.args.ends.now.items ++ map (moved (base i) (c.start_of-from.ensures i)) (slice_range c.args.more.now c.args.rows.start c.args.rows.end)) in
+    on_ok_weaker c.push_ends.result
+    (λ pushed.
+    let ends = pushed ∙ (λ i. c.args.ends.now.items ++ map (moved (base i) (c.start_of-from.ensures i)) (slice_range c.args.more.now c.args.rows.start c.args.rows.end)) in
     (λ i. cut (bytes i) 0 (ends i))
-    ∙ texts_behind c.args.bytes.now.items c.args.ends.now.items c.args.others.now c.args.more.now c.args.rows.start c.args.rows.end range c.requires.texts
+    ∙ texts_behind c.args.bytes.now.items c.args.ends.now.items c.args.others.now c.args.more.now c.args.rows.start c.args.rows.end range c.requires.texts) c.push_ends.ensures
