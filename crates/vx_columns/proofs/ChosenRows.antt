@@ -11,7 +11,7 @@ use Rattle.std.proofs.lemmas.List.Sums.{sum_by-append, count_by-le-length}
 use Rattle.std.proofs.lemmas.Nat.{and_mask, pow_pos}
 use Rattle.vx_masks.specs.Masks.{true_count}
 use Rattle.vx_masks.specs.Words.{bits_of, low_bits, number_of, Small}
-use Rattle.vx_masks.proofs.LowBits.{low_bits-add, low_bits-above, low_bits-mod, take-low_bits, true_count-low_bits}
+use Rattle.vx_masks.proofs.LowBits.{length-low_bits, low_bits-add, low_bits-above, low_bits-mod, take-low_bits, true_count-low_bits}
 use Rattle.vx_masks.proofs.Numbers.{low_bits-words, number_l-append, number_l-drop, number_l-split, power_split}
 
 -- ---- the bits before one
@@ -81,6 +81,13 @@ counted_between mask ws from to is h many order inside =
       count = omega (arith, one, two, whole, rows);
       few = omega (arith, two, whole, count_by-le-length (λ (bit : Bool). bit) (take to mask), length-take to mask);
     }
+
+-- the same of so many rows of the words
+pub counted_in : (ws : List ℕ) (rows from to : ℕ) → Small 64 ws → length ws ≡ (rows + 63) / 64 → from ≤ to → to ≤ rows → CountedBetween (low_bits rows (number_of ws)) ws from to
+counted_in ws rows from to small many order inside =
+    let bits = low_bits rows (number_of ws) in
+    let len = length-low_bits rows (number_of ws) in
+    counted_between bits ws from to (ap (λ (k : ℕ). low_bits k (number_of ws)) (sym len)) small (many ∙ ap (λ (k : ℕ). (k + 63) / 64) (sym len)) order (omega (arith, inside, len))
 
 -- ---- the rows before one in its word
 pub masked_word : (word s low : ℕ) → low ≡ bit_and word (2 ^ s - 1) → ones low ≡ true_count (low_bits s word)

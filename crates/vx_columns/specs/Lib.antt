@@ -1,3 +1,4 @@
+pub mod ColumnParts
 pub mod LaidRuns
 pub mod RunRows
 pub mod Runs

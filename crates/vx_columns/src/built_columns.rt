@@ -123,8 +123,7 @@ impl Column {
         ensures values { IfOk result (λ made. made.values ≡ array.values ++ self.now.values) }
     {
         let rows = self.rows();
-        let made = rows.append_to(alloc, array)?;
-        Ok(made)
+        rows.append_to(alloc, array)
     }
 
     /// The values of all parts, one part after another. It copies them into memory that it takes once, and rows in runs
@@ -166,8 +165,7 @@ impl Column {
         ensures { IfOk result (λ places. places.items ≡ code_places past self.now.values) }
     {
         let rows = self.rows();
-        let places = rows.places(alloc, past)?;
-        Ok(places)
+        rows.places(alloc, past)
     }
 
     /// The structs of the parts' values, with that many rows, which a struct of no parts has too. A row

@@ -85,8 +85,7 @@ impl Column {
         ensures { IfOk result (λ mask. mask ≡ map truth_in self.now.values) }
     {
         let rows = self.rows();
-        let mask = rows.truth(alloc)?;
-        Ok(mask)
+        rows.truth(alloc)
     }
 
     /// The same column in memory of its own, but for rows that are shared: those are shared again.

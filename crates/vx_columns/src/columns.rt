@@ -1,6 +1,6 @@
 //! Columns: a dtype and values that it takes, one for each row.
 
-ghost use Rattle.std.specs.Prelude.{◌≡◌, ℕ, ◌<◌, ◌≤◌, ◌++◌, Some, [], length, map, slice_get, OnOk, IfOk, IfSome, IsErrOf, MatchOption};
+ghost use Rattle.std.specs.Prelude.{◌≡◌, ℕ, ◌<◌, ◌≤◌, ◌++◌, Some, [], length, map, slice_get, OnOk, OnErr, IfOk, IsErrOf, MatchOption};
 ghost use Rattle.std.specs.List.{AllByRecursion};
 ghost use Rattle.vx_types.specs.Fits.{Fits};
 ghost use Rattle.vx_types.specs.Columns.{IsFirstUnfit};
@@ -8,6 +8,7 @@ ghost use Rattle.vx_types.specs.Leaf.{IsLeaf, slot_bytes};
 ghost use Rattle.vx_types.specs.Slots.{IsShort, is_value};
 ghost use Rattle.vx_types.specs.Views.{data_type};
 ghost use Rattle.vx_types.specs.ValueViews.{datum};
+ghost use Rattle.vx_columns.specs.ColumnParts.{parts_values, laid_values, AreGoodParts};
 ghost use Rattle.vx_columns.specs.RunRows.{Rise};
 ghost use Rattle.vx_columns.specs.Runs.{spread};
 ghost use Rattle.vx_columns.specs.StoredRows.{row_data};
@@ -62,6 +63,15 @@ impl Model for Column {
     ghost invariant = { λ a. IsColumn (data_type a.dtype) (row_data a.rows) };
 }
 
+/// How the rows of a column lie, where they stand.
+#[derive(Clone, Copy)]
+pub enum ColumnParts<'a> {
+    /// Packed one by one.
+    Packed(&'a Array),
+    /// In runs: a value for each run, and where each run ends.
+    Runs(&'a Array, &'a [u64]),
+}
+
 /// The first of the values that the dtype doesn't take. None where it takes each.
 pub(crate) fn first_unfit(dtype: &DType, values: &[Value]) -> Option<usize>
     ensures { MatchOption result (AllByRecursion (Fits (data_type dtype.now)) (map datum values.now)) (λ row. IsFirstUnfit (data_type dtype.now) (map datum values.now) row) }
@@ -104,15 +114,19 @@ impl Column {
         &self.rows
     }
 
-    /// What the rows hold, where they are packed one by one, shared or not; None where they lie in runs, which
-    /// `run_parts` gives. It takes no memory.
-    pub fn array(&self) -> Option<&Array>
-        ensures values { IfSome result (λ array. array.now.values ≡ self.now.values) }
-        ensures column { IfSome result (λ array. IsColumn self.now.dtype array.now) }
+    /// How the rows lie, and what lies there, shared or not. The dtype takes each of the values; two runs beside each
+    /// other can have the same value. It takes no memory, and costs the same for any number of rows.
+    pub fn parts(&self) -> ColumnParts<'_>
+        ensures values { parts_values result ≡ self.now.values }
+        ensures column { IsColumn self.now.dtype (laid_values result) }
+        ensures good { AreGoodParts result }
     {
-        match self.rows.laid() {
-            Laid::Packed(array) => Some(array),
-            Laid::Runs(_) => None,
+        match self.rows().laid() {
+            Laid::Packed(array) => ColumnParts::Packed(array),
+            Laid::Runs(runs) => {
+                let (values, ends) = runs.parts();
+                ColumnParts::Runs(values, ends)
+            }
         }
     }
 
@@ -133,8 +147,7 @@ impl Column {
     {
         let Column { dtype, rows } = self;
         drop(dtype);
-        let array = rows.into_shared(alloc)?;
-        Ok(array)
+        rows.into_shared(alloc)
     }
 
     /// The column in which each row of this one fills the rows from the end before it to its own. It moves rows that
@@ -206,8 +219,7 @@ impl Column {
         ensures { IfOk result (λ mask. mask ≡ map is_value self.now.values) }
     {
         let rows = self.rows();
-        let mask = rows.validity(alloc)?;
-        Ok(mask)
+        rows.validity(alloc)
     }
 
     /// The value of a row, counted from 0, borrowed from the column. It takes no memory.
@@ -240,11 +252,13 @@ impl Column {
         Ok(values)
     }
 
-    /// Writes what the rows of a leaf have in a segment behind the validity.
+    /// Writes what the rows of a leaf have in a segment behind the validity. Where memory is wanting, nothing stays
+    /// written.
     pub fn write_slots(&self, alloc: Global, bytes: &mut Vec<u8>) -> Result<(), AllocError>
         requires leaf { IsLeaf self.now.dtype }
         requires short { AllByRecursion IsShort self.now.values }
-        ensures { OnOk result (bytes.new.items ≡ bytes.old.items ++ slot_bytes self.now.dtype self.now.values) }
+        ensures written { OnOk result (bytes.new.items ≡ bytes.old.items ++ slot_bytes self.now.dtype self.now.values) }
+        ensures unchanged { OnErr result (bytes.new.items ≡ bytes.old.items) }
     {
         let rows = self.rows();
         rows.write_buffers(alloc, bytes)

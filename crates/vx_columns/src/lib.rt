@@ -1,6 +1,6 @@
 //! Columns: a dtype and values that it takes, packed, shared or in runs.
 //!
-//! - Columns: [`Column`], [`ColumnError`], [`RunsError`].
+//! - Columns: [`Column`], [`ColumnParts`], [`ColumnError`], [`RunsError`].
 //! - The definitions on literals: [`runs_by_hand`].
 #![tactic(auto)]
 
@@ -15,5 +15,5 @@ mod runs;
 mod stored_rows;
 
 pub use by_hand::runs_by_hand;
-pub use columns::{Column, ColumnError};
+pub use columns::{Column, ColumnError, ColumnParts};
 pub use runs::RunsError;

@@ -64,8 +64,7 @@ fn append_alike(alloc: Global, mask: Mask, bit: bool, rows: u64) -> Result<Mask,
         made = made.append(&piece)?;
     }
     let rest = alike(alloc, bit, rows % PIECE)?;
-    let made = made.append(&rest)?;
-    Ok(made)
+    made.append(&rest)
 }
 
 /// The mask in which each truth value fills the rows from the end before it to its own.
@@ -255,8 +254,7 @@ impl Runs {
     pub(crate) fn validity(&self, alloc: Global) -> Result<Mask, AllocError>
         ensures { IfOk result (λ mask. mask ≡ map is_value self.now.values) }
     {
-        let mask = spread_mask(alloc, self.values.validity(), self.ends.as_slice())?;
-        Ok(mask)
+        spread_mask(alloc, self.values.validity(), self.ends.as_slice())
     }
 
     /// The values of the runs, and the place among them of the value that a row has. It takes no memory.
@@ -333,7 +331,6 @@ impl Runs {
         ensures { IfOk result (λ rows. rows ≡ self.now) }
     {
         let places = places_of(alloc, self.ends.as_slice())?;
-        let rows = self.values.take(alloc, places.as_slice())?;
-        Ok(rows)
+        self.values.take(alloc, places.as_slice())
     }
 }

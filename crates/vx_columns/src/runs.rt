@@ -1,6 +1,6 @@
 //! Columns of runs: values that each fill some rows, one behind the other.
 
-ghost use Rattle.std.specs.Prelude.{◌≡◌, ℕ, length, map, IfOk, IfSome, OnOk, IsErrOf, MatchOption};
+ghost use Rattle.std.specs.Prelude.{◌≡◌, ℕ, length, map, IfOk, OnOk, IsErrOf, MatchOption};
 ghost use Rattle.std.specs.List.{AllByRecursion};
 ghost use Rattle.vx_types.specs.Columns.{IsFirstUnfit};
 ghost use Rattle.vx_types.specs.Fits.{Fits};
@@ -12,7 +12,7 @@ ghost use Rattle.vx_arrays.specs.PackedColumns.{IsColumn};
 
 use crate::columns::{Column, first_unfit};
 use crate::run_rows::Runs;
-use crate::stored_rows::{Laid, Rows};
+use crate::stored_rows::Rows;
 use std::alloc::{AllocError, Global};
 use thiserror::Error;
 use vx_arrays::Array;
@@ -90,21 +90,6 @@ impl Column {
     {
         let runs = Runs::of(values, ends);
         Column::of_rows(dtype, Rows::Runs(runs))
-    }
-
-    /// The values of the runs, and where each ends, where the rows lie in runs; None where they are packed one by one
-    /// (`array` gives those). The dtype takes each of the values; two neighbours can be the same. It takes no memory,
-    /// and costs the same for any number of rows.
-    pub fn run_parts(&self) -> Option<(&Array, &[u64])>
-        ensures values { IfSome result (λ parts. spread 0 parts.0.now.values parts.1.now ≡ self.now.values) }
-        ensures column { IfSome result (λ parts. IsColumn self.now.dtype parts.0.now) }
-        ensures same { IfSome result (λ parts. length parts.1.now ≡ length parts.0.now.values) }
-        ensures rise { IfSome result (λ parts. Rise 0 parts.1.now) }
-    {
-        match self.rows().laid() {
-            Laid::Packed(_) => None,
-            Laid::Runs(runs) => Some(runs.parts()),
-        }
     }
 }
 

@@ -2,7 +2,7 @@
 //! through ranges and masks, and are spread for the calls that go over packed rows. Nothing is ever written to rows
 //! that are shared: what is asked of them is answered as of packed rows, and a range of all of them is another handle.
 
-ghost use Rattle.std.specs.Prelude.{◌≡◌, ◌-◌, ◌<◌, ◌≤◌, ◌↔◌, ◌++◌, Some, length, map, slice_get, IsTrue, IfOk, OnOk};
+ghost use Rattle.std.specs.Prelude.{◌≡◌, ◌-◌, ◌<◌, ◌≤◌, ◌↔◌, ◌++◌, Some, length, map, slice_get, IsTrue, IfOk, OnOk, OnErr};
 ghost use Rattle.std.specs.List.{AllByRecursion};
 ghost use Rattle.vx_types.specs.ColumnCalls.{IsBool, IsUnsigned};
 ghost use Rattle.vx_types.specs.Leaf.{IsLeaf, slot_bytes};
@@ -208,11 +208,13 @@ impl Rows {
         }
     }
 
-    /// Writes what the rows of a leaf hold, as a segment has it behind the validity.
+    /// Writes what the rows of a leaf hold, as a segment has it behind the validity. Where memory is wanting, nothing
+    /// stays written.
     pub(crate) fn write_buffers(&self, alloc: Global, bytes: &mut Vec<u8>) -> Result<(), AllocError>
         requires leaf { IsLeaf (row_data self.now).dtype }
         requires short { AllByRecursion IsShort (row_data self.now).values }
-        ensures { OnOk result (bytes.new.items ≡ bytes.old.items ++ slot_bytes (row_data self.now).dtype (row_data self.now).values) }
+        ensures written { OnOk result (bytes.new.items ≡ bytes.old.items ++ slot_bytes (row_data self.now).dtype (row_data self.now).values) }
+        ensures unchanged { OnErr result (bytes.new.items ≡ bytes.old.items) }
     {
         match self.laid() {
             Laid::Packed(array) => array.write_buffers(bytes),

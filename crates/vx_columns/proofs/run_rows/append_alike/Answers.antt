@@ -1,4 +1,5 @@
 use Rattle.std.proofs.Common.{arith}
+use Rattle.std.proofs.lemmas.Result.{IfOk-weaker}
 use Rattle.vx_columns.proofs.SpreadRuns.{alike_more, alike_all}
 use Rattle.vx_columns.proofs.run_rows.append_alike.Goals as goal
 
@@ -6,4 +7,5 @@ pub loop-preserved : goal.loop-preserved
 loop-preserved c = alike_more c.args.mask c.loop.made c.in_ok-piece.piece c.in_ok-made.made c.args.bit c.loop.counter c.in_ok-piece.ensures c.in_ok-made.ensures c.loop.invariant
 
 pub returns : goal.returns
-returns c = alike_all c.args.mask c.loop.made c.in_ok-rest.rest c.in_ok-made-2.made c.args.bit c.args.rows c.loop.counter (omega (arith, c.loop-test.false)) (omega (arith, c.loop.auto.counter-end)) c.in_ok-rest.ensures c.in_ok-made-2.ensures c.loop.invariant
+returns c =
+    IfOk-weaker c.append-2.result _ _ (λ made is. alike_all c.args.mask c.loop.made c.in_ok-rest.rest made c.args.bit c.args.rows c.loop.counter (omega (arith, c.loop-test.false)) (omega (arith, c.loop.auto.counter-end)) c.in_ok-rest.ensures is c.loop.invariant) c.append-2.ensures

@@ -1,7 +1,7 @@
 use Rattle.std.proofs.Common.{◌∙◌}
 use Rattle.vx_columns.specs.StoredRows.{row_data}
 use Rattle.vx_columns.proofs.RunRows.{run_column}
-use Rattle.vx_columns.proofs.columns.Column.run_parts.Goals as goal
+use Rattle.vx_columns.proofs.columns.Column.parts.Goals as goal
 
 pub returns-in-Runs-clause-column : goal.returns-in-Runs-clause-column
 returns-in-Runs-clause-column c =
