@@ -18,6 +18,7 @@ pub use Rattle.vx_masks.specs.Bytes
 pub use Rattle.vx_masks.specs.Masks
 pub use Rattle.vx_masks.specs.Rows
 pub use Rattle.vx_masks.specs.Words
+pub use Rattle.vx_columns.specs.ColumnParts
 pub use Rattle.vx_columns.specs.LaidRuns
 pub use Rattle.vx_columns.specs.RunRows
 pub use Rattle.vx_columns.specs.Runs
@@ -28,7 +29,9 @@ pub use Rattle.vx_segments.specs.Laws
 pub use Rattle.vx_segments.specs.Lengths
 pub use Rattle.vx_segments.specs.Parts
 pub use Rattle.vx_segments.specs.Reading
+pub use Rattle.vx_segments.specs.RowsRead
 pub use Rattle.vx_segments.specs.Segment
+pub use Rattle.vx_segments.specs.StillBytes
 pub use Rattle.vx_outside.specs.Adapters
 pub use Rattle.vx_outside.specs.Faults
 pub use Rattle.vx_outside.specs.FileSources

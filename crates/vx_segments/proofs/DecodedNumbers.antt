@@ -83,7 +83,7 @@ numbers_spell kind n rows bytes validity buffers mask zs joined ok small is coun
     }
 
 -- ---- what else spells the bytes
-same_numbers : (kind : IntKind) (ys zs : List ℤ) → length ys ≡ length zs → AllByRecursion (IsInside kind) ys → AllByRecursion (IsInside kind) zs → flat_map (number_bytes kind) ys ≡ flat_map (number_bytes kind) zs → ys ≡ zs
+pub same_numbers : (kind : IntKind) (ys zs : List ℤ) → length ys ≡ length zs → AllByRecursion (IsInside kind) ys → AllByRecursion (IsInside kind) zs → flat_map (number_bytes kind) ys ≡ flat_map (number_bytes kind) zs → ys ≡ zs
 same_numbers kind ys zs len p q e =
     sym (numbers_again kind ys p) ∙ (λ i. numbers_read kind (len i) (e i)) ∙ numbers_again kind zs q
 

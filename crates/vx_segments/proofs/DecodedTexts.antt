@@ -99,7 +99,7 @@ unfolding lengths_read
 lengths_small zero bytes small = tt
 lengths_small (suc rows) bytes small = (small_word bytes small, lengths_small rows (drop 4 bytes) (later_bytes bytes small))
 
-length_lengths : (rows : ℕ) (bytes : List ℕ) → length (lengths_read rows bytes) ≡ rows
+pub length_lengths : (rows : ℕ) (bytes : List ℕ) → length (lengths_read rows bytes) ≡ rows
 unfolding lengths_read
 length_lengths zero bytes = refl
 length_lengths (suc rows) bytes = omega (arith, length_lengths rows (drop 4 bytes))

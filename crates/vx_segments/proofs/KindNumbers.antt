@@ -78,7 +78,7 @@ number_again I64 z h =
     signed_bits w64 z _ fits (from_le_bytes-to_le_bytes_8 (cast_unsigned w64 z) (omega (arith, ints)))
 
 -- ---- all of them
-read_step : (kind : IntKind) (n : ℕ) (word rest : List ℕ) → length word ≡ size_of kind → numbers_read kind (suc n) (word ++ rest) ≡ number_of kind word ∷ numbers_read kind n rest
+pub read_step : (kind : IntKind) (n : ℕ) (word rest : List ℕ) → length word ≡ size_of kind → numbers_read kind (suc n) (word ++ rest) ≡ number_of kind word ∷ numbers_read kind n rest
 unfolding numbers_read
 read_step kind n word rest len = rw (take_at word rest (size_of kind) len, drop_at word rest (size_of kind) len) refl
 

@@ -21,7 +21,7 @@ word_read n len more fits =
     (λ i. from_le_bytes w32 (take_at word more 4 refl i) ∷ lengths_read n (drop_at word more 4 refl i))
     ∙ ap (λ (k : ℕ). k ∷ lengths_read n more) (from_le_bytes-to_le_bytes_4 len fits)
 
-next_read : (rows row len : ℕ) (rest more : List ℕ) → row < rows → len < 2 ^ 32 → rest ≡ to_le_bytes w32 len ++ more → lengths_read (rows - row) rest ≡ len ∷ lengths_read (rows - (row + 1)) more
+pub next_read : (rows row len : ℕ) (rest more : List ℕ) → row < rows → len < 2 ^ 32 → rest ≡ to_le_bytes w32 len ++ more → lengths_read (rows - row) rest ≡ len ∷ lengths_read (rows - (row + 1)) more
 next_read rows row len rest more lt fits e =
     let one : rows - row ≡ suc (rows - (row + 1)) = omega arith in
     (λ i. lengths_read (one i) (e i)) ∙ word_read (rows - (row + 1)) len more fits

@@ -4,4 +4,7 @@ pub mod Laws
 pub mod Lengths
 pub mod Parts
 pub mod Reading
+pub mod RowsRead
 pub mod Segment
+pub mod StillBytes
+pub mod TextRows

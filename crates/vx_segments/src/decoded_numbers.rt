@@ -19,7 +19,7 @@ use vx_masks::Mask;
 use vx_types::{IntKind, Nullability};
 
 /// Whether there are so many bytes as the numbers of so many rows have.
-fn is_filled(kind: IntKind, rows: u64, bytes: &[u8]) -> bool
+pub(crate) fn is_filled(kind: IntKind, rows: u64, bytes: &[u8]) -> bool
     ensures { IsTrue result ↔ (length bytes.now ≡ rows * byte_len (width_of kind)) }
 {
     match rows.checked_mul(kind.width()) {
