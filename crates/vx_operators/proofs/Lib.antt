@@ -1,3 +1,4 @@
+mod AlikeRows
 pub mod LiftedRows
 pub mod LogicRows
 mod NumberRows

@@ -1,5 +1,6 @@
 -- What parts of an expression are worth at each row, wherever that is held.
-use Rattle.std.specs.Prelude.{ℤ, pos, List, replicate, Some, None}
+use Rattle.std.specs.Prelude.{◌≡◌, ◌⊎◌, ℤ, pos, List, replicate, Some, None}
+use Rattle.vx_types.specs.declared.dtypes.IntKind.{IntKind}
 use Rattle.vx_types.specs.declared.dtypes.Nullability.TheVariants.{NonNullable}
 use Rattle.vx_types.specs.Data.{DataType, bool_type, int_type, utf8_type, Datum, null, truth, number, text}
 use Rattle.vx_types.specs.Fits.{IsInside}
@@ -48,3 +49,25 @@ abbrev pub IsColumnarValue : ColumnarValue → Type 0
 IsColumnarValue (Lent array) = Unit {0}
 IsColumnarValue (Made array) = Unit {0}
 IsColumnarValue (Same scalar rows) = IsScalar scalar
+
+-- truth values, or none
+abbrev pub HoldsTruths : ColumnarValue → Type 0
+HoldsTruths columnar = columnar_type columnar ≡ bool_type NonNullable
+
+-- texts, or none
+abbrev pub HoldsTexts : ColumnarValue → Type 0
+HoldsTexts columnar = columnar_type columnar ≡ utf8_type NonNullable
+
+-- numbers of the kind that lie inside it, or none
+abbrev pub HoldsNumbers : IntKind → ColumnarValue → Type 0
+HoldsNumbers kind columnar = (columnar_type columnar ≡ int_type kind NonNullable) × IsColumnarValue columnar
+
+-- both hold truth values, or both texts, or both numbers of one kind
+abbrev pub AreAlike : ColumnarValue → ColumnarValue → Type 0
+AreAlike left right = (HoldsTruths left × HoldsTruths right) ⊎ ((HoldsTexts left × HoldsTexts right) ⊎ ((kind : IntKind) × (HoldsNumbers kind left × HoldsNumbers kind right)))
+
+-- each row has a place of its own in an array, and none is told by one value for all
+abbrev pub LiesInRows : ColumnarValue → Type 0
+LiesInRows (Lent array) = Unit {0}
+LiesInRows (Made array) = Unit {0}
+LiesInRows (Same scalar rows) = ⊥

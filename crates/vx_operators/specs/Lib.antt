@@ -1,4 +1,5 @@
 pub mod ColumnarValues
+pub mod Held
 pub mod Kernels
 pub mod Operators
 pub mod Rows

@@ -1,14 +1,15 @@
 //! What a part of an expression is worth at each row, and where that is held: rows that stay where they are,
 //! rows that were made, or one value for all rows, which is never spread.
 
-ghost use Rattle.std.specs.Prelude.{◌≡◌, ◌≤◌, length, take, IfOk, IfSome, IsTrue};
+ghost use Rattle.std.specs.Prelude.{◌≡◌, ◌≤◌, ◌↔◌, length, take, IfOk, IfSome, IsNone, IsTrue};
+ghost use Rattle.vx_types.specs.declared.dtypes.IntKind.{IntKind};
 ghost use Rattle.vx_types.specs.declared.dtypes.Nullability.TheVariants.{NonNullable};
 ghost use Rattle.vx_types.specs.Fits.{IsInside};
 ghost use Rattle.vx_types.specs.Data.{bool_type, int_type, utf8_type};
 ghost use Rattle.vx_operators.specs.Operators.{is_null};
 ghost use Rattle.vx_operators.specs.Sides.{side_rows, IsSide};
 ghost use Rattle.vx_operators.specs.TextSides.{text_rows, IsTextSide};
-ghost use Rattle.vx_operators.specs.ColumnarValues.{scalar_datum, scalar_type, whole_in, columnar_type, columnar_rows, IsScalar, IsColumnarValue};
+ghost use Rattle.vx_operators.specs.ColumnarValues.{scalar_datum, scalar_type, whole_in, columnar_type, columnar_rows, IsScalar, IsColumnarValue, HoldsTruths, HoldsTexts, HoldsNumbers};
 
 use crate::integers::Integer;
 use crate::sides::Side;
@@ -64,6 +65,7 @@ impl<'a> Scalar<'a> {
     fn kind(&self) -> Option<IntKind>
         ensures kind { IfSome result (λ kind. scalar_type self.now ≡ int_type kind NonNullable) }
         ensures inside { IfSome result (λ kind. IsScalar self.now) }
+        ensures none { IsNone result → (kind : IntKind) → scalar_type self.now ≡ int_type kind NonNullable → IsScalar self.now → ⊥ }
     {
         match self {
             Scalar::Number(kind, None) => Some(*kind),
@@ -117,6 +119,7 @@ impl<'a> ColumnarValue<'a> {
     pub(crate) fn kind(&self) -> Option<IntKind>
         ensures kind { IfSome result (λ kind. columnar_type self.now ≡ int_type kind NonNullable) }
         ensures columnar { IfSome result (λ kind. IsColumnarValue self.now) }
+        ensures none { IsNone result → (kind : IntKind) → HoldsNumbers kind self.now → ⊥ }
     {
         match self {
             ColumnarValue::Lent(array) => array_kind(array),
@@ -127,8 +130,7 @@ impl<'a> ColumnarValue<'a> {
 
     /// Whether the rows hold numbers of the kind, or none.
     pub(crate) fn is_of(&self, kind: IntKind) -> bool
-        ensures kind { IsTrue result → columnar_type self.now ≡ int_type kind NonNullable }
-        ensures columnar { IsTrue result → IsColumnarValue self.now }
+        ensures { IsTrue result ↔ HoldsNumbers kind self.now }
     {
         match self.kind() {
             Some(found) => found == kind,
@@ -138,7 +140,7 @@ impl<'a> ColumnarValue<'a> {
 
     /// Whether the rows hold truth values, or none.
     pub(crate) fn is_truth(&self) -> bool
-        ensures { IsTrue result → columnar_type self.now ≡ bool_type NonNullable }
+        ensures { IsTrue result ↔ HoldsTruths self.now }
     {
         match self {
             ColumnarValue::Lent(array) => matches!(array.array_view(), ArrayView::Truths(_, _)),
@@ -149,7 +151,7 @@ impl<'a> ColumnarValue<'a> {
 
     /// Whether the rows hold texts, or none.
     pub(crate) fn is_text(&self) -> bool
-        ensures { IsTrue result → columnar_type self.now ≡ utf8_type NonNullable }
+        ensures { IsTrue result ↔ HoldsTexts self.now }
     {
         match self {
             ColumnarValue::Lent(array) => matches!(array.array_view(), ArrayView::Texts(_, _)),
@@ -229,7 +231,8 @@ fn array_texts(array: &Array) -> TextSide<'_>
 
 /// The kind of the numbers of an array. None where they are none.
 fn array_kind(array: &Array) -> Option<IntKind>
-    ensures { IfSome result (λ kind. array.now.dtype ≡ int_type kind NonNullable) }
+    ensures kind { IfSome result (λ kind. array.now.dtype ≡ int_type kind NonNullable) }
+    ensures none { IsNone result → (kind : IntKind) → array.now.dtype ≡ int_type kind NonNullable → ⊥ }
 {
     match array.array_view() {
         ArrayView::Numbers(_, numbers) => Some(numbers.kind()),

@@ -33,8 +33,7 @@ fn compare_of<T: Integer>(
 {
     let left = left.side::<T>();
     let right = right.side::<T>();
-    let array = compare_numbers(alloc, op, left, right)?;
-    Ok(array)
+    compare_numbers(alloc, op, left, right)
 }
 
 /// The results of numbers of one kind, at the rows before the first fault.
@@ -54,8 +53,7 @@ fn join_of<T: Integer>(
 {
     let left = left.side::<T>();
     let right = right.side::<T>();
-    let array = join_numbers(alloc, op, left, right)?;
-    Ok(array)
+    join_numbers(alloc, op, left, right)
 }
 
 /// How the numbers of two columnar values of one kind compare, row by row.

@@ -109,8 +109,7 @@ fn first_rows(alloc: Global, mask: Mask, rows: usize) -> Result<Mask, AllocError
     ensures { IfOk result (λ first. first ≡ take rows mask) }
 {
     if (rows as u64) < mask.len() {
-        let first = mask.slice(alloc, 0..rows as u64)?;
-        Ok(first)
+        mask.slice(alloc, 0..rows as u64)
     } else {
         Ok(mask)
     }

@@ -90,7 +90,6 @@ impl<'a, T: Integer> Side<'a, T> {
         requires { length (side_valid other.now) ≡ length (side_valid self.now) }
         ensures { IfOk result (λ mask. mask ≡ both (side_valid self.now) (side_valid other.now)) }
     {
-        let mask = self.valid().both(alloc, &other.valid())?;
-        Ok(mask)
+        self.valid().both(alloc, &other.valid())
     }
 }

@@ -1,41 +1,44 @@
-//! The first bytes of texts as one number, by which most texts are told apart at once.
+//! Texts that are told apart by their fronts, the numbers that their first 16 bytes spell.
 
-ghost use Rattle.std.specs.Prelude.{◌≡◌, ◌≤◌, length, take};
+ghost use Rattle.std.specs.Prelude.{◌≡◌, ◌≤◌, length};
 ghost use Rattle.std.specs.Cmp.Lexicographic.{slice_cmp};
 ghost use Rattle.std.specs.Ordering.{nat_cmp};
-ghost use Rattle.std.specs.Slice.Scan.{big_endian};
+ghost use Rattle.vx_arrays.specs.Fronts.{front_number};
 
 use std::cmp::Ordering;
 
-/// The first 16 bytes as a number, the first of them the highest.
+/// How a text stands to another one of the same front: as its length does, where nothing lies behind the fronts.
 #[inline(always)]
-pub(crate) fn front_of(bytes: &[u8]) -> u128
-    requires { 16 ≤ length bytes.now }
-    ensures { result ≡ big_endian 0 (take 16 bytes.now) }
-{
-    u128::from_be_bytes([
-        bytes[0], bytes[1], bytes[2], bytes[3], bytes[4], bytes[5], bytes[6], bytes[7], bytes[8],
-        bytes[9], bytes[10], bytes[11], bytes[12], bytes[13], bytes[14], bytes[15],
-    ])
-}
-
-/// How a text stands to another one, whose first 16 bytes spell the number.
-#[inline(always)]
-pub(crate) fn order_by_front(left: &str, right: &str, front: u128) -> Ordering
-    requires long { 16 ≤ length right.now }
-    requires front { front ≡ big_endian 0 (take 16 right.now) }
+fn order_level(left: &str, right: &str) -> Ordering
+    requires { front_number left.now ≡ front_number right.now }
     ensures { result ≡ slice_cmp nat_cmp left.now right.now }
 {
-    let bytes = left.as_bytes();
-    if bytes.len() < 16 {
-        return left.cmp(right);
-    }
-    let other = front_of(bytes);
-    if other < front {
-        Ordering::Less
-    } else if front < other {
-        Ordering::Greater
+    let here = left.len();
+    let there = right.len();
+    let longer = here.max(there);
+    if longer <= 16 {
+        here.cmp(&there)
     } else {
         left.cmp(right)
+    }
+}
+
+/// How a text stands to another one: as its front does, where these differ. Whether they do is asked first, since which
+/// of two is less can't be foretold where the rows are in no order.
+#[inline(always)]
+pub(crate) fn order_by_front(
+    left: &str,
+    left_front: u128,
+    right: &str,
+    right_front: u128,
+) -> Ordering
+    requires left { left_front ≡ front_number left.now }
+    requires right { right_front ≡ front_number right.now }
+    ensures { result ≡ slice_cmp nat_cmp left.now right.now }
+{
+    if left_front == right_front {
+        order_level(left, right)
+    } else {
+        left_front.cmp(&right_front)
     }
 }

@@ -28,6 +28,5 @@ pub(crate) fn compare_text_rows(
 {
     let left = left.text_side();
     let right = right.text_side();
-    let array = compare_texts(alloc, op, left, right)?;
-    Ok(array)
+    compare_texts(alloc, op, left, right)
 }

@@ -66,7 +66,6 @@ impl<'a> TextSide<'a> {
         requires { length (text_valid other.now) ≡ length (text_valid self.now) }
         ensures { IfOk result (λ mask. mask ≡ both (text_valid self.now) (text_valid other.now)) }
     {
-        let mask = self.valid().both(alloc, &other.valid())?;
-        Ok(mask)
+        self.valid().both(alloc, &other.valid())
     }
 }

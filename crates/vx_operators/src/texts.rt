@@ -1,9 +1,9 @@
 //! Comparison of texts, row by row, where they stand.
 
-ghost use Rattle.std.specs.Prelude.{◌≡◌, ◌≤◌, length, map, take, IfOk};
-ghost use Rattle.std.specs.Slice.Scan.{big_endian};
+ghost use Rattle.std.specs.Prelude.{◌≡◌, length, map, IfOk};
 ghost use Rattle.vx_types.specs.declared.dtypes.Nullability.TheVariants.{NonNullable};
 ghost use Rattle.vx_types.specs.Data.{bool_type};
+ghost use Rattle.vx_arrays.specs.Fronts.{front_number};
 ghost use Rattle.vx_operators.specs.Kernels.{compares_text};
 ghost use Rattle.vx_operators.specs.Operators.{comparison_of};
 ghost use Rattle.vx_operators.specs.Rows.{along, front};
@@ -11,10 +11,10 @@ ghost use Rattle.vx_operators.specs.TextSides.{text_valid, side_texts, text_rows
 
 use crate::operators::CompareOp;
 use crate::tested_rows::tested_array;
-use crate::text_fronts::{front_of, order_by_front};
+use crate::text_fronts::order_by_front;
 use crate::text_sides::TextSide;
 use std::alloc::{AllocError, Global};
-use vx_arrays::{Array, Texts};
+use vx_arrays::{Array, Texts, front_of};
 
 /// How two texts compare.
 #[inline(always)]
@@ -43,15 +43,15 @@ fn compared_each(
     Ok(truths)
 }
 
-/// Writes how each text of a column compares with one text, whose first 16 bytes spell the number.
+/// Writes how each text of a column compares with one text of this front.
 fn mark_column(op: CompareOp, texts: &Texts, text: &str, front: u128, truths: &mut [bool])
-    requires long { 16 ≤ length text.now }
-    requires front { front ≡ big_endian 0 (take 16 text.now) }
+    requires front { front ≡ front_number text.now }
     requires rows { length truths.old ≡ length texts.now }
     ensures { truths.new ≡ map (λ t. compares_text op t text.now) texts.now }
 {
     for row in 0..texts.len() {
-        truths[row] = op.holds(order_by_front(texts.text(row), text, front));
+        let order = order_by_front(texts.text(row), texts.front(row), text, front);
+        truths[row] = op.holds(order);
     }
 }
 
@@ -62,7 +62,6 @@ fn compared_column(
     texts: &Texts,
     text: &str,
 ) -> Result<Vec<bool>, AllocError>
-    requires { 16 ≤ length text.now }
     ensures { IfOk result (λ truths. truths.items ≡ map (λ t. compares_text op t text.now) texts.now) }
 {
     let rows = texts.len();
@@ -73,8 +72,7 @@ fn compared_column(
     Ok(truths)
 }
 
-/// How what the rows of both sides hold compares. A column beside one text that isn't short is gone over by the first
-/// bytes of its texts.
+/// How what the rows of both sides hold compares. A column beside one text is gone over by the fronts of its texts.
 fn compared_texts(
     alloc: Global,
     op: CompareOp,
@@ -87,12 +85,8 @@ fn compared_texts(
 {
     match (left, right) {
         (TextSide::Rows(_, texts), TextSide::One(text, _)) => {
-            if text.len() < 16 {
-                compared_each(alloc, op, left, right)
-            } else {
-                let truths = compared_column(alloc, op, texts, text)?;
-                Ok(truths)
-            }
+            let truths = compared_column(alloc, op, texts, text)?;
+            Ok(truths)
         }
         _ => compared_each(alloc, op, left, right),
     }

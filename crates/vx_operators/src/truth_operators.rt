@@ -38,11 +38,9 @@ fn same_bit(alloc: Global, bit: bool, rows: usize) -> Result<Mask, AllocError>
     ensures { IfOk result (λ mask. mask ≡ replicate rows bit) }
 {
     if bit {
-        let mask = Mask::new_true(alloc, rows as u64)?;
-        Ok(mask)
+        Mask::new_true(alloc, rows as u64)
     } else {
-        let mask = Mask::new_false(alloc, rows as u64)?;
-        Ok(mask)
+        Mask::new_false(alloc, rows as u64)
     }
 }
 
@@ -67,22 +65,12 @@ fn truths_of(alloc: Global, columnar: &ColumnarValue<'_>) -> Result<Truths, Allo
     ensures values { IfOk result (λ truths. where_valid truths.validity (map truth truths.values) ≡ columnar_rows columnar.now) }
 {
     match columnar {
-        ColumnarValue::Lent(array) => {
-            let truths = array_truths(alloc, array)?;
-            Ok(truths)
-        }
-        ColumnarValue::Made(array) => {
-            let truths = array_truths(alloc, array)?;
-            Ok(truths)
-        }
+        ColumnarValue::Lent(array) => array_truths(alloc, array),
+        ColumnarValue::Made(array) => array_truths(alloc, array),
         ColumnarValue::Same(Scalar::Truth(Some(bit)), rows) => {
-            let truths = same_truths(alloc, true, *bit, *rows)?;
-            Ok(truths)
+            same_truths(alloc, true, *bit, *rows)
         }
-        ColumnarValue::Same(Scalar::Truth(None), rows) => {
-            let truths = same_truths(alloc, false, false, *rows)?;
-            Ok(truths)
-        }
+        ColumnarValue::Same(Scalar::Truth(None), rows) => same_truths(alloc, false, false, *rows),
         ColumnarValue::Same(_, _) => unreachable!(),
     }
 }

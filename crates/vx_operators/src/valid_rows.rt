@@ -36,26 +36,11 @@ impl Valid<'_> {
         ensures { IfOk result (λ mask. mask ≡ both (valid_rows self.now) (valid_rows other.now)) }
     {
         match (self, other) {
-            (Valid::Where(valid), Valid::Where(other_valid)) => {
-                let mask = valid.and(alloc, other_valid)?;
-                Ok(mask)
-            }
-            (Valid::Where(valid), Valid::Everywhere(_)) => {
-                let mask = valid.copy(alloc)?;
-                Ok(mask)
-            }
-            (Valid::Where(_), Valid::Nowhere(rows)) => {
-                let mask = Mask::new_false(alloc, *rows as u64)?;
-                Ok(mask)
-            }
-            (Valid::Everywhere(_), _) => {
-                let mask = other.mask(alloc)?;
-                Ok(mask)
-            }
-            (Valid::Nowhere(rows), _) => {
-                let mask = Mask::new_false(alloc, *rows as u64)?;
-                Ok(mask)
-            }
+            (Valid::Where(valid), Valid::Where(other_valid)) => valid.and(alloc, other_valid),
+            (Valid::Where(valid), Valid::Everywhere(_)) => valid.copy(alloc),
+            (Valid::Where(_), Valid::Nowhere(rows)) => Mask::new_false(alloc, *rows as u64),
+            (Valid::Everywhere(_), _) => other.mask(alloc),
+            (Valid::Nowhere(rows), _) => Mask::new_false(alloc, *rows as u64),
         }
     }
 }

@@ -1,7 +1,21 @@
-use Rattle.std.proofs.Common.{◌∙◌, length, sym, ap}
+use Rattle.std.proofs.Common.{◌∙◌, List, length, sym, ap}
+use Rattle.std.proofs.lemmas.Result.{IfOk-weaker}
+use Rattle.vx_types.specs.Data.{Datum}
+use Rattle.vx_operators.specs.ColumnarValues.{columnar_rows}
+use Rattle.vx_operators.specs.Operators.{comparison_of}
+use Rattle.vx_operators.specs.Rows.{along, front}
+use Rattle.vx_operators.specs.Sides.{side_rows}
 use Rattle.vx_operators.proofs.SideRows.{side_count}
 use Rattle.vx_operators.proofs.number_operators.compare_of.Goals as goal
 
 pub compare_numbers-requires-clause-rows : goal.compare_numbers-requires-clause-rows
 compare_numbers-requires-clause-rows g c =
     sym (side_count g.T.Kind.number c.side-right.result c.side-right.ensures.side) ∙ ap length c.side-right.ensures.rows ∙ c.requires.rows ∙ sym (ap length c.side-left.ensures.rows) ∙ side_count g.T.Kind.number c.side-left.result c.side-left.ensures.side
+
+pub returns-clause-values : goal.returns-clause-values
+returns-clause-values g c =
+    let step = comparison_of c.args.op in
+    IfOk-weaker c.compare_numbers.result _ _
+    (λ array is.
+    is ∙ ap (λ (vs : List Datum). front (along step vs (side_rows g.T.Kind.number c.side-right.result))) c.side-left.ensures.rows
+    ∙ ap (λ (vs : List Datum). front (along step (columnar_rows c.args.left.now) vs)) c.side-right.ensures.rows) c.compare_numbers.ensures.values
