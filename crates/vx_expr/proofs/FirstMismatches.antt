@@ -294,3 +294,7 @@ bind_refuses t e (TypeMismatch told) shallow h =
     let found = told_by t e (TypeMismatch told) h.0 h.1 in
     let place = wants_none (wanted_field t found.part) (capped (0 + found.place)) told (sym found.told) in
     (shallow, h.0, (found.place, found.part, found.first, place.0, place.1 ∙ ap capped (omega arith)))
+
+-- the same over a dtype that is a copy
+pub bind_refuses_alike : (s t : DataType) (e : Term) (error : BindError) → s ≡ t → depth e ≤ deepest → IsRefusal error (type_of s e) (refusal s e 0) → BindGives t e (Err error)
+bind_refuses_alike s t e error same shallow h = subst (λ (u : DataType). BindGives u e (Err error)) same (bind_refuses s e error shallow h)

@@ -30,4 +30,5 @@ pub mod RewrittenTypes
 pub mod RowValueRows
 pub mod SameTerms
 pub mod StrictNull
+pub mod StructSteps
 pub mod TermRows

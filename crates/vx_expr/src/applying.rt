@@ -21,7 +21,7 @@ use crate::found::Finds;
 use std::alloc::{AllocError, AllocFailed, Global};
 use thiserror::Error;
 use vx_arrays::Array;
-use vx_base::{Column, DType};
+use vx_base::{Column, ColumnParts, DType};
 
 /// Why an expression has no column over these rows.
 #[derive(Debug, Drop, Error)]
@@ -63,13 +63,9 @@ fn array_of(alloc: Global, dtype: &DType, made: Evaluated<'_>) -> Result<Array, 
             Ok(array)
         }
         Evaluated::Structs(rows, columnar_values) => {
-            let array = fitting_structs(alloc, dtype, rows, columnar_values)?;
-            Ok(array)
+            fitting_structs(alloc, dtype, rows, columnar_values)
         }
-        Evaluated::RowValues(row_values) => {
-            let array = row_value_array(alloc, dtype, row_values)?;
-            Ok(array)
-        }
+        Evaluated::RowValues(row_values) => row_value_array(alloc, dtype, row_values),
     }
 }
 
@@ -147,8 +143,10 @@ fn applied_to_rows(
     ensures values { IfOk result (λ column. map Some column.values ≡ worth expression.now root.now.values numbers.now.values) }
     ensures fault { (row : ℕ) → IsErrOf result (ApplyError.EvalFault row) → IsFirstFault (worth expression.now root.now.values numbers.now.values) row }
 {
-    match (root.array(), numbers.array()) {
-        (Some(root), Some(numbers)) => applied(alloc, expression, root, numbers),
+    match (root.parts(), numbers.parts()) {
+        (ColumnParts::Packed(root), ColumnParts::Packed(numbers)) => {
+            applied(alloc, expression, root, numbers)
+        }
         _ => {
             let root = spread(alloc, root)?;
             let numbers = spread(alloc, numbers)?;
@@ -175,9 +173,9 @@ pub fn apply(
     ensures values { IfOk result (λ column. map Some column.values ≡ worth expression.now root.now.values numbers.now.values) }
     ensures fault { (row : ℕ) → IsErrOf result (ApplyError.EvalFault row) → IsFirstFault (worth expression.now root.now.values numbers.now.values) row }
 {
-    match root.run_parts() {
-        Some(parts) if !expression.uses_row_idx() => {
-            applied_to_runs(alloc, expression, parts.0, parts.1)
+    match root.parts() {
+        ColumnParts::Runs(values, ends) if !expression.uses_row_idx() => {
+            applied_to_runs(alloc, expression, values, ends)
         }
         _ => applied_to_rows(alloc, expression, root, numbers),
     }

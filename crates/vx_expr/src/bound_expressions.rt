@@ -66,18 +66,19 @@ impl Model for BoundExpression {
 }
 
 /// Binds an expression to the dtype of its root: of the dtype that the forms of its parts give, from the
-/// leaves upwards. `TooDeep` is tested first; the expression is walked no deeper than 64 levels.
+/// leaves upwards. `TooDeep` is tested first; the expression is walked no deeper than 64 levels. The fields of the root are
+/// copied once at most, however often the root stands in the expression: its dtype shares them.
 pub fn bind(alloc: Global, expr: &Expr, dtype: &DType) -> Result<BoundExpression, BindError>
     ensures { BindGives (data_type dtype.now) (term expr.now) result }
 {
     if !expr.is_within(DEEPEST) {
         return Err(BindError::TooDeep);
     }
-    let (bound, found) = match typed_over(alloc, expr, dtype) {
+    let root = dtype.copy(alloc)?;
+    let (bound, found) = match typed_over(alloc, expr, &root) {
         Ok(made) => made,
         Err(error) => return Err(error),
     };
-    let root = dtype.copy(alloc)?;
     let expr = expr.copy(alloc)?;
     Ok(BoundExpression {
         expr,
@@ -166,8 +167,7 @@ impl BoundExpression {
     {
         let expr = expr.copy(alloc)?;
         let root = root.copy(alloc)?;
-        let bound = BoundExpression::of_parts(alloc, expr, root)?;
-        Ok(bound)
+        BoundExpression::of_parts(alloc, expr, root)
     }
 
     /// The binding of an expression that has a dtype of truth values over the root's dtype, in memory of

@@ -11,6 +11,7 @@ ghost use Rattle.vx_expr.specs.Steps.{row_value_datum, evaluated_rows, item_at, 
 use crate::packing::{fewest_rows, rows_of_columnar, struct_row_values};
 use crate::row_values::RowValue;
 use crate::steps::{OneStep, TwoStep, one, two};
+use crate::struct_steps::derived_of_structs;
 use std::alloc::{AllocError, Global};
 use vx_arrays::{Array, ArrayView};
 use vx_base::{DType, Value};
@@ -119,19 +120,13 @@ pub(crate) fn columnar_row_values<'a>(
     ensures { IfOk result (λ row_values. map row_value_datum row_values.items ≡ columnar_rows columnar.entry) }
 {
     match columnar {
-        ColumnarValue::Lent(array) => {
-            let row_values = lent_row_values(alloc, array)?;
-            Ok(row_values)
-        }
+        ColumnarValue::Lent(array) => lent_row_values(alloc, array),
         ColumnarValue::Made(array) => {
             let row_values = own_row_values(alloc, &array);
             drop(array);
             row_values
         }
-        ColumnarValue::Same(scalar, rows) => {
-            let row_values = same_row_values(alloc, &scalar, rows)?;
-            Ok(row_values)
-        }
+        ColumnarValue::Same(scalar, rows) => same_row_values(alloc, &scalar, rows),
     }
 }
 
@@ -155,10 +150,7 @@ impl<'a> Evaluated<'a> {
         ensures { IfOk result (λ row_values. map row_value_datum row_values.items ≡ evaluated_rows self.entry) }
     {
         match self {
-            Evaluated::Packed(columnar) => {
-                let row_values = columnar_row_values(alloc, columnar)?;
-                Ok(row_values)
-            }
+            Evaluated::Packed(columnar) => columnar_row_values(alloc, columnar),
             Evaluated::Structs(rows, columnar_values) => {
                 let made = rows_of_columnar(alloc, rows, columnar_values)?;
                 let row_values = struct_row_values(alloc, made)?;
@@ -301,6 +293,19 @@ fn item_of_columnar<'a>(
     }
 }
 
+/// The step with each value before the first fault, row by row.
+pub(crate) fn row_by_row<'a>(
+    alloc: Global,
+    step: OneStep,
+    operand: Evaluated<'a>,
+) -> Result<Evaluated<'a>, AllocError>
+    ensures { IfOk result (λ made. evaluated_rows made ≡ front (map (one_step step) (evaluated_rows operand.entry))) }
+{
+    let row_values = operand.into_row_values(alloc)?;
+    let made = one_each(alloc, step, &row_values)?;
+    Ok(Evaluated::RowValues(made))
+}
+
 /// The step with each value before the first fault, wherever the values are held.
 pub(crate) fn derived<'a>(
     alloc: Global,
@@ -314,11 +319,10 @@ pub(crate) fn derived<'a>(
             OneStep::Field(Some(place)) => item_of_columnar(alloc, place, columnar),
             _ => one_of_columnar(alloc, step, columnar),
         },
-        operand => {
-            let row_values = operand.into_row_values(alloc)?;
-            let made = one_each(alloc, step, &row_values)?;
-            Ok(Evaluated::RowValues(made))
+        Evaluated::Structs(rows, columnar_values) => {
+            derived_of_structs(alloc, step, rows, columnar_values)
         }
+        operand => row_by_row(alloc, step, operand),
     }
 }
 

@@ -54,8 +54,7 @@ pub(crate) fn row_value_array(
     ensures values { IfOk result (λ array. array.values ≡ map row_value_datum row_values.entry.items) }
 {
     let values = values_of(alloc, row_values)?;
-    let array = Array::of_values(alloc, dtype, values.as_slice())?;
-    Ok(array)
+    Array::of_values(alloc, dtype, values.as_slice())
 }
 
 /// The same rows as an array of the dtype. It moves them where the dtype is a leaf.
@@ -90,8 +89,7 @@ fn scalar_array(alloc: Global, dtype: &DType, scalar: &Scalar<'_>) -> Result<Arr
     ensures values { IfOk result (λ array. array.values ≡ scalar_datum scalar.now ∷ []) }
 {
     let row_values = vec![in alloc; RowValue::scalar(scalar)]?;
-    let array = row_value_array(alloc, dtype, row_values)?;
-    Ok(array)
+    row_value_array(alloc, dtype, row_values)
 }
 
 /// The same value at each of so many rows.
@@ -106,13 +104,11 @@ fn fitting_scalar(
     ensures values { IfOk result (λ array. array.values ≡ replicate rows (scalar_datum scalar.now)) }
 {
     if rows == 0 {
-        let none = Array::with_room(alloc, dtype, 0)?;
-        return Ok(none);
+        return Array::with_room(alloc, dtype, 0);
     }
     let one = scalar_array(alloc, dtype, scalar)?;
     let places = vec![in alloc; 0; rows]?;
-    let array = one.take(alloc, places.as_slice())?;
-    Ok(array)
+    one.take(alloc, places.as_slice())
 }
 
 /// The first rows of a columnar value as an array of the dtype.

@@ -36,6 +36,7 @@ mod root_fields;
 mod row_values;
 mod statistics;
 mod steps;
+mod struct_steps;
 mod typing;
 
 pub use applying::{ApplyError, apply};

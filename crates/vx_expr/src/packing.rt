@@ -133,8 +133,7 @@ impl<'a> Packing<'a> {
     {
         match self {
             Packing::ColumnarValues(rows, columnar_values) => {
-                let made = rows_of_columnar(alloc, rows, columnar_values)?;
-                Ok(made)
+                rows_of_columnar(alloc, rows, columnar_values)
             }
             Packing::Rows(rows) => Ok(rows),
         }

@@ -123,8 +123,8 @@ fn packed<'a>(
 }
 
 impl NamedExprs {
-    /// The fields of the struct of the named expressions. `next` is the number of the first of them, and
-    /// then of what stands behind them.
+    /// The fields of the struct of the named expressions, which copies share. `next` is the number of the first of them,
+    /// and then of what stands behind them.
     #[cycle(typing)]
     fn fields<'a>(
         &'a self,
@@ -149,7 +149,7 @@ impl NamedExprs {
         }
         // Reading the number shows the proof that it is a `u64`.
         let _behind = *next;
-        Ok(Fields::from_vec(fields))
+        Ok(Fields::from_vec(fields).share(alloc)?)
     }
 }
 

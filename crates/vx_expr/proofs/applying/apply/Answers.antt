@@ -7,20 +7,20 @@ use Rattle.vx_expr.specs.Rows.{worth, worth_of_each, IsFirstFault}
 use Rattle.vx_expr.proofs.AppliedRuns.{rows_worth}
 use Rattle.vx_expr.proofs.applying.apply.Goals as goal
 
-pub returns-in-Some-clause-values : goal.returns-in-Some-clause-values
-returns-in-Some-clause-values c =
+pub returns-in-Runs-clause-values : goal.returns-in-Runs-clause-values
+returns-in-Runs-clause-values c =
     let a = c.args.expression.now in
-    let vs = c.in-Some.parts.0.now.values in
-    let ends = c.in-Some.parts.1.now in
+    let vs = c.in-Runs.values.now.values in
+    let ends = c.in-Runs.ends.now in
     let unnumbered : uses_row_number a.term ≡ false = search rules in
-    let rows : spread 0 (worth_of_each a vs) ends ≡ worth a c.args.root.now.values c.args.numbers.now.values = rows_worth a vs c.args.root.now.values c.args.numbers.now.values ends unnumbered c.in-Some.ensures.values c.requires.same_rows in
+    let rows : spread 0 (worth_of_each a vs) ends ≡ worth a c.args.root.now.values c.args.numbers.now.values = rows_worth a vs c.args.root.now.values c.args.numbers.now.values ends unnumbered c.in-Runs.ensures.values c.requires.same_rows in
     subst (λ (ms : List (Option Datum)). IfOk c.applied_to_runs.result (λ column. map Some column.values ≡ ms)) rows c.applied_to_runs.ensures.values
 
-pub returns-in-Some-clause-fault : goal.returns-in-Some-clause-fault
-returns-in-Some-clause-fault c = λ row h.
+pub returns-in-Runs-clause-fault : goal.returns-in-Runs-clause-fault
+returns-in-Runs-clause-fault c = λ row h.
     let a = c.args.expression.now in
-    let vs = c.in-Some.parts.0.now.values in
-    let ends = c.in-Some.parts.1.now in
+    let vs = c.in-Runs.values.now.values in
+    let ends = c.in-Runs.ends.now in
     let unnumbered : uses_row_number a.term ≡ false = search rules in
-    let rows : spread 0 (worth_of_each a vs) ends ≡ worth a c.args.root.now.values c.args.numbers.now.values = rows_worth a vs c.args.root.now.values c.args.numbers.now.values ends unnumbered c.in-Some.ensures.values c.requires.same_rows in
+    let rows : spread 0 (worth_of_each a vs) ends ≡ worth a c.args.root.now.values c.args.numbers.now.values = rows_worth a vs c.args.root.now.values c.args.numbers.now.values ends unnumbered c.in-Runs.ensures.values c.requires.same_rows in
     subst (λ (ms : List (Option Datum)). IsFirstFault ms row) rows (c.applied_to_runs.ensures.fault row h)

@@ -9,4 +9,4 @@ pub returns-in-Arith-default-Some : goal.returns-in-Arith-default-Some
 returns-in-Arith-default-Some c =
     let b = c.in-Arith-default-Some in
     let kind : b.field-1 ≡ Some b.kind = rw b.is at b.field-1-is in
-    joined_whole c.join_columnar.result b.op b.kind c.args.step (columnar_rows c.args.left.now) (columnar_rows c.args.right.now) (b.is ∙ ap (λ (k : Option IntKind). Arith b.op k) kind) c.join_columnar.ensures
+    joined_whole c.join_columnar.result b.op b.kind c.args.step (columnar_rows c.args.left.now) (columnar_rows c.args.right.now) (b.is ∙ ap (λ (k : Option IntKind). Arith b.op k) kind) c.join_columnar.ensures.values

@@ -52,7 +52,7 @@ NamedExprs::fields-loop-item-preserved t c =
     }
 
 pub NamedExprs::fields-returns-clause-given : goal.NamedExprs::fields-returns-clause-given
-NamedExprs::fields-returns-clause-given t c = all_typed c.args.root.now c.items-items.result.now c.args.self.now c.loop-item.item-index c.loop-item.fields.items c.args.next.now c.loop-item.next c.items-items.ensures (omega arith) c.loop-item.invariant.so_far ∙ ap some_members (sym c.from_vec.ensures)
+NamedExprs::fields-returns-clause-given t c = all_typed c.args.root.now c.items-items.result.now c.args.self.now c.loop-item.item-index c.loop-item.fields.items c.args.next.now c.loop-item.next c.items-items.ensures (omega arith) c.loop-item.invariant.so_far ∙ ap some_members (sym c.from_vec.ensures) ∙ ap some_members (sym c.in_ok-share.ensures)
 
 pub NamedExprs::fields-returns-clause-counted : goal.NamedExprs::fields-returns-clause-counted
 NamedExprs::fields-returns-clause-counted t c = all_counted c.args.root.now c.items-items.result.now c.args.self.now c.loop-item.item-index c.loop-item.fields.items c.args.next.now c.loop-item.next c.items-items.ensures (omega arith) c.loop-item.invariant.so_far (omega arith)
