@@ -7,8 +7,8 @@ use Rattle.vx_expr.specs.declared.statistics.Statistic.TheVariants.{Min, Max, Nu
 use Rattle.vx_base.specs.Masks.{either, both}
 use Rattle.std.specs.Prelude.{Option, None, Result, Ok, Err, IfOk}
 use Rattle.vx_operators.specs.declared.operators.CompareOp.{CompareOp}
-use Rattle.vx_expr.specs.Terms.{Term, comparison}
-use Rattle.vx_zones.specs.Prunes.{all_null, root_comparison, excludes_comparison, pruned_zones}
+use Rattle.vx_expr.specs.Terms.{Term}
+use Rattle.vx_zones.specs.Prunes.{all_null, root_comparison, excludes_comparison}
 use Rattle.vx_zones.specs.Tables.{Zone, TableData, place_of, told_at, zone_of, zones_along, zones_in}
 use Rattle.vx_zones.specs.Tellings.{full_along}
 
@@ -48,8 +48,21 @@ either_given f g zones a b mask is p q = is ∙ (λ i. either (p i) (q i)) ∙ e
 pub both_given : (f g : Zone → Bool) (zones : List Zone) (a b mask : List Bool) → mask ≡ both a b → a ≡ map f zones → b ≡ map g zones → mask ≡ map (λ zone. f zone && g zone) zones
 both_given f g zones a b mask is p q = is ∙ (λ i. both (p i) (q i)) ∙ both_of f g zones
 
+-- ---- the same of an answer, which may be none for want of memory
+
+pub either_answered : {E : Type 0} (f g : Zone → Bool) (zones : List Zone) (a b : List Bool) (r : Result (List Bool) E) → IfOk r (λ mask. mask ≡ either a b) → a ≡ map f zones → b ≡ map g zones
+    → IfOk r (λ mask. mask ≡ map (λ zone. f zone || g zone) zones)
+either_answered f g zones a b (Ok mask) is p q = either_given f g zones a b mask is p q
+either_answered f g zones a b (Err error) is p q = tt
+
+pub both_answered : {E : Type 0} (f g : Zone → Bool) (zones : List Zone) (a b : List Bool) (r : Result (List Bool) E) → IfOk r (λ mask. mask ≡ both a b) → a ≡ map f zones → b ≡ map g zones
+    → IfOk r (λ mask. mask ≡ map (λ zone. f zone && g zone) zones)
+both_answered f g zones a b (Ok mask) is p q = both_given f g zones a b mask is p q
+both_answered f g zones a b (Err error) is p q = tt
+
 -- ---- a comparison that is none of the root with a literal
 
-pub not_compared : {E : Type 0} (bound : ℕ) (op : CompareOp) (a b : Term) (table : TableData) (r : Result (List Bool) E) → root_comparison op a b ≡ None → IfOk r (λ mask. mask ≡ map (λ zone. false) (zones_in table)) → IfOk r (λ mask. mask ≡ pruned_zones bound (comparison op a b) table)
-not_compared bound op a b table (Ok mask) none is = is ∙ ap (λ (found : Option (CompareOp × Datum)). map (excludes_comparison found) (zones_in table)) (sym none)
-not_compared bound op a b table (Err error) none is = tt
+pub not_compared : {E : Type 0} (op : CompareOp) (a b : Term) (table : TableData) (r : Result (List Bool) E) → root_comparison op a b ≡ None → IfOk r (λ mask. mask ≡ map (λ zone. false) (zones_in table))
+    → IfOk r (λ mask. mask ≡ map (excludes_comparison (root_comparison op a b)) (zones_in table))
+not_compared op a b table (Ok mask) none is = is ∙ ap (λ (found : Option (CompareOp × Datum)). map (excludes_comparison found) (zones_in table)) (sym none)
+not_compared op a b table (Err error) none is = tt

@@ -123,6 +123,26 @@ fn is_table(
     Ok(zones.dtype().same(&shape) && zones.len() == row_count.div_ceil(zone_len))
 }
 
+/// The statistics in memory of their own.
+fn copied_statistics(alloc: Global, stats: &[Statistic]) -> Result<Statistics, AllocError>
+    ensures { IfOk result (λ copied. copied ≡ stats.now) }
+{
+    match Vec::from_slice(alloc, stats) {
+        Ok(copied) => Ok(Statistics::from_vec(copied)),
+        Err(error) => Err(error),
+    }
+}
+
+/// Both masks in memory of their own.
+fn copied_masks(alloc: Global, one: &Mask, other: &Mask) -> Result<(Mask, Mask), AllocError>
+    ensures one { IfOk result (λ masks. masks.0 ≡ one.now) }
+    ensures other { IfOk result (λ masks. masks.1 ≡ other.now) }
+{
+    let one = one.copy(alloc)?;
+    let other = other.copy(alloc)?;
+    Ok((one, other))
+}
+
 /// The table of zones of a column that is one.
 fn zone_table(
     alloc: Global,
@@ -136,9 +156,9 @@ fn zone_table(
     ensures { IfOk result (λ table. table ≡ table_of (data_type dtype.now) stats.now zones.values zone_len row_count) }
 {
     let place = place_of(Statistic::NullCount, stats);
-    let (none_null, all_null) = null_zones(alloc, &zones, place, zone_len, row_count)?;
     let dtype = dtype.copy(alloc)?;
-    let stats = Statistics::from_vec(Vec::from_slice(alloc, stats)?);
+    let stats = copied_statistics(alloc, stats)?;
+    let (none_null, all_null) = null_zones(alloc, &zones, place, zone_len, row_count)?;
     Ok(ZoneTable {
         dtype,
         stats,
@@ -181,10 +201,9 @@ impl ZoneTable {
         ensures { IfOk result (λ table. table ≡ self.now) }
     {
         let dtype = self.dtype.copy(alloc)?;
-        let stats = Statistics::from_vec(Vec::from_slice(alloc, self.stats.items())?);
         let zones = self.zones.copy(alloc)?;
-        let none_null = self.none_null.copy(alloc)?;
-        let all_null = self.all_null.copy(alloc)?;
+        let stats = copied_statistics(alloc, self.stats.items())?;
+        let (none_null, all_null) = copied_masks(alloc, &self.none_null, &self.all_null)?;
         Ok(ZoneTable {
             dtype,
             stats,
@@ -215,8 +234,7 @@ impl ZoneTable {
     {
         let place = place_of(stat, self.stats.items());
         let told = told_of(alloc, &self.zones, place)?;
-        let mask = told.tells(alloc, op, value)?;
-        Ok(mask)
+        told.tells(alloc, op, value)
     }
 
     /// The zones without a null row, as far as that is told. It takes no memory.

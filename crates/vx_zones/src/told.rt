@@ -9,7 +9,7 @@ ghost use Rattle.vx_zones.specs.Tellings.{told_values};
 
 use std::alloc::{AllocError, Global};
 use vx_arrays::{Array, ArrayView};
-use vx_base::{Column, Value};
+use vx_base::{Column, ColumnParts, Value};
 
 /// What one statistic tells of each zone.
 #[derive(Drop)]
@@ -26,8 +26,8 @@ pub(crate) enum Told<'a> {
 fn field_array(zones: &Column, place: usize) -> Option<&Array>
     ensures { IfSome result (λ array. array.now.values ≡ map (field_at place) zones.now.values) }
 {
-    match zones.array() {
-        Some(array) => match array.array_view() {
+    match zones.parts() {
+        ColumnParts::Packed(array) => match array.array_view() {
             ArrayView::Structs(validity, structs) => {
                 if validity.all_true() {
                     structs.array(place)
@@ -37,7 +37,7 @@ fn field_array(zones: &Column, place: usize) -> Option<&Array>
             }
             _ => None,
         },
-        None => None,
+        ColumnParts::Runs(_, _) => None,
     }
 }
 
