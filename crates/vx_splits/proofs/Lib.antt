@@ -2,6 +2,7 @@ pub mod Between
 pub mod ChunkRows
 pub mod FirstChunks
 pub mod Marks
+pub mod PlacedMarks
 pub mod Rising
 pub mod Runs
 pub mod SpanCuts

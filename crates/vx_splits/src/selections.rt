@@ -1,6 +1,6 @@
 //! Selections: which rows of a file are read.
 
-ghost use Rattle.std.specs.Prelude.{◌≡◌, ◌<◌, ◌≤◌, ◌-◌, ◌↔◌, [], false, length, map, IfOk, IfSome, IsNone, IsTrue, MatchOption};
+ghost use Rattle.std.specs.Prelude.{◌≡◌, ◌<◌, ◌≤◌, ◌-◌, ◌↔◌, [], true, false, length, map, IfOk, IfSome, IsNone, IsTrue, MatchOption};
 ghost use Rattle.std.specs.List.{All, Any};
 ghost use Rattle.vx_base.specs.Masks.{Ascend, is_among};
 ghost use Rattle.vx_splits.specs.Taken.{rows_between, selected_rows, SelectsRows, TakesRows};
@@ -53,7 +53,7 @@ impl Selection {
     {
         match self {
             Selection::All => Mask::new_true(alloc, rows.end - rows.start),
-            Selection::IncludeByIndex(indices) => marked(alloc, rows, indices.within(rows), true),
+            Selection::IncludeByIndex(indices) => chosen_at(alloc, rows, indices.within(rows)),
             Selection::ExcludeByIndex(indices) => marked(alloc, rows, indices.within(rows), false),
         }
     }
@@ -79,6 +79,32 @@ impl Selection {
             Selection::ExcludeByIndex(indices) => left_of(rows, indices.within(rows)),
         }
     }
+}
+
+/// The places of rows in a range, which begins with this one.
+fn places_of(alloc: Global, start: u64, indices: &[u64]) -> Result<Vec<u64>, AllocError>
+    requires { All (λ index. start ≤ index) indices.now }
+    ensures { IfOk result (λ places. places.items ≡ map (λ index. index - start) indices.now) }
+{
+    let mut places = Vec::with_capacity(alloc, indices.len())?;
+    for index in indices {
+        places.push(*index - start)?;
+    }
+    Ok(places)
+}
+
+/// A mask over the rows of the range that chooses these of them. It takes memory by their number where they are few.
+fn chosen_at(alloc: Global, rows: &Range<u64>, indices: &[u64]) -> Result<Mask, AllocError>
+    requires forwards { rows.now.start ≤ rows.now.end }
+    requires ascending { Ascend indices.now }
+    requires from { All (λ index. rows.now.start ≤ index) indices.now }
+    requires below { All (λ index. index < rows.now.end) indices.now }
+    ensures { IfOk result (λ mask. mask
+        ≡ map (λ row. marked_as true (is_among indices.now row)) (rows_between rows.now.start rows.now.end)) }
+{
+    let places = places_of(alloc, rows.start, indices)?;
+    let mask = Mask::from_indices(alloc, rows.end - rows.start, &places)?;
+    Ok(mask)
 }
 
 /// A mask over the rows of the range: `mark` at these of them, and the other truth value elsewhere.
