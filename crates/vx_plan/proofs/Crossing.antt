@@ -50,11 +50,11 @@ use Rattle.vx_base.below.vx_columns.specs.contracts.stored_rows.Rows as stored
 use Rattle.vx_base.below.vx_columns.specs.contracts.columns.Column as columns
 use Rattle.vx_base.below.vx_columns.specs.contracts.columns.Column.TheInside as inside_columns
 
-send_dtype : IsSend dtypes.the_row
-send_dtype = search (dtypes_cross, crosses, nullable.the_send, kinds.the_send, texts.the_send, sendable) depth 60
+pub send_dtype : IsSend dtypes.the_row
+send_dtype = search (dtypes_cross, crosses, nullable.the_send, kinds.the_send, texts.the_send, nullable.the_sync, kinds.the_sync, texts.the_sync, sendable) depth 60
 
 sync_dtype : IsSync dtypes.the_row
-sync_dtype = search (dtypes_cross, crosses, nullable.the_sync, kinds.the_sync, texts.the_sync, sendable) depth 60
+sync_dtype = search (dtypes_cross, crosses, nullable.the_send, kinds.the_send, texts.the_send, nullable.the_sync, kinds.the_sync, texts.the_sync, sendable) depth 60
 
 -- ---- columns
 
@@ -94,7 +94,7 @@ sync_value_field : IsSync (values.the_field).row
 sync_value_field = search (values_cross, crosses, texts.the_sync, sendable) depth 60
 
 sync_dtype_field : IsSync (dtypes.the_field).row
-sync_dtype_field = search (dtypes_cross, crosses, nullable.the_sync, kinds.the_sync, texts.the_sync, sendable) depth 60
+sync_dtype_field = search (dtypes_cross, crosses, nullable.the_send, kinds.the_send, texts.the_send, nullable.the_sync, kinds.the_sync, texts.the_sync, sendable) depth 60
 
 sync_expr : IsSync exprs.the_row
 sync_expr = search (exprs_cross, crosses, sync_value, sync_value_field, sync_dtype, sync_dtype_field, texts.the_sync, compares.the_field_sync, ariths.the_field_sync, compares.the_sync, ariths.the_sync, sendable) depth 60
