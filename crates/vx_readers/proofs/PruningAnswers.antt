@@ -20,7 +20,7 @@ pruning_ready e next kept before after all are =
       fine = all.goes.fine;
       ended = λ ticket at found. all.goes.only ticket at (all.none ticket) found;
       content = λ file told have. same (file_bytes file e.locations) (all.goes.told file told have);
-      leaves = all_left zones_needed_by e next before after all;
+      went = (next.reads, all.goes);
     }
 
 pub pruning_rows : (e next : Evaluation) (kept : List Bool) (before after : SourceState) → HasAll zones_needed_by e next before after → length kept ≡ length next.mask → length kept ≡ length e.mask
@@ -35,7 +35,7 @@ pruning_refused e next error before after all own fails = by error own (subst (F
     by : (fault : ReaderError) → IsOfBytes fault → F fault (record e { reads = next.reads }) → IsRefused e fault before after (PruningFault e fault)
     by ReadFault own same = absurd own
     by (NoLocation segment) own same = absurd own
-    by (BadSegment segment) own same = record { touches = all.goes.touches; cause = λ file told have. same (file_bytes file e.locations) (all.goes.told file told have); leaves = all_left zones_needed_by e next before after all }
-    by (BadCode node row) own same = record { touches = all.goes.touches; cause = λ file told have. same (file_bytes file e.locations) (all.goes.told file told have); leaves = all_left zones_needed_by e next before after all }
-    by (EvalFault row) own same = record { touches = all.goes.touches; cause = λ file told have. same (file_bytes file e.locations) (all.goes.told file told have); leaves = all_left zones_needed_by e next before after all }
-    by Memory own same = record { touches = all.goes.touches; cause = λ file told have. same (file_bytes file e.locations) (all.goes.told file told have); leaves = all_left zones_needed_by e next before after all }
+    by (BadSegment segment) own same = record { touches = all.goes.touches; cause = λ file told have. same (file_bytes file e.locations) (all.goes.told file told have); leaves = all_left zones_needed_by e next (BadSegment segment) before after all }
+    by (BadCode node row) own same = record { touches = all.goes.touches; cause = λ file told have. same (file_bytes file e.locations) (all.goes.told file told have); leaves = all_left zones_needed_by e next (BadCode node row) before after all }
+    by (EvalFault row) own same = record { touches = all.goes.touches; cause = λ file told have. same (file_bytes file e.locations) (all.goes.told file told have); leaves = all_left zones_needed_by e next (EvalFault row) before after all }
+    by Memory own same = record { touches = all.goes.touches; cause = λ file told have. same (file_bytes file e.locations) (all.goes.told file told have); leaves = all_left zones_needed_by e next Memory before after all }

@@ -1,6 +1,7 @@
 -- A turn of the reads of an evaluation: the same evaluation with other reads.
 use Rattle.std.proofs.Common.{◌≡◌, ℕ, ◌<◌, inl, List, refl, ◌∙◌, arith}
 use Rattle.vx_base.specs.Sources.{SourceState}
+use Rattle.vx_reads.specs.declared.errors.ReaderError.{ReaderError}
 use Rattle.vx_reads.specs.declared.reads.SegmentRead.{SegmentRead}
 use Rattle.vx_reads.specs.Reads.{segments_of, LeavesReads, ReadsPolled}
 use Rattle.vx_reads.proofs.Polling.{all_begin, none_waiting}
@@ -51,10 +52,10 @@ waits e new waiting before after polled some = record {
 }
 
 -- and no call failed: the reads went on to their end
-pub all_left : (needs : Evaluation → List ℕ) (e next : Evaluation) (before after : SourceState) → HasAll needs e next before after → LeavesReads e.locations e.reads before after
-all_left needs e next before after all = record {
+pub all_left : (needs : Evaluation → List ℕ) (e next : Evaluation) (error : ReaderError) (before after : SourceState) → HasAll needs e next before after → LeavesReads e.locations error e.reads before after
+all_left needs e next error before after all = record {
   reads = next.reads;
   middle = after;
   went = all.goes;
-  left = inl refl;
+  ends = inl refl;
 }

@@ -85,14 +85,14 @@ pub record HasAll (needs : Evaluation → List ℕ) (e next : Evaluation) (befor
   pub came : Begin (needs next) next.reads
 
 -- The answer is what it is to be by the source's file. Its reads that were not asked for were so, once and with nothing else;
--- no call failed, and none of its reads is in flight any more: what is so was so before, and is another's.
+-- they went on to their end, and no call failed. None of them is in flight any more: what is so was so before, and is another's.
 pub record IsReady (e : Evaluation) (before after : SourceState) (Is : Bytes → Type 0) : Type 0 where
   pub touches : Touches e.locations e.reads before after
   pub asks : after.asked ≡ asked_also e.locations e.reads before.asked
   pub fine : after.faults ≡ before.faults
   pub ended : (ticket : ℕ) (at : SegmentLocation) → location_of ticket after.in_flight ≡ Some at → (HasTicket e.reads ticket → ⊥) × (location_of ticket before.in_flight ≡ Some at)
   pub content : WhereTold e before Is
-  pub leaves : LeavesReads e.locations e.reads before after
+  pub went : (reads : List SegmentRead) × GoOn e.locations e.reads reads before after
 
 -- what a fault says: a fault of the source, or one of the bytes
 abbrev pub IsCaused : Evaluation → ReaderError → SourceState → SourceState → (Bytes → Type 0) → Type 0
@@ -100,8 +100,8 @@ IsCaused e ReadFault before after Fault = SourceFault e.locations (segments_of e
 IsCaused e (NoLocation segment) before after Fault = SourceFault e.locations (segments_of e.reads) (NoLocation segment) before after
 IsCaused e error before after Fault = WhereTold e before Fault
 
--- There is no answer. Its reads went on up to a call that failed, if one did: the others of them stay in flight.
+-- There is no answer. Its reads went on up to the call that failed, if one did: all but the one that it was for stay in flight.
 pub record IsRefused (e : Evaluation) (error : ReaderError) (before after : SourceState) (Fault : Bytes → Type 0) : Type 0 where
   pub touches : Touches e.locations e.reads before after
   pub cause : IsCaused e error before after Fault
-  pub leaves : LeavesReads e.locations e.reads before after
+  pub leaves : LeavesReads e.locations error e.reads before after

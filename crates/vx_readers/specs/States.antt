@@ -1,5 +1,5 @@
 -- What a poll of a state gives.
-use Rattle.std.specs.Prelude.{◌≡◌, ℕ, Bool, List, Result, Ok, Err, length}
+use Rattle.std.specs.Prelude.{◌≡◌, ℕ, Bool, List, Result, Ok, Err, IfErr, length}
 use Rattle.vx_base.specs.declared.locations.SegmentLocation.{SegmentLocation}
 use Rattle.vx_base.specs.Columns.{ColumnData}
 use Rattle.vx_base.specs.Data.{Datum}
@@ -7,6 +7,7 @@ use Rattle.vx_base.specs.Masks.{true_count}
 use Rattle.vx_base.specs.Sources.{SourceState}
 use Rattle.vx_rows.specs.SegmentLeaves.{Bytes}
 use Rattle.vx_reads.specs.declared.errors.ReaderError.{ReaderError}
+use Rattle.vx_reads.specs.Errors.{IsNotOfExpression}
 use Rattle.vx_reads.specs.Projected.{AreProjected, ProjectionCause}
 use Rattle.vx_layout.specs.Trees.{subtree}
 use Rattle.vx_reads.specs.Filtered.{FilterCause, IsFiltered}
@@ -62,9 +63,10 @@ GivesMask Waits Is Fault (Err error) e before after = IsRefused e error before a
 abbrev pub FilterPollGives : Result (Progress (List Bool) Evaluation) ReaderError → Evaluation → SourceState → SourceState → Type 0
 FilterPollGives result e before after = GivesMask IsPending IsKept FilterFault result e before after
 
--- The mask's rows over which no zone is pruned, the evaluation as it goes on, or why these are not known.
+-- The mask's rows over which no zone is pruned, the evaluation as it goes on, or why these are not known: whatever the source tells, no
+-- expression is worked out.
 abbrev pub PruningPollGives : Result (Progress (List Bool) Evaluation) ReaderError → Evaluation → SourceState → SourceState → Type 0
-PruningPollGives result e before after = GivesMask IsPending IsLeft PruningFault result e before after
+PruningPollGives result e before after = GivesMask IsPending IsLeft PruningFault result e before after × IfErr result IsNotOfExpression
 
 -- ---- a mask that is known, filtered or pruned
 
@@ -91,7 +93,7 @@ abbrev pub FilterGives : Result (Progress (List Bool) MaskState) ReaderError →
 FilterGives result e before after = GivesMask (λ (old : Evaluation) (next : MaskState). MaskWaits (Filters old) next.masking) IsKept FilterFault result e before after
 
 abbrev pub PruningGives : Result (Progress (List Bool) MaskState) ReaderError → Evaluation → SourceState → SourceState → Type 0
-PruningGives result e before after = GivesMask (λ (old : Evaluation) (next : MaskState). MaskWaits (Prunes old) next.masking) IsLeft PruningFault result e before after
+PruningGives result e before after = GivesMask (λ (old : Evaluation) (next : MaskState). MaskWaits (Prunes old) next.masking) IsLeft PruningFault result e before after × IfErr result IsNotOfExpression
 
 -- A mask that is known is there at once, and the source stays as it was.
 abbrev pub MaskPollGives : Result (Progress (List Bool) MaskState) ReaderError → Masking → SourceState → SourceState → Type 0

@@ -3,7 +3,7 @@
 ghost use Rattle.std.specs.Prelude.{◌≡◌, ◌-◌, ◌<◌, ◌≤◌, length, IfErr, IfOk};
 ghost use Rattle.vx_expr.specs.Bound.{IsBoundTo};
 ghost use Rattle.vx_reads.specs.Came.{Begin};
-ghost use Rattle.vx_reads.specs.Errors.{IsOfBytes};
+ghost use Rattle.vx_reads.specs.Errors.{IsNotOfExpression, IsOfBytes};
 ghost use Rattle.vx_reads.specs.Readable.{tree_head, AreReadable};
 ghost use Rattle.vx_reads.specs.Reads.{AreInFlight};
 ghost use Rattle.vx_readers.specs.Evaluations.{zones_by, zones_needed_by, Begins};
@@ -149,6 +149,7 @@ impl<'a> Pruning<'a> {
         ensures kept { IfOk result (AreUnprunedBy self.now.reads (zones_by self.now) self.now.expression.term self.now.start self.now.mask) }
         ensures cause { IfErr result (PruningFails self.now.reads (zones_by self.now) self.now.start self.now.mask) }
         ensures own { IfErr result IsOfBytes }
+        ensures no_expression { IfErr result IsNotOfExpression }
     {
         unpruned_rows(
             self.alloc,

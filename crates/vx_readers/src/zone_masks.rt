@@ -5,7 +5,7 @@ ghost use Rattle.vx_expr.specs.Bound.{IsBoundTo};
 ghost use Rattle.vx_layout.specs.Trees.{subtree};
 ghost use Rattle.vx_picking.specs.Rows.{selects_some};
 ghost use Rattle.vx_reads.specs.Came.{Begin};
-ghost use Rattle.vx_reads.specs.Errors.{IsOfBytes};
+ghost use Rattle.vx_reads.specs.Errors.{IsNotOfExpression, IsOfBytes};
 ghost use Rattle.vx_reads.specs.Needed.{needed};
 ghost use Rattle.vx_reads.specs.Readable.{tree_head, trees_of, AreReadable, IsChunked, IsZonedNode};
 ghost use Rattle.vx_readers.specs.Unpruned.{AreUnprunedBy, PruningFails};
@@ -45,6 +45,7 @@ pub(crate) fn unpruned_rows(
     ensures kept { IfOk result (AreUnprunedBy reads.now (zones_over (subtree tree.now node)) proof.now.term start mask.now) }
     ensures cause { IfErr result (PruningFails reads.now (zones_over (subtree tree.now node)) start mask.now) }
     ensures own { IfErr result IsOfBytes }
+    ensures no_expression { IfErr result IsNotOfExpression }
 {
     let mut next = 0;
     unpruned_of(alloc, tree, node, start, mask, proof, reads, &mut next)
@@ -73,6 +74,7 @@ fn pruned_zones(
     ensures pruned { IfOk result (ArePrunedBy reads.now proof.now.term (zone_at (tree_head tree.now node) (zones_of false zone_len stats.now) (subtree tree.now zones)) 0 (tree_head tree.now zones).rows) }
     ensures cause { IfErr result (TableFailsBy reads.now (subtree tree.now zones)) }
     ensures own { IfErr result IsOfBytes }
+    ensures no_expression { IfErr result IsNotOfExpression }
     ensures passed { OnOk result (next.new ≡ next.old + length (needed (subtree tree.now zones) 0 (replicate (tree_head tree.now zones).rows true))) }
 {
     let all = Mask::new_true(alloc, rows_at(tree, zones))?;
@@ -125,6 +127,7 @@ fn pruned_rows(
     ensures pruned { IfOk result (ArePrunedBy reads.now proof.now.term (zone_over (tree_head tree.now node) (zones_of false zone_len stats.now) (subtree tree.now zones)) start count) }
     ensures cause { IfErr result (TableFailsBy reads.now (subtree tree.now zones)) }
     ensures own { IfErr result IsOfBytes }
+    ensures no_expression { IfErr result IsNotOfExpression }
     ensures passed { OnOk result (next.new ≡ next.old + length (needed (subtree tree.now zones) 0 (replicate (tree_head tree.now zones).rows true))) }
 {
     // The contract of `rows_at` says that the rows are so few that their numbers fit.
@@ -162,6 +165,7 @@ fn unpruned_of(
     ensures kept { IfOk result (AreUnprunedBy reads.now (zones_over (subtree tree.now node)) proof.now.term start mask.now) }
     ensures cause { IfErr result (PruningFails reads.now (zones_over (subtree tree.now node)) start mask.now) }
     ensures own { IfErr result IsOfBytes }
+    ensures no_expression { IfErr result IsNotOfExpression }
     ensures passed { OnOk result (next.new ≡ next.old + length (zones_needed (subtree tree.now node) start mask.now)) }
 {
     match NodeParts::of(tree, node) {
@@ -209,6 +213,7 @@ fn unpruned_of_zoned(
     ensures kept { IfOk result (AreUnprunedBy reads.now (zones_over (subtree tree.now node)) proof.now.term start mask.now) }
     ensures cause { IfErr result (PruningFails reads.now (zones_over (subtree tree.now node)) start mask.now) }
     ensures own { IfErr result IsOfBytes }
+    ensures no_expression { IfErr result IsNotOfExpression }
     ensures passed { OnOk result (next.new ≡ next.old + length (zones_needed (subtree tree.now node) start mask.now)) }
 {
     if !selects_some(mask) {
@@ -267,6 +272,7 @@ fn unpruned_of_chunks(
     ensures kept { IfOk result (AreUnprunedBy reads.now (zones_over_in (trees_of tree.now chunks.now)) proof.now.term start mask.now) }
     ensures cause { IfErr result (PruningFails reads.now (zones_over_in (trees_of tree.now chunks.now)) start mask.now) }
     ensures own { IfErr result IsOfBytes }
+    ensures no_expression { IfErr result IsNotOfExpression }
     ensures passed { OnOk result (next.new ≡ next.old + length (zones_needed_in (trees_of tree.now chunks.now) start mask.now)) }
 {
     let mut kept = Mask::with_room(alloc, mask.len())?;
@@ -314,6 +320,7 @@ fn unpruned_of_range(
     ensures kept { IfOk result (AreUnprunedBy reads.now (zones_over (subtree tree.now node)) proof.now.term start (slice_range mask.now range.start range.end)) }
     ensures cause { IfErr result (PruningFails reads.now (zones_over (subtree tree.now node)) start (slice_range mask.now range.start range.end)) }
     ensures own { IfErr result IsOfBytes }
+    ensures no_expression { IfErr result IsNotOfExpression }
     ensures passed { OnOk result (next.new ≡ next.old + length (zones_needed_of_range (subtree tree.now node) start (slice_range mask.now range.start range.end))) }
 {
     let some = mask.slice(alloc, range)?;

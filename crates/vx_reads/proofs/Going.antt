@@ -8,7 +8,7 @@ use Rattle.vx_base.specs.Sources.{SourceState, asks_also, location_of, range_of}
 use Rattle.vx_reads.specs.declared.errors.ReaderError.{ReaderError}
 use Rattle.vx_reads.specs.declared.errors.ReaderError.TheVariants.{ReadFault, BadSegment, BadCode, EvalFault, NoLocation, Memory}
 use Rattle.vx_reads.specs.declared.reads.SegmentRead.{SegmentRead}
-use Rattle.vx_reads.specs.Reads.{bytes_in, segments_of, ticket_at, HasTicket, CameAt, AreInFlight, AsksOnly, IsRangeOf, Touches, GoOn, SourceFault, LeavesReads, StopsWith}
+use Rattle.vx_reads.specs.Reads.{bytes_in, segments_of, ticket_at, HasTicket, CameAt, AreInFlight, AsksOnly, IsRangeOf, Touches, GoOn, SourceFault, EndsBy, NoneCame, StopsWith}
 
 -- ---- one element of a list
 
@@ -154,23 +154,32 @@ fault_by locations (BadCode node row) one two before middle after first fault = 
 fault_by locations (EvalFault row) one two before middle after first fault = fault
 fault_by locations Memory one two before middle after first fault = tt
 
-abbrev leaves_then : (locations : List SegmentLocation) (one two : List SegmentRead) (before middle after : SourceState) → GoOn locations one two before middle → LeavesReads locations two middle after → LeavesReads locations one before after
-leaves_then locations one two before middle after first second = record {
-  reads = second.reads;
-  middle = second.middle;
-  went = goes_then locations one two second.reads before middle second.middle first second.went;
-  left = second.left;
-}
+-- ---- none came
 
-pub stops_then : (locations : List SegmentLocation) (error : ReaderError) (one two new : List SegmentRead) (before middle after : SourceState) → GoOn locations one two before middle → StopsWith locations error two new middle after → StopsWith locations error one new before after
-stops_then locations error one two new before middle after first second = (
-  record {
-    touches = touches_then locations one two before middle after first second.0.touches;
-    fault = fault_by locations error one two before middle after first second.0.fault;
-    leaves = leaves_then locations one two before middle after first second.0.leaves;
-  },
-  second.1,
-)
+pub none_then : (first other : ℕ) (one two three : List SegmentRead) → first ≤ other → NoneCame first one two → NoneCame other two three → NoneCame other one three
+none_then first other one two three le before none place under came = before place (omega (arith, le, under)) (none place under came)
+
+-- what failed behind further steps, in which none came
+ends_then : (locations : List SegmentLocation) (error : ReaderError) (one two three : List SegmentRead) (before after : SourceState) → NoneCame 0 one two → EndsBy locations error two three before after → EndsBy locations error one three before after
+ends_then locations error one two three before after none (inl same) = inl same
+ends_then locations error one two three before after none (inr (inl start)) = inr (inl (start.0, none_then 0 0 one two three (omega arith) none start.1, start.2))
+ends_then locations error one two three before after none (inr (inr poll)) = inr (inr (poll.0, none_then 0 poll.0 one two three (omega arith) none poll.1, poll.2))
+
+pub stops_then : (locations : List SegmentLocation) (error : ReaderError) (one two new : List SegmentRead) (before middle after : SourceState) → GoOn locations one two before middle → NoneCame 0 one two → StopsWith locations error two new middle after → StopsWith locations error one new before after
+stops_then locations error one two new before middle after first none second =
+    let left = second.0.leaves in (
+      record {
+        touches = touches_then locations one two before middle after first second.0.touches;
+        fault = fault_by locations error one two before middle after first second.0.fault;
+        leaves = record {
+          reads = left.reads;
+          middle = left.middle;
+          went = goes_then locations one two left.reads before middle left.middle first left.went;
+          ends = ends_then locations error one two left.reads left.middle after none left.ends;
+        };
+      },
+      second.1,
+    )
 
 -- nothing was done yet
 pub begins : (locations : List SegmentLocation) (reads : List SegmentRead) (source : SourceState) → AreInFlight locations reads source.in_flight → GoOn locations reads reads source source

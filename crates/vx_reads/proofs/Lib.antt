@@ -9,12 +9,14 @@ pub mod NodeTrees
 pub mod Ranges
 pub mod Chunking
 pub mod Computing
+pub mod Begun
 pub mod ByKind
 pub mod FieldTrees
 pub mod FieldColumns
 pub mod Projecting
 pub mod Filtering
 pub mod Knowing
+pub mod LeafRanges
 pub mod Reaching
 pub mod FilterFaults
 pub mod MaskFilters

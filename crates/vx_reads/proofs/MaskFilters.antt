@@ -1,6 +1,6 @@
 -- What a filter keeps of a leaf and of chunks one after another, and the faults of both.
 use Rattle.std.proofs.Common.{◌≡◌, ℕ, suc, ◌+◌, ◌-◌, ◌<◌, ◌≤◌, ◌⊎◌, inl, inr, Bool, true, false, ◌&&◌, List, [], ◌∷◌, ◌++◌, Option, Some, None, Result, Ok, Err, length, take, drop, refl, sym, ap, ◌∙◌, subst, arith}
-use Rattle.std.specs.Prelude.{slice_range, option_and_then, IfErr, IfOk, IsSome, IsSomeAnd}
+use Rattle.std.specs.Prelude.{slice_range, option_and_then, IfOk, IsSome, IsSomeAnd}
 use Rattle.std.specs.List.{slice_get}
 use Rattle.std.proofs.lemmas.Bool.{cases_lt}
 use Rattle.std.proofs.lemmas.List.{drop_all, length-take-le, take_all}
@@ -94,10 +94,6 @@ leaf_kept_none head segment coding these e start bits kept same none bytes at = 
   known = each_none (IsKnownAt bytes (derivation (leaf head segment coding) all) head.dtype e) start bits none;
 }
 
-pub leaf_kept_all : {E : Type 0} (result : Result (List Bool) E) (head : Head) (segment : ℕ) (coding : Coding) (these : List ℕ) (column : ColumnData) (e : Term) (start : ℕ) (bits : List Bool) → decoded_as coding head.dtype head.rows these ≡ Some column.values → column.dtype ≡ head.dtype → IfOk result (λ kept. kept ≡ filtered (column_meaning column e) start bits) → IfOk result (λ kept. AreWorth (column_meaning column e) start bits) → IfOk result (IsLeafKept head segment coding these e start bits)
-leaf_kept_all (Err error) head segment coding these column e start bits read typed is worth = tt
-leaf_kept_all (Ok kept) head segment coding these column e start bits read typed is worth = leaf_kept head segment coding these column e start bits kept read typed is worth
-
 leaf_fault_at : (head : Head) (segment : ℕ) (coding : Coding) (these : List ℕ) (column : ColumnData) (e : Term) (row : ℕ) (bytes : Bytes) → decoded_as coding head.dtype head.rows these ≡ Some column.values → column.dtype ≡ head.dtype → bytes segment ≡ Some these → IsFaultOf column e row → IsFaultAt bytes (derivation (leaf head segment coding) all) head.dtype e row
 leaf_fault_at head segment coding these column e row bytes read typed at fault =
     let has = leaf_is head segment coding these column.values bytes read at in
@@ -114,10 +110,6 @@ leaf_filter_fault head segment coding these column e start first bits ReadFault 
 leaf_filter_fault head segment coding these column e start first bits (BadSegment other) read typed fault = absurd fault
 leaf_filter_fault head segment coding these column e start first bits (BadCode node row) read typed fault = absurd fault
 leaf_filter_fault head segment coding these column e start first bits (NoLocation other) read typed fault = absurd fault
-
-pub leaf_fault_all : {X : Type 0} (result : Result X ReaderError) (head : Head) (segment : ℕ) (coding : Coding) (these : List ℕ) (column : ColumnData) (e : Term) (start first : ℕ) (bits : List Bool) → decoded_as coding head.dtype head.rows these ≡ Some column.values → column.dtype ≡ head.dtype → IfErr result (IsFilterFault column e start first bits) → IfErr result (IsLeafFilterFault head segment coding these e start first bits)
-leaf_fault_all (Ok kept) head segment coding these column e start first bits read typed fault = tt
-leaf_fault_all (Err error) head segment coding these column e start first bits read typed fault = leaf_filter_fault head segment coding these column e start first bits error read typed fault
 
 -- ---- chunks
 

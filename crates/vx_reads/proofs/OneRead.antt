@@ -1,5 +1,5 @@
 -- One read of a list goes on, and so do all.
-use Rattle.std.proofs.Common.{◌≡◌, ◌≢◌, ℕ, ◌≤◌, ◌⊎◌, inl, inr, Bool, true, false, List, [], ◌∷◌, ◌++◌, Option, Some, None, slice_set, refl, sym, ap, ◌∙◌, subst, arith}
+use Rattle.std.proofs.Common.{◌≡◌, ◌≢◌, ℕ, ◌+◌, ◌≤◌, ◌⊎◌, inl, inr, Bool, true, false, List, [], ◌∷◌, ◌++◌, Option, Some, None, slice_set, refl, sym, ap, ◌∙◌, subst, arith}
 use Rattle.std.specs.Prelude.{option_and_then, IfSome, IsSome, IsSomeAnd}
 use Rattle.std.specs.List.{slice_get}
 use Rattle.std.specs.Global.{Vec}
@@ -8,7 +8,7 @@ use Rattle.vx_base.specs.Sources.{SourceState, Started, Ended, IsSegment, locati
 use Rattle.vx_reads.specs.declared.reads.ReadState.{ReadState}
 use Rattle.vx_reads.specs.declared.reads.ReadState.TheVariants as states
 use Rattle.vx_reads.specs.declared.reads.SegmentRead.{SegmentRead}
-use Rattle.vx_reads.specs.Reads.{bytes_in, ticket_in, read_with, segments_of, ticket_at, file_bytes, HasTicket, CameAt, IsInFlight, AreInFlight, HasBytes, HaveBytes, AsksOnly, IsRangeOf, GoOn, IsStarted, IsEnded, IsSame, StartsBy, PollsBy, IsAtSource}
+use Rattle.vx_reads.specs.Reads.{bytes_in, ticket_in, read_with, segments_of, ticket_at, file_bytes, HasTicket, CameAt, IsInFlight, AreInFlight, HasBytes, HaveBytes, AsksOnly, IsRangeOf, GoOn, IsStarted, IsEnded, IsSame, NoneCame, StartsBy, PollsBy, IsAtSource}
 use Rattle.vx_reads.proofs.Going.{at_set, set_same, set_there, segments_set, segment_there, asks_none, asks_one, some_in, waits, begins}
 use Rattle.vx_reads.proofs.Flights.{gone_without, located_others, located_still, located_without}
 
@@ -294,3 +294,39 @@ go_poll locations reads place old new goes_on before after at located is = by ol
         let F : List SegmentRead → Type 0 = λ news. GoOn locations reads news before after in
         let waited : before.idle ≤ after.idle = is.2.kept in
         subst F (sym same) (waits locations reads before after located is.1.in_flight is.1.asked is.1.file is.1.faults waited)
+
+-- ---- which reads came
+
+-- beside the read that is written those came that came before
+came_set : (reads : List SegmentRead) (place j : ℕ) (old new : SegmentRead) → slice_get reads place ≡ Some old → (IsSome (bytes_in new.state) → IsSome (bytes_in old.state)) →
+    ((j ≡ place) × (slice_get (slice_set reads place new) j ≡ Some new)) ⊎ ((j ≢ place) × (slice_get (slice_set reads place new) j ≡ slice_get reads j)) → CameAt (slice_set reads place new) j → CameAt reads j
+came_set reads place j old new there only (inl (same, is)) came =
+    let F : Option SegmentRead → Type 0 = λ o. IsSomeAnd o (λ (read : SegmentRead). IsSome (bytes_in read.state)) in
+    let here : IsSome (bytes_in new.state) = subst F is came in
+    subst F (sym (ap (slice_get reads) same ∙ there)) (only here)
+came_set reads place j old new there only (inr (differ, is)) came =
+    let F : Option SegmentRead → Type 0 = λ o. IsSomeAnd o (λ (read : SegmentRead). IsSome (bytes_in read.state)) in
+    subst F is came
+
+started_bytes : (locations : List SegmentLocation) (old new : SegmentRead) (before after : SourceState) (s : ReadState) → old.state ≡ s → StartsBy s locations old new before after → IsSome (bytes_in new.state) → IsSome (bytes_in old.state)
+started_bytes locations old new before after states.NotAsked e is came =
+    let none : bytes_in new.state ≡ None = ap (λ (r : SegmentRead). bytes_in r.state) is.3 in
+    let has : IsSome {T = List ℕ} None = subst (λ (o : Option (List ℕ)). IsSome o) none came in
+    absurd cc
+started_bytes locations old new before after (states.InFlight ticket) e is came = subst (λ (r : SegmentRead). IsSome (bytes_in r.state)) is.0 came
+started_bytes locations old new before after (states.Came bytes) e is came = subst (λ (r : SegmentRead). IsSome (bytes_in r.state)) is.0 came
+
+-- a start brings no bytes
+pub none_started : (locations : List SegmentLocation) (one reads : List SegmentRead) (place : ℕ) (old new : SegmentRead) (before after : SourceState) → slice_get reads place ≡ Some old → StartsBy old.state locations old new before after → NoneCame 0 one reads → NoneCame 0 one (slice_set reads place new)
+none_started locations one reads place old new before after there is none j under came =
+    none j under (came_set reads place j old new there (started_bytes locations old new before after old.state refl is) (at_set reads place j old new there) came)
+
+-- and a poll none to the reads behind it
+pub none_polled : (one reads : List SegmentRead) (place : ℕ) (old new : SegmentRead) → slice_get reads place ≡ Some old → NoneCame place one reads → NoneCame (place + 1) one (slice_set reads place new)
+none_polled one reads place old new there none j under came = by (at_set reads place j old new there)
+  where
+    by : ((j ≡ place) × (slice_get (slice_set reads place new) j ≡ Some new)) ⊎ ((j ≢ place) × (slice_get (slice_set reads place new) j ≡ slice_get reads j)) → CameAt one j
+    by (inl (same, is)) = absurd (omega (arith, same, under))
+    by (inr (differ, is)) =
+        let F : Option SegmentRead → Type 0 = λ o. IsSomeAnd o (λ (read : SegmentRead). IsSome (bytes_in read.state)) in
+        none j (omega (arith, under)) (subst F is came)

@@ -22,7 +22,7 @@ polled_reads locations (Ok waiting) one two three before middle after started po
   count = polled.count;
   waited = low_rose waiting before.idle middle.idle after.idle started.goes.touches.idle polled.waited;
 }
-polled_reads locations (Err error) one two three before middle after started polled = stops_then locations error one two three before middle after started.goes polled
+polled_reads locations (Err error) one two three before middle after started polled = stops_then locations error one two three before middle after started.goes started.none polled
 
 -- ---- when all came
 

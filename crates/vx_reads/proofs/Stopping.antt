@@ -1,4 +1,4 @@
--- A call for one read fails, and so does one for all.
+-- A call for one read fails, and so does one for all: which it was, and what that leaves of the reads.
 use Rattle.std.proofs.Common.{◌≡◌, ℕ, ◌≤◌, ◌⊎◌, inl, inr, List, Option, Some, None, Err, slice_set, refl, sym, ap, ◌∙◌, subst, arith}
 use Rattle.std.specs.Prelude.{IsSomeAnd}
 use Rattle.std.specs.List.{slice_get}
@@ -7,8 +7,8 @@ use Rattle.vx_base.specs.Sources.{SourceState, Rose, NotStarted, Ended, asks_als
 use Rattle.vx_reads.specs.declared.errors.ReaderError.{ReaderError}
 use Rattle.vx_reads.specs.declared.errors.ReaderError.TheVariants.{ReadFault, BadSegment, BadCode, EvalFault, NoLocation, Memory}
 use Rattle.vx_reads.specs.declared.reads.SegmentRead.{SegmentRead}
-use Rattle.vx_reads.specs.Reads.{ticket_in, segments_of, AreInFlight, AsksOnly, IsRangeOf, LeavesReads, LosesOneAtMost, Touches, Stops, StopsWith, IsNotStarted, StartGivesOne, PollGivesOne}
-use Rattle.vx_reads.proofs.Going.{segment_there, set_same, asks_none, asks_one, begins, stay}
+use Rattle.vx_reads.specs.Reads.{ticket_in, segments_of, AsksOnly, EndsBy, GoOn, IsRangeOf, NoneCame, PollFails, SourceFault, StartFails, Touches, StopsWith, IsNotStarted, StartGivesOne, PollGivesOne}
+use Rattle.vx_reads.proofs.Going.{segment_there, set_same, asks_none, asks_one, fault_by, stay, touches_then}
 use Rattle.vx_reads.proofs.OneRead.{ticket_of}
 use Rattle.vx_reads.proofs.Flights.{located_without}
 
@@ -38,63 +38,50 @@ touches_not_started locations reads place old before after there is faults = by 
 written_same : (reads : List SegmentRead) (place : ℕ) (old new : SegmentRead) → slice_get reads place ≡ Some old → new ≡ old → slice_set reads place new ≡ reads
 written_same reads place old new there same = ap (λ (read : SegmentRead). slice_set reads place read) same ∙ set_same reads place old there
 
-abbrev leaves_all : (locations : List SegmentLocation) (reads : List SegmentRead) (before after : SourceState) → AreInFlight locations reads before.in_flight → LosesOneAtMost reads before.in_flight after.in_flight → LeavesReads locations reads before after
-leaves_all locations reads before after located left = record {
-  reads = reads;
-  middle = before;
-  went = begins locations reads before located;
-  left = left;
-}
-
-same_flights : (o : Option SegmentLocation) (before after : SourceState) → IsSomeAnd o (λ at. NotStarted at before after) → after.in_flight ≡ before.in_flight
-same_flights None before after is = absurd is
-same_flights (Some at) before after is = is.in_flight
-
-lost_flight : (reads : List SegmentRead) (place : ℕ) (old : SegmentRead) (before after : SourceState) → slice_get reads place ≡ Some old → (o : Option ℕ) → ticket_in old.state ≡ o → IsSomeAnd o (λ ticket. Ended ticket before after × Rose before.faults after.faults) → LosesOneAtMost reads before.in_flight after.in_flight
-lost_flight reads place old before after there None e is = absurd is
-lost_flight reads place old before after there (Some ticket) e is = inr (ticket, (place, ticket_of reads place old there ∙ e), is.0.in_flight)
+-- the reads went on, and then the call for the one at a place failed
+stopped : (locations : List SegmentLocation) (error : ReaderError) (one reads : List SegmentRead) (place : ℕ) (old new : SegmentRead) (start before after : SourceState) → GoOn locations one reads start before → slice_get reads place ≡ Some old → new ≡ old → Touches locations reads before after × SourceFault locations (segments_of reads) error before after → EndsBy locations error one reads before after → StopsWith locations error one (slice_set reads place new) start after
+stopped locations error one reads place old new start before after went there same stops ends = (
+  record {
+    touches = touches_then locations one reads start before after went stops.0;
+    fault = fault_by locations error one reads start before after went stops.1;
+    leaves = record { reads = reads; middle = before; went = went; ends = ends };
+  },
+  written_same reads place old new there same,
+)
 
 -- ---- a start
 
-start_stops : (locations : List SegmentLocation) (reads : List SegmentRead) (place : ℕ) (old new : SegmentRead) (error : ReaderError) (before after : SourceState) → slice_get reads place ≡ Some old → AreInFlight locations reads before.in_flight → StartGivesOne locations (Err error) old new before after → (stops : Stops locations error reads before after) × (stops.leaves.reads ≡ reads) × (new ≡ old)
-start_stops locations reads place old new ReadFault before after there located is = (
-  record {
-    touches = touches_not_started locations reads place old before after there is.0 is.1.kept;
-    fault = is.1;
-    leaves = leaves_all locations reads before after located (inl (same_flights (slice_get locations old.segment) before after is.0));
-  },
-  refl,
-  is.2,
-)
-start_stops locations reads place old new Memory before after there located is = (
-  record {
-    touches = touches_not_started locations reads place old before after there is.0 (let e = is.1 in omega arith);
-    fault = tt;
-    leaves = leaves_all locations reads before after located (inl (same_flights (slice_get locations old.segment) before after is.0));
-  },
-  refl,
-  is.2,
-)
-start_stops locations reads place old new (NoLocation segment) before after there located is = (
-  record {
-    touches = subst (Touches locations reads before) (sym is.2) (stay locations reads before);
-    fault = (place, segment_there reads place old there ∙ ap Some (sym is.0), ap (slice_get locations) is.0 ∙ is.1);
-    leaves = leaves_all locations reads before after located (inl (ap (λ (s : SourceState). s.in_flight) is.2));
-  },
-  refl,
-  is.3,
-)
-start_stops locations reads place old new (BadSegment segment) before after there located is = absurd is
-start_stops locations reads place old new (BadCode node row) before after there located is = absurd is
-start_stops locations reads place old new (EvalFault row) before after there located is = absurd is
+-- it leaves the read as it was
+start_same : (locations : List SegmentLocation) (error : ReaderError) (old new : SegmentRead) (before after : SourceState) → StartGivesOne locations (Err error) old new before after → new ≡ old
+start_same locations ReadFault old new before after is = is.2
+start_same locations Memory old new before after is = is.2
+start_same locations (NoLocation segment) old new before after is = is.3
+start_same locations (BadSegment segment) old new before after is = absurd is
+start_same locations (BadCode node row) old new before after is = absurd is
+start_same locations (EvalFault row) old new before after is = absurd is
 
--- the reads with the one whose start failed, and with the same in their place
-stopped_with : (locations : List SegmentLocation) (reads : List SegmentRead) (place : ℕ) (old new : SegmentRead) (error : ReaderError) (before after : SourceState) → slice_get reads place ≡ Some old → (stops : Stops locations error reads before after) × (stops.leaves.reads ≡ reads) × (new ≡ old) → StopsWith locations error reads (slice_set reads place new) before after
-stopped_with locations reads place old new error before after there stopped = (stopped.0, written_same reads place old new there stopped.2 ∙ sym stopped.1)
+start_stops : (locations : List SegmentLocation) (reads : List SegmentRead) (place : ℕ) (old new : SegmentRead) (error : ReaderError) (before after : SourceState) → slice_get reads place ≡ Some old → StartGivesOne locations (Err error) old new before after → Touches locations reads before after × SourceFault locations (segments_of reads) error before after
+start_stops locations reads place old new ReadFault before after there is = (touches_not_started locations reads place old before after there is.0 is.1.kept, is.1)
+start_stops locations reads place old new Memory before after there is = (touches_not_started locations reads place old before after there is.0 (let e = is.1 in omega arith), tt)
+start_stops locations reads place old new (NoLocation segment) before after there is = (
+  subst (Touches locations reads before) (sym is.2) (stay locations reads before),
+  (place, segment_there reads place old there ∙ ap Some (sym is.0), ap (slice_get locations) is.0 ∙ is.1),
+)
+start_stops locations reads place old new (BadSegment segment) before after there is = absurd is
+start_stops locations reads place old new (BadCode node row) before after there is = absurd is
+start_stops locations reads place old new (EvalFault row) before after there is = absurd is
 
-pub stop_start : (locations : List SegmentLocation) (reads : List SegmentRead) (place : ℕ) (old new : SegmentRead) (error : ReaderError) (before after : SourceState) → slice_get reads place ≡ Some old → AreInFlight locations reads before.in_flight → StartGivesOne locations (Err error) old new before after → StopsWith locations error reads (slice_set reads place new) before after
-stop_start locations reads place old new error before after there located is =
-    stopped_with locations reads place old new error before after there (start_stops locations reads place old new error before after there located is)
+start_fails : (locations : List SegmentLocation) (error : ReaderError) (one reads : List SegmentRead) (place : ℕ) (old new : SegmentRead) (before after : SourceState) → NoneCame 0 one reads → slice_get reads place ≡ Some old → StartGivesOne locations (Err error) old new before after → StartFails locations error one reads before after
+start_fails locations error one reads place old new before after none there is =
+    let F : SegmentRead → Type 0 = λ read. StartGivesOne locations (Err error) old read before after in
+    let G : Option SegmentRead → Type 0 = λ found. IsSomeAnd found (λ (read : SegmentRead). StartGivesOne locations (Err error) read read before after) in
+    (place, none, subst G (sym there) (subst F (start_same locations error old new before after is) is))
+
+pub stop_start : (locations : List SegmentLocation) (one reads : List SegmentRead) (place : ℕ) (old new : SegmentRead) (error : ReaderError) (start before after : SourceState) → GoOn locations one reads start before → NoneCame 0 one reads → slice_get reads place ≡ Some old → StartGivesOne locations (Err error) old new before after → StopsWith locations error one (slice_set reads place new) start after
+stop_start locations one reads place old new error start before after went none there is =
+    stopped locations error one reads place old new start before after went there (start_same locations error old new before after is)
+    (start_stops locations reads place old new error before after there is)
+    (inr (inl (start_fails locations error one reads place old new before after none there is)))
 
 -- ---- a poll
 
@@ -111,37 +98,40 @@ touches_ended locations reads place old before after there (Some ticket) e is = 
   is.1,
 )
 
-poll_stops : (locations : List SegmentLocation) (reads : List SegmentRead) (place : ℕ) (old new : SegmentRead) (error : ReaderError) (before after : SourceState) → slice_get reads place ≡ Some old → AreInFlight locations reads before.in_flight → PollGivesOne (Err error) old new before after → (stops : Stops locations error reads before after) × (stops.leaves.reads ≡ reads) × (new ≡ old)
-poll_stops locations reads place old new ReadFault before after there located is =
-    let t = touches_ended locations reads place old before after there (ticket_in old.state) refl is.0 in (
-      record {
-        touches = t.0;
-        fault = t.1;
-        leaves = leaves_all locations reads before after located (lost_flight reads place old before after there (ticket_in old.state) refl is.0);
-      },
-      refl,
-      is.1,
-    )
-poll_stops locations reads place old new Memory before after there located is = (
-  record {
-    touches = record {
-      file = is.0.file;
-      asks = subst (AsksOnly (IsRangeOf locations (segments_of reads)) before.asked) (sym is.0.asked) (asks_none (IsRangeOf locations (segments_of reads)) before.asked);
-      others = λ other at2 foreign found. ap (location_of other) is.0.in_flight ∙ found;
-      faults = (let e = is.0.faults in omega arith);
-      idle = (let e = is.1 in omega arith);
-    };
-    fault = tt;
-    leaves = leaves_all locations reads before after located (inl is.0.in_flight);
-  },
-  refl,
-  is.2,
-)
-poll_stops locations reads place old new (NoLocation segment) before after there located is = absurd is
-poll_stops locations reads place old new (BadSegment segment) before after there located is = absurd is
-poll_stops locations reads place old new (BadCode node row) before after there located is = absurd is
-poll_stops locations reads place old new (EvalFault row) before after there located is = absurd is
+-- it leaves the read as it was
+poll_same : (error : ReaderError) (old new : SegmentRead) (before after : SourceState) → PollGivesOne (Err error) old new before after → new ≡ old
+poll_same ReadFault old new before after is = is.1
+poll_same Memory old new before after is = is.2
+poll_same (NoLocation segment) old new before after is = absurd is
+poll_same (BadSegment segment) old new before after is = absurd is
+poll_same (BadCode node row) old new before after is = absurd is
+poll_same (EvalFault row) old new before after is = absurd is
 
-pub stop_poll : (locations : List SegmentLocation) (reads : List SegmentRead) (place : ℕ) (old new : SegmentRead) (error : ReaderError) (before after : SourceState) → slice_get reads place ≡ Some old → AreInFlight locations reads before.in_flight → PollGivesOne (Err error) old new before after → StopsWith locations error reads (slice_set reads place new) before after
-stop_poll locations reads place old new error before after there located is =
-    stopped_with locations reads place old new error before after there (poll_stops locations reads place old new error before after there located is)
+poll_stops : (locations : List SegmentLocation) (reads : List SegmentRead) (place : ℕ) (old new : SegmentRead) (error : ReaderError) (before after : SourceState) → slice_get reads place ≡ Some old → PollGivesOne (Err error) old new before after → Touches locations reads before after × SourceFault locations (segments_of reads) error before after
+poll_stops locations reads place old new ReadFault before after there is = touches_ended locations reads place old before after there (ticket_in old.state) refl is.0
+poll_stops locations reads place old new Memory before after there is = (
+  record {
+    file = is.0.file;
+    asks = subst (AsksOnly (IsRangeOf locations (segments_of reads)) before.asked) (sym is.0.asked) (asks_none (IsRangeOf locations (segments_of reads)) before.asked);
+    others = λ other at2 foreign found. ap (location_of other) is.0.in_flight ∙ found;
+    faults = (let e = is.0.faults in omega arith);
+    idle = (let e = is.1 in omega arith);
+  },
+  tt,
+)
+poll_stops locations reads place old new (NoLocation segment) before after there is = absurd is
+poll_stops locations reads place old new (BadSegment segment) before after there is = absurd is
+poll_stops locations reads place old new (BadCode node row) before after there is = absurd is
+poll_stops locations reads place old new (EvalFault row) before after there is = absurd is
+
+poll_fails : (error : ReaderError) (one reads : List SegmentRead) (place : ℕ) (old new : SegmentRead) (before after : SourceState) → NoneCame place one reads → slice_get reads place ≡ Some old → PollGivesOne (Err error) old new before after → PollFails error one reads before after
+poll_fails error one reads place old new before after none there is =
+    let F : SegmentRead → Type 0 = λ read. PollGivesOne (Err error) old read before after in
+    let G : Option SegmentRead → Type 0 = λ found. IsSomeAnd found (λ (read : SegmentRead). PollGivesOne (Err error) read read before after) in
+    (place, none, subst G (sym there) (subst F (poll_same error old new before after is) is))
+
+pub stop_poll : (locations : List SegmentLocation) (one reads : List SegmentRead) (place : ℕ) (old new : SegmentRead) (error : ReaderError) (start before after : SourceState) → GoOn locations one reads start before → NoneCame place one reads → slice_get reads place ≡ Some old → PollGivesOne (Err error) old new before after → StopsWith locations error one (slice_set reads place new) start after
+stop_poll locations one reads place old new error start before after went none there is =
+    stopped locations error one reads place old new start before after went there (poll_same error old new before after is)
+    (poll_stops locations reads place old new error before after there is)
+    (inr (inr (poll_fails error one reads place old new before after none there is)))

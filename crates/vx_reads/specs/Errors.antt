@@ -16,6 +16,15 @@ IsOfBytes (BadCode node row) = Unit {0}
 IsOfBytes (EvalFault row) = Unit {0}
 IsOfBytes Memory = Unit {0}
 
+-- the fault is none of an expression
+abbrev pub IsNotOfExpression : ReaderError → Type 0
+IsNotOfExpression ReadFault = Unit {0}
+IsNotOfExpression (NoLocation segment) = Unit {0}
+IsNotOfExpression (BadSegment segment) = Unit {0}
+IsNotOfExpression (BadCode node row) = Unit {0}
+IsNotOfExpression (EvalFault row) = ⊥
+IsNotOfExpression Memory = Unit {0}
+
 -- a code of the dictionary of that number looks up no value
 abbrev pub look_up_fault : ℕ → LookUpError → ReaderError
 look_up_fault dictionary (looked.BadCode row) = BadCode dictionary row

@@ -1,5 +1,5 @@
 -- Which segments the selected rows of a range need, in the order in which they are read.
-use Rattle.std.specs.Prelude.{ℕ, ◌-◌, Bool, true, if◌then◌else◌, List, [], ◌∷◌, ◌++◌, take, drop, replicate}
+use Rattle.std.specs.Prelude.{◌≡◌, ℕ, ◌-◌, Bool, true, if◌then◌else◌, List, [], ◌∷◌, ◌++◌, length, take, drop, replicate}
 use Rattle.vx_base.specs.Data.{Members, no_members, member}
 use Rattle.vx_layout.specs.Rows.{struct_members}
 use Rattle.vx_layout.specs.Trees.{Tree, missing, leaf, chunks, fields, dict, lists, zoned, Forest, no_trees, tree, head_of}
@@ -45,3 +45,7 @@ needed_of_each (tree first rest) start bits = needed first start bits ++ needed_
 -- of a tree, where some row is selected
 abbrev pub needed_of_range : Tree → ℕ → List Bool → List ℕ
 needed_of_range t start bits = if selects_some bits then needed t start bits else []
+
+-- what a list held stands at its front
+abbrev pub BeginsWith : List ℕ → List ℕ → Type 0
+BeginsWith held list = take (length held) list ≡ held

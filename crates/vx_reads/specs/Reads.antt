@@ -4,7 +4,7 @@ use Rattle.std.specs.List.{slice_get, AllByRecursion}
 use Rattle.std.specs.Global.{Vec}
 use Rattle.vx_base.specs.declared.locations.SegmentLocation.{SegmentLocation}
 use Rattle.vx_base.specs.declared.locations.AskedRange.{AskedRange}
-use Rattle.vx_base.specs.Sources.{SourceState, Rose, RoseBy, Started, NotStarted, Ended, GoesOn, IsSegment, location_of, range_of, bytes_at, without}
+use Rattle.vx_base.specs.Sources.{SourceState, Rose, RoseBy, Started, NotStarted, Ended, GoesOn, IsSegment, location_of, range_of, bytes_at}
 use Rattle.vx_reads.specs.declared.errors.ReaderError.{ReaderError}
 use Rattle.vx_reads.specs.declared.errors.ReaderError.TheVariants.{ReadFault, BadSegment, BadCode, EvalFault, NoLocation, Memory}
 use Rattle.vx_reads.specs.declared.reads.ReadState.{ReadState}
@@ -105,27 +105,6 @@ SourceFault locations segments (NoLocation segment) before after = (place : ℕ)
 SourceFault locations segments Memory before after = Unit {0}
 SourceFault locations segments error before after = ⊥
 
--- what is in flight is what was so, but for the read of one ticket of these at most
-abbrev pub LosesOneAtMost : List SegmentRead → List (ℕ × SegmentLocation) → List (ℕ × SegmentLocation) → Type 0
-LosesOneAtMost reads before after = (after ≡ before) ⊎ ((ticket : ℕ) × HasTicket reads ticket × (after ≡ without ticket before))
-
--- The reads went on up to the call that failed, if one did, and were left so: of those that were in flight then all still are,
--- but for the one whose poll failed.
-pub record LeavesReads (locations : List SegmentLocation) (old : List SegmentRead) (before after : SourceState) : Type 0 where
-  pub reads : List SegmentRead
-  pub middle : SourceState
-  pub went : GoOn locations old reads before middle
-  pub left : LosesOneAtMost reads middle.in_flight after.in_flight
-
-pub record Stops (locations : List SegmentLocation) (error : ReaderError) (old : List SegmentRead) (before after : SourceState) : Type 0 where
-  pub touches : Touches locations old before after
-  pub fault : SourceFault locations (segments_of old) error before after
-  pub leaves : LeavesReads locations old before after
-
--- and these are the reads as they were left
-abbrev pub StopsWith : List SegmentLocation → ReaderError → List SegmentRead → List SegmentRead → SourceState → SourceState → Type 0
-StopsWith locations error old new before after = (stops : Stops locations error old before after) × (new ≡ stops.leaves.reads)
-
 -- ---- a call for one read
 
 abbrev pub IsStarted : List SegmentLocation → SegmentRead → SegmentRead → SourceState → SourceState → Type 0
@@ -175,6 +154,43 @@ PollGivesOne (Err ReadFault) old new before after = IsSomeAnd (ticket_in old.sta
 PollGivesOne (Err Memory) old new before after = GoesOn before after × (after.idle ≡ before.idle) × (new ≡ old)
 PollGivesOne (Err error) old new before after = ⊥
 
+-- ---- a call that fails
+
+-- of the reads from a place on none came
+abbrev pub NoneCame : ℕ → List SegmentRead → List SegmentRead → Type 0
+NoneCame first old new = (place : ℕ) → first ≤ place → CameAt new place → CameAt old place
+
+-- the start of the read at a place failed, before any of the reads came
+abbrev pub StartFails : List SegmentLocation → ReaderError → List SegmentRead → List SegmentRead → SourceState → SourceState → Type 0
+StartFails locations error old new before after =
+    (place : ℕ) × NoneCame 0 old new × IsSomeAnd (slice_get new place) (λ (read : SegmentRead). StartGivesOne locations (Err error) read read before after)
+
+-- the poll of the read at a place failed, before that one or one behind it came
+abbrev pub PollFails : ReaderError → List SegmentRead → List SegmentRead → SourceState → SourceState → Type 0
+PollFails error old new before after =
+    (place : ℕ) × NoneCame place old new × IsSomeAnd (slice_get new place) (λ (read : SegmentRead). PollGivesOne (Err error) read read before after)
+
+-- no call failed, and the source is as it was; or a start failed, or a poll
+abbrev pub EndsBy : List SegmentLocation → ReaderError → List SegmentRead → List SegmentRead → SourceState → SourceState → Type 0
+EndsBy locations error old new before after = (after ≡ before) ⊎ (StartFails locations error old new before after ⊎ PollFails error old new before after)
+
+-- The reads went on up to the call that failed, if one did, and were left so. A start that failed leaves all that is in flight; a poll
+-- that failed ends the read that it was for, unless there was no memory, and leaves all others.
+pub record LeavesReads (locations : List SegmentLocation) (error : ReaderError) (old : List SegmentRead) (before after : SourceState) : Type 0 where
+  pub reads : List SegmentRead
+  pub middle : SourceState
+  pub went : GoOn locations old reads before middle
+  pub ends : EndsBy locations error old reads middle after
+
+pub record Stops (locations : List SegmentLocation) (error : ReaderError) (old : List SegmentRead) (before after : SourceState) : Type 0 where
+  pub touches : Touches locations old before after
+  pub fault : SourceFault locations (segments_of old) error before after
+  pub leaves : LeavesReads locations error old before after
+
+-- and these are the reads as they were left
+abbrev pub StopsWith : List SegmentLocation → ReaderError → List SegmentRead → List SegmentRead → SourceState → SourceState → Type 0
+StopsWith locations error old new before after = (stops : Stops locations error old before after) × (new ≡ stops.leaves.reads)
+
 -- ---- a call for all of them
 
 abbrev pub IsAsked : ReadState → Type 0
@@ -214,9 +230,10 @@ ranges_to_ask locations (read ∷ reads) = range_to_ask locations read.segment r
 abbrev pub asked_also : List SegmentLocation → List SegmentRead → Option (List AskedRange) → Option (List AskedRange)
 asked_also locations reads asked = option_map (λ ranges. ranges ++ ranges_to_ask locations reads) asked
 
--- Each read is asked for: those that were not asked for are so now, once each, and nothing else is.
+-- Each read is asked for: those that were not asked for are so now, once each, and nothing else is. None came.
 pub record AllStarted (locations : List SegmentLocation) (old new : List SegmentRead) (before after : SourceState) : Type 0 where
   pub goes : GoOn locations old new before after
+  pub none : NoneCame 0 old new
   pub asked : AreAsked (length new) new
   pub asks : after.asked ≡ asked_also locations old before.asked
 

@@ -10,7 +10,7 @@ ghost use Rattle.vx_reads.specs.Came.{Begin};
 ghost use Rattle.vx_reads.specs.Fielded.{AreColumnsBy};
 ghost use Rattle.vx_reads.specs.Needed.{needed, needed_in, needed_of_each, needed_of_range};
 ghost use Rattle.vx_reads.specs.Readable.{tree_head, trees_of, AreReadable, IsChunked, IsDict, IsStructNode};
-ghost use Rattle.vx_reads.specs.Errors.{IsOfBytes};
+ghost use Rattle.vx_reads.specs.Errors.{IsNotOfExpression, IsOfBytes};
 ghost use Rattle.vx_picking.specs.Rows.{selects_some};
 
 use crate::errors::ReaderError;
@@ -46,6 +46,7 @@ pub fn column_of(
     ensures values { IfOk result (λ column. AreRowsBy reads.now (derivation (subtree tree.now node) all) start mask.now column.values) }
     ensures cause { IfErr result (Fails reads.now (derivation (subtree tree.now node) all) start (length mask.now)) }
     ensures own { IfErr result IsOfBytes }
+    ensures no_expression { IfErr result IsNotOfExpression }
     ensures passed { OnOk result (next.new ≡ next.old + length (needed (subtree tree.now node) start mask.now)) }
     ensures stays { OnErr result (next.new ≡ next.old) }
 {
@@ -79,6 +80,7 @@ fn node_column(
     ensures values { IfOk result (λ column. AreRowsBy reads.now (derivation (subtree tree.now node) all) start mask.now column.values) }
     ensures cause { IfErr result (Fails reads.now (derivation (subtree tree.now node) all) start (length mask.now)) }
     ensures own { IfErr result IsOfBytes }
+    ensures no_expression { IfErr result IsNotOfExpression }
     ensures passed { OnOk result (next.new ≡ next.old + length (needed (subtree tree.now node) start mask.now)) }
 {
     match NodeParts::of(tree, node) {
@@ -126,6 +128,7 @@ fn chunks_column(
     ensures values { IfOk result (λ column. AreRowsBy reads.now (derivation_in (trees_of tree.now chunks.now) all) start mask.now column.values) }
     ensures cause { IfErr result (Fails reads.now (derivation_in (trees_of tree.now chunks.now) all) start (length mask.now)) }
     ensures own { IfErr result IsOfBytes }
+    ensures no_expression { IfErr result IsNotOfExpression }
     ensures passed { OnOk result (next.new ≡ next.old + length (needed_in (trees_of tree.now chunks.now) start mask.now)) }
 {
     let mut parts = Vec::new(alloc);
@@ -160,6 +163,7 @@ fn add_chunks(
     ensures added { OnOk result (AddsRows reads.now (tree_head tree.now node).dtype (derivation_in (trees_of tree.now chunks.now) all) start mask.now parts.old.items parts.new.items) }
     ensures cause { IfErr result (Fails reads.now (derivation_in (trees_of tree.now chunks.now) all) start (length mask.now)) }
     ensures own { IfErr result IsOfBytes }
+    ensures no_expression { IfErr result IsNotOfExpression }
     ensures passed { OnOk result (next.new ≡ next.old + length (needed_in (trees_of tree.now chunks.now) start mask.now)) }
 {
     let mut row = start;
@@ -200,6 +204,7 @@ fn add_range(
     ensures added { OnOk result (AddsRows reads.now (tree_head tree.now node).dtype (derivation (subtree tree.now node) all) start (slice_range mask.now range.start range.end) parts.old.items parts.new.items) }
     ensures cause { IfErr result (Fails reads.now (derivation (subtree tree.now node) all) start (range.end - range.start)) }
     ensures own { IfErr result IsOfBytes }
+    ensures no_expression { IfErr result IsNotOfExpression }
     ensures passed { OnOk result (next.new ≡ next.old + length (needed_of_range (subtree tree.now node) start (slice_range mask.now range.start range.end))) }
 {
     if range.start == range.end {
@@ -234,6 +239,7 @@ pub(crate) fn add_parts(
     ensures added { OnOk result (AddsRows reads.now (tree_head tree.now node).dtype (derivation (subtree tree.now node) all) start mask.now parts.old.items parts.new.items) }
     ensures cause { IfErr result (Fails reads.now (derivation (subtree tree.now node) all) start (length mask.now)) }
     ensures own { IfErr result IsOfBytes }
+    ensures no_expression { IfErr result IsNotOfExpression }
     ensures passed { OnOk result (next.new ≡ next.old + length (needed (subtree tree.now node) start mask.now)) }
 {
     match NodeParts::of(tree, node) {
@@ -287,6 +293,7 @@ pub(crate) fn dict_parts(
     ensures values { IfOk result (λ parts. AreRowsBy reads.now (derivation (subtree tree.now values) all) 0 (replicate (tree_head tree.now values).rows true) parts.values.values) }
     ensures cause { IfErr result (Fails reads.now (derivation (subtree tree.now node) all) start (length mask.now)) }
     ensures own { IfErr result IsOfBytes }
+    ensures no_expression { IfErr result IsNotOfExpression }
     ensures passed { OnOk result (next.new ≡ next.old + length (needed (subtree tree.now node) start mask.now)) }
 {
     let codes = match node_column(alloc, tree, codes, start, mask, reads, next) {
@@ -326,6 +333,7 @@ fn dict_column(
     ensures values { IfOk result (λ column. AreRowsBy reads.now (derivation (subtree tree.now node) all) start mask.now column.values) }
     ensures cause { IfErr result (Fails reads.now (derivation (subtree tree.now node) all) start (length mask.now)) }
     ensures own { IfErr result IsOfBytes }
+    ensures no_expression { IfErr result IsNotOfExpression }
     ensures passed { OnOk result (next.new ≡ next.old + length (needed (subtree tree.now node) start mask.now)) }
 {
     if !selects_some(mask) {
@@ -366,6 +374,7 @@ fn field_columns(
     ensures columns { IfOk result (λ columns. AreColumnsBy reads.now (trees_of tree.now fields.now) start mask.now columns.items) }
     ensures cause { IfErr result (Fails reads.now (derivation (subtree tree.now node) all) start (length mask.now)) }
     ensures own { IfErr result IsOfBytes }
+    ensures no_expression { IfErr result IsNotOfExpression }
     ensures passed { OnOk result (next.new ≡ next.old + length (needed_of_each (trees_of tree.now fields.now) start mask.now)) }
 {
     let mut columns = Vec::new(alloc);
@@ -400,6 +409,7 @@ fn struct_column(
     ensures values { IfOk result (λ column. AreRowsBy reads.now (derivation (subtree tree.now node) all) start mask.now column.values) }
     ensures cause { IfErr result (Fails reads.now (derivation (subtree tree.now node) all) start (length mask.now)) }
     ensures own { IfErr result IsOfBytes }
+    ensures no_expression { IfErr result IsNotOfExpression }
     ensures passed { OnOk result (next.new ≡ next.old + length (needed (subtree tree.now node) start mask.now)) }
 {
     match field_columns(alloc, tree, node, fields, start, mask, reads, next) {

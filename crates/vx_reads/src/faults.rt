@@ -1,7 +1,7 @@
 //! What a fault of picked rows is to a reader.
 
 ghost use Rattle.std.specs.Prelude.{◌≡◌};
-ghost use Rattle.vx_reads.specs.Errors.{apply_fault, look_up_fault, IsOfBytes};
+ghost use Rattle.vx_reads.specs.Errors.{apply_fault, look_up_fault, IsNotOfExpression, IsOfBytes};
 
 use crate::errors::ReaderError;
 use vx_expr::ApplyError;
@@ -11,6 +11,7 @@ use vx_picking::LookUpError;
 pub(crate) fn look_up_fault(dictionary: u32, error: LookUpError) -> ReaderError
     ensures is { result ≡ look_up_fault dictionary error }
     ensures own { IsOfBytes result }
+    ensures no_expression { IsNotOfExpression result }
 {
     match error {
         LookUpError::BadCode(row) => ReaderError::BadCode {

@@ -164,8 +164,7 @@ pub fn pushed_filter(
             let truths = found.truth(alloc);
             drop(found);
             let truths = truths?;
-            let kept = mask.intersect_by_rank(alloc, &truths)?;
-            Ok(kept)
+            Ok(mask.intersect_by_rank(alloc, &truths)?)
         }
         Err(error) => Err(look_up_fault(node, error)),
     }

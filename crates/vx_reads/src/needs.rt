@@ -1,9 +1,9 @@
 //! Which segments the selected rows of a range need.
 
-ghost use Rattle.std.specs.Prelude.{◌≡◌, ◌+◌, ◌-◌, ◌<◌, ◌≤◌, ◌++◌, length, slice_range, All, IfOk};
+ghost use Rattle.std.specs.Prelude.{◌≡◌, ◌+◌, ◌-◌, ◌<◌, ◌≤◌, ◌++◌, length, slice_range, All, IfOk, OnOk, OnErr};
 ghost use Rattle.vx_layout.specs.Shape.{IsLater};
 ghost use Rattle.vx_layout.specs.Trees.{subtree};
-ghost use Rattle.vx_reads.specs.Needed.{needed, needed_in, needed_of_each, needed_of_range};
+ghost use Rattle.vx_reads.specs.Needed.{needed, needed_in, needed_of_each, needed_of_range, BeginsWith};
 ghost use Rattle.vx_reads.specs.Readable.{trees_of, AreReadable, IsDict};
 
 use crate::parts::{NodeParts, rows_at};
@@ -13,8 +13,8 @@ use vx_base::Mask;
 use vx_layout::LayoutTree;
 use vx_picking::selects_some;
 
-/// Adds the segments that the selected rows of a node need, from the first row of their range on.
-#[cycle(needs)]
+/// Adds the segments that the selected rows of a node need, from the first row of their range on. Where memory is
+/// wanting, none is added.
 pub fn add_needs(
     alloc: Global,
     tree: &LayoutTree,
@@ -25,7 +25,33 @@ pub fn add_needs(
 ) -> Result<(), AllocError>
     requires known { node < length tree.now }
     requires readable { AreReadable tree.now }
-    ensures { IfOk result (λ _. needs.new.items ≡ needs.old.items ++ needed (subtree tree.now node) start mask.now) }
+    ensures added { OnOk result (needs.new.items ≡ needs.old.items ++ needed (subtree tree.now node) start mask.now) }
+    ensures unchanged { OnErr result (needs.new.items ≡ needs.old.items) }
+{
+    let before = needs.len();
+    match add_node_needs(alloc, tree, node, start, mask, needs) {
+        Ok(()) => Ok(()),
+        Err(error) => {
+            needs.truncate(before);
+            Err(error)
+        }
+    }
+}
+
+/// Adds the segments that the selected rows of a node need. Where memory is wanting, some of them stay added.
+#[cycle(needs)]
+fn add_node_needs(
+    alloc: Global,
+    tree: &LayoutTree,
+    node: u32,
+    start: u64,
+    mask: &Mask,
+    needs: &mut Vec<u32>,
+) -> Result<(), AllocError>
+    requires known { node < length tree.now }
+    requires readable { AreReadable tree.now }
+    ensures added { IfOk result (λ _. needs.new.items ≡ needs.old.items ++ needed (subtree tree.now node) start mask.now) }
+    ensures held { OnErr result (BeginsWith needs.old.items needs.new.items) }
 {
     match NodeParts::of(tree, node) {
         NodeParts::Leaf { segment, coding: _ } => {
@@ -40,7 +66,9 @@ pub fn add_needs(
         NodeParts::Dict { codes, values } => add_dict_needs(
             alloc, tree, node, codes, values, start, mask, needs,
         ),
-        NodeParts::Zoned { content, .. } => add_needs(alloc, tree, content, start, mask, needs),
+        NodeParts::Zoned { content, .. } => add_node_needs(
+            alloc, tree, content, start, mask, needs,
+        ),
         NodeParts::Struct { fields } => add_field_needs(
             alloc, tree, fields, node, start, mask, needs,
         ),
@@ -62,14 +90,15 @@ fn add_dict_needs(
     requires known { node < length tree.now }
     requires readable { AreReadable tree.now }
     requires dict { IsDict tree.now node codes values }
-    ensures { IfOk result (λ _. needs.new.items ≡ needs.old.items ++ needed (subtree tree.now node) start mask.now) }
+    ensures added { IfOk result (λ _. needs.new.items ≡ needs.old.items ++ needed (subtree tree.now node) start mask.now) }
+    ensures held { OnErr result (BeginsWith needs.old.items needs.new.items) }
 {
     if !selects_some(mask) {
         return Ok(());
     }
-    add_needs(alloc, tree, codes, start, mask, needs)?;
+    add_node_needs(alloc, tree, codes, start, mask, needs)?;
     let all = Mask::new_true(alloc, rows_at(tree, values))?;
-    add_needs(alloc, tree, values, 0, &all, needs)
+    add_node_needs(alloc, tree, values, 0, &all, needs)
 }
 
 /// Adds the segments that the selected rows of each field need.
@@ -86,10 +115,11 @@ fn add_field_needs(
     requires known { node < length tree.now }
     requires readable { AreReadable tree.now }
     requires later { All (IsLater tree.now node) fields.now }
-    ensures { IfOk result (λ _. needs.new.items ≡ needs.old.items ++ needed_of_each (trees_of tree.now fields.now) start mask.now) }
+    ensures added { IfOk result (λ _. needs.new.items ≡ needs.old.items ++ needed_of_each (trees_of tree.now fields.now) start mask.now) }
+    ensures held { OnErr result (BeginsWith needs.old.items needs.new.items) }
 {
     for field in fields {
-        add_needs(alloc, tree, *field, start, mask, needs)?;
+        add_node_needs(alloc, tree, *field, start, mask, needs)?;
     }
     Ok(())
 }
@@ -121,7 +151,8 @@ fn add_chunk_needs(
     requires known { node < length tree.now }
     requires readable { AreReadable tree.now }
     requires later { All (IsLater tree.now node) chunks.now }
-    ensures { IfOk result (λ _. needs.new.items ≡ needs.old.items ++ needed_in (trees_of tree.now chunks.now) start mask.now) }
+    ensures added { IfOk result (λ _. needs.new.items ≡ needs.old.items ++ needed_in (trees_of tree.now chunks.now) start mask.now) }
+    ensures held { OnErr result (BeginsWith needs.old.items needs.new.items) }
 {
     let mut row = start;
     let mut done = 0;
@@ -151,7 +182,8 @@ fn add_range_needs(
     requires readable { AreReadable tree.now }
     requires forwards { range.start ≤ range.end }
     requires masked { range.end ≤ length mask.now }
-    ensures { IfOk result (λ _. needs.new.items ≡ needs.old.items ++ needed_of_range (subtree tree.now node) start (slice_range mask.now range.start range.end)) }
+    ensures added { IfOk result (λ _. needs.new.items ≡ needs.old.items ++ needed_of_range (subtree tree.now node) start (slice_range mask.now range.start range.end)) }
+    ensures held { OnErr result (BeginsWith needs.old.items needs.new.items) }
 {
     if range.start == range.end {
         return Ok(());
@@ -160,5 +192,5 @@ fn add_range_needs(
     if !selects_some(&some) {
         return Ok(());
     }
-    add_needs(alloc, tree, node, start, &some, needs)
+    add_node_needs(alloc, tree, node, start, &some, needs)
 }

@@ -24,7 +24,7 @@ use crate::filters::{filter_column, pushed_filter};
 use crate::parts::{dtype_at, rows_at};
 use crate::reads::SegmentRead;
 use std::alloc::{AllocError, Global};
-use vx_base::{Coding, Column, DType, DecodeError, Mask, decode_as};
+use vx_base::{Coding, Column, ColumnParts, DType, DecodeError, Mask, decode_rows};
 use vx_expr::BoundExpression;
 use vx_layout::LayoutTree;
 use vx_picking::{selects_some, worked_out};
@@ -57,16 +57,12 @@ pub(crate) fn leaf_mask(
     if !selects_some(mask) {
         return Ok(mask.copy(alloc)?);
     }
-    match decode_as(
-        alloc,
-        dtype_at(tree, node),
-        coding,
-        rows_at(tree, node),
-        bytes,
-    ) {
+    let rows = rows_at(tree, node);
+    let end = start + mask.len();
+    let leaf = dtype_at(tree, node);
+    match decode_rows(alloc, leaf, coding, rows, start..end, bytes) {
         Ok(column) => {
-            let _rows = column.len();
-            let kept = filter_column(alloc, expression, &column, start, first, mask);
+            let kept = filter_column(alloc, expression, &column, 0, first, mask);
             drop(column);
             kept
         }
@@ -138,8 +134,8 @@ fn copied_in(alloc: Global, column: &Column, dtype: &DType) -> Result<Column, Al
     ensures dtype { IfOk result (λ made. made.dtype ≡ data_type dtype.now) }
     ensures values { IfOk result (λ made. made.values ≡ column.now.values) }
 {
-    match column.array() {
-        Some(array) => {
+    match column.parts() {
+        ColumnParts::Packed(array) => {
             let rows = array.slice(alloc, 0..array.len())?;
             match dtype.copy(alloc) {
                 Ok(dtype) => Ok(Column::of_array(dtype, rows)),
@@ -149,7 +145,7 @@ fn copied_in(alloc: Global, column: &Column, dtype: &DType) -> Result<Column, Al
                 }
             }
         }
-        None => {
+        ColumnParts::Runs(_, _) => {
             let values = column.to_values(alloc)?;
             match dtype.copy(alloc) {
                 Ok(dtype) => Column::of_fitting(alloc, dtype, values),

@@ -8,11 +8,11 @@ use Rattle.vx_reads.proofs.filters.pushed_filter.Goals as goal
 
 pub returns-in-Ok-found-clause-kept : goal.returns-in-Ok-found-clause-kept
 returns-in-Ok-found-clause-kept c = λ code_at coded.
-    c.in_ok-kept-in-Ok-found.ensures
+    c.in_ok-intersect_by_rank-in-Ok-found.ensures
     ∙ pushed_kept c.strict_is_null.ensures c.args.values.now c.args.expression.now.term c.in-Ok.worth.values c.requires.strict c.in-Ok.ensures.values code_at c.args.start c.args.mask.now c.in_ok-truths-in-Ok-found.truths c.args.codes.now.values c.in-Ok-found.found.values coded c.in-Ok-found.ensures.values c.in_ok-truths-in-Ok-found.ensures
 
 pub returns-in-Ok-found-clause-rows : goal.returns-in-Ok-found-clause-rows
-returns-in-Ok-found-clause-rows c = ranked_rows c.args.mask.now c.in_ok-truths-in-Ok-found.truths c.in_ok-kept-in-Ok-found.kept c.in_ok-kept-in-Ok-found.ensures
+returns-in-Ok-found-clause-rows c = ranked_rows c.args.mask.now c.in_ok-truths-in-Ok-found.truths c.in_ok-intersect_by_rank-in-Ok-found.field-0 c.in_ok-intersect_by_rank-in-Ok-found.ensures
 
 pub returns-in-Err-clause-cause : goal.returns-in-Err-clause-cause
 returns-in-Err-clause-cause c =
