@@ -1,0 +1,8 @@
+use Rattle.scan_json.proofs.Tails.{tail_later}
+use Rattle.scan_json.proofs.kinds.list_begins.Goals as goal
+
+pub returns-in_err-pass_members-in-Object-clause-left : goal.returns-in_err-pass_members-in-Object-clause-left
+returns-in_err-pass_members-in-Object-clause-left c = tail_later c.args.reader.now c.next_head.new.reader c.pass_members.new.reader c.in_ok-next_head.ensures.left c.in_err-pass_members-in-Object.ensures.left
+
+pub returns-in_ok-pass_members-in-Object-clause-left : goal.returns-in_ok-pass_members-in-Object-clause-left
+returns-in_ok-pass_members-in-Object-clause-left c = tail_later c.args.reader.now c.next_head.new.reader c.pass_members.new.reader c.in_ok-next_head.ensures.left c.in_ok-pass_members-in-Object.ensures.left

@@ -1,0 +1,27 @@
+use Rattle.std.proofs.Common.{◌+◌, ◌*◌, List, Option, Some, length}
+use Rattle.serde_json.specs.Data.{Data, Members}
+use Rattle.scan_json.specs.Reading.{IsTail}
+use Rattle.scan_json.proofs.ListTurns.{IsListRead}
+use Rattle.scan_json.proofs.ObjectTurns.{IsObjectRead}
+use Rattle.scan_json.proofs.passing.+passing.Given as goal
+
+abbrev pub decreases-pass : goal.decreases-pass
+decreases-pass l = 2 * l.depth
+
+abbrev pub decreases-pass_items : goal.decreases-pass_items
+decreases-pass_items l = 2 * l.depth + 1
+
+abbrev pub decreases-pass_members : goal.decreases-pass_members
+decreases-pass_members l = 2 * l.depth + 1
+
+abbrev pub invariant-pass_items-items : goal.invariant-pass_items-items
+invariant-pass_items-items l = ((made : Option (List Data)) × IsListRead {X = Data} (λ d. Some d) l.depth l.initial.reader made l.reader) × IsTail l.initial.reader l.reader
+
+abbrev pub decreases-pass_items-items : goal.decreases-pass_items-items
+decreases-pass_items-items l = length l.reader
+
+abbrev pub invariant-pass_members-members : goal.invariant-pass_members-members
+invariant-pass_members-members l = ((found : Members) × IsObjectRead l.depth l.initial.reader found l.reader) × IsTail l.initial.reader l.reader
+
+abbrev pub decreases-pass_members-members : goal.decreases-pass_members-members
+decreases-pass_members-members l = length l.reader
