@@ -1,19 +1,23 @@
--- Names with and without their `?`, and dtypes by the parts of their JSON.
-use Rattle.std.proofs.Common.{◌≡◌, ℕ, zero, suc, ◌-◌, ◌<◌, ◌≤◌, ◌++◌, Bool, true, false, eqb, List, [], ◌∷◌, length, take, get_or, Option, Some, None, String, Global, string_bytes, refl, sym, ap, ◌∙◌, arith}
-use Rattle.std.specs.List.{slice_get}
+-- Names with and without their `?`, and dtypes by the members and items that tell them.
+use Rattle.std.proofs.Common.{◌≡◌, ℕ, ◌-◌, ◌++◌, codes, Bool, true, false, List, [], ◌∷◌, length, take, Option, Some, None, option_map, refl, sym, ap, ap₂, ◌∙◌}
 use Rattle.std.proofs.lemmas.Bool.{eqb-true}
-use Rattle.serde_json.specs.Data.{Data, null, boolean, number, string, array, object, Items, no_items, item, depth, items_depth, members_depth}
-use Rattle.serde_json.specs.Find.{as_str}
-use Rattle.serde_json.specs.View.{view, items_view, members_view}
-use Rattle.serde_json.specs.declared.value.Value.{Value}
-use Rattle.serde_json.proofs.Views.{Entry}
+use Rattle.json.specs.Json.{parse_map}
+use Rattle.json.specs.Token.{Token}
+use Rattle.serde_json.specs.Data.{Data, null, boolean, number, string, array, object, Items, no_items, item, Members, no_members, member}
+use Rattle.serde_json.specs.Find.{as_array}
+use Rattle.scan_json.specs.Forms.{each_form, with_first}
+use Rattle.scan_json.specs.Reading.{read_value, reads}
+use Rattle.scan_json.specs.Singles.{only_one, single_said}
+use Rattle.scan_json.proofs.Turns.{read_then}
 use Rattle.scan_words.specs.Words.{◌>>=◌}
-use Rattle.scan_request.specs.DtypeForms.{is_marked, unmarked, dtype_form, nested_form, nested_named, fields_form, each_field, field_form}
-use Rattle.scan_request.specs.JsonForms.{each_form, two_items}
+use Rattle.scan_request.specs.DtypeForms.{dtype_form, is_marked, unmarked, nested_form, nested_named, nested_value, each_field, field_form, fields_form}
 use Rattle.scan_request.proofs.JsonForms.{here}
+use Rattle.scan_request.proofs.OtherKinds.{apart, same_form}
+use Rattle.vx_base.specs.Data as types
+use Rattle.vx_base.specs.Data.{DataType, struct_type, list_type}
+use Rattle.vx_base.specs.declared.dtypes.Nullability.{Nullability}
 use Rattle.vx_base.specs.declared.dtypes.Nullability.TheVariants.{NonNullable, Nullable}
-use Rattle.vx_base.specs.Data.{DataType}
-use Rattle.vx_base.specs.Views.{FieldData}
+use Rattle.vx_base.specs.Views.{FieldData, members_from}
 
 -- ---- names
 
@@ -45,51 +49,71 @@ no_mark name none = rw (is_none (is_marked name) refl) refl
 
 -- ---- objects of one member
 
-pub not_one : (members : List Entry) (len : ℕ) → len ≡ length members → eqb len 1 ≡ false → None ≡ nested_form (members_view members)
-not_one [] len is other = refl
-not_one (one ∷ []) len is other = let test : eqb len 1 ≡ true = ap (λ (n : ℕ). eqb n 1) is in absurd cc
-not_one (one ∷ two ∷ members) len is other = refl
-
-pub one_member : (members : List Entry) (name : String Global) (inside : Value) → length members ≡ 1 → slice_get members 0 ≡ Some (name, inside)
-    → nested_form (members_view members) ≡ nested_named (unmarked (string_bytes name)).0 (unmarked (string_bytes name)).1 (fields_form (view inside)) (dtype_form (view inside))
-one_member [] name inside one at = absurd cc
-one_member (first ∷ []) name inside one at = let same : first ≡ (name, inside) = cc in rw same refl
-one_member (first ∷ second ∷ members) name inside one at = absurd (omega (arith, one))
+-- the dtype of the only member
+pub nested_is : (ms : Members) → only_one (single_said nested_value ms) ≡ nested_form ms
+nested_is no_members = refl
+nested_is (member name d no_members) = refl
+nested_is (member name d (member other e ms)) = refl
 
 -- ---- fields
 
 pub each_field_is : (ds : Items) → each_field ds ≡ each_form field_form ds
 each_field_is no_items = refl
-each_field_is (item d ds) = ap (λ (o : Option (List FieldData)). field_form d >>= λ field. o >>= λ fields. here (field ∷ fields)) (each_field_is ds)
+each_field_is (item d ds) = by (field_form d) (each_field ds) (each_form field_form ds) (each_field_is ds)
+  where
+    by : (first : Option FieldData) (a b : Option (List FieldData)) → a ≡ b → (first >>= λ field. a >>= λ fields. here (field ∷ fields)) ≡ with_first first b
+    by None a b e = refl
+    by (Some field) a b e = ap (λ (o : Option (List FieldData)). o >>= λ fields. here (field ∷ fields)) e ∙ mapped b
+      where
+        mapped : (b : Option (List FieldData)) → (b >>= λ fields. here (field ∷ fields)) ≡ option_map (λ fields. field ∷ fields) b
+        mapped None = refl
+        mapped (Some fields) = refl
 
--- a field is the name and the dtype of a list of two
-field_is : (d : Data) → field_form d ≡ (two_items d >>= λ pair. as_str pair.0 >>= λ name. dtype_form pair.1 >>= λ t. here (record { name = name; dtype = t }))
-field_is null = refl
-field_is (boolean t) = refl
-field_is (number n) = refl
-field_is (string s) = refl
-field_is (array no_items) = refl
-field_is (array (item a no_items)) = refl
-field_is (array (item a (item b no_items))) = refl
-field_is (array (item a (item b (item c ds)))) = refl
-field_is (object ms) = refl
+-- ---- values of another kind
 
-pub field_from : (d a b : Data) (name : List ℕ) (t : Option DataType) → Some (a, b) ≡ two_items d → Some name ≡ as_str a → t ≡ dtype_form b → field_form d ≡ (t >>= λ dtype. here (record { name = name; dtype = dtype }))
-field_from d a b name t is named typed =
-    field_is d ∙ ap (λ (pair : Option (Data × Data)). pair >>= λ p. as_str p.0 >>= λ n. dtype_form p.1 >>= λ dtype. here (record { name = n; dtype = dtype })) (sym is)
-    ∙ ap (λ (n : Option (List ℕ)). n >>= λ n. dtype_form b >>= λ dtype. here (record { name = n; dtype = dtype })) (sym named)
-    ∙ ap (λ (o : Option DataType). o >>= λ dtype. here (record { name = name; dtype = dtype })) (sym typed)
+pub no_fields : (d : Data) → as_array d ≡ None → fields_form d ≡ None
+no_fields null none = refl
+no_fields (boolean b) none = refl
+no_fields (number n) none = refl
+no_fields (string s) none = refl
+no_fields (array ds) none = absurd cc
+no_fields (object ms) none = refl
 
--- ---- how deep parts nest
+pub no_field : (d : Data) → as_array d ≡ None → field_form d ≡ None
+no_field null none = refl
+no_field (boolean b) none = refl
+no_field (number n) none = refl
+no_field (string s) none = refl
+no_field (array ds) none = absurd cc
+no_field (object ms) none = refl
 
-pub item_depth : (items : List Value) (i : ℕ) (v : Value) → i < length items → v ≡ get_or items i v → depth (view v) ≤ items_depth (items_view items)
-item_depth [] i v lt is = absurd (omega arith)
-item_depth (one ∷ items) zero v lt is = let same : depth (view v) ≡ depth (view one) = ap (λ (w : Value). depth (view w)) is in omega (arith, same)
-item_depth (one ∷ items) (suc i) v lt is = omega (arith, item_depth items i v (omega arith) is)
+-- ---- the dtype that a member tells by its name
 
-pub first_depth : (members : List Entry) (name : String Global) (inside : Value) → slice_get members 0 ≡ Some (name, inside) → depth (view inside) ≤ members_depth (members_view members)
-first_depth [] name inside at = absurd cc
-first_depth (first ∷ members) name inside at =
-    let same : first ≡ (name, inside) = cc in
-    let deep : depth (view inside) ≡ depth (view first.1) = ap (λ (e : Entry). depth (view e.1)) (sym same) in
-    omega (arith, deep)
+struct_value : (name : List ℕ) (n : Nullability) → (unmarked name).0 ≡ codes "struct" → (unmarked name).1 ≡ n → (d : Data) → option_map (λ ms. struct_type ms n) (option_map members_from (fields_form d)) ≡ nested_value name d
+struct_value name n is takes d = by (fields_form d) ∙ ap₂ (λ x y. nested_named x y (fields_form d) (dtype_form d)) (sym is) (sym takes)
+  where
+    by : (o : Option (List FieldData)) → option_map (λ ms. struct_type ms n) (option_map members_from o) ≡ nested_named (codes "struct") n o (dtype_form d)
+    by None = refl
+    by (Some fields) = refl
+
+list_value : (name : List ℕ) (n : Nullability) → (unmarked name).0 ≡ codes "list" → (unmarked name).1 ≡ n → (d : Data) → option_map (λ t. list_type t n) (dtype_form d) ≡ nested_value name d
+list_value name n is takes d = by (dtype_form d) ∙ ap₂ (λ x y. nested_named x y (fields_form d) (dtype_form d)) (sym is) (sym takes)
+  where
+    by : (o : Option DataType) → option_map (λ t. list_type t n) o ≡ nested_named (codes "list") n (fields_form d) o
+    by None = refl
+    by (Some t) = refl
+
+pub struct_read : (name : List ℕ) (n : Nullability) (depth : ℕ) (old r : List Token) (fields : Option types.Members) → (unmarked name).0 ≡ codes "struct" → (unmarked name).1 ≡ n
+    → reads (λ d. option_map members_from (fields_form d)) depth old ≡ Some (fields, r) → reads (nested_value name) depth old ≡ Some (option_map (λ ms. struct_type ms n) fields, r)
+struct_read name n depth old r fields is takes read =
+    sym (same_form (λ d. option_map (λ ms. struct_type ms n) (option_map members_from (fields_form d))) (nested_value name) (struct_value name n is takes) (read_value depth old))
+    ∙ read_then (option_map (λ ms. struct_type ms n)) (λ d. option_map members_from (fields_form d)) (read_value depth old) fields r read
+
+pub list_read : (name : List ℕ) (n : Nullability) (depth : ℕ) (old r : List Token) (dtype : Option DataType) → (unmarked name).0 ≡ codes "list" → (unmarked name).1 ≡ n
+    → reads dtype_form depth old ≡ Some (dtype, r) → reads (nested_value name) depth old ≡ Some (option_map (λ t. list_type t n) dtype, r)
+list_read name n depth old r dtype is takes read =
+    sym (same_form (λ d. option_map (λ t. list_type t n) (dtype_form d)) (nested_value name) (list_value name n is takes) (read_value depth old))
+    ∙ read_then (option_map (λ t. list_type t n)) dtype_form (read_value depth old) dtype r read
+
+pub other_value : (name : List ℕ) → ((unmarked name).0 ≡ codes "struct" → ⊥) → ((unmarked name).0 ≡ codes "list" → ⊥) → (d : Data) → nested_value name d ≡ None
+other_value name no_struct no_list d = rw (apart (unmarked name).0 (codes "struct") no_struct, apart (unmarked name).0 (codes "list") no_list) refl

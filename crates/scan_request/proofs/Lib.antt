@@ -1,7 +1,13 @@
 mod DtypeForms
-mod ExpressionForms
+mod ExpressionMembers
+mod ExpressionReads
+mod FixedLists
 mod JsonForms
-mod LocationForms
+mod NodeMembers
+mod NodeTold
 pub mod OneRequest
+mod OtherKinds
 mod RequestForms
+mod RequestMembers
+mod RequestTold
 mod RowForms

@@ -1,49 +1,24 @@
 -- What a request's bytes are, from what reading them as JSON gave.
 use Rattle.std.proofs.Common.{◌≡◌, ℕ, ◌≤◌, Bool, true, false, cond, List, length, Option, Some, None, codes, refl, sym, ap}
-use Rattle.std.specs.Str.{IsUtf8, is_utf8}
-use Rattle.std.proofs.lemmas.Str.{IsUtf8-from_is_utf8, is_utf8-from_IsUtf8}
 use Rattle.serde_json.specs.Data.{Data}
 use Rattle.serde_json.specs.Read.{read}
 use Rattle.serde_json.specs.Find.{get}
 use Rattle.vx_expr.specs.Terms.{Term, root}
 use Rattle.vx_layout.specs.Nodes.{Node}
 use Rattle.scan_words.specs.Words.{◌>>=◌}
-use Rattle.scan_request.specs.declared.request_errors.RequestError.TheVariants.{BadRequest}
 use Rattle.scan_request.specs.ExpressionForms.{expression_form}
 use Rattle.scan_request.specs.JsonForms.{has_members, list_form, most_items, optional_form}
 use Rattle.scan_request.specs.LocationForms.{location_form}
 use Rattle.scan_request.specs.NodeForms.{node_form}
-use Rattle.scan_request.specs.RequestForms.{FileSaid, Parts, file_form, members_of, request_form, json_value, requested, RefusedBy}
+use Rattle.scan_request.specs.RequestForms.{FileSaid, Parts, file_form, members_of, parts_from, request_form, json_value, requested}
 use Rattle.scan_request.specs.RowForms.{rows_form}
 use Rattle.scan_request.specs.declared.row_forms.RowsAsked.{RowsAsked}
 use Rattle.scan_request.proofs.JsonForms.{here, list_few, some_is}
 use Rattle.vx_base.specs.declared.locations.SegmentLocation.{SegmentLocation}
 
--- the bytes are JSON
-pub json_is : (bytes : List ℕ) (d : Data) → IsUtf8 bytes → read bytes ≡ Some d → json_value bytes ≡ Some d
-json_is bytes d utf8 is = let test = is_utf8-from_IsUtf8 bytes utf8 in rw test is
-
-refused : (b : Bool) (r : Option Data) → (b ≡ true → r ≡ None) → cond b r None ≡ None
-refused true r h = h refl
-refused false r h = refl
-
--- the bytes are none
-pub json_none : (bytes : List ℕ) → (IsUtf8 bytes → read bytes ≡ None) → json_value bytes ≡ None
-json_none bytes h = refused (is_utf8 bytes) (read bytes) (λ test. h (IsUtf8-from_is_utf8 bytes test))
-
-pub no_json : (bytes : List ℕ) → json_value bytes ≡ None → RefusedBy bytes BadRequest
-no_json bytes none = rw none refl
-
-pub in_form : (bytes : List ℕ) (d : Data) (parts : Parts) → json_value bytes ≡ Some d → Some parts ≡ request_form d → requested bytes ≡ Some parts
-in_form bytes d parts is formed = rw is (sym formed)
-
 -- ---- a request has few locations and nodes
 
-abbrev parts_by : Option FileSaid → Option RowsAsked → Option Term → Option Parts
-parts_by file rows projection =
-    file >>= λ f. rows >>= λ r. projection >>= λ e. here (record { locations = f.locations; nodes = f.nodes; projection = e; range = r.range; selection = r.selection; limit = r.limit; row_offset = r.row_offset })
-
-file_is : (b : Bool) (file : Option FileSaid) (rows : Option RowsAsked) (projection : Option Term) (parts : Parts) → cond b (parts_by file rows projection) None ≡ Some parts → file ≡ Some (record { locations = parts.locations; nodes = parts.nodes })
+file_is : (b : Bool) (file : Option FileSaid) (rows : Option RowsAsked) (projection : Option Term) (parts : Parts) → cond b (parts_from file rows projection) None ≡ Some parts → file ≡ Some (record { locations = parts.locations; nodes = parts.nodes })
 file_is false file rows projection parts e = absurd cc
 file_is true None rows projection parts e = absurd cc
 file_is true (Some f) None projection parts e = absurd cc
@@ -60,7 +35,7 @@ both (Some ls) (Some ns) file e =
     (ap (λ (f : FileSaid). here f.locations) same, ap (λ (f : FileSaid). here f.nodes) same)
 
 form_few : (d : Data) (parts : Parts) → request_form d ≡ Some parts → (length parts.locations ≤ most_items) × (length parts.nodes ≤ most_items)
-unfolding request_form file_form
+unfolding request_form
 form_few d parts e =
     let is = both (get (codes "locations") d >>= list_form location_form) (get (codes "nodes") d >>= list_form node_form) (record { locations = parts.locations; nodes = parts.nodes })
     (file_is (has_members (members_of d) d) (file_form d) (rows_form d) (optional_form root expression_form (get (codes "projection") d)) parts e) in

@@ -1,29 +1,17 @@
--- Ranges have two items, and indices ascend or not.
-use Rattle.std.proofs.Common.{◌≡◌, ℕ, zero, suc, ◌-◌, ◌<◌, ◌≤◌, Bool, true, false, ltb, List, [], ◌∷◌, length, get_or, Option, Some, None, refl, sym, ap, ◌∙◌, arith}
-use Rattle.std.specs.Prelude.{if◌then◌else◌}
+-- Indices ascend or not, and the rows that members tell.
+use Rattle.std.proofs.Common.{◌≡◌, ℕ, zero, suc, ◌-◌, ◌^◌, ◌<◌, ◌≤◌, Bool, true, false, ltb, List, [], ◌∷◌, codes, length, get_or, Option, Some, None, option_map, refl, ap, ◌∙◌, arith}
 use Rattle.std.proofs.lemmas.Bool.{and_from, and_parts, lt-ltb, ltb-true}
-use Rattle.serde_json.specs.Data.{Data, Items}
-use Rattle.serde_json.specs.Find.{as_array}
-use Rattle.serde_json.specs.View.{items_view}
-use Rattle.serde_json.specs.declared.value.Value.{Value}
+use Rattle.serde_json.specs.Data.{Data, object, Members}
+use Rattle.serde_json.specs.Find.{get_member}
+use Rattle.std.specs.declared.ops.Range.{Range}
 use Rattle.vx_splits.specs.Taken.{NotSortedAt}
+use Rattle.vx_splits.specs.declared.selections.Selection.{Selection}
 use Rattle.vx_splits.specs.declared.sorted_indices.SortError.{SortError}
 use Rattle.vx_splits.specs.declared.sorted_indices.SortError.TheVariants.{NotSorted}
 use Rattle.vx_splits.proofs.Rising.{Ascend-tail}
-use Rattle.scan_request.specs.JsonForms.{each_form, whole_form}
-use Rattle.scan_request.specs.RowForms.{range_items, ascends, indices_form}
+use Rattle.scan_request.specs.JsonForms.{optional_form, whole_form}
+use Rattle.scan_request.specs.RowForms.{ascends, given, given_limit, given_or, given_range, indices_form, range_form, rows_form, rows_from, rows_said, selection_form, selection_said}
 use Rattle.vx_base.specs.Masks.{Ascend}
-
-pub none_below_two : (items : List Value) → length items < 2 → None ≡ range_items (items_view items)
-none_below_two [] below = refl
-none_below_two (a ∷ []) below = refl
-none_below_two (a ∷ b ∷ rest) below = absurd (omega (arith, below))
-
-pub none_past_two : (items : List Value) → 3 ≤ length items → None ≡ range_items (items_view items)
-none_past_two [] past = absurd (omega (arith, past))
-none_past_two (a ∷ []) past = absurd (omega (arith, past))
-none_past_two (a ∷ b ∷ []) past = absurd (omega (arith, past))
-none_past_two (a ∷ b ∷ c ∷ rest) past = refl
 
 -- ---- ascending numbers
 
@@ -53,21 +41,32 @@ ascends_false ns (NotSorted (suc place)) at = tested (ascends ns) refl
         let up = next_above ns place e at.within in
         absurd (omega arith)
 
-abbrev in_order : List ℕ → Option (List ℕ)
-in_order rows = if ascends rows then Some rows else None
+-- ---- the rows that members tell
 
--- numbers in a list, by whether they ascend
-numbers_are : (d : Data) (items : Items) (rows : List ℕ) → Some items ≡ as_array d → Some rows ≡ each_form (whole_form 18446744073709551616) items → indices_form d ≡ in_order rows
-numbers_are d items rows is each = rw (← is, ← each) refl
+range_map : (o : Option Data) → given (option_map range_form o) ≡ optional_form None given_range o
+range_map None = refl
+range_map (Some d) = refl
 
-pub indices_are : (d : Data) (items : Items) (rows indices : List ℕ) → Some items ≡ as_array d → Some rows ≡ each_form (whole_form 18446744073709551616) items → indices ≡ rows → Ascend rows → Some indices ≡ indices_form d
-indices_are d items rows indices is each same up =
-    let test = ascends_true rows up in
-    let all : in_order rows ≡ Some rows = rw test refl in
-    ap (λ (ns : List ℕ). Some ns) same ∙ sym all ∙ sym (numbers_are d items rows is each)
+limit_map : (o : Option Data) → given (option_map (whole_form (2 ^ 64)) o) ≡ optional_form None given_limit o
+limit_map None = refl
+limit_map (Some d) = refl
 
-pub no_indices : (d : Data) (items : Items) (rows : List ℕ) (error : SortError) → Some items ≡ as_array d → Some rows ≡ each_form (whole_form 18446744073709551616) items → NotSortedAt rows error → None ≡ indices_form d
-no_indices d items rows error is each at =
-    let test = ascends_false rows error at in
-    let none : in_order rows ≡ None = rw test refl in
-    sym none ∙ sym (numbers_are d items rows is each)
+offset_map : (o : Option Data) → given_or 0 (option_map (whole_form (2 ^ 64)) o) ≡ optional_form 0 (whole_form (2 ^ 64)) o
+offset_map None = refl
+offset_map (Some d) = refl
+
+selection_map : (a b : Option Data) → selection_said (option_map indices_form a) (option_map indices_form b) ≡ selection_form a b
+selection_map None None = refl
+selection_map (Some d) None = refl
+selection_map None (Some e) = refl
+selection_map (Some d) (Some e) = refl
+
+pub rows_are : (ms : Members)
+    → rows_said (option_map range_form (get_member (codes "range") ms)) (option_map (whole_form (2 ^ 64)) (get_member (codes "limit") ms)) (option_map (whole_form (2 ^ 64)) (get_member (codes "row_offset") ms))
+    (option_map indices_form (get_member (codes "indices") ms)) (option_map indices_form (get_member (codes "exclude") ms)) ≡ rows_form (object ms)
+rows_are ms =
+    let g = λ (name : List ℕ). get_member name ms in
+    ap (λ (o : Option (Option (Range ℕ))). rows_from o (given (option_map (whole_form (2 ^ 64)) (g (codes "limit")))) (given_or 0 (option_map (whole_form (2 ^ 64)) (g (codes "row_offset")))) (selection_said (option_map indices_form (g (codes "indices"))) (option_map indices_form (g (codes "exclude"))))) (range_map (g (codes "range")))
+    ∙ ap (λ (o : Option (Option ℕ)). rows_from (optional_form None given_range (g (codes "range"))) o (given_or 0 (option_map (whole_form (2 ^ 64)) (g (codes "row_offset")))) (selection_said (option_map indices_form (g (codes "indices"))) (option_map indices_form (g (codes "exclude"))))) (limit_map (g (codes "limit")))
+    ∙ ap (λ (o : Option ℕ). rows_from (optional_form None given_range (g (codes "range"))) (optional_form None given_limit (g (codes "limit"))) o (selection_said (option_map indices_form (g (codes "indices"))) (option_map indices_form (g (codes "exclude"))))) (offset_map (g (codes "row_offset")))
+    ∙ ap (λ (o : Option Selection). rows_from (optional_form None given_range (g (codes "range"))) (optional_form None given_limit (g (codes "limit"))) (optional_form 0 (whole_form (2 ^ 64)) (g (codes "row_offset"))) o) (selection_map (g (codes "indices")) (g (codes "exclude")))

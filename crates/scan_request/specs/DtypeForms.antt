@@ -40,6 +40,10 @@ leaf_form name = leaf_named (unmarked name).0 (unmarked name).1
 abbrev pub nested_named : List ℕ → Nullability → Option (List FieldData) → Option DataType → Option DataType
 nested_named name n fields element = if bytes_eq name (codes "struct") then (fields >>= λ all. Some (struct_type (members_from all) n)) else (if bytes_eq name (codes "list") then (element >>= λ t. Some (list_type t n)) else None)
 
+-- a field of a name and a dtype, where both are there
+abbrev pub field_from : Option (List ℕ) → Option DataType → Option FieldData
+field_from name dtype = name >>= λ text. dtype >>= λ t. Some (record { name = text; dtype = t })
+
 -- ---- dtypes
 
 abbrev mutual
@@ -82,8 +86,12 @@ abbrev mutual
   pub field_items : Items → Option FieldData
   field_items no_items = None
   field_items (item a no_items) = None
-  field_items (item a (item b no_items)) = as_str a >>= λ name. dtype_form b >>= λ t. Some (record { name = name; dtype = t })
+  field_items (item a (item b no_items)) = field_from (as_str a) (dtype_form b)
   field_items (item a (item b (item c ds))) = None
+
+-- the dtype that a member of that name tells, where it is the only one
+abbrev pub nested_value : List ℕ → Data → Option DataType
+nested_value name d = nested_named (unmarked name).0 (unmarked name).1 (fields_form d) (dtype_form d)
 
 -- the dtype that the member of that name is
 abbrev pub dtype_under : List ℕ → Data → Option DataType

@@ -12,6 +12,7 @@ use Rattle.scan_words.specs.Words.{◌>>=◌}
 use Rattle.scan_request.specs.JsonForms.{has_members}
 use Rattle.scan_request.specs.DtypeForms.{dtype_under}
 use Rattle.vx_base.specs.Data as values
+use Rattle.vx_base.specs.Data.{DataType}
 
 -- ---- names
 
@@ -43,11 +44,23 @@ value_form (object ms) = None
 abbrev pub value_said : Data → Option values.Datum
 value_said d = get (codes "lit") d >>= value_form
 
+-- a literal of a value and a dtype, where both are there
+abbrev pub literal_from : Option values.Datum → Option DataType → Option Term
+literal_from value dtype = value >>= λ v. dtype >>= λ t. Some (literal v t)
+
 -- an object of exactly the members `lit`, the value, and `type`, its dtype, which need not fit one another
 abbrev pub literal_form : Data → Option Term
-literal_form d = if has_members 2 d then (value_said d >>= λ value. dtype_under (codes "type") d >>= λ dtype. Some (literal value dtype)) else None
+literal_form d = if has_members 2 d then literal_from (value_said d) (dtype_under (codes "type") d) else None
 
 -- ---- expressions
+
+-- a name and an expression, where both are there
+abbrev pub named_from : Option (List ℕ) → Option Term → Option (List ℕ × Term)
+named_from name expr = name >>= λ text. expr >>= λ e. Some (text, e)
+
+-- both expressions, where they are there
+abbrev pub pair_from : Option Term → Option Term → Option (Term × Term)
+pair_from left right = left >>= λ l. right >>= λ r. Some (l, r)
 
 -- named expressions in order
 abbrev pub terms_from : List (List ℕ × Term) → Terms
@@ -95,7 +108,7 @@ abbrev mutual
   pub named_items : Items → Option (List ℕ × Term)
   named_items no_items = None
   named_items (item a no_items) = None
-  named_items (item a (item b no_items)) = as_str a >>= λ name. expression_form b >>= λ e. Some (name, e)
+  named_items (item a (item b no_items)) = named_from (as_str a) (expression_form b)
   named_items (item a (item b (item c ds))) = None
 
   -- a list of any number of those
@@ -123,5 +136,9 @@ abbrev mutual
   pub pair_items : Items → Option (Term × Term)
   pair_items no_items = None
   pair_items (item a no_items) = None
-  pair_items (item a (item b no_items)) = expression_form a >>= λ left. expression_form b >>= λ right. Some (left, right)
+  pair_items (item a (item b no_items)) = pair_from (expression_form a) (expression_form b)
   pair_items (item a (item b (item c ds))) = None
+
+-- the expression that a member of that name tells, where it is the only one
+abbrev pub joined_value : List ℕ → Data → Option Term
+joined_value name d = joined_form name (expression_form d) (named_form d) (all_named_form d) (pair_form d)

@@ -1,12 +1,14 @@
 pub mod BindRefusals
 pub mod DtypeForms
+pub mod DtypeViews
 pub mod ExpressionForms
 pub mod ExpressionViews
 pub mod JsonForms
 pub mod LayoutRefusals
 pub mod LocationForms
 pub mod NodeForms
-pub mod NodeViews
+pub mod NodeMembers
 pub mod RequestForms
+pub mod RequestMembers
 pub mod RequestViews
 pub mod RowForms

@@ -13,7 +13,8 @@ use Rattle.vx_layout.specs.declared.nodes.LayoutKind.{LayoutKind}
 use Rattle.vx_layout.specs.declared.nodes.LayoutKind.TheVariants as kinds
 use Rattle.vx_layout.specs.Nodes.{Node}
 use Rattle.scan_words.specs.Words.{◌>>=◌}
-use Rattle.scan_request.specs.JsonForms.{whole_form, has_members, each_form, optional_form}
+use Rattle.scan_json.specs.Forms.{each_form}
+use Rattle.scan_request.specs.JsonForms.{whole_form, has_members, optional_form}
 use Rattle.scan_request.specs.DtypeForms.{dtype_under}
 
 -- ---- kinds

@@ -22,6 +22,7 @@ use Rattle.scan_request.specs.LocationForms.{location_form}
 use Rattle.scan_request.specs.NodeForms.{node_form}
 use Rattle.scan_request.specs.ExpressionForms.{expression_form}
 use Rattle.scan_request.specs.RowForms.{rows_form}
+use Rattle.scan_request.specs.declared.row_forms.RowsAsked.{RowsAsked}
 use Rattle.vx_base.specs.Data.{DataType, bool_type}
 use Rattle.vx_base.specs.declared.dtypes.Nullability.TheVariants.{NonNullable}
 use Rattle.vx_base.specs.declared.locations.SegmentLocation.{SegmentLocation}
@@ -56,25 +57,32 @@ locations_form d = get (codes "locations") d >>= list_form location_form
 abbrev pub nodes_form : Data → Option (List Node)
 nodes_form d = get (codes "nodes") d >>= list_form node_form
 
-unfoldable pub file_form : Data → Option FileSaid
-file_form d =
-    locations_form d >>= λ locations.
-    nodes_form d >>= λ nodes.
-    Some (record { locations = locations; nodes = nodes })
+-- where each segment lies and the nodes, where both are there
+abbrev pub file_from : Option (List SegmentLocation) → Option (List Node) → Option FileSaid
+file_from locations nodes = locations >>= λ ls. nodes >>= λ ns. Some (record { locations = ls; nodes = ns })
+
+abbrev pub file_form : Data → Option FileSaid
+file_form d = file_from (locations_form d) (nodes_form d)
+
+-- of a file, the rows that are asked for and a projection, where all of them are there
+abbrev pub parts_from : Option FileSaid → Option RowsAsked → Option Term → Option Parts
+parts_from said asked projected =
+    said >>= λ file. asked >>= λ rows. projected >>= λ projection.
+    Some (record { locations = file.locations; nodes = file.nodes; projection = projection; range = rows.range; selection = rows.selection; limit = rows.limit; row_offset = rows.row_offset })
 
 -- an object of exactly those members
 unfoldable pub request_form : Data → Option Parts
-request_form d = if has_members (members_of d) d then (
-    file_form d >>= λ file.
-    rows_form d >>= λ rows.
-    optional_form root expression_form (get (codes "projection") d) >>= λ projection.
-    Some (record { locations = file.locations; nodes = file.nodes; projection = projection; range = rows.range; selection = rows.selection; limit = rows.limit; row_offset = rows.row_offset })) else None
+request_form d = if has_members (members_of d) d then parts_from (file_form d) (rows_form d) (optional_form root expression_form (get (codes "projection") d)) else None
 
 -- ---- of bytes
 
 -- the JSON value that these bytes are, where they are UTF-8 and JSON
 abbrev pub json_value : List ℕ → Option Data
 json_value bytes = if is_utf8 bytes then read bytes else None
+
+-- what this text says by its form
+abbrev pub said_in : List ℕ → Option Parts
+said_in text = read text >>= request_form
 
 -- what these bytes say by their form
 abbrev pub requested : List ℕ → Option Parts

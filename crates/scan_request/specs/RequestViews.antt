@@ -2,9 +2,9 @@
 use Rattle.std.specs.Prelude.{map}
 use Rattle.vx_expr.specs.TermViews.{term}
 use Rattle.vx_layout.specs.Nodes.{node_data}
-use Rattle.scan_request.specs.declared.request_forms.FileParts.{FileParts}
+use Rattle.scan_request.specs.declared.request_parts.FileParts.{FileParts}
 use Rattle.scan_request.specs.declared.request_forms.Request.{Request}
-use Rattle.scan_request.specs.declared.request_forms.RequestParts.{RequestParts}
+use Rattle.scan_request.specs.declared.request_parts.RequestParts.{RequestParts}
 use Rattle.scan_request.specs.RequestForms.{Asked, FileSaid, Parts}
 
 abbrev pub asked_of : Request → Asked

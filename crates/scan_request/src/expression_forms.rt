@@ -1,292 +1,339 @@
 //! The form of expressions: the name of one without parts, an object of one member with its parts, or a literal,
 //! which is an object of its value and its dtype.
 
-ghost use Rattle.std.specs.Prelude.{◌≡◌, IfOk, length, map, option_map};
-ghost use Rattle.std.specs.Map.{lookup};
-ghost use Rattle.std.specs.Str.{bytes_eq};
-ghost use Rattle.serde_json.specs.View.{view, items_view, members_view};
-ghost use Rattle.vx_expr.specs.Terms.{get_field, pack};
-ghost use Rattle.vx_expr.specs.TermViews.{term};
-ghost use Rattle.scan_request.specs.JsonForms.{each_form};
-ghost use Rattle.scan_request.specs.ExpressionForms.{bare_names, test_names, pair_names, value_form, value_said, literal_form, terms_from, expression_form, object_form, joined_form, named_form, all_named_form, pair_form};
-ghost use Rattle.scan_request.specs.ExpressionViews.{named_term, joined_by, tested_by};
+ghost use Rattle.std.specs.Prelude.{◌≡◌, ◌<◌, Some, None, Err, length, IfOk, OnOk, map, option_map};
+ghost use Rattle.serde_json.specs.Data.{Data, Members};
 ghost use Rattle.vx_base.specs.ValueViews.{datum};
+ghost use Rattle.vx_expr.specs.TermViews.{term};
+ghost use Rattle.scan_json.specs.Forms.{each_form};
+ghost use Rattle.scan_json.specs.Members.{AreRising};
+ghost use Rattle.scan_json.specs.Reading.{read_items, read_members, read_value, reads, reads_items};
+ghost use Rattle.scan_request.specs.ExpressionForms.{all_named_form, expression_form, joined_value, named_form, named_from as made_named, named_items, pair_form, pair_from as made_pair, pair_items, value_form};
+ghost use Rattle.scan_request.specs.ExpressionViews.{joined_by, named_term, object_said, told_by, told_of, with_member};
 
-use crate::dtype_forms::dtype_under;
-use crate::json_forms::{has_members, two_of};
-use serde_json::{Map, Value};
+use crate::dtype_forms::dtype_of;
+use crate::expression_members::{Joined, ObjectMembers, expression_told, with_joined};
+use crate::expression_names::{Join, Test, bare_named, field_got, packed, tested};
+use json::Reader;
+use scan_json::{
+    Head, Unread, joined, list_begins, list_ends, next_head, pass, pass_items, pass_members, text,
+};
 use std::alloc::{AllocError, Global};
 use vx_base::{Text, Value as Literal};
-use vx_expr::{ArithOp, CompareOp, Expr};
-
-/// The expression without parts of that name.
-fn bare_named(name: &str) -> Option<Expr>
-    ensures { option_map term result ≡ lookup (bytes_eq name.now) bare_names }
-{
-    match name {
-        "root" => Some(Expr::Root),
-        "row_idx" => Some(Expr::RowIdx),
-        _ => None,
-    }
-}
-
-/// How two expressions are joined to one.
-#[derive(Clone, Copy)]
-enum Join {
-    And,
-    Or,
-    Compare(CompareOp),
-    Arith(ArithOp),
-}
-
-impl Join {
-    fn of_name(name: &str) -> Option<Join>
-        ensures { option_map joined_by result ≡ lookup (bytes_eq name.now) pair_names }
-    {
-        match name {
-            "and" => Some(Join::And),
-            "or" => Some(Join::Or),
-            "eq" => Some(Join::Compare(CompareOp::Eq)),
-            "ne" => Some(Join::Compare(CompareOp::Ne)),
-            "lt" => Some(Join::Compare(CompareOp::Lt)),
-            "le" => Some(Join::Compare(CompareOp::Le)),
-            "gt" => Some(Join::Compare(CompareOp::Gt)),
-            "ge" => Some(Join::Compare(CompareOp::Ge)),
-            "add" => Some(Join::Arith(ArithOp::Add)),
-            "sub" => Some(Join::Arith(ArithOp::Sub)),
-            "mul" => Some(Join::Arith(ArithOp::Mul)),
-            "div" => Some(Join::Arith(ArithOp::Div)),
-            _ => None,
-        }
-    }
-
-    fn join(self, alloc: Global, left: Expr, right: Expr) -> Result<Expr, AllocError>
-        ensures { IfOk result (λ expr. term expr ≡ joined_by self (term left) (term right)) }
-    {
-        match self {
-            Join::And => Expr::and(alloc, left, right),
-            Join::Or => Expr::or(alloc, left, right),
-            Join::Compare(op) => Expr::compare(alloc, op, left, right),
-            Join::Arith(op) => Expr::arith(alloc, op, left, right),
-        }
-    }
-}
-
-/// What is asked of one expression.
-#[derive(Clone, Copy)]
-enum Test {
-    Not,
-    IsNull,
-    IsNotNull,
-}
-
-impl Test {
-    fn of_name(name: &str) -> Option<Test>
-        ensures { option_map tested_by result ≡ lookup (bytes_eq name.now) test_names }
-    {
-        match name {
-            "not" => Some(Test::Not),
-            "is_null" => Some(Test::IsNull),
-            "is_not_null" => Some(Test::IsNotNull),
-            _ => None,
-        }
-    }
-
-    fn test(self, alloc: Global, operand: Expr) -> Result<Expr, AllocError>
-        ensures { IfOk result (λ expr. term expr ≡ tested_by self (term operand)) }
-    {
-        match self {
-            Test::Not => Expr::negation(alloc, operand),
-            Test::IsNull => Expr::is_null(alloc, operand),
-            Test::IsNotNull => Expr::is_not_null(alloc, operand),
-        }
-    }
-}
-
-/// The test of an operand, where there is one.
-fn tested(alloc: Global, test: Test, operand: Option<Expr>) -> Result<Option<Expr>, AllocError>
-    ensures { IfOk result (λ expr. option_map term expr ≡ option_map (tested_by test) (option_map term operand)) }
-{
-    match operand {
-        Some(operand) => Ok(Some(test.test(alloc, operand)?)),
-        None => Ok(None),
-    }
-}
-
-/// The field of an operand, where there are a name and an operand.
-fn field_got(alloc: Global, part: Option<(Text, Expr)>) -> Result<Option<Expr>, AllocError>
-    ensures { IfOk result (λ expr. option_map term expr ≡ option_map (λ field. get_field field.0 field.1) (option_map named_term part)) }
-{
-    match part {
-        Some((name, operand)) => Ok(Some(Expr::get_field(alloc, name, operand)?)),
-        None => Ok(None),
-    }
-}
-
-/// The struct of named expressions, where there are any.
-#[tactic(auto, using(crate::proofs::ExpressionForms::pack_of_pairs))]
-fn packed(parts: Option<Vec<(Text, Expr)>>) -> Option<Expr>
-    ensures { option_map term result ≡ option_map (λ fields. pack (terms_from fields)) (option_map (λ v. map named_term v.items) parts) }
-{
-    Some(Expr::pack(parts?))
-}
+use vx_expr::Expr;
 
 /// The value of a literal, which may be of any leaf dtype.
-fn literal_value(alloc: Global, value: &Value) -> Result<Option<Literal>, AllocError>
-    ensures { IfOk result (λ literal. option_map datum literal ≡ value_form (view value.now)) }
+fn value_of(alloc: Global, reader: &mut Reader<'_>, depth: usize) -> Result<Option<Literal>, Unread>
+    ensures ok { IfOk result (λ literal. reads value_form depth reader.old ≡ Some (option_map datum literal, reader.new)) }
+    ensures shorter { OnOk result (length reader.new < length reader.old) }
+    ensures refused { result ≡ Err Unread.Invalid → read_value depth reader.old ≡ None }
 {
-    match value {
-        Value::Null => Ok(Some(Literal::Null)),
-        Value::Bool(truth) => Ok(Some(Literal::Bool(*truth))),
-        Value::Number(number) => match number.as_i128() {
+    match next_head(reader, depth)? {
+        Head::Null => Ok(Some(Literal::Null)),
+        Head::Bool(truth) => Ok(Some(Literal::Bool(truth))),
+        Head::Number(number) => match number.as_i128() {
             Some(number) => Ok(Some(Literal::Int(number))),
             None => Ok(None),
         },
-        Value::String(text) => {
+        Head::String(text) => {
             let text = Text::from_string(String::from_str(alloc, text)?);
             Ok(Some(Literal::Text(text)))
         }
-        _ => Ok(None),
-    }
-}
-
-/// The value that a literal says.
-fn value_said(alloc: Global, value: &Value) -> Result<Option<Literal>, AllocError>
-    ensures { IfOk result (λ literal. option_map datum literal ≡ value_said (view value.now)) }
-{
-    match value.get("lit") {
-        Some(literal) => literal_value(alloc, literal),
-        None => Ok(None),
-    }
-}
-
-fn literal_of(alloc: Global, value: &Value) -> Result<Option<Expr>, AllocError>
-    ensures { IfOk result (λ expr. option_map term expr ≡ literal_form (view value.now)) }
-{
-    if !has_members(value, 2) {
-        return Ok(None);
-    }
-    let Some(literal) = value_said(alloc, value)? else {
-        return Ok(None);
-    };
-    match dtype_under(alloc, value, "type") {
-        Ok(Some(dtype)) => Ok(Some(Expr::Lit(literal, dtype))),
-        Ok(None) => {
-            drop(literal);
+        Head::List => {
+            pass_items(reader, depth - 1)?;
             Ok(None)
         }
-        Err(error) => {
-            drop(literal);
-            Err(error)
+        Head::Object => {
+            pass_members(reader, depth - 1)?;
+            Ok(None)
         }
     }
 }
 
 /// An expression, which nests as deep as the value does.
 #[cycle(expressions)]
-pub(crate) fn expression_of(alloc: Global, value: &Value) -> Result<Option<Expr>, AllocError>
-    ensures { IfOk result (λ expr. option_map term expr ≡ expression_form (view value.now)) }
+pub(crate) fn expression_of(
+    alloc: Global,
+    reader: &mut Reader<'_>,
+    depth: usize,
+) -> Result<Option<Expr>, Unread>
+    ensures ok { IfOk result (λ expr. reads expression_form depth reader.old ≡ Some (option_map term expr, reader.new)) }
+    ensures shorter { OnOk result (length reader.new < length reader.old) }
+    ensures refused { result ≡ Err Unread.Invalid → read_value depth reader.old ≡ None }
 {
-    match value {
-        Value::String(name) => Ok(bare_named(name)),
-        Value::Object(members) => {
-            if members.len() == 1 {
-                only_member_of(alloc, members)
-            } else {
-                literal_of(alloc, value)
-            }
+    match next_head(reader, depth)? {
+        Head::String(name) => Ok(bare_named(name)),
+        Head::Object => match members_in(alloc, reader, depth - 1) {
+            Ok(told) => Ok(expression_told(told)),
+            Err(error) => Err(error),
+        },
+        Head::List => {
+            pass_items(reader, depth - 1)?;
+            Ok(None)
         }
         _ => Ok(None),
     }
 }
 
-/// The expression that an object of one member is.
+/// Reads the members of an object to its end.
 #[cycle(expressions)]
-fn only_member_of(alloc: Global, members: &Map<String, Value>) -> Result<Option<Expr>, AllocError>
-    requires { length members.now.entries ≡ 1 }
-    ensures { IfOk result (λ expr. option_map term expr ≡ object_form (members_view members.now.entries)) }
+fn members_in<'a>(
+    alloc: Global,
+    reader: &mut Reader<'a>,
+    depth: usize,
+) -> Result<ObjectMembers<'a>, Unread>
+    ensures ok { IfOk result (λ told. (ms : Members) × (read_members depth reader.old ≡ Some (ms, reader.new)) × AreRising ms × (told_by told ≡ told_of ms)) }
+    ensures shorter { OnOk result (length reader.new < length reader.old) }
+    ensures refused { result ≡ Err Unread.Invalid → read_members depth reader.old ≡ None }
 {
-    match members.first_key_value() {
-        Some((name, inside)) => joined_of(alloc, name, inside),
-        None => Ok(None),
+    let mut told = ObjectMembers {
+        value: None,
+        dtype: None,
+        joined: Joined::Nothing,
+    };
+    'members: while let Some(name) = reader.next_key()? {
+        told = member_told(alloc, reader, depth, name, told)?;
+    }
+    Ok(told)
+}
+
+/// Reads the value of the member of that name.
+#[cycle(expressions)]
+fn member_told<'a>(
+    alloc: Global,
+    reader: &mut Reader<'a>,
+    depth: usize,
+    name: &'a str,
+    told: ObjectMembers<'a>,
+) -> Result<ObjectMembers<'a>, Unread>
+    ensures ok { IfOk result (λ after. (d : Data) × (read_value depth reader.old ≡ Some (d, reader.new)) × (told_by after ≡ with_member name.now d (told_by told.entry))) }
+    ensures shorter { OnOk result (length reader.new < length reader.old) }
+    ensures refused { result ≡ Err Unread.Invalid → read_value depth reader.old ≡ None }
+{
+    let ObjectMembers {
+        value,
+        dtype,
+        joined,
+    } = told;
+    match name {
+        "lit" => Ok(ObjectMembers {
+            value: Some(value_of(alloc, reader, depth)?),
+            dtype,
+            joined,
+        }),
+        "type" => Ok(ObjectMembers {
+            value,
+            dtype: Some(dtype_of(alloc, reader, depth)?),
+            joined,
+        }),
+        _ => {
+            let expr = joined_of(alloc, name, reader, depth)?;
+            Ok(ObjectMembers {
+                value,
+                dtype,
+                joined: with_joined(joined, name, expr),
+            })
+        }
     }
 }
 
 /// The expression of that name, with its parts inside.
 #[cycle(expressions)]
-fn joined_of(alloc: Global, name: &str, inside: &Value) -> Result<Option<Expr>, AllocError>
-    ensures { IfOk result (λ expr. option_map term expr ≡ joined_form name.now (expression_form (view inside.now))
-        (named_form (view inside.now)) (all_named_form (view inside.now)) (pair_form (view inside.now))) }
+fn joined_of(
+    alloc: Global,
+    name: &str,
+    reader: &mut Reader<'_>,
+    depth: usize,
+) -> Result<Option<Expr>, Unread>
+    ensures ok { IfOk result (λ expr. reads (joined_value name.now) depth reader.old ≡ Some (option_map term expr, reader.new)) }
+    ensures shorter { OnOk result (length reader.new < length reader.old) }
+    ensures refused { result ≡ Err Unread.Invalid → read_value depth reader.old ≡ None }
 {
     match name {
-        "get" => field_got(alloc, named_of(alloc, inside)?),
-        "pack" => Ok(packed(all_named_of(alloc, inside)?)),
+        "get" => Ok(field_got(alloc, named_of(alloc, reader, depth)?)?),
+        "pack" => Ok(packed(all_named_of(alloc, reader, depth)?)),
         _ => match Test::of_name(name) {
-            Some(test) => tested(alloc, test, expression_of(alloc, inside)?),
+            Some(test) => Ok(tested(alloc, test, expression_of(alloc, reader, depth)?)?),
             None => match Join::of_name(name) {
-                Some(join) => pair_joined(alloc, join, inside),
-                None => Ok(None),
+                Some(join) => pair_joined(alloc, join, reader, depth),
+                None => {
+                    pass(reader, depth)?;
+                    Ok(None)
+                }
             },
         },
     }
 }
 
-/// Two expressions inside, left and right, joined.
+/// Two expressions, left and right, joined.
 #[cycle(expressions)]
-fn pair_joined(alloc: Global, join: Join, inside: &Value) -> Result<Option<Expr>, AllocError>
-    ensures { IfOk result (λ expr. option_map term expr ≡ option_map (λ pair. joined_by join pair.0 pair.1) (pair_form (view inside.now))) }
+fn pair_joined(
+    alloc: Global,
+    join: Join,
+    reader: &mut Reader<'_>,
+    depth: usize,
+) -> Result<Option<Expr>, Unread>
+    ensures ok { IfOk result (λ expr. reads (λ d. option_map (λ pair. joined_by join pair.0 pair.1) (pair_form d)) depth reader.old ≡ Some (option_map term expr, reader.new)) }
+    ensures shorter { OnOk result (length reader.new < length reader.old) }
+    ensures refused { result ≡ Err Unread.Invalid → read_value depth reader.old ≡ None }
 {
-    let Some((left, right)) = two_of(inside) else {
-        return Ok(None);
-    };
-    let Some(left) = expression_of(alloc, left)? else {
-        return Ok(None);
-    };
-    let Some(right) = expression_of(alloc, right)? else {
-        return Ok(None);
-    };
-    Ok(Some(join.join(alloc, left, right)?))
+    match pair_of(alloc, reader, depth)? {
+        Some((left, right)) => Ok(Some(join.join(alloc, left, right)?)),
+        None => Ok(None),
+    }
 }
 
 #[cycle(expressions)]
-fn all_named_of(alloc: Global, value: &Value) -> Result<Option<Vec<(Text, Expr)>>, AllocError>
-    ensures { IfOk result (λ list. option_map (λ v. map named_term v.items) list ≡ all_named_form (view value.now)) }
+fn pair_of(
+    alloc: Global,
+    reader: &mut Reader<'_>,
+    depth: usize,
+) -> Result<Option<(Expr, Expr)>, Unread>
+    ensures ok { IfOk result (λ pair. reads pair_form depth reader.old ≡ Some (option_map (λ both. (term both.0, term both.1)) pair, reader.new)) }
+    ensures shorter { OnOk result (length reader.new < length reader.old) }
+    ensures refused { result ≡ Err Unread.Invalid → read_value depth reader.old ≡ None }
 {
-    match value {
-        Value::Array(items) => named_in(alloc, items),
-        _ => Ok(None),
+    if list_begins(reader, depth)? {
+        pair_in(alloc, reader, depth - 1)
+    } else {
+        Ok(None)
+    }
+}
+
+/// Two expressions, which are a list of both.
+#[cycle(expressions)]
+fn pair_in(
+    alloc: Global,
+    reader: &mut Reader<'_>,
+    depth: usize,
+) -> Result<Option<(Expr, Expr)>, Unread>
+    ensures ok { IfOk result (λ pair. reads_items pair_items depth reader.old ≡ Some (option_map (λ both. (term both.0, term both.1)) pair, reader.new)) }
+    ensures shorter { OnOk result (length reader.new < length reader.old) }
+    ensures refused { result ≡ Err Unread.Invalid → read_items depth reader.old ≡ None }
+{
+    if reader.take_end_array() {
+        return Ok(None);
+    }
+    let left = expression_of(alloc, reader, depth)?;
+    if reader.take_end_array() {
+        return Ok(None);
+    }
+    let right = expression_of(alloc, reader, depth)?;
+    if list_ends(reader, depth)? {
+        Ok(pair_from(left, right))
+    } else {
+        Ok(None)
+    }
+}
+
+/// Both expressions, where they are there.
+fn pair_from(left: Option<Expr>, right: Option<Expr>) -> Option<(Expr, Expr)>
+    ensures { option_map (λ both. (term both.0, term both.1)) result ≡ made_pair (option_map term left) (option_map term right) }
+{
+    match (left, right) {
+        (Some(left), Some(right)) => Some((left, right)),
+        _ => None,
+    }
+}
+
+#[cycle(expressions)]
+fn all_named_of(
+    alloc: Global,
+    reader: &mut Reader<'_>,
+    depth: usize,
+) -> Result<Option<Vec<(Text, Expr)>>, Unread>
+    ensures ok { IfOk result (λ list. reads all_named_form depth reader.old ≡ Some (option_map (λ v. map named_term v.items) list, reader.new)) }
+    ensures shorter { OnOk result (length reader.new < length reader.old) }
+    ensures refused { result ≡ Err Unread.Invalid → read_value depth reader.old ≡ None }
+{
+    if list_begins(reader, depth)? {
+        named_in(alloc, reader, depth - 1)
+    } else {
+        Ok(None)
     }
 }
 
 /// The named expressions of a struct, in order.
 #[cycle(expressions)]
-fn named_in(alloc: Global, items: &[Value]) -> Result<Option<Vec<(Text, Expr)>>, AllocError>
-    ensures { IfOk result (λ list. option_map (λ v. map named_term v.items) list ≡ each_form named_form (items_view items.now)) }
+fn named_in(
+    alloc: Global,
+    reader: &mut Reader<'_>,
+    depth: usize,
+) -> Result<Option<Vec<(Text, Expr)>>, Unread>
+    ensures ok { IfOk result (λ list. reads_items (each_form named_form) depth reader.old ≡ Some (option_map (λ v. map named_term v.items) list, reader.new)) }
+    ensures shorter { OnOk result (length reader.new < length reader.old) }
+    ensures refused { result ≡ Err Unread.Invalid → read_items depth reader.old ≡ None }
 {
-    let mut parts = Vec::with_capacity(alloc, items.len())?;
-    for item in items {
-        let Some(part) = named_of(alloc, item)? else {
-            return Ok(None);
-        };
-        parts.push(part)?;
+    let mut made = Some(Vec::new(alloc));
+    'items: while !reader.take_end_array() {
+        let item = named_of(alloc, reader, depth)?;
+        made = joined(made, item)?;
     }
-    Ok(Some(parts))
+    Ok(made)
+}
+
+#[cycle(expressions)]
+fn named_of(
+    alloc: Global,
+    reader: &mut Reader<'_>,
+    depth: usize,
+) -> Result<Option<(Text, Expr)>, Unread>
+    ensures ok { IfOk result (λ part. reads named_form depth reader.old ≡ Some (option_map named_term part, reader.new)) }
+    ensures shorter { OnOk result (length reader.new < length reader.old) }
+    ensures refused { result ≡ Err Unread.Invalid → read_value depth reader.old ≡ None }
+{
+    if list_begins(reader, depth)? {
+        named_inside(alloc, reader, depth - 1)
+    } else {
+        Ok(None)
+    }
 }
 
 /// An expression with its name, which is a list of both.
 #[cycle(expressions)]
-fn named_of(alloc: Global, value: &Value) -> Result<Option<(Text, Expr)>, AllocError>
-    ensures { IfOk result (λ part. option_map named_term part ≡ named_form (view value.now)) }
+fn named_inside(
+    alloc: Global,
+    reader: &mut Reader<'_>,
+    depth: usize,
+) -> Result<Option<(Text, Expr)>, Unread>
+    ensures ok { IfOk result (λ part. reads_items named_items depth reader.old ≡ Some (option_map named_term part, reader.new)) }
+    ensures shorter { OnOk result (length reader.new < length reader.old) }
+    ensures refused { result ≡ Err Unread.Invalid → read_items depth reader.old ≡ None }
 {
-    let Some((name, expr)) = two_of(value) else {
+    if reader.take_end_array() {
         return Ok(None);
-    };
-    let Some(name) = name.as_str() else {
+    }
+    let name = text(reader, depth)?;
+    if reader.take_end_array() {
         return Ok(None);
-    };
-    let name = Text::from_string(String::from_str(alloc, name)?);
-    let Some(expr) = expression_of(alloc, expr)? else {
-        return Ok(None);
-    };
-    Ok(Some((name, expr)))
+    }
+    let expr = expression_of(alloc, reader, depth)?;
+    match list_ends(reader, depth) {
+        Ok(true) => Ok(named_from(alloc, name, expr)?),
+        Ok(false) => {
+            drop(expr);
+            Ok(None)
+        }
+        Err(error) => {
+            drop(expr);
+            Err(Unread::from(error))
+        }
+    }
+}
+
+/// The expression of that name, where both are there.
+fn named_from(
+    alloc: Global,
+    name: Option<&str>,
+    expr: Option<Expr>,
+) -> Result<Option<(Text, Expr)>, AllocError>
+    ensures { IfOk result (λ part. option_map named_term part ≡ made_named (option_map (λ s. s.now) name.entry) (option_map term expr)) }
+{
+    match (name, expr) {
+        (Some(name), Some(expr)) => {
+            let name = Text::from_string(String::from_str(alloc, name)?);
+            Ok(Some((name, expr)))
+        }
+        _ => Ok(None),
+    }
 }

@@ -96,7 +96,7 @@ pub fn row_forms_by_hand()
 
 /// All rows whole where only locations and nodes are there, a limit of no row is one; a further member makes it none, and so
 /// does an absent one's null, and a limit that is no number.
-#[tactic(auto, unfolding(crate::specs::RequestForms::request_form, crate::specs::RequestForms::file_form))]
+#[tactic(auto, unfolding(crate::specs::RequestForms::request_form))]
 pub fn request_forms_by_hand()
     ensures least { request_form (object (member (codes "locations") (array no_items) (member (codes "nodes") (array no_items) no_members)))
         ≡ Some (record { locations = []; nodes = []; projection = root; range = None; selection = All; limit = None; row_offset = 0 }) }

@@ -1,37 +1,29 @@
-//! Numbers, lists and objects of JSON, as the members of a request have them.
+//! Numbers and lists of JSON, as the members of a request have them.
 
-ghost use Rattle.std.specs.Prelude.{◌≡◌, ◌^◌, IfOk, option_map};
-ghost use Rattle.serde_json.specs.View.{view, items_view};
-ghost use Rattle.scan_request.specs.JsonForms.{has_members as members_test, whole_form, each_form, few_items, two_in as both_items, two_items};
+ghost use Rattle.std.specs.Prelude.{◌≡◌, ◌^◌, ◌<◌, Some, None, Err, length, IfOk, OnOk, OnErr, option_map};
+ghost use Rattle.serde_json.specs.View.{number_view};
+ghost use Rattle.scan_json.specs.Forms.{each_form};
+ghost use Rattle.scan_json.specs.Reading.{read_items, read_value, reads, reads_items};
+ghost use Rattle.scan_request.specs.JsonForms.{few_of, list_of, whole_form, whole_number};
 
-use serde_json::Value;
-use std::alloc::{AllocError, Global};
+use json::{Invalid, Reader};
+use scan_json::{Unread, joined, list_begins, number};
+use serde_json::Number;
+use std::alloc::Global;
 
 /// A list of a request has at most so many items.
 pub const MOST_ITEMS: usize = 4194304;
 
-/// Whether the value is an object of exactly so many members.
-pub(crate) fn has_members(value: &Value, count: usize) -> bool
-    ensures { result ≡ members_test count (view value.now) }
+fn fits_64(number: &Number) -> Option<u64>
+    ensures { result ≡ whole_number (2 ^ 64) (number_view number.now) }
 {
-    match value.as_object() {
-        Some(members) => members.len() == count,
-        None => false,
-    }
+    number.as_u64()
 }
 
-/// A whole number that 64 bits hold.
-pub(crate) fn whole_64(value: &Value) -> Option<u64>
-    ensures { result ≡ whole_form (2 ^ 64) (view value.now) }
+fn fits_32(number: &Number) -> Option<u32>
+    ensures { result ≡ whole_number (2 ^ 32) (number_view number.now) }
 {
-    value.as_u64()
-}
-
-/// A whole number that 32 bits hold.
-pub(crate) fn whole_32(value: &Value) -> Option<u32>
-    ensures { result ≡ whole_form (2 ^ 32) (view value.now) }
-{
-    let number = value.as_u64()?;
+    let number = number.as_u64()?;
     if number < 4294967296 {
         Some(number as u32)
     } else {
@@ -39,11 +31,35 @@ pub(crate) fn whole_32(value: &Value) -> Option<u32>
     }
 }
 
-/// The items of a list, of which there are at most 4194304.
-pub(crate) fn few_items_of(value: &Value) -> Option<&Vec<Value>>
-    ensures { option_map (λ v. items_view v.now.items) result ≡ few_items (view value.now) }
+/// A whole number that 64 bits hold.
+pub(crate) fn whole_64(reader: &mut Reader<'_>, depth: usize) -> Result<Option<u64>, Invalid>
+    ensures ok { IfOk result (λ found. reads (whole_form (2 ^ 64)) depth reader.old ≡ Some (found, reader.new)) }
+    ensures shorter { OnOk result (length reader.new < length reader.old) }
+    ensures refused { OnErr result (read_value depth reader.old ≡ None) }
 {
-    let items = value.as_array()?;
+    match number(reader, depth)? {
+        Some(number) => Ok(fits_64(&number)),
+        None => Ok(None),
+    }
+}
+
+/// A whole number that 32 bits hold.
+pub(crate) fn whole_32(reader: &mut Reader<'_>, depth: usize) -> Result<Option<u32>, Invalid>
+    ensures ok { IfOk result (λ found. reads (whole_form (2 ^ 32)) depth reader.old ≡ Some (found, reader.new)) }
+    ensures shorter { OnOk result (length reader.new < length reader.old) }
+    ensures refused { OnErr result (read_value depth reader.old ≡ None) }
+{
+    match number(reader, depth)? {
+        Some(number) => Ok(fits_32(&number)),
+        None => Ok(None),
+    }
+}
+
+/// The items, where there are at most 4194304 of them.
+pub(crate) fn few<X: Drop>(items: Option<Vec<X>>) -> Option<Vec<X>>
+    ensures { option_map (λ v. v.items) result ≡ few_of (option_map (λ v. v.items) items) }
+{
+    let items = items?;
     if items.len() > MOST_ITEMS {
         None
     } else {
@@ -51,33 +67,36 @@ pub(crate) fn few_items_of(value: &Value) -> Option<&Vec<Value>>
     }
 }
 
-/// The items of a list of exactly two.
-pub(crate) fn two_of(value: &Value) -> Option<(&Value, &Value)>
-    ensures { option_map (λ pair. (view pair.0.now, view pair.1.now)) result ≡ two_items (view value.now) }
-{
-    two_in(value.as_array()?)
-}
-
-/// The items where they are two.
-fn two_in(items: &[Value]) -> Option<(&Value, &Value)>
-    ensures { option_map (λ pair. (view pair.0.now, view pair.1.now)) result ≡ both_items (items_view items.now) }
-{
-    let [first, second] = items else {
-        return None;
-    };
-    Some((first, second))
-}
-
 /// Numbers that 32 bits hold, in order.
-pub(crate) fn numbers_in(alloc: Global, items: &[Value]) -> Result<Option<Vec<u32>>, AllocError>
-    ensures { IfOk result (λ list. option_map (λ v. v.items) list ≡ each_form (whole_form (2 ^ 32)) (items_view items.now)) }
+pub(crate) fn numbers_of(
+    alloc: Global,
+    reader: &mut Reader<'_>,
+    depth: usize,
+) -> Result<Option<Vec<u32>>, Unread>
+    ensures ok { IfOk result (λ list. reads (list_of (whole_form (2 ^ 32))) depth reader.old ≡ Some (option_map (λ v. v.items) list, reader.new)) }
+    ensures shorter { OnOk result (length reader.new < length reader.old) }
+    ensures refused { result ≡ Err Unread.Invalid → read_value depth reader.old ≡ None }
 {
-    let mut numbers = Vec::with_capacity(alloc, items.len())?;
-    for item in items {
-        let Some(number) = whole_32(item) else {
-            return Ok(None);
-        };
-        numbers.push(number)?;
+    if list_begins(reader, depth)? {
+        numbers_in(alloc, reader, depth - 1)
+    } else {
+        Ok(None)
     }
-    Ok(Some(numbers))
+}
+
+fn numbers_in(
+    alloc: Global,
+    reader: &mut Reader<'_>,
+    depth: usize,
+) -> Result<Option<Vec<u32>>, Unread>
+    ensures ok { IfOk result (λ list. reads_items (each_form (whole_form (2 ^ 32))) depth reader.old ≡ Some (option_map (λ v. v.items) list, reader.new)) }
+    ensures shorter { OnOk result (length reader.new < length reader.old) }
+    ensures refused { result ≡ Err Unread.Invalid → read_items depth reader.old ≡ None }
+{
+    let mut made = Some(Vec::new(alloc));
+    'items: while !reader.take_end_array() {
+        let item = whole_32(reader, depth)?;
+        made = joined(made, item)?;
+    }
+    Ok(made)
 }

@@ -9,12 +9,17 @@
 
 mod dtype_forms;
 mod expression_forms;
+mod expression_members;
+mod expression_names;
 mod forms_by_hand;
 mod json_forms;
 mod location_forms;
 mod node_forms;
+mod node_members;
 mod request_errors;
 mod request_forms;
+mod request_members;
+mod request_parts;
 mod row_forms;
 
 pub use forms_by_hand::{

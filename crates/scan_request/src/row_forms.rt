@@ -1,15 +1,16 @@
 //! The form of the rows that are asked for: a range, the rows of it that are read or left out, how many of them at most,
 //! and the number of the first row.
 
-ghost use Rattle.std.specs.Prelude.{◌≡◌, ◌^◌, None, IfOk, codes, option_map};
-ghost use Rattle.serde_json.specs.Find.{get};
-ghost use Rattle.serde_json.specs.View.{view, items_view};
-ghost use Rattle.scan_request.specs.JsonForms.{each_form, optional_form, whole_form};
-ghost use Rattle.scan_request.specs.RowForms.{range_items, range_form, given_range, given_limit, indices_form, selection_form, rows_form};
+ghost use Rattle.std.specs.Prelude.{◌≡◌, ◌^◌, ◌<◌, Some, None, Err, length, IfOk, OnOk, OnErr, option_map};
+ghost use Rattle.scan_json.specs.Forms.{each_form};
+ghost use Rattle.scan_json.specs.Reading.{read_items, read_value, reads, reads_items};
+ghost use Rattle.scan_request.specs.JsonForms.{list_of, whole_form};
+ghost use Rattle.scan_request.specs.RowForms.{in_order, indices_form, range_form, range_from as made_range, range_items, rows_said, selection_said};
 
 use crate::json_forms::whole_64;
-use serde_json::Value;
-use std::alloc::{AllocError, Global};
+use json::{Invalid, Reader};
+use scan_json::{Unread, joined, list_begins, list_ends};
+use std::alloc::Global;
 use std::ops::Range;
 use vx_splits::{Selection, StrictSorted};
 
@@ -26,122 +27,133 @@ pub(crate) struct RowsAsked {
     pub(crate) row_offset: u64,
 }
 
-fn range_of(value: &Value) -> Option<Range<u64>>
-    ensures { result ≡ range_form (view value.now) }
+pub(crate) fn range_of(reader: &mut Reader<'_>, depth: usize) -> Result<Option<Range<u64>>, Invalid>
+    ensures ok { IfOk result (λ range. reads range_form depth reader.old ≡ Some (range, reader.new)) }
+    ensures shorter { OnOk result (length reader.new < length reader.old) }
+    ensures refused { OnErr result (read_value depth reader.old ≡ None) }
 {
-    range_in(value.as_array()?)
+    if list_begins(reader, depth)? {
+        range_in(reader, depth - 1)
+    } else {
+        Ok(None)
+    }
 }
 
 /// A range as start and end, of which the end may be the lower one.
-fn range_in(items: &[Value]) -> Option<Range<u64>>
-    ensures { result ≡ range_items (items_view items.now) }
+fn range_in(reader: &mut Reader<'_>, depth: usize) -> Result<Option<Range<u64>>, Invalid>
+    ensures ok { IfOk result (λ range. reads_items range_items depth reader.old ≡ Some (range, reader.new)) }
+    ensures shorter { OnOk result (length reader.new < length reader.old) }
+    ensures refused { OnErr result (read_items depth reader.old ≡ None) }
 {
-    let [start, end] = items else {
-        return None;
-    };
-    let start = whole_64(start)?;
-    let end = whole_64(end)?;
+    if reader.take_end_array() {
+        return Ok(None);
+    }
+    let start = whole_64(reader, depth)?;
+    if reader.take_end_array() {
+        return Ok(None);
+    }
+    let end = whole_64(reader, depth)?;
+    if list_ends(reader, depth)? {
+        Ok(range_from(start, end))
+    } else {
+        Ok(None)
+    }
+}
+
+/// The range of a start and an end, where both are there.
+fn range_from(start: Option<u64>, end: Option<u64>) -> Option<Range<u64>>
+    ensures { result ≡ made_range start end }
+{
+    let start = start?;
+    let end = end?;
     Some(start..end)
 }
 
-/// The range that a request gives, which is none where it gives none.
-fn range_asked(value: &Value) -> Option<Option<Range<u64>>>
-    ensures { result ≡ optional_form None given_range (get (codes "range") (view value.now)) }
+/// Row numbers in order.
+fn rows_in(alloc: Global, reader: &mut Reader<'_>, depth: usize) -> Result<Option<Vec<u64>>, Unread>
+    ensures ok { IfOk result (λ list. reads_items (each_form (whole_form (2 ^ 64))) depth reader.old ≡ Some (option_map (λ v. v.items) list, reader.new)) }
+    ensures shorter { OnOk result (length reader.new < length reader.old) }
+    ensures refused { result ≡ Err Unread.Invalid → read_items depth reader.old ≡ None }
 {
-    match value.get("range") {
-        Some(range) => Some(Some(range_of(range)?)),
-        None => Some(None),
+    let mut made = Some(Vec::new(alloc));
+    'items: while !reader.take_end_array() {
+        let item = whole_64(reader, depth)?;
+        made = joined(made, item)?;
     }
+    Ok(made)
 }
 
-/// Row numbers in order.
-fn rows_in(alloc: Global, items: &[Value]) -> Result<Option<Vec<u64>>, AllocError>
-    ensures { IfOk result (λ list. option_map (λ v. v.items) list ≡ each_form (whole_form (2 ^ 64)) (items_view items.now)) }
+/// Row numbers, where each is greater than the one before it.
+fn ascending(rows: Option<Vec<u64>>) -> Option<StrictSorted>
+    ensures { result ≡ in_order (option_map (λ v. v.items) rows) }
 {
-    let mut rows = Vec::with_capacity(alloc, items.len())?;
-    for item in items {
-        let Some(row) = whole_64(item) else {
-            return Ok(None);
-        };
-        rows.push(row)?;
+    match StrictSorted::try_new(rows?) {
+        Ok(indices) => Some(indices),
+        Err(_) => None,
     }
-    Ok(Some(rows))
 }
 
 /// Row numbers, each greater than the one before it.
-fn indices_of(alloc: Global, value: &Value) -> Result<Option<StrictSorted>, AllocError>
-    ensures { IfOk result (λ indices. indices ≡ indices_form (view value.now)) }
+pub(crate) fn indices_of(
+    alloc: Global,
+    reader: &mut Reader<'_>,
+    depth: usize,
+) -> Result<Option<StrictSorted>, Unread>
+    ensures ok { IfOk result (λ indices. reads indices_form depth reader.old ≡ Some (indices, reader.new)) }
+    ensures shorter { OnOk result (length reader.new < length reader.old) }
+    ensures refused { result ≡ Err Unread.Invalid → read_value depth reader.old ≡ None }
 {
-    let Some(items) = value.as_array() else {
+    if !list_begins(reader, depth)? {
         return Ok(None);
-    };
-    let Some(rows) = rows_in(alloc, items)? else {
-        return Ok(None);
-    };
-    match StrictSorted::try_new(rows) {
-        Ok(indices) => Ok(Some(indices)),
-        Err(_) => Ok(None),
+    }
+    match rows_in(alloc, reader, depth - 1) {
+        Ok(rows) => Ok(ascending(rows)),
+        Err(error) => Err(error),
     }
 }
 
-/// The rows that are read or left out: all where the request says nothing of it.
-fn selection_asked(alloc: Global, value: &Value) -> Result<Option<Selection>, AllocError>
-    ensures { IfOk result (λ selection. selection ≡ selection_form (get (codes "indices") (view value.now)) (get (codes "exclude") (view value.now))) }
+/// The rows that are read or left out, by what each of both members tells: all where neither is there.
+fn selection_from(
+    indices: Option<Option<StrictSorted>>,
+    exclude: Option<Option<StrictSorted>>,
+) -> Option<Selection>
+    ensures { result ≡ selection_said indices exclude }
 {
-    match (value.get("indices"), value.get("exclude")) {
-        (None, None) => Ok(Some(Selection::All)),
-        (Some(rows), None) => match indices_of(alloc, rows)? {
-            Some(rows) => Ok(Some(Selection::IncludeByIndex(rows))),
-            None => Ok(None),
-        },
-        (None, Some(rows)) => match indices_of(alloc, rows)? {
-            Some(rows) => Ok(Some(Selection::ExcludeByIndex(rows))),
-            None => Ok(None),
-        },
-        (Some(_), Some(_)) => Ok(None),
+    match (indices, exclude) {
+        (None, None) => Some(Selection::All),
+        (Some(Some(rows)), None) => Some(Selection::IncludeByIndex(rows)),
+        (None, Some(Some(rows))) => Some(Selection::ExcludeByIndex(rows)),
+        _ => None,
     }
 }
 
-/// How many of the selected rows are read at most: it is none where the request says nothing of it.
-fn limit_asked(value: &Value) -> Option<Option<u64>>
-    ensures { result ≡ optional_form None given_limit (get (codes "limit") (view value.now)) }
+/// The rows that members tell, each where it is there: all of them, numbered from 0, where none is.
+pub(crate) fn rows_from(
+    range: Option<Option<Range<u64>>>,
+    limit: Option<Option<u64>>,
+    row_offset: Option<Option<u64>>,
+    indices: Option<Option<StrictSorted>>,
+    exclude: Option<Option<StrictSorted>>,
+) -> Option<RowsAsked>
+    ensures { result ≡ rows_said range limit row_offset indices exclude }
 {
-    match value.get("limit") {
-        Some(limit) => Some(Some(whole_64(limit)?)),
-        None => Some(None),
-    }
-}
-
-/// The number of the file's first row: 0 where the request says nothing of it.
-fn offset_asked(value: &Value) -> Option<u64>
-    ensures { result ≡ optional_form 0 (whole_form (2 ^ 64)) (get (codes "row_offset") (view value.now)) }
-{
-    match value.get("row_offset") {
-        Some(offset) => whole_64(offset),
-        None => Some(0),
-    }
-}
-
-/// The rows that a request asks for: all, numbered from 0, where it says nothing of them.
-pub(crate) fn rows_asked(alloc: Global, value: &Value) -> Result<Option<RowsAsked>, AllocError>
-    ensures { IfOk result (λ rows. rows ≡ rows_form (view value.now)) }
-{
-    let Some(range) = range_asked(value) else {
-        return Ok(None);
+    let selection = selection_from(indices, exclude)?;
+    let range = match range {
+        Some(range) => Some(range?),
+        None => None,
     };
-    let Some(limit) = limit_asked(value) else {
-        return Ok(None);
+    let limit = match limit {
+        Some(limit) => Some(limit?),
+        None => None,
     };
-    let Some(row_offset) = offset_asked(value) else {
-        return Ok(None);
+    let row_offset = match row_offset {
+        Some(row_offset) => row_offset?,
+        None => 0,
     };
-    match selection_asked(alloc, value)? {
-        Some(selection) => Ok(Some(RowsAsked {
-            range,
-            selection,
-            limit,
-            row_offset,
-        })),
-        None => Ok(None),
-    }
+    Some(RowsAsked {
+        range,
+        selection,
+        limit,
+        row_offset,
+    })
 }

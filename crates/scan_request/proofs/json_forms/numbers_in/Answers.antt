@@ -1,21 +1,23 @@
-use Rattle.std.proofs.Common.{◌≡◌, ◌^◌, Some, None, arith}
-use Rattle.serde_json.specs.View.{view}
+use Rattle.std.proofs.Common.{◌≡◌, ◌^◌, [], ◌∷◌, Option, Some, None, List, ℕ, option_map, subst, sym, ap, arith}
+use Rattle.json.specs.Json.{after_end_array}
+use Rattle.scan_json.specs.Reading.{reads}
+use Rattle.scan_json.proofs.ListTurns.{IsListRead, item_joined, list_done, list_refused}
 use Rattle.scan_request.specs.JsonForms.{whole_form}
-use Rattle.scan_request.proofs.JsonForms.{each_begun, each_done, each_more, each_none}
 use Rattle.scan_request.proofs.json_forms.numbers_in.Goals as goal
 
-pub loop-item-init : goal.loop-item-init
-loop-item-init c = each_begun (whole_form (2 ^ 32)) c.args.items.now c.in_ok-numbers.numbers.items c.in_ok-numbers.ensures.items
+pub returns-in_err-item-clause-refused : goal.returns-in_err-item-clause-refused
+returns-in_err-item-clause-refused c invalid =
+    let going : (after_end_array c.items.reader ≡ None) × (c.take_end_array.new.self ≡ c.items.reader) = grind arith in
+    list_refused (whole_form (2 ^ 32)) c.args.depth c.args.reader.now (option_map (λ v. v.items) c.items.made) c.items.reader c.items.invariant going.0 (rw (← going.1) c.in_err-item.ensures.refused)
 
-pub loop-item-preserved : goal.loop-item-preserved
-loop-item-preserved c =
-    let formed : Some c.in-Some.number ≡ whole_form (2 ^ 32) (view c.item-item.result) = rw c.in-Some.is at c.whole_32.ensures in
-    each_more (whole_form (2 ^ 32)) c.args.items.now _ c.loop-item.numbers.items c.push.new.self.items c.loop-item.item-index _ c.item-item.result c.in-Some.number (omega arith) c.loop-item-test.true c.item-item.is c.in_ok-push.ensures.items formed c.loop-item.invariant
+pub items-preserved : goal.items-preserved
+items-preserved c =
+    let going : (after_end_array c.items.reader ≡ None) × (c.take_end_array.new.self ≡ c.items.reader) = grind arith in
+    let read : reads (whole_form (2 ^ 32)) c.args.depth c.items.reader ≡ Some (c.in_ok-item.item, c.whole_32.new.reader) = rw (← going.1) c.in_ok-item.ensures.ok in
+    subst (λ (made : Option (List ℕ)). IsListRead (whole_form (2 ^ 32)) c.args.depth c.args.reader.now made c.whole_32.new.reader) (sym c.in_ok-made.ensures)
+    (item_joined (whole_form (2 ^ 32)) c.args.depth c.args.reader.now (option_map (λ v. v.items) c.items.made) c.items.reader c.items.invariant c.whole_32.new.reader c.in_ok-item.item going.0 read (rw (← going.1) c.in_ok-item.ensures.shorter))
 
-pub returns-in_default : goal.returns-in_default
-returns-in_default c =
-    let formed : None ≡ whole_form (2 ^ 32) (view c.item-item.result) = rw c.in_default.is at c.whole_32.ensures in
-    each_none (whole_form (2 ^ 32)) c.args.items.now _ c.loop-item.numbers.items c.loop-item.item-index c.item-item.result c.loop-item-test.true c.item-item.is formed c.loop-item.invariant
-
-pub returns : goal.returns
-returns c = each_done (whole_form (2 ^ 32)) c.args.items.now _ c.loop-item.numbers.items c.loop-item.item-index c.loop-item-test.false c.loop-item.invariant
+pub returns-clause-ok : goal.returns-clause-ok
+returns-clause-ok c =
+    let over : after_end_array c.items.reader ≡ Some c.take_end_array.new.self = grind arith in
+    list_done (whole_form (2 ^ 32)) c.args.depth c.args.reader.now (option_map (λ v. v.items) c.items.made) c.items.reader c.take_end_array.new.self c.items.invariant over

@@ -1,24 +1,26 @@
-use Rattle.std.proofs.Common.{◌≡◌, ◌++◌, ◌∷◌, [], map, Some, None, ap, ◌∙◌, arith}
-use Rattle.std.proofs.lemmas.List.{map-append}
-use Rattle.serde_json.specs.View.{view}
-use Rattle.vx_layout.specs.Nodes.{node_data}
+use Rattle.std.proofs.Common.{◌≡◌, [], ◌∷◌, Option, Some, None, List, map, option_map, subst, sym, arith}
+use Rattle.json.specs.Json.{after_end_array}
+use Rattle.vx_layout.specs.Nodes.{Node, node_data}
+use Rattle.scan_json.specs.Reading.{reads}
+use Rattle.scan_json.proofs.ListTurns.{IsListRead, item_joined, list_done, list_joined, list_refused}
 use Rattle.scan_request.specs.NodeForms.{node_form}
-use Rattle.scan_request.proofs.JsonForms.{each_begun, each_done, each_more, each_none}
 use Rattle.scan_request.proofs.node_forms.nodes_in.Goals as goal
 
-pub loop-item-init : goal.loop-item-init
-loop-item-init c = each_begun node_form c.args.items.now (map node_data c.in_ok-nodes.nodes.items) (ap (map node_data) c.in_ok-nodes.ensures.items)
+pub returns-in_err-item-clause-refused : goal.returns-in_err-item-clause-refused
+returns-in_err-item-clause-refused c invalid =
+    let going : (after_end_array c.items.reader ≡ None) × (c.take_end_array.new.self ≡ c.items.reader) = grind arith in
+    let none = c.node_of.ensures.refused (grind arith) in
+    list_refused node_form c.args.depth c.args.reader.now (option_map (λ v. map node_data v.items) c.items.made) c.items.reader c.items.invariant going.0 (rw (← going.1) none)
 
-pub loop-item-preserved : goal.loop-item-preserved
-loop-item-preserved c =
-    let formed : Some (node_data c.in-Some.node) ≡ node_form (view c.item-item.result) = rw c.in-Some.is at c.in_ok-node.ensures in
-    let pushed : map node_data c.push.new.self.items ≡ map node_data c.loop-item.nodes.items ++ node_data c.in-Some.node ∷ [] = ap (map node_data) c.in_ok-push.ensures.items ∙ map-append node_data c.loop-item.nodes.items (c.in-Some.node ∷ []) in
-    each_more node_form c.args.items.now _ (map node_data c.loop-item.nodes.items) (map node_data c.push.new.self.items) c.loop-item.item-index _ c.item-item.result (node_data c.in-Some.node) (omega arith) c.loop-item-test.true c.item-item.is pushed formed c.loop-item.invariant
+pub items-preserved : goal.items-preserved
+items-preserved c =
+    let going : (after_end_array c.items.reader ≡ None) × (c.take_end_array.new.self ≡ c.items.reader) = grind arith in
+    let item = option_map node_data c.in_ok-item.item in
+    let read : reads node_form c.args.depth c.items.reader ≡ Some (item, c.node_of.new.reader) = rw (← going.1) c.in_ok-item.ensures.ok in
+    subst (λ (made : Option (List Node)). IsListRead node_form c.args.depth c.args.reader.now made c.node_of.new.reader) (sym (list_joined (λ v. v.items) node_data c.items.made _ c.in_ok-item.item c.in_ok-made.ensures))
+    (item_joined node_form c.args.depth c.args.reader.now (option_map (λ v. map node_data v.items) c.items.made) c.items.reader c.items.invariant c.node_of.new.reader item going.0 read (rw (← going.1) c.in_ok-item.ensures.shorter))
 
-pub returns-in_default : goal.returns-in_default
-returns-in_default c =
-    let formed : None ≡ node_form (view c.item-item.result) = rw c.in_default.is at c.in_ok-node.ensures in
-    each_none node_form c.args.items.now _ (map node_data c.loop-item.nodes.items) c.loop-item.item-index c.item-item.result c.loop-item-test.true c.item-item.is formed c.loop-item.invariant
-
-pub returns : goal.returns
-returns c = each_done node_form c.args.items.now _ (map node_data c.loop-item.nodes.items) c.loop-item.item-index c.loop-item-test.false c.loop-item.invariant
+pub returns-clause-ok : goal.returns-clause-ok
+returns-clause-ok c =
+    let over : after_end_array c.items.reader ≡ Some c.take_end_array.new.self = grind arith in
+    list_done node_form c.args.depth c.args.reader.now (option_map (λ v. map node_data v.items) c.items.made) c.items.reader c.take_end_array.new.self c.items.invariant over

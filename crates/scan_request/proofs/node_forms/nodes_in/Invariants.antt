@@ -1,10 +1,11 @@
-use Rattle.std.proofs.Common.{◌≡◌, drop, map}
-use Rattle.serde_json.specs.View.{items_view}
+use Rattle.std.proofs.Common.{length, map, option_map}
 use Rattle.vx_layout.specs.Nodes.{node_data}
-use Rattle.scan_request.specs.JsonForms.{each_form}
+use Rattle.scan_json.proofs.ListTurns.{IsListRead}
 use Rattle.scan_request.specs.NodeForms.{node_form}
-use Rattle.scan_request.proofs.JsonForms.{so_far}
 use Rattle.scan_request.proofs.node_forms.nodes_in.Given as goal
 
-abbrev pub invariant-loop-item : goal.invariant-loop-item
-invariant-loop-item l = each_form node_form (items_view l.items) ≡ so_far node_form (map node_data l.nodes.items) (drop l.item-index l.items)
+abbrev pub invariant-items : goal.invariant-items
+invariant-items l = IsListRead node_form l.depth l.initial.reader (option_map (λ v. map node_data v.items) l.made) l.reader
+
+abbrev pub decreases-items : goal.decreases-items
+decreases-items l = length l.reader

@@ -1,22 +1,31 @@
-use Rattle.std.proofs.Common.{◌≡◌, Some, None, arith}
-use Rattle.serde_json.specs.View.{view}
+use Rattle.std.proofs.Common.{◌≡◌, [], ◌∷◌, Option, Some, None, List, option_map, subst, sym, ap, ◌∙◌, arith}
+use Rattle.json.specs.Json.{after_end_array}
+use Rattle.scan_json.specs.Reading.{reads}
+use Rattle.scan_json.proofs.ListTurns.{IsListRead, item_joined, list_done, list_refused}
+use Rattle.vx_expr.specs.declared.statistics.Statistic.{Statistic}
 use Rattle.scan_request.specs.NodeForms.{statistic_form}
-use Rattle.scan_request.proofs.JsonForms.{each_begun, each_done, each_more, each_none}
 use Rattle.scan_request.proofs.node_forms.statistics_in.Goals as goal
 
-pub loop-item-init : goal.loop-item-init
-loop-item-init c = each_begun statistic_form c.args.items.now c.in_ok-statistics.statistics.items c.in_ok-statistics.ensures.items
+pub returns-in_err-item-clause-refused : goal.returns-in_err-item-clause-refused
+returns-in_err-item-clause-refused c invalid =
+    let going : (after_end_array c.items.reader ≡ None) × (c.take_end_array.new.self ≡ c.items.reader) = grind arith in
+    list_refused statistic_form c.args.depth c.args.reader.now (option_map (λ v. v.items) c.items.made) c.items.reader c.items.invariant going.0 (rw (← going.1) c.in_err-item.ensures.refused)
 
-pub loop-item-preserved : goal.loop-item-preserved
-loop-item-preserved c =
-    let formed : Some c.in-Some.statistic ≡ statistic_form (view c.item-item.result) = rw c.in-Some.is at c.statistic_of.ensures in
-    each_more statistic_form c.args.items.now _ c.loop-item.statistics.items c.push.new.self.items c.loop-item.item-index _ c.item-item.result c.in-Some.statistic (omega arith) c.loop-item-test.true c.item-item.is c.in_ok-push.ensures.items formed c.loop-item.invariant
+pub items-preserved : goal.items-preserved
+items-preserved c =
+    let going : (after_end_array c.items.reader ≡ None) × (c.take_end_array.new.self ≡ c.items.reader) = grind arith in
+    let read : reads statistic_form c.args.depth c.items.reader ≡ Some (c.in_ok-item.item, c.statistic_of.new.reader) = rw (← going.1) c.in_ok-item.ensures.ok in
+    subst (λ (made : Option (List Statistic)). IsListRead statistic_form c.args.depth c.args.reader.now made c.statistic_of.new.reader) (sym c.in_ok-made.ensures)
+    (item_joined statistic_form c.args.depth c.args.reader.now (option_map (λ v. v.items) c.items.made) c.items.reader c.items.invariant c.statistic_of.new.reader c.in_ok-item.item going.0 read (rw (← going.1) c.in_ok-item.ensures.shorter))
 
-pub returns-in_default : goal.returns-in_default
-returns-in_default c =
-    let formed : None ≡ statistic_form (view c.item-item.result) = rw c.in_default.is at c.statistic_of.ensures in
-    each_none statistic_form c.args.items.now _ c.loop-item.statistics.items c.loop-item.item-index c.item-item.result c.loop-item-test.true c.item-item.is formed c.loop-item.invariant
+pub returns-in-Some-clause-ok : goal.returns-in-Some-clause-ok
+returns-in-Some-clause-ok c =
+    let over : after_end_array c.items.reader ≡ Some c.take_end_array.new.self = grind arith in
+    list_done statistic_form c.args.depth c.args.reader.now (option_map (λ v. v.items) c.items.made) c.items.reader c.take_end_array.new.self c.items.invariant over
+    ∙ ap (λ o. Some (option_map (λ v. v.items) o, c.take_end_array.new.self)) c.in-Some.is ∙ ap (λ xs. Some (Some xs, c.take_end_array.new.self)) (sym c.from_vec.ensures)
 
-pub returns : goal.returns
-returns c =
-    rw c.from_vec.ensures (each_done statistic_form c.args.items.now _ c.loop-item.statistics.items c.loop-item.item-index c.loop-item-test.false c.loop-item.invariant)
+pub returns-in-None-clause-ok : goal.returns-in-None-clause-ok
+returns-in-None-clause-ok c =
+    let over : after_end_array c.items.reader ≡ Some c.take_end_array.new.self = grind arith in
+    list_done statistic_form c.args.depth c.args.reader.now (option_map (λ v. v.items) c.items.made) c.items.reader c.take_end_array.new.self c.items.invariant over
+    ∙ ap (λ o. Some (option_map (λ v. v.items) o, c.take_end_array.new.self)) c.in-None.is

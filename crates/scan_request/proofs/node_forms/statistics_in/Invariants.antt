@@ -1,9 +1,10 @@
-use Rattle.std.proofs.Common.{◌≡◌, drop}
-use Rattle.serde_json.specs.View.{items_view}
-use Rattle.scan_request.specs.JsonForms.{each_form}
+use Rattle.std.proofs.Common.{length, option_map}
+use Rattle.scan_json.proofs.ListTurns.{IsListRead}
 use Rattle.scan_request.specs.NodeForms.{statistic_form}
-use Rattle.scan_request.proofs.JsonForms.{so_far}
 use Rattle.scan_request.proofs.node_forms.statistics_in.Given as goal
 
-abbrev pub invariant-loop-item : goal.invariant-loop-item
-invariant-loop-item l = each_form statistic_form (items_view l.items) ≡ so_far statistic_form l.statistics.items (drop l.item-index l.items)
+abbrev pub invariant-items : goal.invariant-items
+invariant-items l = IsListRead statistic_form l.depth l.initial.reader (option_map (λ v. v.items) l.made) l.reader
+
+abbrev pub decreases-items : goal.decreases-items
+decreases-items l = length l.reader
