@@ -25,7 +25,7 @@ use Rattle.vx_base.below.vx_columns.specs.contracts.columns.Column as columns
 use Rattle.vx_base.below.vx_columns.specs.contracts.columns.Column.TheInside as inside_columns
 
 sync_dtype : IsSync dtypes.the_row
-sync_dtype = search (dtypes_cross, crosses, nullable.the_sync, kinds.the_sync, texts.the_sync, sendable) depth 60
+sync_dtype = search (dtypes_cross, crosses, nullable.the_send, kinds.the_send, texts.the_send, nullable.the_sync, kinds.the_sync, texts.the_sync, sendable) depth 60
 
 sync_part : IsSync parts.the_row
 sync_part = search (parts_cross, crosses, masks.the_sync, numbers.the_sync, packed_texts.the_sync, sendable) depth 60

@@ -15,8 +15,8 @@ use crate::value_lines::{append_number_line, append_text_line, append_truth_line
 use itoa::Buffer;
 use std::alloc::{AllocError, Global};
 use std::ops::Range;
-use vx_arrays::{ArrayView, Numbers, Texts};
-use vx_base::{Column, Mask};
+use vx_arrays::{Array, ArrayView, Numbers, Texts};
+use vx_base::{Column, ColumnParts, Mask};
 
 /// How many bytes the line of a truth value or a null has at most.
 const TRUTH_LINE: usize = 6;
@@ -127,20 +127,19 @@ fn append_cells(
     Ok(())
 }
 
-/// Appends the lines of a range of rows that don't lie in runs.
+/// Appends the lines of a range of rows that are packed one by one.
 fn append_packed_lines(
     alloc: Global,
     column: &Column,
+    array: &Array,
     rows: Range<u64>,
     out: &mut Vec<u8>,
 ) -> Result<(), AllocError>
+    requires packed { array.now.values ≡ column.now.values }
     requires forwards { rows.start ≤ rows.end }
     requires inside { rows.end ≤ length column.now.values }
     ensures { OnOk result (out.new.items ≡ out.old.items ++ lines column.now.dtype (slice_range column.now.values rows.start rows.end)) }
 {
-    let Some(array) = column.array() else {
-        return append_cells(alloc, column, rows, out);
-    };
     let places = rows.start as usize..rows.end as usize;
     match array.array_view() {
         ArrayView::Truths(valid, truths) => append_truths(valid, truths, places, out),
@@ -162,9 +161,11 @@ pub(crate) fn add_row_lines(
     requires inside { rows.end ≤ length column.now.values }
     ensures { OnOk result (out.new.items ≡ out.old.items ++ lines column.now.dtype (slice_range column.now.values rows.start rows.end)) }
 {
-    match column.run_parts() {
-        Some((values, ends)) => append_run_lines(alloc, column.dtype(), values, ends, rows, out),
-        None => append_packed_lines(alloc, column, rows, out),
+    match column.parts() {
+        ColumnParts::Packed(array) => append_packed_lines(alloc, column, array, rows, out),
+        ColumnParts::Runs(values, ends) => {
+            append_run_lines(alloc, column.dtype(), values, ends, rows, out)
+        }
     }
 }
 
