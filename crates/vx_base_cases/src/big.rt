@@ -12,7 +12,7 @@ use crate::column_calls::runs;
 use crate::fields::number_of;
 use std::alloc::{AllocError, Global};
 use std::ops::Range;
-use vx_base::{Column, Text, Value, decode, encode};
+use vx_base::{Column, ColumnParts, Text, Value, decode, encode};
 use vx_notation::write_value;
 
 /// The text of a row: its number, and null at each seventh row.
@@ -151,10 +151,9 @@ pub(crate) fn write_lying(
     column: &Column,
     out: &mut String,
 ) -> Result<(), AllocError> {
-    let lying = if column.array().is_some() {
-        ", packed one by one"
-    } else {
-        ", in runs"
+    let lying = match column.parts() {
+        ColumnParts::Packed(_) => ", packed one by one",
+        ColumnParts::Runs(_, _) => ", in runs",
     };
     out.push_str(what)
         .and(write_told(alloc, column, out))

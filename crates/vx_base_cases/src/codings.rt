@@ -12,7 +12,7 @@ use vx_base::{Coding, Column, DType, DecodeError, decode_as, encode_as, is_leaf,
 use vx_notation::{column_of, column_text, values_of};
 
 /// The coding of that name; any other word is `plain`.
-fn coding_of(word: &str) -> Coding {
+pub(crate) fn coding_of(word: &str) -> Coding {
     match word {
         "constant" => Coding::Constant,
         "runs" => Coding::Runs,
@@ -65,7 +65,11 @@ fn write_spelled(
 }
 
 /// Appends the column: its values, or where there are many, how many, the last one, and how they lie.
-fn write_values(alloc: Global, column: &Column, out: &mut String) -> Result<(), AllocError> {
+pub(crate) fn write_values(
+    alloc: Global,
+    column: &Column,
+    out: &mut String,
+) -> Result<(), AllocError> {
     if column.len() > 99 {
         return write_lying(alloc, "", column, out);
     }

@@ -7,6 +7,7 @@ use crate::column_calls::write_of_columns;
 use crate::dtype_calls::write_of_dtypes;
 use crate::errors::write_error;
 use crate::fields::write_bytes;
+use crate::row_reads::write_of_rows;
 use crate::segments::write_segment;
 use crate::sources::{
     set_memory, set_script, write_counts, write_fetched, write_forgotten, write_poll,
@@ -28,6 +29,7 @@ fn write_answer(
     match command {
         "read" => write_segment(alloc, rest, out),
         "read_as" | "spell" | "spell_runs" => write_of_codings(alloc, command, rest, out),
+        "read_rows" | "read_chosen" => write_of_rows(alloc, command, rest, out),
         "dtype" | "same_dtype" | "kind" | "find" | "field" | "field_count" => {
             write_of_dtypes(alloc, command, rest, out)
         }

@@ -13,6 +13,7 @@ mod dtype_calls;
 mod errors;
 mod fields;
 mod mask_calls;
+mod row_reads;
 mod segments;
 mod sources;
 mod streams;

@@ -2,7 +2,7 @@
 
 use crate::case_states::{CaseState, numbers_of};
 use std::alloc::{AllocError, Global};
-use vx_base::{Column, DType, Text, Value};
+use vx_base::{Column, ColumnParts, DType, Text, Value};
 use vx_expr::{ApplyError, BoundExpression, apply};
 use vx_notation::{column_text, dtype_of, dtype_text, write_value};
 
@@ -141,7 +141,7 @@ fn write_whole(alloc: Global, column: &Column, out: &mut String) -> Result<(), A
         return Ok(());
     };
     out.push_str(text.as_str())?;
-    if column.run_parts().is_some() {
+    if let ColumnParts::Runs(_, _) = column.parts() {
         out.push_str(", in runs")?;
     }
     Ok(())

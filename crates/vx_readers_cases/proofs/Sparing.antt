@@ -150,7 +150,7 @@ pruning_goes e (Prunes next) before after pending = record {
 masking_goes : (old : Masking) (next : MaskState) (before after : SourceState) → MaskPollGives (Ok (Pending next)) old before after → MaskGoes old next.masking before after
 masking_goes (Known mask) next before after gives = absurd (let e = gives.0 in cc)
 masking_goes (Filters e) next before after gives = filter_goes e next.masking before after gives
-masking_goes (Prunes e) next before after gives = pruning_goes e next.masking before after gives
+masking_goes (Prunes e) next before after gives = pruning_goes e next.masking before after gives.0
 
 -- a filter goes on, or pruning
 pub mask_goes : (state next : MaskState) (before after : SourceState) → MaskPollGives (Ok (Pending next)) state.masking before after → GoesOn (Mask state) (Mask next) before after
@@ -161,7 +161,7 @@ mask_goes state next before after gives =
 masking_spares : (old : Masking) (kept : List Bool) (before after : SourceState) → MaskPollGives (Ok (Ready kept)) old before after → (other : Running) → IsRunning other before.in_flight → ((ticket : ℕ) → HasTicket (mask_reads old) ticket → HasTicket (reads_of other) ticket → ⊥) → IsRunning other after.in_flight
 masking_spares (Known mask) kept before after gives other is apart = subst (λ (source : SourceState). IsRunning other source.in_flight) (sym gives.1) is
 masking_spares (Filters e) kept before after gives other is apart = spares e.locations e.reads before after gives.0.touches other is apart
-masking_spares (Prunes e) kept before after gives other is apart = spares e.locations e.reads before after gives.0.touches other is apart
+masking_spares (Prunes e) kept before after gives other is apart = spares e.locations e.reads before after gives.0.0.touches other is apart
 
 -- a filter has its answer, or pruning
 pub mask_ready : (state : MaskState) (kept : List Bool) (before after : SourceState) → MaskPollGives (Ok (Ready kept)) state.masking before after → GoesOn (Mask state) Over before after
@@ -174,7 +174,7 @@ mask_ready state kept before after gives = record {
 refused_spares : (old : Masking) (error : ReaderError) (before after : SourceState) → MaskPollGives (Err error) old before after → (other : Running) → IsRunning other before.in_flight → ((ticket : ℕ) → HasTicket (mask_reads old) ticket → HasTicket (reads_of other) ticket → ⊥) → IsRunning other after.in_flight
 refused_spares (Known mask) error before after gives other is apart = absurd (let e = gives.0 in cc)
 refused_spares (Filters e) error before after gives other is apart = spares e.locations e.reads before after gives.touches other is apart
-refused_spares (Prunes e) error before after gives other is apart = spares e.locations e.reads before after gives.touches other is apart
+refused_spares (Prunes e) error before after gives other is apart = spares e.locations e.reads before after gives.0.touches other is apart
 
 -- a filter is refused, or pruning
 pub mask_refused : (state : MaskState) (error : ReaderError) (before after : SourceState) → MaskPollGives (Err error) state.masking before after → GoesOn (Mask state) Over before after
