@@ -141,14 +141,16 @@ def five_parts(numbers, rng):
     return Pair(scan("million", "five_parts", "five_parts"), scan("million", "chunks_128", "million"), PAIRS["five_parts"])
 
 
+def bits(truths):
+    """Truth values as the bits of bytes, the lowest first."""
+    made = bytearray((len(truths) + 7) // 8)
+    for place, truth in enumerate(truths):
+        made[place // 8] |= truth << place % 8
+    return bytes(made)
+
+
 def demo_file(rows):
     """The file that `demo` makes of so many rows: its segments, its nodes, and its lines."""
-    def bits(truths):
-        made = bytearray((len(truths) + 7) // 8)
-        for place, truth in enumerate(truths):
-            made[place // 8] |= truth << place % 8
-        return bytes(made)
-
     starts = range(0, rows, 8192)
     chunks = [range(start, min(start + 8192, rows)) for start in starts]
     names = [("n%d" % code).encode() for code in range(16)]
@@ -177,15 +179,20 @@ def demo_file(rows):
     return ids + [named] + codes + flags, nodes, lines
 
 
+def summary(rows):
+    """The five lines that `demo` prints of so many rows."""
+    told = {
+        "rows": rows, "batches": -(-rows // 65536), "id_sum": sum((31 * row + rows) % 1000 for row in range(rows)),
+        "name_nulls": len(range(3, rows, 7)), "flag_true": len(range(0, rows, 3))}
+    return "".join("%s=%d\n" % one for one in told.items()).encode()
+
+
 def demo(numbers, rng):
     segments, nodes, lines = demo_file(MILLION)
     write("demo.seg", segments)
     write_request("demo", one_after_another(map(len, segments)), nodes)
     write("demo.lines", (line.encode() for line in lines))
-    told = {
-        "rows": MILLION, "batches": -(-MILLION // 65536), "id_sum": sum((31 * row + MILLION) % 1000 for row in range(MILLION)),
-        "name_nulls": len(range(3, MILLION, 7)), "flag_true": len(range(0, MILLION, 3))}
-    write("summary.lines", ["".join("%s=%d\n" % one for one in told.items()).encode()])
+    write("summary.lines", [summary(MILLION)])
     return Pair(Run(["demo", str(MILLION)], "summary"), scan("demo", "demo", "demo"), PAIRS["demo"])
 
 

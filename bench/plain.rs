@@ -1,8 +1,15 @@
 //! The yardstick: the program's job on the data sets of this folder, written plainly with the standard library
 //! alone. It reads the request, then each segment, tests it, makes the lines in one buffer, and writes them 64 KiB
-//! at a time. One thread, no proofs, no cleverness.
+//! at a time. One thread, no proofs, no cleverness. With the option it has so many threads, which stream: they keep no
+//! column (streams.rs).
 //!
-//! plain SEGMENTS REQUEST
+//! plain SEGMENTS REQUEST [--threads N]
+//! plain demo ROWS --threads N
+
+mod columns;
+mod demos;
+mod requests;
+mod streams;
 
 use std::fmt::Write as _;
 use std::fs::{self, File};
@@ -293,12 +300,9 @@ fn append_text(text: &str, lines: &mut String) {
     lines.push('"');
 }
 
-fn main() -> io::Result<()> {
-    let mut words = std::env::args().skip(1);
-    let mut word = || words.next().ok_or_else(|| io::Error::other("usage: plain SEGMENTS REQUEST"));
-    let segments = File::open(word()?)?;
-    let bytes = fs::read(word()?)?;
-    let request = Reader { bytes: &bytes, place: 0 }.value().ok_or_else(|| io::Error::other("no request"))?;
+/// Prints all rows, by one thread that makes all lines first.
+fn print_at_once(segments: File, bytes: &[u8]) -> io::Result<()> {
+    let request = Reader { bytes, place: 0 }.value().ok_or_else(|| io::Error::other("no request"))?;
     let items = |name| request.member(name).and_then(Json::items).ok_or_else(|| io::Error::other("no request"));
     let (locations, nodes) = (items("locations")?, items("nodes")?);
     let mut lines = String::new();
@@ -307,4 +311,26 @@ fn main() -> io::Result<()> {
     scanned.ok_or_else(|| io::Error::other("no such layout"))?;
     let mut out = io::stdout();
     lines.as_bytes().chunks(PIECE).try_for_each(|piece| out.write_all(piece))
+}
+
+/// Prints the wanted rows by so many threads.
+fn print_in_threads(segments: File, bytes: Vec<u8>, threads: usize) -> io::Result<()> {
+    let text = String::from_utf8(bytes).map_err(io::Error::other)?;
+    let request = requests::Request::read(&text).ok_or_else(|| io::Error::other("no request"))?;
+    drop(text);
+    streams::scan(&segments, &request, threads).ok_or_else(|| io::Error::other("no such layout"))
+}
+
+fn main() -> io::Result<()> {
+    let words: Vec<String> = std::env::args().skip(1).collect();
+    let words: Vec<&str> = words.iter().map(String::as_str).collect();
+    let count = |word: &str| word.parse().ok().filter(|count| *count > 0).ok_or_else(|| io::Error::other("no number"));
+    match words[..] {
+        ["demo", rows, "--threads", threads] => demos::print(count(rows)?, count(threads)?),
+        [segments, request] => print_at_once(File::open(segments)?, &fs::read(request)?),
+        [segments, request, "--threads", threads] => {
+            print_in_threads(File::open(segments)?, fs::read(request)?, count(threads)?)
+        }
+        _ => Err(io::Error::other("usage: plain SEGMENTS REQUEST [--threads N], or plain demo ROWS --threads N")),
+    }
 }

@@ -70,7 +70,12 @@ def one_after_another(lengths):
 
 
 def in_chunks(rows, count):
-    size = -(-rows // count)
+    """Where the segments lie of rows in so many chunks, and the nodes."""
+    return chunks_of(rows, -(-rows // count))
+
+
+def chunks_of(rows, size):
+    """The same for chunks of so many rows."""
     sizes = [min(size, rows - start) for start in range(0, rows, size)]
     leaves = [flat(size, segment) for segment, size in enumerate(sizes)]
     return one_after_another([8 * size for size in sizes]), [inner("chunked", "i64", rows, len(leaves))] + leaves
@@ -131,13 +136,19 @@ def make_columns(numbers):
     write_values("million", [segment], [lines])
     write_values("quarter", [segment[: 2 * MILLION]], [lines_of(numbers[: MILLION // 4])])
     write_values("ten_million", [segment] * 10, [lines] * 10)
-    write_values("one", [segment[:8]], [lines_of(numbers[:1]) * 290_000])
     write_request("one_flat", one_after_another([8 * MILLION]), [flat(MILLION, 0)])
     write_request("chunks_128", *in_chunks(MILLION, 128))
     write_request("first_quarter", *in_chunks(MILLION // 4, 32))
     write_request("ten_flat", one_after_another([80 * MILLION]), [flat(10 * MILLION, 0)])
     write_request("ten_chunks", *in_chunks(10 * MILLION, 1280))
-    write_request("leaves_290000", [[0, 8, 8]], [inner("chunked", "i64", 290_000, 290_000)] + [flat(1, 0)] * 290_000)
+    make_leaves(numbers)
+
+
+def make_leaves(numbers):
+    """One number, in many leaves of one row."""
+    leaves = DATA_SETS["leaves_290000"].rows
+    write_values("one", [bytes_of("q", numbers[:1])], [lines_of(numbers[:1]) * leaves])
+    write_request("leaves_290000", [[0, 8, 8]], [inner("chunked", "i64", leaves, leaves)] + [flat(1, 0)] * leaves)
 
 
 def bytes_of_runs(runs, rows):
