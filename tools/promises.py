@@ -52,7 +52,7 @@ refusals come of the calls that callers make, [PROMISES.md](PROMISES.md) what el
   when.
 - **After a refusal**: what is lent by `&` never changes, and what is passed by value is let go. Of what is lent by `&mut`, these
   clauses say how it stands. Empty: nothing is lent by `&mut`, or the call can't be refused.
-- *no clause*: no contract says it. There are {missing} such calls, listed at the end.
+- *no clause*: no contract says it. Such calls: {missing}, listed at the end.
 
 """
 
